@@ -13,7 +13,16 @@ const SUMMARY: Summary = Summary {
     settlings: 4,
     size: 5,
     operations: 20,
+    missed: None,
 };
+
+/// The same of a check in which so many lanes missed something.
+fn checked(missed: u32) -> Outcome {
+    Outcome::Done(Summary {
+        missed: Some(missed),
+        ..SUMMARY
+    })
+}
 
 /// Reports an outcome on a desk on which so many calls from the first one on fail.
 fn expect_report(
@@ -41,6 +50,11 @@ fn reports_of_outcomes(rt: HostRuntime) -> Result<(), Fail> {
     expect_report(&rt, a, Outcome::Done(SUMMARY), &[0], 6, lost)?;
     let part = "ok lanes=1refused 5 WriteFault place=0\n";
     expect_report(&rt, a, Outcome::Done(SUMMARY), &[3], 6, part)?;
+    let met = "ok lanes=1 vectors=2 settlings=4 size=5 missed=0\n";
+    expect_report(&rt, a, checked(0), &[], 0, met)?;
+    let missed = "ok lanes=1 vectors=2 settlings=4 size=5 missed=1\n";
+    expect_report(&rt, a, checked(1), &[], 1, missed)?;
+    expect_report(&rt, a, checked(1), &[0], 6, lost)?;
     let usage = Outcome::Refused(Refusal::Bare(BareName::Usage));
     expect_report(&rt, a, usage, &[], 2, "refused 1 Usage\n")?;
     let usage = Outcome::Refused(Refusal::Bare(BareName::Usage));

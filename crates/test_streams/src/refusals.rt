@@ -10,7 +10,9 @@ use std::alloc::Global;
 use std::process::Abort;
 use std::test::Fail;
 use vs_desk::{Failed, MemoryDesk};
-use vs_refusal::{AtName, BareName, Ending, LaneName, LineName, ProcessName, Processes, Refusal};
+use vs_refusal::{
+    AtName, BareName, Ending, LaneName, LineName, Miss, ProcessName, Processes, Refusal,
+};
 
 /// Refusals that carry nothing, and their lines.
 const BARE_LINES: [(BareName, &str); 4] = [
@@ -81,12 +83,13 @@ const PROCESS_LINES: [(ProcessName, u32, u32, &str); 4] = [
 ];
 
 /// Refusals of a lane, and their lines.
-const LANE_LINES: [(LaneName, u32, &str); 5] = [
+const LANE_LINES: [(LaneName, u32, &str); 6] = [
     (BadHeader, 0, "refused 70 BadHeader lane=0\n"),
     (FirstUnknown, 63, "refused 72 FirstUnknown lane=63\n"),
     (NoVector, 1, "refused 73 NoVector lane=1\n"),
     (TooManyVectors, 12, "refused 74 TooManyVectors lane=12\n"),
     (StimulusTooLong, 5, "refused 75 StimulusTooLong lane=5\n"),
+    (NoExpectation, 255, "refused 79 NoExpectation lane=255\n"),
 ];
 
 /// Refusals of a line of a lane, and their lines.
@@ -107,7 +110,7 @@ const LINE_LINES: [(LineName, u32, u64, &str); 3] = [
 ];
 
 /// Endings, and their lines.
-const ENDING_LINES: [(Ending, &str); 4] = [
+const ENDING_LINES: [(Ending, &str); 5] = [
     (
         Ending::Done {
             lanes: 64,
@@ -116,6 +119,16 @@ const ENDING_LINES: [(Ending, &str); 4] = [
             size: 5,
         },
         "ok lanes=64 vectors=2 settlings=4 size=5\n",
+    ),
+    (
+        Ending::Checked {
+            lanes: 3,
+            vectors: 12,
+            settlings: 8,
+            size: 5,
+            missed: 2,
+        },
+        "ok lanes=3 vectors=12 settlings=8 size=5 missed=2\n",
     ),
     (
         Ending::ReadFault { place: 1005 },
@@ -219,6 +232,25 @@ fn lines_of_other_refusals(rt: HostRuntime) -> Result<(), Fail> {
         expect_line(&rt, alloc, refusal, line);
     }
     Ok(())
+}
+
+#[test]
+fn line_of_a_miss(rt: HostRuntime) {
+    let mut desk = MemoryDesk::new(rt.alloc(), 16);
+    let miss = Miss {
+        lane: 7,
+        line: 16777217,
+        output: 3,
+        wanted: b"01-x",
+        got: b"01z0",
+    };
+    let put = miss.put_line(&mut desk);
+    expect_whole(
+        &rt,
+        &desk,
+        put,
+        "missed lane=7 line=16777217 output=3 wanted=01-x got=01z0\n",
+    );
 }
 
 #[test]

@@ -16,11 +16,11 @@ fn placed<'a>(alloc: Global, name: &'a str, value: &'a str, help: &'a str) -> Ar
     Arg::new(alloc, name).value_name(value).help(help)
 }
 
-/// The words behind `run`.
-pub fn run<'a>(alloc: Global, name: &'a str) -> Result<Command<'a>, AllocError> {
+/// The words behind `run` or `check`, and what it is about.
+fn job<'a>(alloc: Global, name: &'a str, about: &'a str) -> Result<Command<'a>, AllocError> {
     Command::new(alloc, name)
         .disable_help_flag(true)
-        .about("Runs a design under stimuli, and writes a waveform beside each")
+        .about(about)
         .arg(named(alloc, "top", "T", "The name of the top module").required(true))?
         .arg(named(alloc, "clock", "C", "The name of the top's clock input").required(true))?
         .arg(
@@ -42,6 +42,24 @@ pub fn run<'a>(alloc: Global, name: &'a str) -> Result<Command<'a>, AllocError> 
                 .num_args(1..=256)
                 .action(ArgAction::Append),
         )
+}
+
+/// The words behind `run`.
+pub fn run<'a>(alloc: Global, name: &'a str) -> Result<Command<'a>, AllocError> {
+    job(
+        alloc,
+        name,
+        "Runs a design under stimuli, and writes a waveform beside each",
+    )
+}
+
+/// The words behind `check`.
+pub fn check<'a>(alloc: Global, name: &'a str) -> Result<Command<'a>, AllocError> {
+    job(
+        alloc,
+        name,
+        "Compares a design's outputs with what stimuli want of them, and writes no file",
+    )
 }
 
 /// The words behind `bench`.
@@ -75,5 +93,7 @@ pub fn cyclesim<'a>(alloc: Global) -> Result<Command<'a>, AllocError> {
         .disable_help_subcommand(true)
         .subcommand_required(true)
         .subcommand(run)?;
-    words.subcommand(bench(alloc, "bench")?)
+    words
+        .subcommand(check(alloc, "check")?)?
+        .subcommand(bench(alloc, "bench")?)
 }

@@ -1,6 +1,6 @@
 //! The help that `clap` has for the declared words, which README shows.
 
-use crate::command::{bench, run};
+use crate::command::{bench, check, run};
 use std::alloc::{AllocError, Global};
 use std::test::Fail;
 
@@ -9,6 +9,23 @@ const RUN: &str = "\
 Runs a design under stimuli, and writes a waveform beside each
 
 Usage: cyclesim run [OPTIONS] --top <T> --clock <C> <DESIGN> <STIM>...
+
+Arguments:
+  <DESIGN>   The path of the design
+  <STIM>...  The paths of 1 to 256 stimuli
+
+Options:
+      --top <T>               The name of the top module
+      --clock <C>             The name of the top's clock input
+      --half <H>              Half a clock period, from 1 to 1000000 [default: 5]
+      --define <NAME[=TEXT]>  A macro that is defined before the design's text, up to 64 of them
+";
+
+/// The help of the words behind `check`.
+const CHECK: &str = "\
+Compares a design's outputs with what stimuli want of them, and writes no file
+
+Usage: cyclesim check [OPTIONS] --top <T> --clock <C> <DESIGN> <STIM>...
 
 Arguments:
   <DESIGN>   The path of the design
@@ -32,10 +49,11 @@ Arguments:
   [L]  The lanes, from 1 to 256 [default: 64]
 ";
 
-/// The help text of `run` or of `bench`.
+/// The help text of `run`, of `check` or of `bench`.
 fn help(alloc: Global, word: &str) -> Result<String, AllocError> {
     let command = match word {
         "run" => run(alloc, "cyclesim run"),
+        "check" => check(alloc, "cyclesim check"),
         _ => bench(alloc, "cyclesim bench"),
     };
     command?.render_help()
@@ -44,6 +62,12 @@ fn help(alloc: Global, word: &str) -> Result<String, AllocError> {
 #[test]
 fn help_of_run(rt: HostRuntime) -> Result<(), Fail> {
     assert_eq!(&rt; help(rt.alloc(), "run")?.as_str(), RUN);
+    Ok(())
+}
+
+#[test]
+fn help_of_check(rt: HostRuntime) -> Result<(), Fail> {
+    assert_eq!(&rt; help(rt.alloc(), "check")?.as_str(), CHECK);
     Ok(())
 }
 

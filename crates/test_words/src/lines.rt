@@ -5,7 +5,7 @@ use clap::ArgMatches;
 use std::alloc::{AllocError, Global};
 use std::process::Abort;
 use std::test::Fail;
-use vs_job::{Bench, Job, Texts, read_bench, read_job};
+use vs_job::{Bench, Job, Mode, Texts, read_bench, read_job};
 
 /// Lines that both read alike.
 const TAKEN: &str = "\
@@ -17,6 +17,9 @@ x run --top t --clock c -- d -s --half
 x run --top t=u --clock==c d s
 x run --top t --clock c --define A d s
 x run --define=A=1 --top t --define B_2= --clock c d --define A=$b=c+`D s
+x check --top t --clock c d s
+x check d s0 --half=7 s1 --clock c --define A --top=t
+x check --top t --clock c -- d --half run
 x bench 1
 x bench 1000 256
 x bench 3 1
@@ -42,6 +45,10 @@ x run --top t --clock c d --define s
 x run --help
 x --help
 x help
+x check
+x check --top t --clock c d
+x checks --top t --clock c d s
+x check --top t --clock c --half 0 d s
 x bench
 x bench 0
 x bench 1001
@@ -119,7 +126,10 @@ fn is_bench(matches: &ArgMatches<'_>, bench: Bench) -> bool {
 /// Whether these are the words of the job or of the bench.
 fn are_alike(matches: &ArgMatches<'_>, job: Option<&Job>, bench: Option<Bench>) -> bool {
     match (matches.subcommand(), job, bench) {
-        (Some(("run", run)), Some(job), None) => is_job(run, job),
+        (Some(("run", run)), Some(job), None) => job.mode == Mode::Run && is_job(run, job),
+        (Some(("check", check)), Some(job), None) => {
+            job.mode == Mode::Check && is_job(check, job)
+        }
         (Some(("bench", sizes)), None, Some(bench)) => is_bench(sizes, bench),
         _ => false,
     }

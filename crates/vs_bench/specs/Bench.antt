@@ -3,6 +3,7 @@ use Rattle.std.specs.Prelude.{ℕ, zero, suc, List, [], ◌∷◌, ◌++◌, cod
 use Rattle.vs_desk.specs.Desk.{Contents, no_contents}
 use Rattle.vs_desk.specs.MemoryDesk.{with_file}
 use Rattle.vs_job.specs.declared.job.Job.{Job}
+use Rattle.vs_job.specs.declared.job.Mode.TheVariants.{Run}
 use Rattle.vs_bench.specs.Texts.{Text, design, stimulus}
 
 -- the path of the design
@@ -25,4 +26,4 @@ files vectors (suc lane) = with_file (files vectors lane) (lane_path lane) (stim
 
 -- the job of a bench of so many lanes
 abbrev pub job : ℕ → Job
-job lanes = record { top = codes "top"; clock = codes "clk"; half = 5; head = []; design = design_path; stimuli = lane_paths lanes }
+job lanes = record { mode = Run; top = codes "top"; clock = codes "clk"; half = 5; head = []; design = design_path; stimuli = lane_paths lanes }

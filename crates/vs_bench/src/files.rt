@@ -10,7 +10,7 @@ use crate::texts::{design_text, stimulus_text};
 use itoa::Buffer;
 use std::alloc::{AllocError, Global};
 use vs_desk::MemoryDesk;
-use vs_job::{Job, Text, Texts};
+use vs_job::{Job, Mode, Text, Texts};
 
 /// The path of the design.
 const DESIGN_PATH: &str = "bench.v";
@@ -27,7 +27,7 @@ const HALF: u32 = 5;
 /// How many bytes of a file a `take` moves at most.
 const PIECE: usize = 65_536;
 
-/// The job of a bench: the top `top` with the clock `clk`, half a clock period of 5 units of time, no macros, the design at `bench.v`,
+/// The job of a bench, which is run: the top `top` with the clock `clk`, half a clock period of 5 units of time, no macros, the design at `bench.v`,
 /// and one stimulus for each of so many lanes, from 0 to 256, at the lane's number in decimal.
 ///
 /// The only error is that memory ran out.
@@ -36,6 +36,7 @@ pub fn bench_job(alloc: Global, lanes: u32) -> Result<Job, AllocError>
     ensures { IfOk result (λ j. j ≡ job lanes) }
 {
     Ok(Job {
+        mode: Mode::Run,
         top: text(alloc, TOP)?,
         clock: text(alloc, CLOCK)?,
         half: HALF,

@@ -1,7 +1,8 @@
 -- What `run` of vs_top promises of words, and what is put behind its report where they ask for an explanation.
-use Rattle.std.specs.Prelude.{◌≡◌, ◌⊎◌, ℕ, ◌+◌, ◌*◌, ◌≤◌, Bool, IsTrue, List, Option, Some, None}
+use Rattle.std.specs.Prelude.{◌≡◌, ◌≢◌, ◌⊎◌, ℕ, ◌+◌, ◌*◌, ◌≤◌, Bool, IsTrue, List, Option, Some, None}
 use Rattle.vs_desk.specs.Desk.{Told}
 use Rattle.vs_job.specs.declared.job.Job.{Job}
+use Rattle.vs_job.specs.declared.job.Mode.TheVariants as modes
 use Rattle.vs_job.specs.declared.bench.Bench.{Bench}
 use Rattle.vs_job.specs.Bench.{bench}
 use Rattle.vs_job.specs.Job.{Text, job}
@@ -13,21 +14,26 @@ use Rattle.vs_top.specs.declared.outcome.Summary.{Summary}
 use Rattle.vs_top.specs.declared.outcome.Outcome.{Outcome}
 use Rattle.vs_top.specs.declared.outcome.Outcome.TheVariants.{Done, Refused, ReadFault, WriteFault, Memory}
 use Rattle.vs_top.specs.Benched.{IsBenched}
+use Rattle.vs_top.specs.Checked.{IsVerdict}
+use Rattle.vs_top.specs.Ended.{OthersAttached}
+use Rattle.vs_top.specs.Outcomes.{done_ending}
 use Rattle.vs_top.specs.Causes.{IsDoneOrMemory, IsFaultless, IsLawful, ShowsCause}
 use Rattle.vs_top.specs.Refused.{IsRefusedJob, IsRefusedSo}
 use Rattle.vs_top.specs.Reports.{IsSimulated, IsReported}
 use Rattle.vs_top.specs.Headline.{IsWritten}
-use Rattle.vs_explainer.specs.Told.{ExplainsRefusal, IsPut, Says, ending_text, usage_text}
+use Rattle.vs_explainer.specs.Told.{ExplainsRefusal, IsPut, ending_text, usage_text}
 
 -- All clauses of `run` of vs_top: these words were run from the one desk to the other, with so many steps before and after.
 pub record IsRun {tells : Bool} {D : Type 0} (told : D → Told tells) (words : List Text) (old new : D) (before after : ℕ) (result : Outcome) : Type 0 where
-  pub written : IsTrue tells → (j : Job) → job words ≡ Some j → (s : Summary) → result ≡ Done s → IsWritten j (told old).contents (told new).contents s
+  pub written : IsTrue tells → (j : Job) → job words ≡ Some j → j.mode ≡ modes.Run → (s : Summary) → result ≡ Done s → IsWritten j (told old).contents (told new).contents s
+  pub checked : IsTrue tells → (j : Job) → job words ≡ Some j → j.mode ≡ modes.Check → (s : Summary) → result ≡ Done s → IsVerdict j (told old).contents (told new).contents s
   pub operations : (s : Summary) → result ≡ Done s → (after ≡ before + s.operations) × (s.operations ≤ s.size * s.settlings)
   pub usage : job words ≡ None → bench words ≡ None → (result ≡ Refused (Bare Usage)) × IsReported (told old) (told new) result
   pub usage_only : result ≡ Refused (Bare Usage) → (job words ≡ None) × (bench words ≡ None)
   pub causes : ShowsCause (told old) (told new) result
   pub ended : (j : Job) → job words ≡ Some j → IsSimulated told j old new result ⊎ ((result ≡ Memory) × IsReported (told old) (told new) result)
   pub benched : (b : Bench) → bench words ≡ Some b → IsBenched b (told old) (told new) result
+  pub others : OthersAttached (told old).register (told new).register
   pub refused : IsTrue tells → (j : Job) → job words ≡ Some j → (q : Refusal) → IsRefusedJob j (told old).contents q → IsFaultless (told old) (told new) → IsRefusedSo q result
   pub complete : IsTrue tells → (j : Job) → job words ≡ Some j → IsLawful j (told old).contents → IsFaultless (told old) (told new) → IsDoneOrMemory result
 
@@ -37,15 +43,17 @@ ExplainsRefused (Some j) r old new = ExplainsRefusal j r old new
 ExplainsRefused None r old new = IsPut old new usage_text
 
 -- What is put behind the report of an answer: of a refusal of a job by what is seen again of its file, of words that call for nothing the forms of all words,
--- and of any other answer what it says. Nothing is put where memory runs out, but of the forms, and some first bytes where a call at place 0 fails.
+-- and of any other answer what it says. Memory is taken for refusals of a job alone: where it runs out nothing is put. Where a call at place 0 fails some first
+-- bytes are.
 abbrev pub Explains : {tells : Bool} → Option Job → Outcome → Told tells → Told tells → Type 0
 Explains j (Refused r) old new = ExplainsRefused j r old new
-Explains j (Done s) old new = Says old new (ending_text j (ending.Done s.lanes s.vectors s.settlings s.size))
-Explains j (ReadFault place) old new = Says old new (ending_text j (ending.ReadFault place))
-Explains j (WriteFault place) old new = Says old new (ending_text j (ending.WriteFault place))
-Explains j Memory old new = Says old new (ending_text j ending.Memory)
+Explains j (Done s) old new = IsPut old new (ending_text j (done_ending s s.missed))
+Explains j (ReadFault place) old new = IsPut old new (ending_text j (ending.ReadFault place))
+Explains j (WriteFault place) old new = IsPut old new (ending_text j (ending.WriteFault place))
+Explains j Memory old new = IsPut old new (ending_text j ending.Memory)
 
--- The same by the words; where there is no memory for their job nothing is put.
+-- The same by the words. A job is read out of them again; where there is no memory for that nothing is put, unless want of memory is the answer. Where they
+-- call for no job none is taken.
 pub data ExplainsWords {tells : Bool} (words : List Text) (o : Outcome) (old new : Told tells) : Type 0 where
-  unexplained : new ≡ old → ExplainsWords words o old new
+  unexplained : (j : Job) → job words ≡ Some j → o ≢ Memory → new ≡ old → ExplainsWords words o old new
   explained : Explains (job words) o old new → ExplainsWords words o old new

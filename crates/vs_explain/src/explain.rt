@@ -1,21 +1,25 @@
 //! A run that explains its answer.
 
-ghost use Rattle.std.specs.Prelude.{◌≡◌, ◌≤◌, true, false, length, map, option_map, string_bytes};
+ghost use Rattle.std.specs.Prelude.{◌≡◌, ◌≢◌, ◌≤◌, None, true, false, length, map, option_map, string_bytes};
 ghost use Rattle.vs_desk.specs.Places.{most_lanes};
 ghost use Rattle.std.specs.Option.{ForSome};
+ghost use Rattle.vs_refusal.specs.declared.ending.Ending.TheVariants as ending;
+ghost use Rattle.vs_top.specs.declared.outcome.Outcome.TheVariants.{Memory};
 ghost use Rattle.vs_top.specs.Ended.{IsUnused};
+ghost use Rattle.vs_top.specs.Outcomes.{done_ending};
 ghost use Rattle.vs_reread.specs.Again.{AreUnread, most_bytes};
+ghost use Rattle.vs_explainer.specs.Told.{IsPut, ending_text};
 ghost use Rattle.vs_explain.specs.Asked as spec;
 ghost use Rattle.vs_explain.specs.Answered.{IsRun, Explains, ExplainsRefused, ExplainsWords};
 
 use std::alloc::Global;
 use std::sync::ledger::Ledger;
-use vs_desk::{Desk, attach_law};
+use vs_desk::Desk;
 use vs_explainer::{explain_ending, explain_refusal, explain_usage};
 use vs_job::{Job, JobError, read_job};
 use vs_plane::Steps;
 use vs_refusal::{Ending, Refusal};
-use vs_top::{Outcome, run};
+use vs_top::{Outcome, Summary, run};
 
 /// Whether the first word behind the program's own name is `--explain`.
 fn is_asked(words: &[String]) -> bool
@@ -49,6 +53,34 @@ fn explain_refused<D: Desk>(alloc: Global, job: Option<&Job>, refusal: &Refusal,
     }
 }
 
+/// How a run that is done ended, or a check.
+fn done_ending(summary: &Summary) -> Ending
+    ensures { result ≡ done_ending summary.now summary.now.missed }
+{
+    let Summary {
+        lanes,
+        vectors,
+        settlings,
+        size,
+        ..
+    } = *summary;
+    match summary.missed {
+        None => Ending::Done {
+            lanes,
+            vectors,
+            settlings,
+            size,
+        },
+        Some(missed) => Ending::Checked {
+            lanes,
+            vectors,
+            settlings,
+            size,
+            missed,
+        },
+    }
+}
+
 /// Puts what an answer says to a person behind its report line.
 fn explain<D: Desk>(alloc: Global, job: Option<&Job>, outcome: &Outcome, desk: &mut D)
     requires unread { AreUnread (D.told desk.old).register }
@@ -58,27 +90,32 @@ fn explain<D: Desk>(alloc: Global, job: Option<&Job>, outcome: &Outcome, desk: &
     match outcome {
         Outcome::Refused(refusal) => explain_refused(alloc, job, refusal, desk),
         Outcome::Done(summary) => {
-            let done = Ending::Done {
-                lanes: summary.lanes,
-                vectors: summary.vectors,
-                settlings: summary.settlings,
-                size: summary.size,
-            };
-            explain_ending(alloc, job, &done, desk);
+            let done = done_ending(summary);
+            explain_ending(job, &done, desk);
         }
         Outcome::ReadFault { place } => {
             let fault = Ending::ReadFault { place: *place };
-            explain_ending(alloc, job, &fault, desk);
+            explain_ending(job, &fault, desk);
         }
         Outcome::WriteFault { place } => {
             let fault = Ending::WriteFault { place: *place };
-            explain_ending(alloc, job, &fault, desk);
+            explain_ending(job, &fault, desk);
         }
-        Outcome::Memory => explain_ending(alloc, job, &Ending::Memory, desk),
+        Outcome::Memory => explain_ending(job, &Ending::Memory, desk),
     }
 }
 
-/// Puts what an answer to these words says, unless there is no memory for the job.
+/// Puts what an answer says where there is no memory for the job of its words: of want of memory what it always says, and of any other answer nothing.
+fn explain_unread<D: Desk>(outcome: &Outcome, desk: &mut D)
+    ensures memory { outcome.now ≡ Memory → IsPut (D.told desk.old) (D.told desk.new) (ending_text None ending.Memory) }
+    ensures others { outcome.now ≢ Memory → desk.new ≡ desk.old }
+{
+    if let Outcome::Memory = outcome {
+        explain_ending(None, &Ending::Memory, desk);
+    }
+}
+
+/// Puts what an answer to these words says.
 fn explain_words<D: Desk>(alloc: Global, words: &[String], outcome: &Outcome, desk: &mut D)
     requires unread { AreUnread (D.told desk.old).register }
     ensures { ExplainsWords (map string_bytes words.now) outcome.now (D.told desk.old) (D.told desk.new) }
@@ -86,7 +123,7 @@ fn explain_words<D: Desk>(alloc: Global, words: &[String], outcome: &Outcome, de
     match read_job(alloc, words) {
         Ok(job) => explain(alloc, Some(&job), outcome, desk),
         Err(JobError::Usage) => explain(alloc, None, outcome, desk),
-        Err(JobError::Memory) => {}
+        Err(JobError::Memory) => explain_unread(outcome, desk),
     }
 }
 
@@ -101,14 +138,15 @@ fn run_words<D: Desk, L: Ledger>(
     ensures run { IsRun D.told (map string_bytes words.now) desk.old desk.new steps.old steps.new result }
     ensures unread { AreUnread (D.told desk.old).register → AreUnread (D.told desk.new).register }
 {
-    attach_law();
     run(alloc, words, desk, steps)
 }
 
 /// Runs the words of the command line as `run` of `vs_top` does, the program's own name first. Where the word behind that is `--explain`, the words behind it are
 /// run, and then what the answer says to a person is put on place 0, behind its report line. The answer is the run's, whatever becomes of that.
 ///
-/// The files that a refusal is about are read again, at places 2 and 3. Where memory runs out nothing is put; where a call at place 0 fails some first bytes are.
+/// The files that a refusal is about are read again, at places 2 and 3. Memory is taken for the job of the words, which is read again, and for a refusal of it:
+/// where it runs out nothing is put. Want of memory itself, and words that call for no job, are explained without any. Where a call at place 0 fails some first
+/// bytes are put.
 pub fn explain_run<D: Desk, L: Ledger>(
     alloc: Global,
     words: &[String],

@@ -1,4 +1,5 @@
 pub mod Added
+pub mod Printable
 pub mod Waves
 pub mod Newlines
 pub mod Lines

@@ -1,89 +1,143 @@
-//! What is said of an answer that isn't a refusal.
+//! What is said of an answer that isn't a refusal, put at place 0 of a desk. It takes no memory.
 
-ghost use Rattle.std.specs.Prelude.{◌≡◌, ◌++◌, OnOk};
+ghost use Rattle.std.specs.Prelude.{◌≡◌, ◌++◌};
+ghost use Rattle.vs_desk.specs.Desk.{PutsAll};
 ghost use Rattle.vs_explanation.specs.Ended as spec;
 
-use crate::roles::push_path;
-use std::alloc::AllocError;
-use vs_excerpt::Page;
+use crate::puts::{put_numbered, put_path, put_path_and, put_text};
+use vs_desk::{Desk, Failed, put_law};
 use vs_job::Job;
 
-/// Adds a number and what it counts.
-fn push_counted(page: &mut Page, what: &str, number: u64) -> Result<(), AllocError>
-    ensures { OnOk result (page.new ≡ page.old ++ spec.counted what.now number) }
+/// Puts a line of a number behind what it counts.
+fn put_counted<D: Desk>(desk: &mut D, what: &str, number: u64) -> Result<(), Failed>
+    ensures { PutsAll (D.told desk.old) (D.told desk.new) 0 (spec.counted what.now number) result }
 {
-    page.text("note: ")?;
-    page.text(what)?;
-    page.text(": ")?;
-    page.number(number)?;
-    page.text("\n")
+    put_numbered(desk, what, number, "\n")
 }
 
-/// Adds what a run has done. The only error is that memory ran out.
-pub fn push_done(
-    page: &mut Page,
+/// Puts what a run has done.
+///
+/// On `Failed`, here as in all functions of this crate that put something, some first bytes were put, not all, and a call at place 0 failed.
+pub fn put_done<D: Desk>(
+    desk: &mut D,
     lanes: u32,
     vectors: u64,
     settlings: u64,
     size: u64,
-) -> Result<(), AllocError>
-    ensures { OnOk result (page.new ≡ page.old ++ spec.done_text lanes vectors settlings size) }
+) -> Result<(), Failed>
+    ensures { PutsAll (D.told desk.old) (D.told desk.new) 0 (spec.done_text lanes vectors settlings size) result }
 {
-    push_counted(page, "lanes", u64::from(lanes))?;
-    push_counted(page, "vectors of all lanes together", vectors)?;
-    push_counted(page, "half-periods of the clock", settlings)?;
-    push_counted(page, "plane operations in each half-period, at most", size)
+    put_law();
+    put_counted(desk, "note: lanes: ", lanes as u64)?;
+    put_counted(desk, "note: vectors of all lanes together: ", vectors)?;
+    put_counted(desk, "note: half-periods of the clock: ", settlings)?;
+    put_counted(
+        desk,
+        "note: plane operations in each half-period, at most: ",
+        size,
+    )
 }
 
-/// Adds the path of a lane's waveform.
-fn push_wave(page: &mut Page, lane: usize, stimulus: &[u8]) -> Result<(), AllocError>
-    ensures { OnOk result (page.new ≡ page.old ++ spec.wave_line lane stimulus.now) }
+/// Puts how many lanes of a check missed something.
+fn put_missed<D: Desk>(desk: &mut D, missed: u32) -> Result<(), Failed>
+    ensures { PutsAll (D.told desk.old) (D.told desk.new) 0 (spec.missed_text missed) result }
 {
-    page.text("note: waveform of lane ")?;
-    page.number(lane as u64)?;
-    page.text(": ")?;
-    page.escaped(stimulus)?;
-    page.text(".vcd\n")
+    if missed == 0 {
+        return put_text(desk, "note: no lane missed what its stimulus wants\n");
+    }
+    put_counted(
+        desk,
+        "error: lanes that missed what their stimuli want: ",
+        missed as u64,
+    )
 }
 
-/// Adds the paths of a job's waveforms, by lane. The only error is that memory ran out.
-pub fn push_waves(page: &mut Page, job: &Job) -> Result<(), AllocError>
-    ensures { OnOk result (page.new ≡ page.old ++ spec.waves_from 0 job.now.stimuli) }
+/// Puts what a check has done: how many lanes missed something of what their stimuli want, and the numbers of `put_done`.
+pub fn put_checked<D: Desk>(
+    desk: &mut D,
+    lanes: u32,
+    vectors: u64,
+    settlings: u64,
+    size: u64,
+    missed: u32,
+) -> Result<(), Failed>
+    ensures { PutsAll (D.told desk.old) (D.told desk.new) 0 (spec.checked_text lanes vectors settlings size missed) result }
 {
+    put_law();
+    put_missed(desk, missed)?;
+    put_done(desk, lanes, vectors, settlings, size)
+}
+
+/// Puts the path of a lane's waveform.
+fn put_wave<D: Desk>(desk: &mut D, lane: usize, stimulus: &[u8]) -> Result<(), Failed>
+    ensures { PutsAll (D.told desk.old) (D.told desk.new) 0 (spec.wave_line lane stimulus.now) result }
+{
+    put_law();
+    put_numbered(desk, "note: waveform of lane ", lane as u64, ": ")?;
+    put_path_and(desk, stimulus, ".vcd\n")
+}
+
+/// Puts the paths of a job's waveforms, by lane.
+pub fn put_waves<D: Desk>(desk: &mut D, job: &Job) -> Result<(), Failed>
+    ensures { PutsAll (D.told desk.old) (D.told desk.new) 0 (spec.waves_from 0 job.now.stimuli) result }
+{
+    put_law();
     for lane in 0..job.stimuli.len() {
-        push_wave(page, lane, job.stimuli.get(lane).as_bytes())?;
+        put_wave(desk, lane, job.stimuli.get(lane).as_bytes())?;
     }
     Ok(())
 }
 
-/// Adds that the file of this place can't be read. The only error is that memory ran out.
-pub fn push_read_fault(page: &mut Page, job: &Job, place: u32) -> Result<(), AllocError>
-    ensures { OnOk result (page.new ≡ page.old ++ spec.read_fault_text job.now place) }
+/// Puts that the file of this place can't be read.
+pub fn put_read_fault<D: Desk>(desk: &mut D, job: &Job, place: u32) -> Result<(), Failed>
+    ensures { PutsAll (D.told desk.old) (D.told desk.new) 0 (spec.read_fault_text job.now place) result }
 {
-    push_path(page, job, u64::from(place))?;
-    page.text(
+    put_law();
+    put_path(desk, job, place)?;
+    put_text(
+        desk,
         ": error: ReadFault: the file can't be read\nnote: check that it is there, and who may read it (docs/refusals.md)\n",
     )
 }
 
-/// Adds that the file of this place can't be written. The only error is that memory ran out.
-pub fn push_write_fault(page: &mut Page, job: &Job, place: u32) -> Result<(), AllocError>
-    ensures { OnOk result (page.new ≡ page.old ++ spec.write_fault_text job.now place) }
+/// Puts that standard output can't be written.
+pub fn put_output_fault<D: Desk>(desk: &mut D) -> Result<(), Failed>
+    ensures { PutsAll (D.told desk.old) (D.told desk.new) 0 spec.output_fault_text result }
 {
-    if place == 0 {
-        return page.text("error: WriteFault: standard output can't be written\n");
-    }
-    push_path(page, job, u64::from(place))?;
-    page.text(
+    put_text(
+        desk,
+        "error: WriteFault: standard output can't be written\n",
+    )
+}
+
+/// Puts that the file of a place other than 0 can't be written.
+fn put_file_fault<D: Desk>(desk: &mut D, job: &Job, place: u32) -> Result<(), Failed>
+    ensures { PutsAll (D.told desk.old) (D.told desk.new) 0 (spec.file_fault_text job.now place) result }
+{
+    put_law();
+    put_path(desk, job, place)?;
+    put_text(
+        desk,
         ": error: WriteFault: the file can't be written\nnote: check who may write it, and the room on its disk (docs/refusals.md)\n",
     )
 }
 
-/// Adds that there was not enough memory. The only error is that there is none again.
-pub fn push_memory(page: &mut Page) -> Result<(), AllocError>
-    ensures { OnOk result (page.new ≡ page.old ++ spec.memory_text) }
+/// Puts that the file of this place, or at place 0 standard output, can't be written.
+pub fn put_write_fault<D: Desk>(desk: &mut D, job: &Job, place: u32) -> Result<(), Failed>
+    ensures { PutsAll (D.told desk.old) (D.told desk.new) 0 (spec.write_fault_text job.now place) result }
 {
-    page.text(
+    if place == 0 {
+        return put_output_fault(desk);
+    }
+    put_file_fault(desk, job, place)
+}
+
+/// Puts that there was not enough memory.
+pub fn put_memory<D: Desk>(desk: &mut D) -> Result<(), Failed>
+    ensures { PutsAll (D.told desk.old) (D.told desk.new) 0 spec.memory_text result }
+{
+    put_text(
+        desk,
         "error: Memory: there was not enough memory\nnote: docs/trust.md says what a run takes (docs/refusals.md)\n",
     )
 }

@@ -5,12 +5,15 @@ mod ended;
 mod located;
 mod notes;
 mod placed;
+mod puts;
 mod refused;
 mod roles;
 mod seen;
 mod subjects;
 
-pub use ended::{push_done, push_memory, push_read_fault, push_waves, push_write_fault};
+pub use ended::{
+    put_checked, put_done, put_memory, put_output_fault, put_read_fault, put_waves, put_write_fault,
+};
 pub use notes::has_numbers;
 pub use refused::{at_of, push_refusal};
 pub use seen::Seen;

@@ -29,6 +29,9 @@ opened_kept tells ports before mid after path i j k below kept h =
       live = h.live;
       sizes = h.sizes;
       count = h.count;
+      named = h.named;
+      once = h.once;
+      wanted_sizes = h.wanted_sizes;
       reading = λ t. h.reading t ∙ sym (remaining_by_left k mid after ((kept t).left (stimulus_place k.lane) (omega arith)));
       read = λ t. read_by ports (before.files path) k mid after (ap (λ left. k.pending ++ left) ((kept t).left (stimulus_place k.lane) (omega arith))) (h.read t);
     }
@@ -41,6 +44,9 @@ opened_here tells ports before mid after path text j k e files h = record {
   live = h.live;
   sizes = h.sizes;
   count = h.count;
+  named = h.named;
+  once = h.once;
+  wanted_sizes = h.wanted_sizes;
   reading = λ t. (λ i. reading ports (sym (files t) i (e i))) ∙ h.reading t;
   read = λ t. subst (λ (bytes : List ℕ). IsReadBy ports bytes k after) (λ i. files t i (sym e i)) (h.read t);
 }

@@ -23,7 +23,7 @@ remaining_by_left k c d e = remains_by k c d (ap (λ left. k.pending ++ left) e)
 
 -- how far a text was read depends on the text that is left alone
 pub read_by : (ports : PortLists) (text : List ℕ) (k : Known) (c d : Contents) → text_left k d ≡ text_left k c → IsReadBy ports text k c → IsReadBy ports text k d
-read_by ports text k c d e h = subst (λ (rest : List ℕ). IsReadTo ports text k.count k.columns k.at rest) (sym e) h
+read_by ports text k c d e h = subst (λ (rest : List ℕ). IsReadTo ports text k.count k.columns k.line k.at rest) (sym e) h
 
 -- an advance, where the text that is left before and after it is the same by other contents
 pub advances_by : (tells : Bool) (c d c' d' : Contents) (old new : Known) → Advances tells c d old new
@@ -31,6 +31,8 @@ pub advances_by : (tells : Bool) (c d c' d' : Contents) (old new : Known) → Ad
 advances_by tells c d c' d' old new h e f = record {
   lane = h.lane;
   sizes = h.sizes;
+  columns = h.columns;
+  wanted_sizes = h.wanted_sizes;
   ended = h.ended;
   vector = λ t was now. remains_by old c c' (e t) ∙ h.vector t was now ∙ ap (λ r. with_vector (last_entry new) r) (sym (remains_by new d d' (f t)));
   count = h.count;

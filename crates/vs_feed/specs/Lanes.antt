@@ -10,7 +10,7 @@ use Rattle.vs_stim.specs.Row.{sizes}
 
 -- a stimulus that has ended
 abbrev pub ended : Known
-ended = record { lane = 0; live = false; columns = record { inputs = []; expected = [] }; count = 0; vector = []; wanted = []; at = first_place; pending = [] }
+ended = record { lane = 0; live = false; columns = record { inputs = []; expected = [] }; count = 0; line = 0; vector = []; wanted = []; at = first_place; pending = [] }
 
 -- the stimulus of lane i; past the last lane, one that has ended
 abbrev pub lane_at : List Known → ℕ → Known

@@ -1,14 +1,16 @@
 -- What the opening of all stimuli makes.
-use Rattle.std.specs.Prelude.{◌≡◌, ◌≢◌, ◌⊎◌, ℕ, ◌+◌, ◌<◌, Bool, true, IsTrue, IsNone, List, [], length, map, take, slice_index_or, String, string_bytes, None, Some}
+use Rattle.std.specs.Prelude.{◌≡◌, ◌≢◌, ◌⊎◌, ℕ, ◌+◌, ◌<◌, Bool, true, IsTrue, IsNone, List, [], All, length, map, take, slice_index_or, String, string_bytes, None, Some}
 use Rattle.std.specs.declared.alloc.Global.{Global}
 use Rattle.vs_desk.specs.declared.desk.Way.TheVariants.{Read}
 use Rattle.vs_desk.specs.Desk.{Register, Contents, Told, Fails}
 use Rattle.vs_desk.specs.Places.{with_places, stimulus_place}
 use Rattle.vs_stim.specs.declared.error.StimError.TheVariants as E
-use Rattle.vs_stim.specs.Header.{PortLists, lengths}
+use Rattle.vs_stim.specs.Header.{PortLists, lengths, output_lengths}
 use Rattle.vs_stim.specs.Known.{Known, remaining, IsReadBy, IsUntold}
 use Rattle.vs_stim.specs.Reading.{first_place, reading, refused, header_refusal}
 use Rattle.vs_stim.specs.Row.{sizes}
+use Rattle.vs_stim.specs.Wanted.{wanted_sizes}
+use Rattle.vs_stim.specs.Wants.{IsExpectedOf, is_each_once, expected_lengths}
 use Rattle.vs_stim.specs.Source.{IsHeaderError}
 use Rattle.vs_feed.specs.declared.reading.Stopped.{Stopped}
 use Rattle.vs_feed.specs.Lanes.{lane_at}
@@ -33,13 +35,16 @@ pub record AreFree (register : Register) (lanes : ℕ) : Type 0 where
 pub record HaveHeaders (ports : PortLists) (files : List ℕ → List ℕ) (paths : List (List ℕ)) (lanes : ℕ) : Type 0 where
   pub each : (i : ℕ) → i < lanes → header_refusal ports (files (path_at paths i)) ≡ None
 
--- The path's stimulus is that of the lane of this number, its text was read up to behind its header, and it is about to give its first
--- vector, where the desk had these contents before and after.
+-- The path's stimulus is that of the lane of this number, its text was read up to behind its header, which names outputs of these ports, each at most once,
+-- and it is about to give its first vector, where the desk had these contents before and after.
 pub record IsOpened (tells : Bool) (ports : PortLists) (before after : Contents) (path : List ℕ) (number : ℕ) (k : Known) : Type 0 where
   pub lane : k.lane ≡ number
   pub live : k.live ≡ true
   pub sizes : sizes k.vector ≡ lengths ports.inputs
   pub count : k.count ≡ 0
+  pub named : All (IsExpectedOf (output_lengths ports.outputs)) k.columns.expected
+  pub once : is_each_once k.columns.expected ≡ true
+  pub wanted_sizes : wanted_sizes k.wanted ≡ expected_lengths k.columns.expected
   pub reading : IsTrue tells → reading ports (before.files path) ≡ remaining k after
   pub read : IsTrue tells → IsReadBy ports (before.files path) k after
 
@@ -60,6 +65,8 @@ TakeFails paths old new lane = Fails (with_lanes old.register (take (lane + 1) p
 pub record StopsOpening {tells : Bool} (ports : PortLists) (paths : List (List ℕ)) (old new : Told tells) (stopped : Stopped) : Type 0 where
   pub lane : stopped.lane < length paths
   pub error : IsHeaderError stopped.error
+  -- that a header names no output is refused only where it has to
+  pub demanded : stopped.error ≡ E.NoExpectation → IsTrue ports.demanded
   -- a refusal is that of the lane's text, and no earlier lane's text has one
   pub refusal : IsTrue tells → stopped.error ≢ E.ReadFault → stopped.error ≢ E.Memory
       → header_refusal ports (old.contents.files (path_at paths stopped.lane)) ≡ Some stopped.error

@@ -6,13 +6,16 @@ use Rattle.vs_stim.specs.Header.{PortLists}
 use Rattle.vs_stim.specs.Known.{Known, last_entry, remaining, text_left, IsReadBy, IsUntold}
 use Rattle.vs_stim.specs.Reading.{whole, with_vector}
 use Rattle.vs_stim.specs.Row.{sizes}
+use Rattle.vs_stim.specs.Wanted.{wanted_sizes}
 use Rattle.vs_feed.specs.Lanes.{lane_at}
 
 -- A stimulus went on to its next vector, or to its end, where the desk had these contents before and after. With its vector its text is
--- read up to there. At its end nothing is left of its text. One that had ended is as it was, with what is left of its text.
+-- read up to there. At its end nothing is left of its text. Its header's columns stay, and the lengths of what it wants of outputs. One that had ended is as it was, with what is left of its text.
 pub record Advances (tells : Bool) (before after : Contents) (old new : Known) : Type 0 where
   pub lane : new.lane ≡ old.lane
   pub sizes : sizes new.vector ≡ sizes old.vector
+  pub columns : new.columns ≡ old.columns
+  pub wanted_sizes : wanted_sizes new.wanted ≡ wanted_sizes old.wanted
   pub ended : old.live ≡ false → new ≡ old
   pub vector : IsTrue tells → old.live ≡ true → new.live ≡ true → remaining old before ≡ with_vector (last_entry new) (remaining new after)
   pub count : old.live ≡ true → new.live ≡ true → new.count ≡ old.count + 1

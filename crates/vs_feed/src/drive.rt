@@ -47,7 +47,8 @@ impl Model for Drive {
 /// Opens the stimuli, by lane: attaches place 1000 + i to path i, and reads the text's header there.
 ///
 /// The refusals are `BadHeader`, `StimulusTooLong` and `LineTooLong`, each at a line up to the header of
-/// the least lane that has such a text (70, 75, 76). All the memory that the stimuli need is taken here.
+/// the least lane that has such a text (70, 75, 76), and `NoExpectation` (79), where headers have to name
+/// outputs and that lane's names none. All the memory that the stimuli need is taken here.
 pub fn open<D: Desk>(
     alloc: Global,
     desk: &mut D,
@@ -93,6 +94,14 @@ impl Drive {
         ensures { result.now ≡ map (λ k. k.live) self.now }
     {
         &self.live[..self.stimuli.len()]
+    }
+
+    /// The stimulus of this lane.
+    pub fn stimulus(&self, lane: u32) -> &Stimulus
+        requires { lane < length self.now }
+        ensures { result.now ≡ lane_at self.now lane }
+    {
+        &self.stimuli[lane as usize]
     }
 
     /// Reads the next vector of each live lane, by lane. Answers whether some lane has one.

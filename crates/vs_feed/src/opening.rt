@@ -50,6 +50,7 @@ fn open_next<D: Desk>(
 
     ensures lane { IfErr result (λ stopped. stopped.lane ≡ length stimuli.old.items) }
     ensures errors { IfErr result (λ stopped. IsHeaderError stopped.error) }
+    ensures demanded { IfErr result (λ stopped. stopped.error ≡ StimError.NoExpectation → IsTrue ports.now.demanded) }
     ensures refused { IsTrue D.tells → IfErr result (λ stopped. stopped.error ≢ StimError.ReadFault → stopped.error ≢ StimError.Memory →
         header_refusal ports.now ((D.told desk.old).contents.files (string_bytes path)) ≡ Some stopped.error) }
     ensures reading { IsTrue D.tells → IfErr result (λ stopped. stopped.error ≢ StimError.ReadFault → stopped.error ≢ StimError.Memory →

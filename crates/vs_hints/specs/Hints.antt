@@ -7,7 +7,7 @@ use Rattle.vs_refusal.specs.declared.names.AtName.TheVariants.{NoToken, OpenComm
 use Rattle.vs_refusal.specs.declared.names.ProcessName.{ProcessName}
 use Rattle.vs_refusal.specs.declared.names.ProcessName.TheVariants.{ClockRead, NotTheClock, TimeZero, ResetForm}
 use Rattle.vs_refusal.specs.declared.names.LaneName.{LaneName}
-use Rattle.vs_refusal.specs.declared.names.LaneName.TheVariants.{BadHeader, FirstUnknown, NoVector, TooManyVectors, StimulusTooLong}
+use Rattle.vs_refusal.specs.declared.names.LaneName.TheVariants.{BadHeader, FirstUnknown, NoVector, TooManyVectors, StimulusTooLong, NoExpectation}
 use Rattle.vs_refusal.specs.declared.names.LineName.{LineName}
 use Rattle.vs_refusal.specs.declared.names.LineName.TheVariants.{BadVector, LineTooLong, UnknownReset}
 use Rattle.vs_refusal.specs.declared.refusal.Refusal.{Refusal}
@@ -109,6 +109,7 @@ lane_sentence FirstUnknown = codes "the first vector has an x or z digit"
 lane_sentence NoVector = codes "there is a header and no vector"
 lane_sentence TooManyVectors = codes "the stimulus has more than 16,777,216 vectors"
 lane_sentence StimulusTooLong = codes "the stimulus has more than 4,294,967,296 bytes"
+lane_sentence NoExpectation = codes "the header names no output behind ->"
 
 abbrev pub lane_remedy : LaneName → List ℕ
 lane_remedy BadHeader = codes "docs/stimulus.md has the form"
@@ -116,6 +117,7 @@ lane_remedy FirstUnknown = codes "begin with known values"
 lane_remedy NoVector = codes "add one"
 lane_remedy TooManyVectors = codes "split the stimulus"
 lane_remedy StimulusTooLong = codes "split the stimulus"
+lane_remedy NoExpectation = codes "name outputs behind -> (docs/stimulus.md), or use cyclesim run"
 
 abbrev pub line_sentence : LineName → List ℕ
 line_sentence BadVector = codes "the line isn't one field of digits for each input, and behind -> one for each output that the header names"

@@ -157,6 +157,7 @@ fn lane_sentence(name: LaneName) -> &'static str
         LaneName::NoVector => "there is a header and no vector",
         LaneName::TooManyVectors => "the stimulus has more than 16,777,216 vectors",
         LaneName::StimulusTooLong => "the stimulus has more than 4,294,967,296 bytes",
+        LaneName::NoExpectation => "the header names no output behind ->",
     }
 }
 
@@ -170,6 +171,7 @@ fn lane_remedy(name: LaneName) -> &'static str
         LaneName::NoVector => "add one",
         LaneName::TooManyVectors => "split the stimulus",
         LaneName::StimulusTooLong => "split the stimulus",
+        LaneName::NoExpectation => "name outputs behind -> (docs/stimulus.md), or use cyclesim run",
     }
 }
 

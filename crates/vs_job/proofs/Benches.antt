@@ -1,13 +1,15 @@
 -- The bench of words.
-use Rattle.std.proofs.Common.{◌≡◌, ◌-◌, ◌<◌, ◌≤◌, Bool, true, false, cond, List, [], ◌∷◌, map, length, take, drop, get_or, codes, Option, Some, None, refl, sym, ap, subst, ◌∙◌, arith}
+use Rattle.std.proofs.Common.{◌≡◌, ◌-◌, ◌<◌, ◌≤◌, Bool, true, false, cond, List, [], ◌∷◌, map, length, take, drop, get_or, codes, Option, Some, None, option_map, refl, sym, ap, subst, ◌∙◌, arith}
 use Rattle.std.specs.Str.{bytes_eq}
 use Rattle.std.proofs.lemmas.List.{take_rest}
-use Rattle.std.proofs.lemmas.Option.{cond_some, option_and_then_some, same_Some}
+use Rattle.std.proofs.lemmas.Option.{option_and_then_some, same_Some}
 use Rattle.std.proofs.lemmas.Slice.Eq.{bytes_eq-Decides}
 use Rattle.vs_desk.specs.Places.{most_lanes}
 use Rattle.vs_job.specs.declared.bench.Bench.{Bench}
 use Rattle.vs_job.specs.declared.job.Job.{Job}
-use Rattle.vs_job.specs.Job.{Text, count_value, behind_run, job}
+use Rattle.vs_job.specs.declared.job.Mode.{Mode}
+use Rattle.vs_job.specs.declared.job.Mode.TheVariants.{Run, Check}
+use Rattle.vs_job.specs.Job.{Text, count_value, mode_named, mode_and_words, job}
 use Rattle.vs_job.specs.Bench.{most_vectors, sized, bench, IsBench}
 use Rattle.vs_job.proofs.Ranges.{count_value-range}
 
@@ -32,16 +34,30 @@ bench-some {A} text (x ∷ z ∷ xs) y t some second is =
 
 -- ---- what the words call for
 
+is_named : (command name : Text) → bytes_eq command name ≡ true → bytes_eq name (codes "bench") ≡ false → bytes_eq command (codes "bench") ≡ false
+is_named command name is other =
+    let same : command ≡ name = (bytes_eq-Decides command name).0 is in
+    rw same other
+
+-- the name of a command that calls for a job isn't that of the bench
+not_bench : (command : Text) (words : List Text) (read : Mode × List Text) → option_map (λ mode. (mode, words)) (mode_named command) ≡ Some read → bytes_eq command (codes "bench") ≡ false
+not_bench command words read e = go (bytes_eq command (codes "run")) (bytes_eq command (codes "check")) refl refl e
+  where
+    go : (run check : Bool) → bytes_eq command (codes "run") ≡ run → bytes_eq command (codes "check") ≡ check
+        → option_map (λ mode. (mode, words)) (cond run (Some Run) (cond check (Some Check) None)) ≡ Some read → bytes_eq command (codes "bench") ≡ false
+    go true check is other e = is_named command (codes "run") is refl
+    go false true other is e = is_named command (codes "check") is refl
+    go false false run check e = absurd (cc)
+
 -- words that call for a job call for no bench
 pub bench-none : (words : List Text) (j : Job) → job words ≡ Some j → bench words ≡ None
 unfolding job bench
 bench-none [] j e = refl
 bench-none (program ∷ []) j e = refl
 bench-none (program ∷ command ∷ words) j e =
-    option_and_then_some _ (behind_run (program ∷ command ∷ words)) j e (λ options is_run _.
-    let run = cond_some (bytes_eq command (codes "run")) words options is_run in
-    let same : command ≡ codes "run" = (bytes_eq-Decides command (codes "run")).0 run.0 in
-    rw same refl)
+    option_and_then_some _ (mode_and_words (program ∷ command ∷ words)) j e (λ read is_read _.
+    let other = not_bench command words read is_read in
+    rw other refl)
 
 some_then : {A : Type 0} (t : Bool) (o : Option A) (x : A) → cond t o None ≡ Some x → o ≡ Some x
 some_then true o x e = e

@@ -7,11 +7,12 @@ use Rattle.std.proofs.lemmas.Bool.Decides.{nat_tests}
 use Rattle.std.proofs.lemmas.List.{length-append, append-nil}
 use Rattle.vs_desk.specs.Places.{most_lanes}
 use Rattle.vs_job.specs.declared.job.Job.{Job}
+use Rattle.vs_job.specs.declared.job.Mode.{Mode}
 use Rattle.vs_job.specs.declared.words.Flag.{Flag}
 use Rattle.vs_job.specs.declared.words.Flag.TheVariants.{Top, Clock, Half, Define}
 use Rattle.vs_job.specs.declared.words.Next.{Next}
 use Rattle.vs_job.specs.declared.words.Next.TheVariants.{Any, Value, Path}
-use Rattle.vs_job.specs.Job.{Text, behind_run, Said, only_paths, path_and, value_and, is_plain, plain_value_and, flag_named, is_equals, attached, option_and, said, once, half_given, most_defines, are_defines, head_given, design_and_stimuli, called, job}
+use Rattle.vs_job.specs.Job.{Text, mode_and_words, Said, only_paths, path_and, value_and, is_plain, plain_value_and, flag_named, is_equals, attached, option_and, said, once, half_given, most_defines, are_defines, head_given, design_and_stimuli, called, job}
 use Rattle.vs_job.specs.Lines.{Line, start, with_path, is_given, given, with_value, with_flag, with_any, with_word, is_complete, read, line, values, said_of}
 
 -- what a line and the words behind it say
@@ -25,10 +26,10 @@ said_at (Value flag) words = said (Some flag) words
 said_at Path words = Some (only_paths words)
 
 abbrev job_with : Line → Option Said → Option Job
-job_with l o = option_and_then (λ s. called (behind l s)) o
+job_with l o = option_and_then (λ s. called l.mode (behind l s)) o
 
 abbrev pub job_read : Option Line → Option Job
-job_read o = option_and_then (λ l. called (said_of l)) o
+job_read o = option_and_then (λ l. called l.mode (said_of l)) o
 
 -- the line's job is that of what it and the words say
 abbrev Reads : List Text → Type 0
@@ -40,20 +41,20 @@ no_more : {A B : Type 0} (o : Option A) (f : A → Option B) → ((a : A) → f 
 no_more None f h = refl
 no_more (Some a) f h = h a
 
-called-tops : (s : Said) → once s.tops ≡ None → called s ≡ None
-called-tops s e = rw e
+called-tops : (mode : Mode) (s : Said) → once s.tops ≡ None → called mode s ≡ None
+called-tops mode s e = rw e
 
-called-clocks : (s : Said) → once s.clocks ≡ None → called s ≡ None
-called-clocks s e = no_more (once s.tops) _ (λ top. rw e)
+called-clocks : (mode : Mode) (s : Said) → once s.clocks ≡ None → called mode s ≡ None
+called-clocks mode s e = no_more (once s.tops) _ (λ top. rw e)
 
-called-halves : (s : Said) → half_given s.halves ≡ None → called s ≡ None
-called-halves s e = no_more (once s.tops) _ (λ top. no_more (once s.clocks) _ (λ clock. rw e))
+called-halves : (mode : Mode) (s : Said) → half_given s.halves ≡ None → called mode s ≡ None
+called-halves mode s e = no_more (once s.tops) _ (λ top. no_more (once s.clocks) _ (λ clock. rw e))
 
-called-defines : (s : Said) → head_given s.defines ≡ None → called s ≡ None
-called-defines s e = no_more (once s.tops) _ (λ top. no_more (once s.clocks) _ (λ clock. no_more (half_given s.halves) _ (λ half. rw e)))
+called-defines : (mode : Mode) (s : Said) → head_given s.defines ≡ None → called mode s ≡ None
+called-defines mode s e = no_more (once s.tops) _ (λ top. no_more (once s.clocks) _ (λ clock. no_more (half_given s.halves) _ (λ half. rw e)))
 
-called-paths : (s : Said) → design_and_stimuli s.paths ≡ None → called s ≡ None
-called-paths s e = no_more (once s.tops) _ (λ top. no_more (once s.clocks) _ (λ clock. no_more (half_given s.halves) _ (λ half. no_more (head_given s.defines) _ (λ head. rw e))))
+called-paths : (mode : Mode) (s : Said) → design_and_stimuli s.paths ≡ None → called mode s ≡ None
+called-paths mode s e = no_more (once s.tops) _ (λ top. no_more (once s.clocks) _ (λ clock. no_more (half_given s.halves) _ (λ half. no_more (head_given s.defines) _ (λ head. rw e))))
 
 too_many_defines : (values : List Text) → most_defines < length values → head_given values ≡ None
 too_many_defines values more =
@@ -73,7 +74,7 @@ too_many (design ∷ stimuli) more =
 path_moved : (path : Text) (l : Line) (o : Option Said) → job_with (record l { paths = l.paths ++ path ∷ [] }) o ≡ job_with l (option_map (path_and path) o)
 path_moved path l None = refl
 path_moved path l (Some s) =
-    ap (λ (paths : List Text). called (record { tops = values l.top ++ s.tops; clocks = values l.clock ++ s.clocks; halves = values l.half ++ s.halves; defines = l.defines ++ s.defines; paths = paths }))
+    ap (λ (paths : List Text). called l.mode (record { tops = values l.top ++ s.tops; clocks = values l.clock ++ s.clocks; halves = values l.half ++ s.halves; defines = l.defines ++ s.defines; paths = paths }))
     (append_assoc l.paths (path ∷ []) s.paths)
 
 path_full : (path : Text) (l : Line) (o : Option Said) → nat_le (length l.paths) most_lanes ≡ false → job_with l (option_map (path_and path) o) ≡ None
@@ -81,7 +82,7 @@ path_full path l None full = refl
 path_full path l (Some s) full =
     let size = length-append l.paths (path ∷ s.paths) in
     let more : most_lanes < length l.paths = grind (arith, nat_tests) in
-    called-paths (behind l (path_and path s)) (too_many (l.paths ++ path ∷ s.paths) (omega arith))
+    called-paths l.mode (behind l (path_and path s)) (too_many (l.paths ++ path ∷ s.paths) (omega arith))
 
 path_step : (path : Text) (words : List Text) (l : Line) (next : Next) → l.next ≡ next → Reads words
     → job_read (option_and_then (λ m. read m words) (with_path path l)) ≡ job_with l (option_map (path_and path) (said_at next words))
@@ -112,7 +113,7 @@ value_moved Top value l (Some s) e = let none = is_none l.top e in rw none
 value_moved Clock value l (Some s) e = let none = is_none l.clock e in rw none
 value_moved Half value l (Some s) e = let none = is_none l.half e in rw none
 value_moved Define value l (Some s) e =
-    ap (λ (defines : List Text). called (record { tops = values l.top ++ s.tops; clocks = values l.clock ++ s.clocks; halves = values l.half ++ s.halves; defines = defines; paths = l.paths ++ s.paths }))
+    ap (λ (defines : List Text). called l.mode (record { tops = values l.top ++ s.tops; clocks = values l.clock ++ s.clocks; halves = values l.half ++ s.halves; defines = defines; paths = l.paths ++ s.paths }))
     (append_assoc l.defines (value ∷ []) s.defines)
 
 value_twice : (flag : Flag) (value : Text) (l : Line) (o : Option Said) → is_given flag l ≡ true → job_with l (option_map (value_and flag value) o) ≡ None
@@ -120,13 +121,13 @@ value_twice Top value l None e = refl
 value_twice Clock value l None e = refl
 value_twice Half value l None e = refl
 value_twice Define value l None e = refl
-value_twice Top value l (Some s) e = let first = (is_value l.top e).1 in called-tops (behind l (value_and Top value s)) (rw first)
-value_twice Clock value l (Some s) e = let first = (is_value l.clock e).1 in called-clocks (behind l (value_and Clock value s)) (rw first)
-value_twice Half value l (Some s) e = let first = (is_value l.half e).1 in called-halves (behind l (value_and Half value s)) (rw first)
+value_twice Top value l (Some s) e = let first = (is_value l.top e).1 in called-tops l.mode (behind l (value_and Top value s)) (rw first)
+value_twice Clock value l (Some s) e = let first = (is_value l.clock e).1 in called-clocks l.mode (behind l (value_and Clock value s)) (rw first)
+value_twice Half value l (Some s) e = let first = (is_value l.half e).1 in called-halves l.mode (behind l (value_and Half value s)) (rw first)
 value_twice Define value l (Some s) e =
     let size = length-append l.defines (value ∷ s.defines) in
     let full = leb-true most_defines (length l.defines) e in
-    called-defines (behind l (value_and Define value s)) (too_many_defines (l.defines ++ value ∷ s.defines) (omega arith))
+    called-defines l.mode (behind l (value_and Define value s)) (too_many_defines (l.defines ++ value ∷ s.defines) (omega arith))
 
 given_read : (flag : Flag) (value : Text) (words : List Text) (l : Line) → Reads words → job_read (read (given flag value l) words) ≡ job_with (given flag value l) (said None words)
 given_read Top value words l reads = reads (given Top value l)
@@ -167,7 +168,7 @@ step Any word words l at reads = any_step word words l at reads
 step (Value flag) word words l at reads = value_step flag word words l reads
 step Path word words l at reads = path_step word words l Path at reads
 
-end : (l : Line) → called (said_of l) ≡ called (behind l (only_paths []))
+end : (l : Line) → called l.mode (said_of l) ≡ called l.mode (behind l (only_paths []))
 end l = rw (append-nil (values l.top), append-nil (values l.clock), append-nil (values l.half), append-nil l.defines, append-nil l.paths)
 
 ends : (next : Next) (l : Line) → job_read (cond (is_complete next) (Some l) None) ≡ job_with l (said_at next [])
@@ -179,11 +180,11 @@ reads_all : (words : List Text) → Reads words
 reads_all [] l = ends l.next l
 reads_all (word ∷ words) l = step l.next word words l refl (reads_all words)
 
-from_run : (o : Option (List Text)) → job_read (option_and_then (λ options. read start options) o) ≡ option_and_then (λ options. option_and_then called (said None options)) o
-from_run None = refl
-from_run (Some options) = reads_all options start
+from_command : (o : Option (Mode × List Text)) → job_read (option_and_then (λ command. read (start command.0) command.1) o) ≡ option_and_then (λ command. option_and_then (called command.0) (said None command.1)) o
+from_command None = refl
+from_command (Some (mode, words)) = reads_all words (start mode)
 
 -- the job of words whose line is known
 pub job-line : (words : List Text) (l : Option Line) → l ≡ line words → job_read l ≡ job words
 unfolding job
-job-line words l e = ap job_read e ∙ from_run (behind_run words)
+job-line words l e = ap job_read e ∙ from_command (mode_and_words words)

@@ -10,7 +10,9 @@ use Rattle.std.proofs.lemmas.Option.{slice_get-map, slice_get_within, slice_get-
 use Rattle.std.proofs.lemmas.Slice.Eq.{bytes_eq-Decides}
 use Rattle.vs_desk.specs.Places.{design_place, stimulus_place, waveform_place}
 use Rattle.vs_job.specs.declared.job.Job.{Job}
-use Rattle.vs_job.specs.Places.{Place, place, vcd_path, places_from, places, place_with, pair_or, same_from, same_paths, PathsDiffer}
+use Rattle.vs_job.specs.declared.job.Mode.{Mode}
+use Rattle.vs_job.specs.declared.job.Mode.TheVariants.{Run, Check}
+use Rattle.vs_job.specs.Places.{Place, place, vcd_path, places_from, waveforms, places, place_with, pair_or, same_from, same_paths, PathsDiffer}
 
 length-places_from : (n : ℕ) (ps : List (List ℕ)) → length (places_from n ps) ≡ length ps
 length-places_from n [] = refl
@@ -23,14 +25,49 @@ get_or-places_from n (p ∷ ps) zero d path e =
     ap (λ (x : List ℕ). place n x) same ∙ ap (λ (k : ℕ). place k path) (omega arith)
 get_or-places_from n (p ∷ ps) (suc i) d path e = get_or-places_from (suc n) ps i d path e ∙ ap (λ (k : ℕ). place k path) (omega arith)
 
-pub length-places : (j : Job) → length (places j) ≡ 1 + 2 * length j.stimuli
+length-by_mode : (j : Job) (mode : Mode) → j.mode ≡ mode → length (places j) ≡ 1 + (length j.stimuli + length (waveforms mode j.stimuli))
 unfolding places
-length-places j =
-    let a = length-append (places_from (stimulus_place 0) j.stimuli) (places_from (waveform_place 0) (map vcd_path j.stimuli)) in
+length-by_mode j mode e =
+    let a = length-append (places_from (stimulus_place 0) j.stimuli) (waveforms j.mode j.stimuli) in
     let b = length-places_from (stimulus_place 0) j.stimuli in
+    let c = ap (λ (m : Mode). length (waveforms m j.stimuli)) e in
+    omega arith
+
+-- a run has a waveform for each lane
+pub length-run : (j : Job) → j.mode ≡ Run → length (places j) ≡ 1 + 2 * length j.stimuli
+length-run j e =
+    let a = length-by_mode j Run e in
     let c = length-places_from (waveform_place 0) (map vcd_path j.stimuli) in
     let m = length-map j.stimuli vcd_path in
     omega arith
+
+-- and a check has none
+pub length-check : (j : Job) → j.mode ≡ Check → length (places j) ≡ 1 + length j.stimuli
+length-check j e = let a = length-by_mode j Check e in omega arith
+
+-- a place behind the stimuli is a waveform's, of a run
+pub record IsBehind (j : Job) (n : ℕ) : Type 0 where
+  pub run : j.mode ≡ Run
+  pub within : n < 1 + 2 * length j.stimuli
+
+pub behind_stimuli : (j : Job) (n : ℕ) → n < length (places j) → length j.stimuli < n → IsBehind j n
+behind_stimuli j n lt behind = go j.mode refl
+  where
+    go : (mode : Mode) → j.mode ≡ mode → IsBehind j n
+    go Run e = let size = length-run j e in record { run = e; within = omega arith }
+    go Check e = let size = length-check j e in absurd (omega arith)
+
+-- there are as many as a run has, or fewer
+pub few_places : (j : Job) → length (places j) ≤ 1 + 2 * length j.stimuli
+few_places j = go j.mode refl
+  where
+    go : (mode : Mode) → j.mode ≡ mode → length (places j) ≤ 1 + 2 * length j.stimuli
+    go Run e = let size = length-run j e in omega arith
+    go Check e = let size = length-check j e in omega arith
+
+-- the design and the stimuli have places
+pub stimuli_have_places : (j : Job) → 1 + length j.stimuli ≤ length (places j)
+stimuli_have_places j = let a = length-by_mode j j.mode refl in omega arith
 
 pub place-design : (j : Job) (d : Place) → get_or (places j) 0 d ≡ place design_place j.design
 unfolding places
@@ -40,19 +77,20 @@ pub place-stimulus : (j : Job) (n i : ℕ) (d : Place) (path : List ℕ) → n �
 unfolding places
 place-stimulus j n i d path e is =
     let stimuli = places_from (stimulus_place 0) j.stimuli in
-    let vcds = places_from (waveform_place 0) (map vcd_path j.stimuli) in
+    let vcds = waveforms j.mode j.stimuli in
     let within = slice_get_within j.stimuli i path is in
     let size = length-places_from (stimulus_place 0) j.stimuli in
     ap (λ (k : ℕ). get_or (places j) k d) (e ∙ add-one i) ∙ get_or_append_left stimuli vcds d i (omega arith) ∙ get_or-places_from (stimulus_place 0) j.stimuli i d path is
 
-pub place-vcd : (j : Job) (n i : ℕ) (d : Place) (path : List ℕ) → n ≡ 1 + (length j.stimuli + i) → slice_get j.stimuli i ≡ Some path → get_or (places j) n d ≡ place (waveform_place i) (vcd_path path)
+pub place-vcd : (j : Job) (n i : ℕ) (d : Place) (path : List ℕ) → j.mode ≡ Run → n ≡ 1 + (length j.stimuli + i) → slice_get j.stimuli i ≡ Some path → get_or (places j) n d ≡ place (waveform_place i) (vcd_path path)
 unfolding places
-place-vcd j n i d path e is =
+place-vcd j n i d path run e is =
     let stimuli = places_from (stimulus_place 0) j.stimuli in
-    let vcds = places_from (waveform_place 0) (map vcd_path j.stimuli) in
+    let vcds = waveforms j.mode j.stimuli in
+    let of_run : vcds ≡ places_from (waveform_place 0) (map vcd_path j.stimuli) = ap (λ (m : Mode). waveforms m j.stimuli) run in
     let size = length-places_from (stimulus_place 0) j.stimuli in
     let at_vcd : n ≡ suc (length stimuli + i) = omega arith in
-    ap (λ (k : ℕ). get_or (places j) k d) at_vcd ∙ get_or-append-add stimuli vcds i d ∙ get_or-places_from (waveform_place 0) (map vcd_path j.stimuli) i d (vcd_path path) (slice_get-map vcd_path j.stimuli i ∙ ap (λ (o : Option (List ℕ)). option_map vcd_path o) is)
+    ap (λ (k : ℕ). get_or (places j) k d) at_vcd ∙ get_or-append-add stimuli vcds i d ∙ ap (λ (ps : List Place). get_or ps i d) of_run ∙ get_or-places_from (waveform_place 0) (map vcd_path j.stimuli) i d (vcd_path path) (slice_get-map vcd_path j.stimuli i ∙ ap (λ (o : Option (List ℕ)). option_map vcd_path o) is)
 
 -- a first place that isn't taken
 passed : (b : Bool) (n : ℕ) (o : Option ℕ) → cond b (Some n) o ≡ None → (b ≡ false) × (o ≡ None)
@@ -132,12 +170,12 @@ slice_get-design j = refl
 
 pub slice_get-stimulus : (j : Job) (i : ℕ) (path : List ℕ) → slice_get j.stimuli i ≡ Some path → slice_get (places j) (1 + i) ≡ Some (place (stimulus_place i) path)
 slice_get-stimulus j i path is =
-    let size = length-places j in
+    let size = stimuli_have_places j in
     let within = slice_get_within j.stimuli i path is in
     slice_get-get_or (places j) (1 + i) (place 0 []) (omega arith) ∙ ap (λ (p : Place). Some p) (place-stimulus j (1 + i) i (place 0 []) path (omega arith) is)
 
-pub slice_get-vcd : (j : Job) (i : ℕ) (path : List ℕ) → slice_get j.stimuli i ≡ Some path → slice_get (places j) (1 + length j.stimuli + i) ≡ Some (place (waveform_place i) (vcd_path path))
-slice_get-vcd j i path is =
-    let size = length-places j in
+pub slice_get-vcd : (j : Job) (i : ℕ) (path : List ℕ) → j.mode ≡ Run → slice_get j.stimuli i ≡ Some path → slice_get (places j) (1 + length j.stimuli + i) ≡ Some (place (waveform_place i) (vcd_path path))
+slice_get-vcd j i path run is =
+    let size = length-run j run in
     let within = slice_get_within j.stimuli i path is in
-    slice_get-get_or (places j) (1 + length j.stimuli + i) (place 0 []) (omega arith) ∙ ap (λ (p : Place). Some p) (place-vcd j (1 + length j.stimuli + i) i (place 0 []) path (omega arith) is)
+    slice_get-get_or (places j) (1 + length j.stimuli + i) (place 0 []) (omega arith) ∙ ap (λ (p : Place). Some p) (place-vcd j (1 + length j.stimuli + i) i (place 0 []) path run (omega arith) is)

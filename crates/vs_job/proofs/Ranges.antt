@@ -7,7 +7,7 @@ use Rattle.std.proofs.lemmas.Bool.{and_parts, leb-true}
 use Rattle.std.proofs.lemmas.Option.{cond_some, option_and_then_some, same_Some}
 use Rattle.vs_desk.specs.Places.{most_lanes}
 use Rattle.vs_job.specs.declared.job.Job.{Job}
-use Rattle.vs_job.specs.Job.{Text, behind_run, said, is_count, count_value, once, half_given, most_defines, most_head, are_defines, is_define, head_of, head_given, Paths, design_and_stimuli, job, IsJob, most_half}
+use Rattle.vs_job.specs.Job.{Text, mode_and_words, said, is_count, count_value, once, half_given, most_defines, most_head, are_defines, is_define, head_of, head_given, Paths, design_and_stimuli, job, IsJob, most_half}
 
 pub record IsCount (most n : ℕ) : Type 0 where
   pub from : 1 ≤ n
@@ -54,8 +54,8 @@ design_and_stimuli-range (design ∷ stimuli) r e =
 pub IsJob-job : (words : List Text) (j : Job) → job words ≡ Some j → IsJob j
 unfolding job
 IsJob-job words j e =
-    option_and_then_some _ (behind_run words) j e (λ options _ e1.
-    option_and_then_some _ (said None options) j e1 (λ s _ e2.
+    option_and_then_some _ (mode_and_words words) j e (λ command _ e1.
+    option_and_then_some _ (said None command.1) j e1 (λ s _ e2.
     option_and_then_some _ (once s.tops) j e2 (λ top _ e3.
     option_and_then_some _ (once s.clocks) j e3 (λ clock _ e4.
     option_and_then_some _ (half_given s.halves) j e4 (λ half is_half e5.

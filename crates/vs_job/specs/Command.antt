@@ -8,6 +8,7 @@ use Rattle.vs_job.specs.Lines.{Line}
 
 abbrev pub line_of : Lent → Line
 line_of l = record {
+  mode = l.mode;
   next = l.next;
   top = option_map (λ s. s.now) l.top;
   clock = option_map (λ s. s.now) l.clock;
@@ -18,6 +19,7 @@ line_of l = record {
 
 abbrev pub job_of : Command → Job
 job_of c = record {
+  mode = c.mode;
   top = c.top.now;
   clock = c.clock.now;
   half = c.half;

@@ -5,6 +5,8 @@ use Rattle.std.specs.Str.{all_ascii_digits}
 use Rattle.std.specs.Str.Parse.{digits_value}
 use Rattle.vs_desk.specs.Places.{most_lanes}
 use Rattle.vs_job.specs.declared.job.Job.{Job}
+use Rattle.vs_job.specs.declared.job.Mode.{Mode}
+use Rattle.vs_job.specs.declared.job.Mode.TheVariants.{Run, Check}
 use Rattle.vs_job.specs.declared.words.Flag.{Flag}
 use Rattle.vs_job.specs.declared.words.Flag.TheVariants.{Top, Clock, Half, Define}
 
@@ -15,10 +17,14 @@ o >>= f = option_and_then f o
 abbrev pub Text : Type 0
 Text = List ℕ
 
--- the words behind the program's own name and `run`
-abbrev pub behind_run : List Text → Option (List Text)
-behind_run (program ∷ command ∷ words) = if bytes_eq command (codes "run") then Some words else None
-behind_run _ = None
+-- what the command of this name does, where it is one that calls for a job
+abbrev pub mode_named : Text → Option Mode
+mode_named command = if bytes_eq command (codes "run") then Some Run else (if bytes_eq command (codes "check") then Some Check else None)
+
+-- what the command does, which stands behind the program's own name, and the words behind it
+abbrev pub mode_and_words : List Text → Option (Mode × List Text)
+mode_and_words (program ∷ command ∷ words) = option_map (λ mode. (mode, words)) (mode_named command)
+mode_and_words _ = None
 
 -- what words say: the values of each option, and the paths, in order
 pub record Said : Type 0 where
@@ -71,7 +77,7 @@ option_and None value rest next = None
 option_and (Some flag) (Some value) rest next = plain_value_and flag value rest
 option_and (Some flag) None rest next = next flag
 
--- what the words behind `run` say. The first one is the value of the option, where one is given; else it is `--`, a
+-- what the words behind the command say. The first one is the value of the option, where one is given; else it is `--`, a
 -- path, or an option.
 abbrev pub said : Option Flag → List Text → Option Said
 said None [] = Some (only_paths [])
@@ -184,22 +190,22 @@ abbrev pub design_and_stimuli : List Text → Option Paths
 design_and_stimuli [] = None
 design_and_stimuli (design ∷ stimuli) = if nat_le 1 (length stimuli) && nat_le (length stimuli) most_lanes then Some (record { design = design; stimuli = stimuli }) else None
 
--- the job of what the words say
-abbrev pub called : Said → Option Job
-called s = do
+-- the job of a command, and of what the words behind it say
+abbrev pub called : Mode → Said → Option Job
+called mode s = do
   top ← once s.tops
   clock ← once s.clocks
   half ← half_given s.halves
   head ← head_given s.defines
   paths ← design_and_stimuli s.paths
-  Some (record { top = top; clock = clock; half = half; head = head; design = paths.design; stimuli = paths.stimuli })
+  Some (record { mode = mode; top = top; clock = clock; half = half; head = head; design = paths.design; stimuli = paths.stimuli })
 
 -- the job that the words call for, the program's own name first; none where they call for none
 unfoldable pub job : List Text → Option Job
 job words = do
-  options ← behind_run words
-  s ← said None options
-  called s
+  command ← mode_and_words words
+  s ← said None command.1
+  called command.0 s
 
 -- the ranges that every job keeps
 pub record IsJob (j : Job) : Type 0 where

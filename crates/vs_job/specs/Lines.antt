@@ -2,14 +2,16 @@
 use Rattle.std.specs.Prelude.{Bool, true, false, not, ◌&&◌, nat_le, List, [], ◌∷◌, ◌++◌, length, Option, Some, None, is_some, codes, bytes_eq, if◌then◌else◌}
 use Rattle.std.specs.List.{before_first}
 use Rattle.vs_desk.specs.Places.{most_lanes}
+use Rattle.vs_job.specs.declared.job.Mode.{Mode}
 use Rattle.vs_job.specs.declared.words.Flag.{Flag}
 use Rattle.vs_job.specs.declared.words.Flag.TheVariants.{Top, Clock, Half, Define}
 use Rattle.vs_job.specs.declared.words.Next.{Next}
 use Rattle.vs_job.specs.declared.words.Next.TheVariants.{Any, Value, Path}
-use Rattle.vs_job.specs.Job.{◌>>=◌, Text, Said, is_plain, is_equals, flag_named, attached, behind_run, most_defines}
+use Rattle.vs_job.specs.Job.{◌>>=◌, Text, Said, is_plain, is_equals, flag_named, attached, mode_and_words, most_defines}
 
--- what the words so far say, and what the next one may be
+-- what the command does, what the words behind it say so far, and what the next one may be
 pub record Line : Type 0 where
+  pub mode : Mode
   pub next : Next
   pub top : Option Text
   pub clock : Option Text
@@ -17,9 +19,9 @@ pub record Line : Type 0 where
   pub defines : List Text
   pub paths : List Text
 
--- before the first word
-abbrev pub start : Line
-start = record { next = Any; top = None; clock = None; half = None; defines = []; paths = [] }
+-- before the first word behind the command
+abbrev pub start : Mode → Line
+start mode = record { mode = mode; next = Any; top = None; clock = None; half = None; defines = []; paths = [] }
 
 -- one more path: the design and 256 stimuli at most
 abbrev pub with_path : Text → Line → Option Line
@@ -70,7 +72,7 @@ abbrev pub is_complete : Next → Bool
 is_complete (Value flag) = false
 is_complete _ = true
 
--- the words behind `run`, one after the other
+-- the words behind the command, one after the other
 abbrev pub read : Line → List Text → Option Line
 read l [] = if is_complete l.next then Some l else None
 read l (word ∷ words) = do
@@ -80,8 +82,8 @@ read l (word ∷ words) = do
 -- what the words say
 abbrev pub line : List Text → Option Line
 line words = do
-  options ← behind_run words
-  read start options
+  command ← mode_and_words words
+  read (start command.0) command.1
 
 -- the values that an option has so far
 abbrev pub values : Option Text → List Text

@@ -2,6 +2,8 @@
 use Rattle.std.specs.Prelude.{◌≢◌, ℕ, suc, List, [], ◌∷◌, ◌++◌, map, AllPairs, Option, Some, None, codes, bytes_eq, if◌then◌else◌}
 use Rattle.vs_desk.specs.Places.{design_place, stimulus_place, waveform_place}
 use Rattle.vs_job.specs.declared.job.Job.{Job}
+use Rattle.vs_job.specs.declared.job.Mode.{Mode}
+use Rattle.vs_job.specs.declared.job.Mode.TheVariants.{Run, Check}
 
 -- a place's number, and its path
 pub record Place : Type 0 where
@@ -20,9 +22,14 @@ abbrev pub places_from : ℕ → List (List ℕ) → List Place
 places_from n [] = []
 places_from n (path ∷ paths) = place n path ∷ places_from (suc n) paths
 
+-- the waveforms by lane, and none where no file is written
+abbrev pub waveforms : Mode → List (List ℕ) → List Place
+waveforms Run stimuli = places_from (waveform_place 0) (map vcd_path stimuli)
+waveforms Check stimuli = []
+
 -- the design, the stimuli by lane, and the waveforms by lane
 unfoldable pub places : Job → List Place
-places j = place design_place j.design ∷ (places_from (stimulus_place 0) j.stimuli ++ places_from (waveform_place 0) (map vcd_path j.stimuli))
+places j = place design_place j.design ∷ (places_from (stimulus_place 0) j.stimuli ++ waveforms j.mode j.stimuli)
 
 -- the first of the places that has this path
 abbrev pub place_with : List ℕ → List Place → Option ℕ

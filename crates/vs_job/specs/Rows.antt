@@ -3,6 +3,7 @@ use Rattle.std.specs.Prelude.{ℕ, ◌==◌, List, [], ◌∷◌, ◌++◌, map,
 use Rattle.std.specs.List.{slice_split}
 use Rattle.vs_job.specs.declared.bench.Bench.{Bench}
 use Rattle.vs_job.specs.declared.job.Job.{Job}
+use Rattle.vs_job.specs.declared.job.Mode.TheVariants.{Run, Check}
 use Rattle.vs_job.specs.Job.{Text}
 
 abbrev pub words : Text → List Text
@@ -25,11 +26,15 @@ of_none line = record { line = line; job = None; bench = None }
 
 -- the job of top t, clock c and design d
 abbrev a_job : ℕ → List Text → Job
-a_job half stimuli = record { top = codes "t"; clock = codes "c"; half = half; head = []; design = codes "d"; stimuli = stimuli }
+a_job half stimuli = record { mode = Run; top = codes "t"; clock = codes "c"; half = half; head = []; design = codes "d"; stimuli = stimuli }
 
 -- the same with macros, and one stimulus
 abbrev defined : Text → Job
 defined head = record (a_job 5 (codes "s" ∷ [])) { head = head }
+
+-- the same job, to be checked
+abbrev checked : Job → Job
+checked j = record j { mode = Check }
 
 -- options in any order, among the paths too, with their values as words of their own or behind `=`
 abbrev jobs : List Row
@@ -37,11 +42,13 @@ jobs =
     of_job (codes "x run --top t --clock c d s") (a_job 5 (codes "s" ∷ []))
     ∷ of_job (codes "x run d --clock=c s --half 9 --top=t u") (a_job 9 (codes "s" ∷ codes "u" ∷ []))
     ∷ of_job (codes "x run --top=t --half=1000000 --clock c -- d -s -- --top=u") (a_job 1000000 (codes "-s" ∷ codes "--" ∷ codes "--top=u" ∷ []))
-    ∷ of_job (codes "x run --top t=u= --clock= d s") (record { top = codes "t=u="; clock = []; half = 5; head = []; design = codes "d"; stimuli = codes "s" ∷ [] })
-    ∷ of_job (codes "x run --top=t=u --clock  d ") (record { top = codes "t=u"; clock = []; half = 5; head = []; design = codes "d"; stimuli = [] ∷ [] })
+    ∷ of_job (codes "x run --top t=u= --clock= d s") (record { mode = Run; top = codes "t=u="; clock = []; half = 5; head = []; design = codes "d"; stimuli = codes "s" ∷ [] })
+    ∷ of_job (codes "x run --top=t=u --clock  d ") (record { mode = Run; top = codes "t=u"; clock = []; half = 5; head = []; design = codes "d"; stimuli = [] ∷ [] })
     ∷ of_job (codes "x run --define A --top t --clock c d s") (defined (codes "`define A\n"))
     ∷ of_job (codes "x run --top t --clock c d s --define=W=4 --define _w$2=a=b//`A") (defined (codes "`define W 4\n`define _w$2 a=b//`A\n"))
     ∷ of_job (codes "x run --define=W=1 --top t --define Z9= d --clock c --define W s") (defined (codes "`define W 1\n`define Z9 \n`define W\n"))
+    ∷ of_job (codes "x check --top t --clock c d s") (checked (a_job 5 (codes "s" ∷ [])))
+    ∷ of_job (codes "x check d --clock=c run --half 9 --define A --top=t check") (checked (record (a_job 9 (codes "run" ∷ codes "check" ∷ [])) { head = codes "`define A\n" }))
     ∷ []
 
 -- vectors for each lane, and the lanes, 64 where they aren't given
@@ -61,6 +68,11 @@ broken =
     ∷ codes "x run"
     ∷ codes "x run --help"
     ∷ codes "x --version"
+    ∷ codes "x check"
+    ∷ codes "x check --top t --clock c d"
+    ∷ codes "x checks --top t --clock c d s"
+    ∷ codes "x Check --top t --clock c d s"
+    ∷ codes "x --top t check --clock c d s"
     ∷ codes "x bench --top t --clock c d s"
     ∷ codes "x --top t run --clock c d s"
     ∷ codes "x run --top t d s"

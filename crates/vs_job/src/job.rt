@@ -9,9 +9,21 @@ use crate::words::read_line;
 use std::alloc::{AllocError, Global};
 use thiserror::Error;
 
-/// What to run: one design with one stimulus for each lane.
+/// What is done with the lanes of a job.
+#[derive(Clone, Copy, PartialEq, Eq, Debug)]
+pub enum Mode {
+    /// `run`: a waveform is written for each lane.
+    Run,
+    /// `check`: each lane is compared with what its stimulus wants of the outputs, and no file is
+    /// written.
+    Check,
+}
+
+/// What to run or to check: one design with one stimulus for each lane.
 #[derive(Debug, Drop)]
 pub struct Job {
+    /// Whether waveforms are written, or outputs compared.
+    pub mode: Mode,
     /// The name of the top module.
     pub top: Text,
     /// The name of the top's clock input.
@@ -47,10 +59,11 @@ impl From<AllocError> for JobError {
 }
 
 /// Reads the words of the command line, the program's own name first:
-/// `cyclesim run --top T --clock C [--half H] [--define NAME[=TEXT]].. DESIGN STIM..`.
+/// `cyclesim run --top T --clock C [--half H] [--define NAME[=TEXT]].. DESIGN STIM..`, or the same
+/// with `check` in the place of `run`.
 ///
-/// The options stand anywhere behind `run`, each once but for `--define`, with the value in the next
-/// word or, as in `--top=T`, behind the first `=`. `--` ends them: each word behind it is a path.
+/// The options stand anywhere behind the command, each once but for `--define`, with the value in the
+/// next word or, as in `--top=T`, behind the first `=`. `--` ends them: each word behind it is a path.
 /// Before it no value and no path begins with `-`. H is a decimal number from 1 to 1,000,000 without a
 /// sign or a leading zero, and 5 where it isn't given. The first path is the design, and 1 to 256
 /// stimuli follow.

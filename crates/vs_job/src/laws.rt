@@ -1,9 +1,10 @@
 //! Laws on jobs and benches, as functions that do nothing: each clause is over the definitions alone.
 
-ghost use Rattle.std.specs.Prelude.{◌≡◌, ◌+◌, ℕ, List, None, Some, map, length, slice_get};
+ghost use Rattle.std.specs.Prelude.{◌≡◌, ◌+◌, ◌*◌, ℕ, List, None, Some, map, length, slice_get};
 ghost use Rattle.vs_desk.specs.Places.{design_place, stimulus_place, waveform_place};
 ghost use Rattle.vs_job.specs.declared.bench.Bench.{Bench};
 ghost use Rattle.vs_job.specs.declared.job.Job.{Job};
+ghost use Rattle.vs_job.specs.declared.job.Mode.TheVariants.{Run, Check};
 ghost use Rattle.vs_job.specs.Bench.{bench, IsBench};
 ghost use Rattle.vs_job.specs.Job.{job, IsJob};
 ghost use Rattle.vs_job.specs.Rows.{words, rows};
@@ -35,11 +36,13 @@ pub fn same_paths_law()
     ensures { (j : Job) → same_paths j ≡ None → PathsDiffer (places j) }
 {}
 
-/// Which places there are: the design, and a stimulus and a waveform for each lane.
+/// Which places there are: the design, a stimulus for each lane, and in a run a waveform for each.
 pub fn places_law()
     ensures design { (j : Job) → slice_get (places j) 0 ≡ Some (place design_place j.design) }
     ensures stimulus { (j : Job) (i : ℕ) (path : List ℕ) → slice_get j.stimuli i ≡ Some path
         → slice_get (places j) (1 + i) ≡ Some (place (stimulus_place i) path) }
-    ensures vcd { (j : Job) (i : ℕ) (path : List ℕ) → slice_get j.stimuli i ≡ Some path
+    ensures vcd { (j : Job) (i : ℕ) (path : List ℕ) → j.mode ≡ Run → slice_get j.stimuli i ≡ Some path
         → slice_get (places j) (1 + length j.stimuli + i) ≡ Some (place (waveform_place i) (vcd_path path)) }
+    ensures run { (j : Job) → j.mode ≡ Run → length (places j) ≡ 1 + 2 * length j.stimuli }
+    ensures check { (j : Job) → j.mode ≡ Check → length (places j) ≡ 1 + length j.stimuli }
 {}

@@ -1,11 +1,11 @@
 //! The places of a job, and two of them that have one path.
 
-ghost use Rattle.std.specs.Prelude.{◌≡◌, ◌+◌, ◌*◌, ◌<◌, ◌≤◌, take, length, slice_index_or, bytes_eq};
+ghost use Rattle.std.specs.Prelude.{◌≡◌, ◌<◌, ◌≤◌, take, length, slice_index_or, bytes_eq};
 ghost use Rattle.vs_desk.specs.Places.{most_lanes};
 ghost use Rattle.vs_job.specs.Places as spec;
 ghost use Rattle.vs_job.specs.Paths.{path_of, place_of};
 
-use crate::job::Job;
+use crate::job::{Job, Mode};
 use vs_desk::{DESIGN_PLACE, FIRST_STIMULUS, FIRST_WAVEFORM};
 
 /// What is added to a stimulus's path.
@@ -52,15 +52,20 @@ fn is_same(a: Path<'_>, b: Path<'_>) -> bool
 /// How many places there are.
 fn place_count(job: &Job) -> usize
     requires { length job.now.stimuli ≤ most_lanes }
-    ensures { result ≡ 1 + 2 * length job.now.stimuli }
+    ensures { result ≡ length (spec.places job.now) }
 {
-    1 + 2 * job.stimuli.len()
+    let lanes = job.stimuli.len();
+    match job.mode {
+        Mode::Run => 1 + 2 * lanes,
+        Mode::Check => 1 + lanes,
+    }
 }
 
 /// Place n, from 0: the design, the stimuli by lane, and the waveforms by lane.
+#[tactic(auto, using(crate::proofs::Listed::few_places))]
 fn place_at(job: &Job, n: usize) -> Place<'_>
     requires few { length job.now.stimuli ≤ most_lanes }
-    requires place { n < 1 + 2 * length job.now.stimuli }
+    requires place { n < length (spec.places job.now) }
     ensures { (d : spec.Place) → slice_index_or (spec.places job.now) n d ≡ place_of result }
 {
     let lanes = job.stimuli.len();
@@ -87,7 +92,7 @@ fn place_at(job: &Job, n: usize) -> Place<'_>
 /// The first of the first n places that has the path.
 fn place_with(job: &Job, n: usize, path: Path<'_>) -> Option<u32>
     requires few { length job.now.stimuli ≤ most_lanes }
-    requires places { n ≤ 1 + 2 * length job.now.stimuli }
+    requires places { n ≤ length (spec.places job.now) }
     ensures { result ≡ spec.place_with (path_of path.entry) (take n (spec.places job.now)) }
 {
     for i in 0..n {
@@ -100,7 +105,7 @@ fn place_with(job: &Job, n: usize, path: Path<'_>) -> Option<u32>
 }
 
 /// Two places of the job whose paths are equal texts, if there are any: the design's place is 1, lane
-/// i's stimulus has 1000 + i and its waveform 2000 + i.
+/// i's stimulus has 1000 + i and its waveform, which a check has not, 2000 + i.
 ///
 /// In the order of the design, the stimuli by lane and the waveforms by lane it is the pair whose
 /// later member comes first, and with it the earliest equal one. It takes no memory.

@@ -8,7 +8,7 @@ ghost use Rattle.vs_job.specs.Lines.{said_of, values};
 ghost use Rattle.vs_job.specs.Command.{line_of, job_of};
 
 use crate::defines::{MOST_DEFINES, are_defines, head_of};
-use crate::job::Job;
+use crate::job::{Job, Mode};
 use crate::text::{Text, Texts};
 use arrayvec::ArrayVec;
 use std::alloc::{AllocError, Global};
@@ -50,6 +50,7 @@ pub(crate) enum Next {
 /// What the words so far say, and what the next one may be.
 #[derive(Drop)]
 pub(crate) struct Line<'a> {
+    mode: Mode,
     next: Next,
     top: Option<&'a str>,
     clock: Option<&'a str>,
@@ -61,6 +62,7 @@ pub(crate) struct Line<'a> {
 /// A job whose texts are words of the command line.
 #[derive(Clone, Copy)]
 pub(crate) struct Command<'b, 'a> {
+    mode: Mode,
     top: &'a str,
     clock: &'a str,
     half: u32,
@@ -79,17 +81,27 @@ fn is_plain(word: &str) -> bool
     }
 }
 
-/// The words behind the program's own name and `run`.
-fn behind_run(words: &[String]) -> Option<&[String]>
-    ensures { option_map (λ rest. map string_bytes rest.now) result ≡ spec.behind_run (map string_bytes words.now) }
+/// What the command of this name does.
+fn mode_named(command: &str) -> Option<Mode>
+    ensures { result ≡ spec.mode_named command.now }
 {
-    let (_, words) = words.split_first()?;
-    let (command, words) = words.split_first()?;
-    if command.as_str() == "run" {
-        Some(words)
+    if command == "run" {
+        Some(Mode::Run)
+    } else if command == "check" {
+        Some(Mode::Check)
     } else {
         None
     }
+}
+
+/// What the command does, which stands behind the program's own name, and the words behind it.
+fn mode_and_words(words: &[String]) -> Option<(Mode, &[String])>
+    ensures { option_map (λ read. (read.0, map string_bytes read.1.now)) result ≡ spec.mode_and_words (map string_bytes words.now) }
+{
+    let (_, words) = words.split_first()?;
+    let (command, words) = words.split_first()?;
+    let mode = mode_named(command.as_str())?;
+    Some((mode, words))
 }
 
 /// The option of this name.
@@ -121,11 +133,12 @@ pub(crate) fn name_and_value(word: &str) -> (&str, Option<&str>)
 }
 
 impl<'a> Line<'a> {
-    /// Before the first word.
-    fn start() -> Line<'a>
-        ensures { line_of result ≡ lines.start }
+    /// Before the first word behind the command.
+    fn start(mode: Mode) -> Line<'a>
+        ensures { line_of result ≡ lines.start mode }
     {
         Line {
+            mode,
             next: Next::Any,
             top: None,
             clock: None,
@@ -227,7 +240,7 @@ impl<'a> Line<'a> {
 
     /// The job that the line calls for.
     pub(crate) fn called(&self) -> Option<Command<'_, 'a>>
-        ensures { option_map job_of result ≡ spec.called (said_of (line_of self.now)) }
+        ensures { option_map job_of result ≡ spec.called self.now.mode (said_of (line_of self.now)) }
     {
         let top = self.top?;
         let clock = self.clock?;
@@ -241,6 +254,7 @@ impl<'a> Line<'a> {
             return None;
         }
         Some(Command {
+            mode: self.mode,
             top,
             clock,
             half,
@@ -251,11 +265,11 @@ impl<'a> Line<'a> {
     }
 }
 
-/// The words behind `run`, one after the other.
-fn read_words(words: &[String]) -> Option<Line<'_>>
-    ensures { option_map line_of result ≡ lines.read lines.start (map string_bytes words.now) }
+/// The words behind the command, one after the other.
+fn read_words(mode: Mode, words: &[String]) -> Option<Line<'_>>
+    ensures { option_map line_of result ≡ lines.read (lines.start mode) (map string_bytes words.now) }
 {
-    let mut line = Line::start();
+    let mut line = Line::start(mode);
     for word in words {
         line.read_word(word.as_str())?;
     }
@@ -266,7 +280,8 @@ fn read_words(words: &[String]) -> Option<Line<'_>>
 pub(crate) fn read_line(words: &[String]) -> Option<Line<'_>>
     ensures { option_map line_of result ≡ lines.line (map string_bytes words.now) }
 {
-    read_words(behind_run(words)?)
+    let (mode, words) = mode_and_words(words)?;
+    read_words(mode, words)
 }
 
 /// The number from 1 to the greatest one that the digits write.
@@ -319,6 +334,7 @@ impl Command<'_, '_> {
         ensures { IfOk result (λ j. j ≡ job_of self.entry) }
     {
         Ok(Job {
+            mode: self.mode,
             top: copy(alloc, self.top)?,
             clock: copy(alloc, self.clock)?,
             half: self.half,

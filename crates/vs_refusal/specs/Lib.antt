@@ -1,4 +1,5 @@
 pub mod Names
 pub mod Refusals
 pub mod Endings
+pub mod Misses
 pub mod Behind

@@ -7,7 +7,7 @@ use Rattle.vs_refusal.specs.declared.names.AtName.TheVariants.{NoToken, OpenComm
 use Rattle.vs_refusal.specs.declared.names.ProcessName.{ProcessName}
 use Rattle.vs_refusal.specs.declared.names.ProcessName.TheVariants.{ClockRead, NotTheClock, TimeZero, ResetForm}
 use Rattle.vs_refusal.specs.declared.names.LaneName.{LaneName}
-use Rattle.vs_refusal.specs.declared.names.LaneName.TheVariants.{BadHeader, FirstUnknown, NoVector, TooManyVectors, StimulusTooLong}
+use Rattle.vs_refusal.specs.declared.names.LaneName.TheVariants.{BadHeader, FirstUnknown, NoVector, TooManyVectors, StimulusTooLong, NoExpectation}
 use Rattle.vs_refusal.specs.declared.names.LineName.{LineName}
 use Rattle.vs_refusal.specs.declared.names.LineName.TheVariants.{BadVector, LineTooLong, UnknownReset}
 
@@ -107,6 +107,7 @@ lane_number FirstUnknown = 72
 lane_number NoVector = 73
 lane_number TooManyVectors = 74
 lane_number StimulusTooLong = 75
+lane_number NoExpectation = 79
 
 abbrev pub lane_text : LaneName → List ℕ
 lane_text BadHeader = codes "BadHeader"
@@ -114,6 +115,7 @@ lane_text FirstUnknown = codes "FirstUnknown"
 lane_text NoVector = codes "NoVector"
 lane_text TooManyVectors = codes "TooManyVectors"
 lane_text StimulusTooLong = codes "StimulusTooLong"
+lane_text NoExpectation = codes "NoExpectation"
 
 abbrev pub line_number : LineName → ℕ
 line_number BadVector = 71

@@ -49,6 +49,8 @@ label_text label.Lanes = codes " lanes="
 label_text label.Vectors = codes " vectors="
 label_text label.Settlings = codes " settlings="
 label_text label.Place = codes " place="
+label_text label.Missed = codes " missed="
+label_text label.Output = codes " output="
 
 abbrev pub field : Label → ℕ → Field
 field what value = record { label = what; value = value }
@@ -67,8 +69,8 @@ fields (Cycle processes at) = field label.At at ∷ []
 fields (Lane kind lane) = field label.Lane lane ∷ []
 fields (Line kind lane row) = field label.Lane lane ∷ field label.Line row ∷ []
 
--- there are four at most
-pub few_fields : (r : Refusal) → length (fields r) ≤ 4
+-- there are few
+pub few_fields : (r : Refusal) → length (fields r) ≤ 5
 few_fields (Bare kind) = lit≤ tt
 few_fields (SamePath first second) = lit≤ tt
 few_fields (At kind at) = lit≤ tt

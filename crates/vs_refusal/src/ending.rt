@@ -15,6 +15,14 @@ pub enum Ending {
         settlings: u64,
         size: u64,
     },
+    /// A check is done: the same numbers, and how many lanes missed what their stimuli want.
+    Checked {
+        lanes: u32,
+        vectors: u64,
+        settlings: u64,
+        size: u64,
+        missed: u32,
+    },
     /// A call that reads failed at this place.
     ReadFault {
         place: u32,
@@ -34,6 +42,7 @@ impl Ending {
     {
         match self {
             Ending::Done { .. } => "ok",
+            Ending::Checked { .. } => "ok",
             Ending::ReadFault { .. } => "refused 4 ReadFault",
             Ending::WriteFault { .. } => "refused 5 WriteFault",
             Ending::Memory => "refused 6 Memory",
@@ -52,6 +61,11 @@ impl Fields for Ending {
             (Ending::Done { vectors, .. }, 1) => (Label::Vectors, *vectors),
             (Ending::Done { settlings, .. }, 2) => (Label::Settlings, *settlings),
             (Ending::Done { size, .. }, 3) => (Label::Size, *size),
+            (Ending::Checked { lanes, .. }, 0) => (Label::Lanes, *lanes as u64),
+            (Ending::Checked { vectors, .. }, 1) => (Label::Vectors, *vectors),
+            (Ending::Checked { settlings, .. }, 2) => (Label::Settlings, *settlings),
+            (Ending::Checked { size, .. }, 3) => (Label::Size, *size),
+            (Ending::Checked { missed, .. }, 4) => (Label::Missed, *missed as u64),
             (Ending::ReadFault { place }, 0) => (Label::Place, *place as u64),
             (Ending::WriteFault { place }, 0) => (Label::Place, *place as u64),
             _ => return None,

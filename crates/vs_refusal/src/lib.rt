@@ -2,12 +2,14 @@
 #![tactic(auto)]
 
 mod ending;
+mod miss;
 mod names;
 mod processes;
 mod refusal;
 mod report;
 
 pub use ending::Ending;
+pub use miss::Miss;
 pub use names::{AtName, BareName, LaneName, LineName, ProcessName};
 pub use processes::Processes;
 pub use refusal::{Field, Label, Refusal};

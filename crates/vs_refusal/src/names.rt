@@ -108,6 +108,8 @@ pub enum LaneName {
     TooManyVectors,
     /// The stimulus has more than 4,294,967,296 bytes.
     StimulusTooLong,
+    /// The header names no output behind `->`, and a check needs one.
+    NoExpectation,
 }
 
 /// Refusals of a stimulus that carry its lane and a line.
@@ -264,6 +266,7 @@ impl LaneName {
             LaneName::NoVector => 73,
             LaneName::TooManyVectors => 74,
             LaneName::StimulusTooLong => 75,
+            LaneName::NoExpectation => 79,
         }
     }
 
@@ -277,6 +280,7 @@ impl LaneName {
             LaneName::NoVector => "NoVector",
             LaneName::TooManyVectors => "TooManyVectors",
             LaneName::StimulusTooLong => "StimulusTooLong",
+            LaneName::NoExpectation => "NoExpectation",
         }
     }
 }

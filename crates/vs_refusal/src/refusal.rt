@@ -72,6 +72,8 @@ pub enum Label {
     Vectors,
     Settlings,
     Place,
+    Missed,
+    Output,
 }
 
 /// A field with one number.
@@ -100,6 +102,8 @@ impl Label {
             Label::Vectors => " vectors=",
             Label::Settlings => " settlings=",
             Label::Place => " place=",
+            Label::Missed => " missed=",
+            Label::Output => " output=",
         }
     }
 }
@@ -208,7 +212,7 @@ pub(crate) trait Fields {
     fn field(&self, n: usize) -> Option<Field>
         ensures { result ≡ slice_get (fields_of self.now) n };
 
-    ghost few: { (f : Self) → length (fields_of f) ≤ 4 };
+    ghost few: { (f : Self) → length (fields_of f) ≤ 5 };
 }
 
 impl Fields for Refusal {

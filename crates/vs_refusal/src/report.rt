@@ -4,8 +4,10 @@ ghost use Rattle.std.specs.List.{flat_map};
 ghost use Rattle.vs_desk.specs.Desk.{PutsAll};
 ghost use Rattle.vs_refusal.specs.Refusals.{line, head_text, list_text, fields, field_text, numbers_text, more_numbers, next_number};
 ghost use Rattle.vs_refusal.specs.Endings.{ending_line};
+ghost use Rattle.vs_refusal.specs.Misses.{digits_text, miss_line};
 
 use crate::ending::Ending;
+use crate::miss::Miss;
 use crate::refusal::{Field, Fields, Refusal};
 use itoa::Buffer;
 use vs_desk::{Desk, Failed, put_all, put_law};
@@ -146,5 +148,39 @@ impl Ending {
         ensures { PutsAll (D.told desk.old) (D.told desk.new) 0 (ending_line self.now) result }
     {
         put_ending(desk, self)
+    }
+}
+
+/// Puts the digits that are wanted, and those that the output has.
+fn put_digits<D: Desk>(desk: &mut D, wanted: &[u8], got: &[u8]) -> Result<(), Failed>
+    ensures { PutsAll (D.told desk.old) (D.told desk.new) 0 (digits_text wanted.now got.now) result }
+{
+    put_law();
+    put_text(desk, " wanted=")?;
+    put_all(desk, 0, wanted)?;
+    put_text(desk, " got=")?;
+    put_all(desk, 0, got)
+}
+
+/// Puts the whole line of a miss.
+fn put_miss<D: Desk>(desk: &mut D, miss: &Miss<'_>) -> Result<(), Failed>
+    ensures { PutsAll (D.told desk.old) (D.told desk.new) 0 (miss_line miss.now.lane miss.now.line miss.now.output miss.now.wanted.now miss.now.got.now) result }
+{
+    put_law();
+    put_text(desk, "missed")?;
+    put_fields(desk, miss)?;
+    put_digits(desk, miss.wanted, miss.got)?;
+    put_text(desk, "\n")
+}
+
+impl Miss<'_> {
+    /// Puts the miss's line at place 0 of a desk, in pieces, and calls nothing but `put` there. It takes
+    /// no memory.
+    ///
+    /// On `Failed` some first bytes of the line were put, not all, and a call at place 0 failed.
+    pub fn put_line<D: Desk>(&self, desk: &mut D) -> Result<(), Failed>
+        ensures { PutsAll (D.told desk.old) (D.told desk.new) 0 (miss_line self.now.lane self.now.line self.now.output self.now.wanted.now self.now.got.now) result }
+    {
+        put_miss(desk, self)
     }
 }

@@ -6,7 +6,7 @@ use Rattle.vs_engine.specs.Lanes.{Running, state}
 use Rattle.vs_design.specs.Designs.{Design}
 use Rattle.vs_program.specs.Compiled.{IsProgramOf}
 use Rattle.vs_program.proofs.Lengths.{lengths_of_spans}
-use Rattle.vs_stim.specs.Known.{Known, remaining}
+use Rattle.vs_stim.specs.Known.{Known, last_entry, remaining}
 use Rattle.vs_stim.specs.Reading.{Reading}
 use Rattle.vs_feed.specs.Lanes.{lane_at}
 use Rattle.vs_waves.specs.Wave.{Wave, IsNewWave}
@@ -18,11 +18,11 @@ use Rattle.vs_rounds.proofs.Settled.{in_time}
 use Rattle.vs_rounds.proofs.Waves.{not_ended}
 use Rattle.vs_rounds.proofs.Rounded.{remaining_left, given_left, still_taken}
 
-unread : (r : Reading) (live : Bool) (rest : Reading) → live ≡ true → r ≡ rest → IsUnread r 0 live rest
+pub unread : (r : Reading) (live : Bool) (rest : Reading) → live ≡ true → r ≡ rest → IsUnread r 0 live rest
 unread r true rest is_live is = record { rest_is = λ _. sym is; within = λ _. omega arith; unrefused = λ e. absurd (cc); ended = λ e. absurd (cc) }
 unread r false rest is_live is = absurd (cc)
 
-alive : (b : Bool) → b ≡ true → b ≡ false → ⊥
+pub alive : (b : Bool) → b ≡ true → b ≡ false → ⊥
 alive b is_true is_false = cc
 
 pub opened_next : {W : Type 0} (lane : W → ℕ → Bool) (run : Run) (m : Simulation W) (c : Contents) → AreOpened lane run m c → HaveNext run 0 m.stimuli c
@@ -46,7 +46,7 @@ opened_begun lane run m new before after h long waves engine read = record {
   begun = λ c left empty. record {
     program = subst (λ (e : Running _). IsProgramOf run.design run.clock e.program) (sym engine) h.program;
     read = record {
-      each = λ i lt. subst (λ (rest : Reading). IsRead (reading_of run i) 0 (lane_at new.stimuli i).live (lane_at new.stimuli i).vector rest) (sym (remaining_left (lane_at new.stimuli i) after c left)) (read.each i lt);
+      each = λ i lt. subst (λ (rest : Reading). IsRead (reading_of run i) 0 (lane_at new.stimuli i).live (last_entry (lane_at new.stimuli i)) rest) (sym (remaining_left (lane_at new.stimuli i) after c left)) (read.each i lt);
       read = λ i lt live. given_left run i 1 (lane_at new.stimuli i) after c left (read.read i lt live);
       taken = still_taken new.stimuli after c left read.taken;
     };

@@ -15,7 +15,8 @@ use Rattle.vs_program.specs.Program.{Program}
 use Rattle.vs_program.specs.Compiled.{IsProgramOf, span_of, shown_signals, span_bits}
 use Rattle.vs_engine.specs.Lanes.{state}
 use Rattle.vs_stim.specs.Lines.{lines, all_lines}
-use Rattle.vs_stim.specs.Known.{Known, place_of, remaining, IsReadTo}
+use Rattle.vs_stim.specs.Known.{Known, last_entry, place_of, remaining, IsReadTo}
+use Rattle.vs_stim.specs.Vectors.{Entry}
 use Rattle.vs_stim.specs.Reading.{Reading, limits, read_vectors}
 use Rattle.vs_feed.specs.Lanes.{lane_at, ended}
 use Rattle.vs_feed.specs.Reading.{AreTaken}
@@ -23,7 +24,7 @@ use Rattle.vs_vcd.specs.Texts.{values_of}
 use Rattle.vs_waves.specs.Wave.{Wave}
 use Rattle.vs_waves.specs.Puts.{wave_place, PutsLanes, PutsUpTo}
 use Rattle.vs_waves.specs.Rounds.{begun, after_put, round_text, lane_values, EachGoesOn, CanPut}
-use Rattle.vs_rounds.specs.Drives.{Vector, vector_state}
+use Rattle.vs_rounds.specs.Drives.{vector_state}
 use Rattle.vs_rounds.specs.Given.{IsGiven}
 use Rattle.vs_rounds.specs.Lanes.{Run, reading_of, network, Simulation, wave_at, closed, IsRead, IsUnread, IsWaveAt, HasGiven, AreBeforeRound, AreInRound}
 use Rattle.vs_rounds.specs.Ready.{AreAlike, IsReady, IsWaveReady, IsNoted, IsWaveNoted, Settles, signal_values}
@@ -50,7 +51,7 @@ remaining_left s c new same = ap (λ (left : ℕ → List ℕ). read_vectors lim
 pub given_left : (run : Run) (i count : ℕ) (s : Known) (c new : Contents) → new.left ≡ c.left → HasGiven run i count s c → HasGiven run i count s new
 given_left run i count s c new same h = record {
   count_is = h.count_is;
-  read = subst (λ (left : ℕ → List ℕ). IsReadTo run.ports (run.texts i) s.count s.columns s.at (s.pending ++ left (place_of s.lane))) (sym same) h.read;
+  read = subst (λ (left : ℕ → List ℕ). IsReadTo run.ports (run.texts i) s.count s.columns s.line s.at (s.pending ++ left (place_of s.lane))) (sym same) h.read;
 }
 
 -- nor does it matter to what is left of the texts that have ended
@@ -60,13 +61,13 @@ still_taken stimuli c new same h = record {
 }
 
 -- a lane's round, whether it is live or has ended
-lane_done : (run : Run) (r : Reading) (k : ℕ) (w : Wave) (now mid next : State) (live : Bool) (v : Vector) (rest : Reading) (text : List ℕ) → (r.refusal ≡ None → 0 < length r.vectors)
-    → IsWaveAt run r k w now text → IsRead r k live v rest
-    → (live ≡ true → IsSlotEnd (network run) now (Fall (vector_state run.design run.clock v)) mid) → (live ≡ true → IsSlotEnd (network run) mid Rise next)
+lane_done : (run : Run) (r : Reading) (k : ℕ) (w : Wave) (now mid next : State) (live : Bool) (entry : Entry) (rest : Reading) (text : List ℕ) → (r.refusal ≡ None → 0 < length r.vectors)
+    → IsWaveAt run r k w now text → IsRead r k live entry rest
+    → (live ≡ true → IsSlotEnd (network run) now (Fall (vector_state run.design run.clock entry.values)) mid) → (live ≡ true → IsSlotEnd (network run) mid Rise next)
     → let noted = begun k live (values_of run.design mid) w in
     IsWaveAt run r (suc k) (after_put live (values_of run.design next) noted) next (text ++ round_text k live (values_of run.design next) noted)
-lane_done run r k w now mid next true v rest text some h read falls rises = wave_goes_on run r k w now mid next v rest text h read (falls refl) (rises refl)
-lane_done run r k w now mid next false v rest text some h read falls rises = noted_ends run r k w now next v rest text (values_of run.design mid) (values_of run.design next) some h read
+lane_done run r k w now mid next true entry rest text some h read falls rises = wave_goes_on run r k w now mid next entry rest text h read (falls refl) (rises refl)
+lane_done run r k w now mid next false entry rest text some h read falls rises = noted_ends run r k w now next entry rest text (values_of run.design mid) (values_of run.design next) some h read
 
 -- What is known of a round before its puts.
 pub record IsRun {W : Type 0} (lane : W → ℕ → Bool) (run : Run) (k : ℕ) (old m : Simulation W) (c : Contents) : Type 0 where
@@ -88,7 +89,7 @@ lane_put lane run k old m c i text h within text_is =
     let s = h.settled i within in
     let next = state lane m.engine i in
     let values = lane_values lane m.engine i in
-    let done = lane_done run (reading_of run i) k (wave_at old.waves i) (state lane old.engine i) s.between next l (lane_at old.stimuli i).vector (remaining (lane_at old.stimuli i) c) (c.put (wave_place i))
+    let done = lane_done run (reading_of run i) k (wave_at old.waves i) (state lane old.engine i) s.between next l (last_entry (lane_at old.stimuli i)) (remaining (lane_at old.stimuli i) c) (c.put (wave_place i))
     (has_vector run.ports (run.texts i)) (h.began.waves.each i within) (h.began.read.each i within) s.falls s.rises in
     let values_next : values_of d next ≡ values = sym (values_are lane m.engine old.engine.program i h.program ∙ signal_values_are d run.clock old.engine.program next h.began.program) in
     let noted : begun k l (values_of d s.between) (wave_at old.waves i) ≡ wave_at m.waves i =

@@ -8,9 +8,9 @@ use Rattle.vs_design.specs.Networks.{network_of}
 use Rattle.vs_desk.specs.Desk.{Contents}
 use Rattle.vs_program.specs.Compiled.{IsProgramOf}
 use Rattle.vs_engine.specs.Lanes.{Running, state}
-use Rattle.vs_stim.specs.declared.wanted.Digit.{Digit}
 use Rattle.vs_stim.specs.Header.{PortLists}
-use Rattle.vs_stim.specs.Known.{Known, remaining, IsReadBy}
+use Rattle.vs_stim.specs.Vectors.{Entry}
+use Rattle.vs_stim.specs.Known.{Known, last_entry, remaining, IsReadBy}
 use Rattle.vs_stim.specs.Reading.{Reading, reading, with_vector}
 use Rattle.vs_feed.specs.Lanes.{lane_at}
 use Rattle.vs_feed.specs.Reading.{AreTaken}
@@ -18,7 +18,6 @@ use Rattle.vs_vcd.specs.Scopes.{head_text}
 use Rattle.vs_vcd.specs.Texts.{shown_numbers, values_of}
 use Rattle.vs_waves.specs.Wave.{Wave, IsNewWave}
 use Rattle.vs_waves.specs.Puts.{wave_place}
-use Rattle.vs_rounds.specs.Drives.{Vector}
 use Rattle.vs_rounds.specs.Given.{has_ended, IsGiven}
 
 -- What is run: a design with the bit of its clock, the clock's half-period, the data inputs and the outputs, and the text of each lane's stimulus.
@@ -35,6 +34,11 @@ network run = network_of run.design run.clock
 -- what the text of lane i gives
 abbrev pub reading_of : Run → ℕ → Reading
 reading_of run i = reading run.ports (run.texts i)
+
+-- What contracts see of a `Driven`: what is known of each lane's stimulus, and the engine of all lanes.
+pub record Driving (W : Type 0) : Type 0 where
+  pub stimuli : List Known
+  pub engine : Running W
 
 -- What contracts see of a `Machine`: what is known of each lane's stimulus, each lane's wave, and the engine of all lanes.
 pub record Simulation (W : Type 0) : Type 0 where
@@ -54,10 +58,10 @@ wave_at waves i = slice_index_or waves i closed
 abbrev pub behind : ℕ → Reading → Reading
 behind k r = record { vectors = drop k r.vectors; wanted = drop k r.wanted; refusal = r.refusal }
 
--- The vector of round k was read, with what outputs are wanted to have then, and this is left of the text; or else the text has ended, in this round or an earlier one.
-pub record IsRead (r : Reading) (k : ℕ) (live : Bool) (vector : Vector) (rest : Reading) : Type 0 where
-  pub wanted : List (List Digit)
-  pub vector_is : live ≡ true → behind k r ≡ with_vector (record { values = vector; wanted = wanted }) rest
+-- The vector of round k was read, and what outputs are wanted to have with it, and this is left of the text; or else the text has ended, in this round or
+-- an earlier one.
+pub record IsRead (r : Reading) (k : ℕ) (live : Bool) (entry : Entry) (rest : Reading) : Type 0 where
+  pub entry_is : live ≡ true → behind k r ≡ with_vector entry rest
   pub unrefused : live ≡ false → r.refusal ≡ None
   pub ended : live ≡ false → length r.vectors ≤ k
 
@@ -94,7 +98,7 @@ pub record HaveNext (run : Run) (k : ℕ) (stimuli : List Known) (c : Contents) 
 
 -- the vector of round k was read of each lane that hasn't ended, and nothing is left of the texts of the others
 pub record HaveVectors (run : Run) (k : ℕ) (stimuli : List Known) (c : Contents) : Type 0 where
-  pub each : (i : ℕ) → i < length stimuli → IsRead (reading_of run i) k (lane_at stimuli i).live (lane_at stimuli i).vector (remaining (lane_at stimuli i) c)
+  pub each : (i : ℕ) → i < length stimuli → IsRead (reading_of run i) k (lane_at stimuli i).live (last_entry (lane_at stimuli i)) (remaining (lane_at stimuli i) c)
   pub read : (i : ℕ) → i < length stimuli → (lane_at stimuli i).live ≡ true → HasGiven run i (suc k) (lane_at stimuli i) c
   pub taken : AreTaken c stimuli
 

@@ -1,6 +1,6 @@
 //! What a run needs in its rounds, and the phases of a round.
 
-ghost use Rattle.std.specs.Prelude.{◌≡◌, ℕ, ◌+◌, ◌<◌, ◌≤◌, length, suc, true, IsTrue, IfOk, IfErr, OnOk};
+ghost use Rattle.std.specs.Prelude.{◌≡◌, ℕ, ◌<◌, ◌≤◌, length, suc, true, IsTrue, IfOk, IfErr, OnOk};
 ghost use Rattle.std.specs.List.{count_by};
 ghost use Rattle.vs_desk.specs.Places.{most_lanes};
 ghost use Rattle.vs_design.specs.Designs.{Design};
@@ -12,36 +12,30 @@ ghost use Rattle.vs_rounds.specs.Ready.{AreParts, IsReady, IsNoted, Settles, Tic
 ghost use Rattle.vs_rounds.specs.Stops.{ReadStops, StopsIn, IsLaneOf, HasCause, OthersStay};
 
 use crate::Stop;
-use crate::stop::stop_of;
+use crate::driven::Driven;
 use std::alloc::{AllocError, Global};
 use std::marker::Model;
 use std::sync::ledger::Ledger;
 use vs_desk::Desk;
 use vs_engine::Engine;
 use vs_feed::Drive;
-use vs_four::Bit4;
-use vs_plane::{Lanes, Pair, Steps};
+use vs_plane::{Lanes, Steps};
 use vs_waves::Waves;
 
 /// What a run needs in its rounds: the stimuli, the waves and the engine of all lanes. Lanes have no part in each other.
 #[derive(Drop)]
 pub struct Machine<W: Lanes> {
-    drive: Drive,
+    driven: Driven<W>,
     waves: Waves<W>,
-    engine: Engine<W>,
-    pairs: Vec<Pair<W>>,
 }
 
 // Clauses see the stimuli, the waves and the engine.
 impl<W: Lanes> Model for Machine<W> {
-    ghost use Rattle.std.specs.Prelude.{◌≡◌, length};
     ghost use Rattle.vs_rounds.specs.Lanes.{Simulation};
 
     ghost Value = { Simulation W };
 
-    ghost view = { λ m. record { stimuli = m.drive; waves = m.waves; engine = m.engine } };
-
-    ghost invariant = { λ m. length m.pairs.items ≡ length m.engine.program.inputs };
+    ghost view = { λ m. record { stimuli = m.driven.stimuli; waves = m.waves; engine = m.driven.engine } };
 }
 
 impl<W: Lanes> Machine<W> {
@@ -55,20 +49,15 @@ impl<W: Lanes> Machine<W> {
         ensures parts { IfOk result (λ m. m ≡ record { stimuli = drive; waves = waves; engine = engine }) }
         ensures ready { (d : Design) (clock half : ℕ) → AreParts d clock half drive waves engine.program → IfOk result (IsReady 0) }
     {
-        let count = engine.compiled().inputs().len();
-        Ok(Machine {
-            drive,
-            waves,
-            engine,
-            pairs: vec![in alloc; Pair::of_bit(Bit4::X); count]?,
-        })
+        let driven = Driven::new(alloc, drive, engine)?;
+        Ok(Machine { driven, waves })
     }
 
     /// The engine of all lanes.
     pub(crate) fn engine(&self) -> &Engine<W>
         ensures { result.now ≡ self.now.engine }
     {
-        &self.engine
+        self.driven.engine()
     }
 
     /// Reads the vectors of the next round, by lane.
@@ -88,10 +77,7 @@ impl<W: Lanes> Machine<W> {
         ensures cause { IfErr result (HasCause (D.told desk.old).register (D.told desk.new).register) }
         ensures others { IsTrue D.tells → OtherPlacesKept (length self.old.stimuli) (D.told desk.old).contents (D.told desk.new).contents }
     {
-        if let Err(stopped) = self.drive.read(desk) {
-            return Err(stop_of(stopped));
-        }
-        Ok(())
+        self.driven.read(desk)
     }
 
     /// Runs the engine's two slots of a round, where some lane has a vector, and notes the values after the first, or those that it
@@ -110,15 +96,13 @@ impl<W: Lanes> Machine<W> {
         ensures begun { 0 < count_by (λ k. k.live) self.old.stimuli → self.new.engine.begun ≡ true }
         ensures ticked { Ticks self.old.engine.program self.old.engine.begun (count_by (λ k. k.live) self.old.stimuli) steps.old steps.new }
     {
-        let vectors = count_live(self.drive.live());
+        let vectors = self.driven.fall(steps);
+        let live = self.driven.drive().live();
+        self.waves.begin(self.driven.engine(), live, round);
         if vectors == 0 {
-            self.waves.begin(&self.engine, self.drive.live(), round);
             return 0;
         }
-        self.drive.feed(&mut self.pairs);
-        self.engine.fall(&self.pairs, steps);
-        self.waves.begin(&self.engine, self.drive.live(), round);
-        self.engine.rise(steps);
+        self.driven.rise(steps);
         vectors
     }
 
@@ -150,22 +134,10 @@ impl<W: Lanes> Machine<W> {
         ensures ticked { Ticks self.old.engine.program self.old.engine.begun (count_by (λ k. k.live) self.old.stimuli) steps.old steps.new }
     {
         let vectors = self.settle(round, steps);
-        if let Err(fault) = self.waves.put(&self.engine, self.drive.live(), round, desk) {
+        let live = self.driven.drive().live();
+        if let Err(fault) = self.waves.put(self.driven.engine(), live, round, desk) {
             return Err(Stop::WriteFault { lane: fault.lane });
         }
         Ok(vectors)
     }
-}
-
-/// How many of these are true.
-fn count_live(live: &[bool]) -> u64
-    ensures { result ≡ count_by (λ x. x) live.now }
-{
-    let mut count = 0;
-    for is_live in live {
-        if *is_live {
-            count += 1;
-        }
-    }
-    count
 }

@@ -19,7 +19,7 @@ use vs_desk::Desk;
 use vs_plane::{Lanes, Steps};
 
 /// A stimulus has at most 16,777,216 vectors, and its end is read in one more round.
-const MOST_ROUNDS: u64 = 16_777_217;
+pub(crate) const MOST_ROUNDS: u64 = 16_777_217;
 
 /// What a whole run counts.
 #[derive(Clone, Copy, PartialEq, Eq, Debug)]
@@ -91,7 +91,8 @@ impl<W: Lanes> Machine<W> {
         ensures operations { IfOk result (λ counts. steps.new ≡ steps.old + counts.operations) }
 
         // The engine's steps are those of a fall and a rise in each round, for all lanes together, within the design's size each.
-        ensures ticked { IfOk result (λ counts. (n : ℕ) × (counts.settlings ≡ 2 * n) × TicksRounds self.old.engine.program self.old.engine.begun n steps.old steps.new) }
+        ensures ticked { IfOk result (λ counts. (n : ℕ) × (counts.settlings ≡ 2 * n)
+            × TicksRounds self.old.engine.program self.old.engine.begun n steps.old steps.new) }
         ensures within { (d : Design) (clock : ℕ) → IsProgramOf d clock self.old.engine.program
             → IfOk result (λ counts. steps.new ≤ steps.old + size d * counts.settlings) }
         ensures ticked_always { (n : ℕ) × TicksRounds self.old.engine.program self.old.engine.begun n steps.old steps.new }

@@ -1,5 +1,7 @@
 pub mod Loads
 pub mod Taken
 pub mod Opening
+pub mod Lanes
 pub mod Readied
+pub mod Watching
 pub mod Signals

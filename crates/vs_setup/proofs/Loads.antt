@@ -6,7 +6,6 @@ use Rattle.vs_design.specs.Networks.{network_of}
 use Rattle.vs_design.specs.Accepted.{IsAcceptedDesign}
 use Rattle.vs_flat.specs.DesignOf.{design_of}
 use Rattle.vs_clock.specs.Clocked.{Clocked, IsClockOf}
-use Rattle.vs_program.specs.Program.{Program}
 use Rattle.vs_program.specs.Compiled.{IsProgramOf}
 use Rattle.vs_engine.specs.Lanes.{Running, state}
 use Rattle.vs_stim.specs.Header.{PortLists, IsInput, IsOutput, ArePorts}
@@ -14,7 +13,6 @@ use Rattle.vs_accept.specs.Lent.{Acceptance, IsAcceptance}
 use Rattle.vs_grammar.specs.Trees.{Source}
 use Rattle.vs_accept.specs.Accepted.{IsAcceptedText}
 use Rattle.vs_accept.specs.Outputs.{top_outputs, HaveOutputs, OneReading}
-use Rattle.vs_setup.specs.Ports.{ports_of}
 use Rattle.vs_rounds.specs.Inputs.{inputs_among, data_inputs, outputs_among, outputs, InputBitsFit}
 use Rattle.vs_setup.specs.Loaded.{IsLoaded}
 use Rattle.vs_setup.proofs.Signals.{are_inputs, are_outputs}
@@ -26,27 +24,28 @@ some_is x y e = cc
 pub clock_first : (d : Design) (name : List ℕ) (c : Clocked) (a : IsAcceptedDesign d name) → IsClockOf d name c → a.clock.first ≡ c.bit
 clock_first d name c a h = ap (λ (s : Signal). s.first) (some_is a.clock h.signal (sym a.clock_found ∙ h.is)) ∙ sym h.bit_is
 
--- what is known of an engine that was made of a program
-pub record IsMade {W : Type 0} (lane : W → ℕ → Bool) (lanes : ℕ) (p : Program) (engine : Running W) : Type 0 where
-  pub program : engine.program ≡ p
+-- what is known of an engine that was made of a design's program
+pub record IsMade {W : Type 0} (lane : W → ℕ → Bool) (lanes : ℕ) (d : Design) (clock : ℕ) (engine : Running W) : Type 0 where
+  pub program : IsProgramOf d clock engine.program
   pub begun : engine.begun ≡ false
-  pub idle : (d : Design) (clock i : ℕ) → IsProgramOf d clock p → i < lanes → state lane engine i ≡ (network_of d clock).idle
+  pub idle : (i : ℕ) → i < lanes → state lane engine i ≡ (network_of d clock).idle
 
 -- the outputs of a text that was read are those of its tree
 outputs_named : OneReading → {text top clock : List ℕ} {d : Design} (accepted : IsAcceptedText text top clock d) (a : Acceptance) → HaveOutputs text top a → a.outputs ≡ top_outputs accepted.source top
 outputs_named one {text = text} {top = top} accepted a h =
     h.outputs_are ∙ ap (λ (s : Source). top_outputs s top) (one text h.tokens accepted.tokens h.source accepted.source h.read accepted.read)
 
-pub loaded : {W : Type 0} (lane : W → ℕ → Bool) (lanes : ℕ) (text top clock : List ℕ) (a : Acceptance) (ports : PortLists) (engine : Running W) (p : Program)
-    → InputBitsFit → OneReading → IsAcceptedText text top clock (design_of a.flat) → HaveOutputs text top a → IsAcceptance clock a → IsProgramOf (design_of a.flat) a.clocks.bit p → IsMade lane lanes p engine
+pub loaded : {W : Type 0} (lane : W → ℕ → Bool) (lanes : ℕ) (demanded : Bool) (text top clock : List ℕ) (a : Acceptance) (ports : PortLists) (engine : Running W)
+    → InputBitsFit → OneReading → IsAcceptedText text top clock (design_of a.flat) → HaveOutputs text top a → IsAcceptance clock a → IsMade lane lanes (design_of a.flat) a.clocks.bit engine
     → ports.inputs ≡ inputs_among a.clocks.reset_inputs a.clocks.bit (design_of a.flat).signals → ports.outputs ≡ outputs_among a.outputs (design_of a.flat).signals
-    → IsLoaded lane lanes text top clock a ports engine
-loaded lane lanes text top clock a ports engine p fit one accepted have lent program made inputs_are outputs_are = record {
+    → ports.demanded ≡ demanded → IsLoaded lane lanes demanded text top clock a ports engine
+loaded lane lanes demanded text top clock a ports engine fit one accepted have lent made inputs_are outputs_are demanded_is = record {
   accepted = accepted;
-  program = subst (λ n. IsProgramOf d n engine.program) (sym first) fed;
-  idle = λ i h. made.idle d bit i program h ∙ ap (λ n. (network_of d n).idle) (sym first);
+  program = ends;
+  idle = λ i h. made.idle i h ∙ ap (λ n. (network_of d n).idle) (sym first);
   begun = made.begun;
-  ports_are = λ i. record { inputs = named i; outputs = outputs_is i };
+  ports_are = λ i. record { inputs = named i; outputs = outputs_is i; demanded = demanded_is i };
+  names_are = outputs_named one accepted a have;
   are_ports = record { inputs = each; outputs = each_output };
   bits = fit d clock accepted.accepted ports.inputs (record { each = each; inputs_are = named }) ∙ ap length (sym ends.inputs);
 }
@@ -60,11 +59,8 @@ loaded lane lanes text top clock a ports engine p fit one accepted have lent pro
     first : accepted.accepted.clock.first ≡ bit
     first = clock_first d clock a.clocks accepted.accepted lent.clock_is
 
-    fed : IsProgramOf d bit engine.program
-    fed = subst (IsProgramOf d bit) (sym made.program) program
-
     ends : IsProgramOf d accepted.accepted.clock.first engine.program
-    ends = subst (λ n. IsProgramOf d n engine.program) (sym first) fed
+    ends = subst (λ n. IsProgramOf d n engine.program) (sym first) made.program
 
     named : ports.inputs ≡ data_inputs d accepted.accepted.clock.first
     named = inputs_are ∙ ap (λ (bits : List ℕ). inputs_among bits bit d.signals) lent.resets_are.inputs ∙ ap (data_inputs d) (sym first)

@@ -26,7 +26,7 @@ use Rattle.vs_setup.specs.declared.error.SetupError.TheVariants.{TooLong, Refuse
 use Rattle.vs_setup.specs.DesignText.{design_text, with_design, IsBehind, IsTooLong, DesignFails}
 use Rattle.vs_setup.specs.Loaded.{IsLoaded}
 use Rattle.vs_setup.specs.Places.{IsFresh}
-use Rattle.vs_setup.specs.Ports.{ports_of}
+use Rattle.vs_setup.specs.Ports.{demands, ports_of}
 use Rattle.vs_setup.specs.Prepared.{IsDesignLoaded}
 use Rattle.vs_setup.specs.Unprepared.{IsUnopened, IsUnprepared, IsDesignOf, IsRefusedBehind, IsLoadError, IsTextRefusal, IsFirstRefused, error_of, design_error, accept_error}
 
@@ -39,6 +39,7 @@ both_known false A B C (inr b) more = inr (b, λ h. absurd (cc))
 -- what is no fault and no want of memory is a refusal
 text_refusal : (error : StimError) → IsHeaderError error → error ≢ E.ReadFault → error ≢ E.Memory → IsTextRefusal error
 text_refusal E.BadHeader h r m = h
+text_refusal E.NoExpectation h r m = h
 text_refusal (E.BadVector line) h r m = h
 text_refusal E.FirstUnknown h r m = h
 text_refusal (E.UnknownReset line) h r m = h
@@ -58,6 +59,7 @@ refusal ports stimuli old new lane error s r m =
 pub unopened : {tells : Bool} (ports : PortLists) (stimuli : List (List ℕ)) (old new : Told tells) (lane : ℕ) (error : StimError)
     → StopsOpening ports stimuli old new (record { lane = lane; error = error }) → IsUnopened ports stimuli old new (error_of lane error)
 unopened ports stimuli old new lane E.BadHeader s = refusal ports stimuli old new lane E.BadHeader s (λ e. cc) (λ e. cc)
+unopened ports stimuli old new lane E.NoExpectation s = refusal ports stimuli old new lane E.NoExpectation s (λ e. cc) (λ e. cc)
 unopened ports stimuli old new lane (E.BadVector line) s = refusal ports stimuli old new lane (E.BadVector line) s (λ e. cc) (λ e. cc)
 unopened ports stimuli old new lane E.FirstUnknown s = refusal ports stimuli old new lane E.FirstUnknown s (λ e. cc) (λ e. cc)
 unopened ports stimuli old new lane (E.UnknownReset line) s = refusal ports stimuli old new lane (E.UnknownReset line) s (λ e. cc) (λ e. cc)
@@ -110,11 +112,11 @@ pub record IsWhole (tells : Bool) (job : Job) (old new : Contents) (text : List 
 
 -- it is loaded
 pub loaded_behind : {W : Type 0} (lane : W → ℕ → Bool) (lanes : ℕ) (tells : Bool) (job : Job) (old : Contents) (text : List ℕ) (a : Acceptance) (ports : PortLists) (engine : Running W)
-    → IsBehind tells job.head (old.files job.design) text → IsLoaded lane lanes text job.top job.clock a ports engine → IsDesignLoaded lane lanes tells job old a ports engine
+    → IsBehind tells job.head (old.files job.design) text → IsLoaded lane lanes (demands job.mode) text job.top job.clock a ports engine → IsDesignLoaded lane lanes tells job old a ports engine
 loaded_behind lane lanes tells job old text a ports engine b l = record {
   file = b.taken;
   file_is = b.taken_is;
-  loaded = subst (λ (xs : List ℕ). IsLoaded lane lanes xs job.top job.clock a ports engine) b.text_is l;
+  loaded = subst (λ (xs : List ℕ). IsLoaded lane lanes (demands job.mode) xs job.top job.clock a ports engine) b.text_is l;
 }
 
 -- it can't be loaded
@@ -170,14 +172,14 @@ unprepared {W} {tells} lane lanes job old mid new a ports engine l same e u = by
     accepted t =
         with_text job.top job.clock (design_of a.flat) (job.head ++ l.file) (design_text job old.contents) (ap (λ (file : List ℕ). job.head ++ file) (l.file_is t)) l.loaded.accepted
 
-    ports_are : (t : IsTrue tells) → ports ≡ ports_of (accepted t)
+    ports_are : (t : IsTrue tells) → ports ≡ ports_of job.mode (accepted t)
     ports_are t = l.loaded.ports_are
 
-    headers : (t : IsTrue tells) (n : ℕ) → HaveHeaders ports mid.contents.files job.stimuli n → HaveHeaders (ports_of (accepted t)) old.contents.files job.stimuli n
+    headers : (t : IsTrue tells) (n : ℕ) → HaveHeaders ports mid.contents.files job.stimuli n → HaveHeaders (ports_of job.mode (accepted t)) old.contents.files job.stimuli n
     headers t n h = subst (λ (is : PortLists). HaveHeaders is old.contents.files job.stimuli n) (ports_are t) (subst (λ (files : List ℕ → List ℕ). HaveHeaders ports files job.stimuli n) (same t) h)
 
     refused : (t : IsTrue tells) (n : ℕ) (error : StimError) → header_refusal ports (mid.contents.files (path_at job.stimuli n)) ≡ Some error
-        → header_refusal (ports_of (accepted t)) (old.contents.files (path_at job.stimuli n)) ≡ Some error
+        → header_refusal (ports_of job.mode (accepted t)) (old.contents.files (path_at job.stimuli n)) ≡ Some error
     refused t n error h = ap (λ is. header_refusal is (old.contents.files (path_at job.stimuli n))) (sym (ports_are t)) ∙ ap (λ (files : List ℕ → List ℕ). header_refusal ports (files (path_at job.stimuli n))) (sym (same t)) ∙ h
 
     by_error : (e : SetupError) → IsUnopened ports job.stimuli (record mid { register = with_design old.register job.design }) new e → IsUnprepared job old new e

@@ -1,15 +1,17 @@
 -- The data inputs and the outputs, signal by signal.
-use Rattle.std.proofs.Common.{◌≡◌, ℕ, zero, suc, Bool, true, false, List, [], ◌∷◌, ◌++◌, ◌&&◌, ◌||◌, not, ◌==◌, if◌then◌else◌, ◌+◌, ◌-◌, ◌≤◌, nat_lt, nat_le, length, map, drop, slice_get, Option, Some, None, arith, append-nil, append_assoc, drop_of_length-le, sym, ap, ◌∙◌, refl, subst, All}
-use Rattle.std.specs.Prelude.{is_some, nat_eq}
+use Rattle.std.proofs.Common.{◌≡◌, ℕ, zero, suc, Bool, true, false, List, [], ◌∷◌, ◌++◌, ◌&&◌, ◌||◌, not, ◌==◌, if◌then◌else◌, ◌+◌, ◌-◌, ◌^◌, ◌<◌, ◌≤◌, nat_lt, nat_le, eqb-true, length, map, drop, slice_get, Option, Some, None, arith, append-nil, append_assoc, drop_of_length-le, sym, ap, ◌∙◌, refl, subst, All}
+use Rattle.std.specs.Prelude.{is_some, nat_eq, sum_by}
 use Rattle.std.specs.Cmp.Lexicographic.{pointwise}
 use Rattle.std.specs.List.{filter, list_all, list_any}
 use Rattle.std.proofs.lemmas.Bool.{and_parts}
+use Rattle.std.proofs.lemmas.List.{length-map}
 use Rattle.std.proofs.lemmas.List.Elements.{All-cons, All-nil}
+use Rattle.std.proofs.lemmas.List.Sums.{sum_by-cons}
 use Rattle.vs_four.specs.declared.Range.{Range}
 use Rattle.vs_four.specs.Selects.{range_length, is_descending}
 use Rattle.vs_design.specs.Expressions.{Signal, range_or_one, words_length, signal_length}
-use Rattle.vs_design.specs.Designs.{Design}
-use Rattle.vs_design.specs.Elaborated.{is_lawful_range, is_declared, are_lawful_words, is_lawful_memory}
+use Rattle.vs_design.specs.Designs.{Design, bit_count}
+use Rattle.vs_design.specs.Elaborated.{is_lawful_range, is_declared, are_lawful_words, is_lawful_memory, have_bits_from, IsLawfulDesign}
 use Rattle.vs_design.specs.Clocks.{same_name}
 use Rattle.vs_design.specs.Footprints.{is_memory, is_variable}
 use Rattle.vs_flat.specs.declared.processes.Signal as F
@@ -17,6 +19,9 @@ use Rattle.vs_flat.specs.Arena.{Arena}
 use Rattle.vs_flat.specs.Trees.{signal_of, signals_from}
 use Rattle.vs_flat.specs.DesignOf.{arena_signals, design_of}
 use Rattle.vs_flat.specs.Lawful.{IsLawful}
+use Rattle.vs_program.specs.declared.compiled.Span.{Span}
+use Rattle.vs_program.specs.Program.{spans}
+use Rattle.vs_program.specs.Compiled.{span_of}
 use Rattle.vs_stim.specs.declared.input.Input.{Input}
 use Rattle.vs_stim.specs.declared.input.Output.{Output}
 use Rattle.vs_stim.specs.Header.{IsInput, IsOutput}
@@ -126,33 +131,33 @@ are_inputs resets a clock lawful = inputs_of (design_of a) resets clock (design_
 
 -- ---- the signals in order
 
--- one more signal, which may be a data input
-pub more : (resets : List ℕ) (clock : ℕ) (a : Arena) (n : ℕ) (s : F.Signal) (test : Bool) (so_far new : List Input) → slice_get a.signals n ≡ Some s
-    → test ≡ is_data_input clock (signal_of n s)
-    → new ≡ so_far ++ (if test then (input_of resets (signal_of n s) ∷ []) else [])
-    → so_far ++ inputs_among resets clock (drop n (arena_signals a)) ≡ inputs_among resets clock (arena_signals a)
-    → new ++ inputs_among resets clock (drop (n + 1) (arena_signals a)) ≡ inputs_among resets clock (arena_signals a)
-more resets clock a n s test so_far new at is pushed so_far_is =
-    ap (λ (xs : List Input). xs ++ inputs_among resets clock rest) pushed
-    ∙ append_assoc so_far (if test then (input_of resets (signal_of n s) ∷ []) else []) (inputs_among resets clock rest)
-    ∙ ap (λ (xs : List Input). so_far ++ xs) (one test is ∙ ap (inputs_among resets clock) (sym (drop_some (arena_signals a) n (signal_of n s) (signal_there a n s at))))
+-- one more signal, which may be one of those that are kept
+pub more : {A : Type 0} (f : Signal → A) (keep : Signal → Bool) (a : Arena) (n : ℕ) (s : F.Signal) (test : Bool) (so_far new : List A) → slice_get a.signals n ≡ Some s
+    → test ≡ keep (signal_of n s)
+    → new ≡ so_far ++ (if test then (f (signal_of n s) ∷ []) else [])
+    → so_far ++ map f (filter keep (drop n (arena_signals a))) ≡ map f (filter keep (arena_signals a))
+    → new ++ map f (filter keep (drop (n + 1) (arena_signals a))) ≡ map f (filter keep (arena_signals a))
+more {A} f keep a n s test so_far new at is pushed so_far_is =
+    ap (λ (xs : List A). xs ++ map f (filter keep rest)) pushed
+    ∙ append_assoc so_far (if test then (f (signal_of n s) ∷ []) else []) (map f (filter keep rest))
+    ∙ ap (λ (xs : List A). so_far ++ xs) (one test is ∙ ap (λ (xs : List Signal). map f (filter keep xs)) (sym (drop_some (arena_signals a) n (signal_of n s) (signal_there a n s at))))
     ∙ so_far_is
   where
     rest : List Signal
     rest = drop (n + 1) (arena_signals a)
 
-    one : (t : Bool) → t ≡ is_data_input clock (signal_of n s) → (if t then (input_of resets (signal_of n s) ∷ []) else []) ++ inputs_among resets clock rest ≡ inputs_among resets clock (signal_of n s ∷ rest)
-    one t e = ap (λ (c : Bool). (if c then (input_of resets (signal_of n s) ∷ []) else []) ++ inputs_among resets clock rest) e ∙ both (is_data_input clock (signal_of n s))
+    one : (t : Bool) → t ≡ keep (signal_of n s) → (if t then (f (signal_of n s) ∷ []) else []) ++ map f (filter keep rest) ≡ map f (filter keep (signal_of n s ∷ rest))
+    one t e = ap (λ (c : Bool). (if c then (f (signal_of n s) ∷ []) else []) ++ map f (filter keep rest)) e ∙ both (keep (signal_of n s))
       where
-        both : (c : Bool) → (if c then (input_of resets (signal_of n s) ∷ []) else []) ++ inputs_among resets clock rest ≡ map (input_of resets) (if c then (signal_of n s ∷ filter (is_data_input clock) rest) else filter (is_data_input clock) rest)
+        both : (c : Bool) → (if c then (f (signal_of n s) ∷ []) else []) ++ map f (filter keep rest) ≡ map f (if c then (signal_of n s ∷ filter keep rest) else filter keep rest)
         both true = refl
         both false = refl
 
-pub all : (resets : List ℕ) (clock : ℕ) (a : Arena) (n count : ℕ) (so_far : List Input) → count ≡ length a.signals → count ≤ n
-    → so_far ++ inputs_among resets clock (drop n (arena_signals a)) ≡ inputs_among resets clock (arena_signals a) → so_far ≡ inputs_among resets clock (design_of a).signals
-all resets clock a n count so_far is past so_far_is =
+pub all : {A : Type 0} (f : Signal → A) (keep : Signal → Bool) (a : Arena) (n count : ℕ) (so_far : List A) → count ≡ length a.signals → count ≤ n
+    → so_far ++ map f (filter keep (drop n (arena_signals a))) ≡ map f (filter keep (arena_signals a)) → so_far ≡ map f (filter keep (design_of a).signals)
+all f keep a n count so_far is past so_far_is =
     let end : length (arena_signals a) ≤ n = omega (arith, is, past, length-signals_from 0 a.signals) in
-    sym (append-nil so_far) ∙ ap (λ r. so_far ++ r) (sym (ap (inputs_among resets clock) (drop_of_length-le (arena_signals a) end))) ∙ so_far_is
+    sym (append-nil so_far) ∙ ap (λ r. so_far ++ r) (sym (ap (λ (xs : List Signal). map f (filter keep xs)) (drop_of_length-le (arena_signals a) end))) ∙ so_far_is
 
 -- ---- outputs
 
@@ -192,30 +197,53 @@ outputs_of d names (s ∷ ss) h =
 pub are_outputs : (names : List (List ℕ)) (a : Arena) → IsLawful a → All IsOutput (outputs_among names (design_of a).signals)
 are_outputs names a lawful = outputs_of (design_of a) names (design_of a).signals lawful.design.declared
 
--- one more signal, which may be an output
-pub more_outputs : (names : List (List ℕ)) (a : Arena) (n : ℕ) (s : F.Signal) (test : Bool) (so_far new : List Output) → slice_get a.signals n ≡ Some s
-    → test ≡ is_output names (signal_of n s)
-    → new ≡ so_far ++ (if test then (output_of (signal_of n s) ∷ []) else [])
-    → so_far ++ outputs_among names (drop n (arena_signals a)) ≡ outputs_among names (arena_signals a)
-    → new ++ outputs_among names (drop (n + 1) (arena_signals a)) ≡ outputs_among names (arena_signals a)
-more_outputs names a n s test so_far new at is pushed so_far_is =
-    ap (λ (xs : List Output). xs ++ outputs_among names rest) pushed
-    ∙ append_assoc so_far (if test then (output_of (signal_of n s) ∷ []) else []) (outputs_among names rest)
-    ∙ ap (λ (xs : List Output). so_far ++ xs) (one test is ∙ ap (outputs_among names) (sym (drop_some (arena_signals a) n (signal_of n s) (signal_there a n s at))))
-    ∙ so_far_is
+-- ---- the bits of outputs
+
+true_le : (m n : ℕ) → m ≤ n → nat_le m n ≡ true
+true_le m n h = grind arith
+
+fits : (count : ℕ) (s : Signal) → HasFew s → s.first + signal_length s ≤ count → spans count (span_of s) ≡ true
+fits count s few inside =
+    ap (λ z. z && nat_le (signal_length s) 64 && nat_le (s.first + signal_length s) count) (true_le 1 (signal_length s) few.some)
+    ∙ ap (λ z. z && nat_le (s.first + signal_length s) count) (true_le (signal_length s) 64 few.at_most_64)
+    ∙ true_le (s.first + signal_length s) count inside
+
+-- they are among the design's
+spans_fit : (d : Design) (names : List (List ℕ)) (k count : ℕ) (ss : List Signal) → list_all (is_declared d) ss ≡ true → have_bits_from k ss ≡ true → k + sum_by signal_length ss ≤ count
+    → list_all (spans count) (map span_of (filter (is_output names) ss)) ≡ true
+spans_fit d names k count [] declared numbered l = refl
+spans_fit d names k count (s ∷ ss) declared numbered l =
+    let a = and_parts (is_declared d s) (list_all (is_declared d) ss) declared in
+    let b = and_parts (s.first == k) (have_bits_from (k + signal_length s) ss) numbered in
+    let first : s.first ≡ k = eqb-true s.first k b.0 in
+    let sum = sum_by-cons signal_length s ss in
+    let inside : s.first + signal_length s ≤ count = omega (arith, first, sum, l) in
+    let rest : k + signal_length s + sum_by signal_length ss ≤ count = omega (arith, sum, l) in
+    here (is_output names s) (λ output. fits count s (plain_output d names s a.0 output) inside) (spans_fit d names (k + signal_length s) count ss a.1 b.1 rest)
   where
-    rest : List Signal
-    rest = drop (n + 1) (arena_signals a)
+    here : (c : Bool) → (c ≡ true → spans count (span_of s) ≡ true) → list_all (spans count) (map span_of (filter (is_output names) ss)) ≡ true
+        → list_all (spans count) (map span_of (if c then (s ∷ filter (is_output names) ss) else filter (is_output names) ss)) ≡ true
+    here true fit others = ap (λ z. z && list_all (spans count) (map span_of (filter (is_output names) ss))) (fit refl) ∙ others
+    here false fit others = others
 
-    one : (t : Bool) → t ≡ is_output names (signal_of n s) → (if t then (output_of (signal_of n s) ∷ []) else []) ++ outputs_among names rest ≡ outputs_among names (signal_of n s ∷ rest)
-    one t e = ap (λ (c : Bool). (if c then (output_of (signal_of n s) ∷ []) else []) ++ outputs_among names rest) e ∙ both (is_output names (signal_of n s))
-      where
-        both : (c : Bool) → (if c then (output_of (signal_of n s) ∷ []) else []) ++ outputs_among names rest ≡ map output_of (if c then (signal_of n s ∷ filter (is_output names) rest) else filter (is_output names) rest)
-        both true = refl
-        both false = refl
+pub are_inside : (d : Design) (names : List (List ℕ)) (count : ℕ) → IsLawfulDesign d → count ≡ bit_count d → list_all (spans count) (map span_of (filter (is_output names) d.signals)) ≡ true
+are_inside d names count lawful is = spans_fit d names 0 count d.signals lawful.declared lawful.bits_numbered (omega (arith, is))
 
-pub all_outputs : (names : List (List ℕ)) (a : Arena) (n count : ℕ) (so_far : List Output) → count ≡ length a.signals → count ≤ n
-    → so_far ++ outputs_among names (drop n (arena_signals a)) ≡ outputs_among names (arena_signals a) → so_far ≡ outputs_among names (design_of a).signals
-all_outputs names a n count so_far is past so_far_is =
-    let end : length (arena_signals a) ≤ n = omega (arith, is, past, length-signals_from 0 a.signals) in
-    sym (append-nil so_far) ∙ ap (λ r. so_far ++ r) (sym (ap (outputs_among names) (drop_of_length-le (arena_signals a) end))) ∙ so_far_is
+-- each output has a bit
+as_many : (d : Design) (names : List (List ℕ)) (ss : List Signal) → list_all (is_declared d) ss ≡ true → length (filter (is_output names) ss) ≤ sum_by signal_length ss
+as_many d names [] declared = omega arith
+as_many d names (s ∷ ss) declared =
+    let a = and_parts (is_declared d s) (list_all (is_declared d) ss) declared in
+    here (is_output names s) (λ output. (plain_output d names s a.0 output).some) (as_many d names ss a.1)
+  where
+    here : (c : Bool) → (c ≡ true → 1 ≤ signal_length s) → length (filter (is_output names) ss) ≤ sum_by signal_length ss
+        → length (if c then (s ∷ filter (is_output names) ss) else filter (is_output names) ss) ≤ sum_by signal_length (s ∷ ss)
+    here true some others = let one = some refl in let sum = sum_by-cons signal_length s ss in omega (arith, one, sum, others)
+    here false some others = let sum = sum_by-cons signal_length s ss in omega (arith, sum, others)
+
+pub few_spans : (names : List (List ℕ)) (a : Arena) (xs : List Span) → IsLawful a → xs ≡ map span_of (filter (is_output names) (design_of a).signals) → length xs < 2 ^ 32
+few_spans names a xs lawful is =
+    let long = ap (λ (ys : List Span). length ys) is ∙ length-map (filter (is_output names) (design_of a).signals) span_of in
+    let most = as_many (design_of a) names (design_of a).signals lawful.design.declared in
+    let few = lawful.design.few_bits in
+    omega (arith, long, most, few)

@@ -1,11 +1,22 @@
 -- The ports that stimuli name.
-use Rattle.std.specs.Prelude.{ℕ, List}
+use Rattle.std.specs.Prelude.{ℕ, Bool, true, false, List}
 use Rattle.vs_design.specs.Designs.{Design}
 use Rattle.vs_accept.specs.Accepted.{IsAcceptedText}
 use Rattle.vs_accept.specs.Outputs.{top_outputs}
 use Rattle.vs_stim.specs.Header.{PortLists}
+use Rattle.vs_job.specs.declared.job.Mode.{Mode}
+use Rattle.vs_job.specs.declared.job.Mode.TheVariants.{Run, Check}
 use Rattle.vs_rounds.specs.Inputs.{data_inputs, outputs}
 
--- the data inputs and the outputs of the design as which a text is accepted
-abbrev pub ports_of : {text top clock : List ℕ} {d : Design} → IsAcceptedText text top clock d → PortLists
-ports_of {top = top} {d = d} a = record { inputs = data_inputs d a.accepted.clock.first; outputs = outputs d (top_outputs a.source top) }
+-- whether a header has to name outputs: that of a check has to, for else there is nothing to compare
+abbrev pub demands : Mode → Bool
+demands Run = false
+demands Check = true
+
+-- the data inputs and the outputs of the design as which a text is accepted, where this says whether a header has to name outputs
+abbrev pub ports_with : Bool → {text top clock : List ℕ} {d : Design} → IsAcceptedText text top clock d → PortLists
+ports_with demanded {top = top} {d = d} a = record { inputs = data_inputs d a.accepted.clock.first; outputs = outputs d (top_outputs a.source top); demanded = demanded }
+
+-- in a job of this mode
+abbrev pub ports_of : Mode → {text top clock : List ℕ} {d : Design} → IsAcceptedText text top clock d → PortLists
+ports_of mode a = ports_with (demands mode) a

@@ -1,4 +1,4 @@
--- A run that can begin.
+-- A run that can begin, and a check that can.
 use Rattle.std.specs.Prelude.{◌≡◌, ℕ, Bool, false, IsTrue, List, [], ◌++◌, All, length, map}
 use Rattle.vs_desk.specs.Desk.{Contents, Told}
 use Rattle.vs_desk.specs.Places.{design_place}
@@ -9,14 +9,16 @@ use Rattle.vs_engine.specs.Lanes.{Running}
 use Rattle.vs_accept.specs.Accepted.{IsAcceptedText}
 use Rattle.vs_accept.specs.Lent.{Acceptance}
 use Rattle.vs_stim.specs.Header.{PortLists, ArePorts}
-use Rattle.vs_feed.specs.Lanes.{AreAttached}
-use Rattle.vs_feed.specs.Opened.{path_at, HaveHeaders}
+use Rattle.vs_stim.specs.Known.{Known}
+use Rattle.vs_feed.specs.Lanes.{AreLanes, AreAttached}
+use Rattle.vs_feed.specs.Opened.{path_at, HaveHeaders, AreOpened as AreLanesOpened}
 use Rattle.vs_job.specs.declared.job.Job.{Job}
 use Rattle.vs_job.specs.Places.{vcd_path}
 use Rattle.vs_rounds.specs.Lanes.{Run, Simulation, AreOpened}
 use Rattle.vs_rounds.specs.Ready.{IsReady}
+use Rattle.vs_rounds.specs.Checked.{Checking, IsCheckable, AreWatched}
 use Rattle.vs_setup.specs.Loaded.{IsLoaded}
-use Rattle.vs_setup.specs.Ports.{ports_of}
+use Rattle.vs_setup.specs.Ports.{demands, ports_of}
 use Rattle.vs_setup.specs.Places.{with_texts}
 
 -- What a job runs where the files have these bytes: its design, with the bit of its clock and the ports that stimuli name, and a text for each lane.
@@ -41,13 +43,37 @@ pub record IsPrepared {W : Type 0} (lane : W → ℕ → Bool) {tells : Bool} (j
   pub program : IsProgramOf design accepted.accepted.clock.first m.engine.program
   -- no slot was run
   pub begun : m.engine.begun ≡ false
-  pub all_ports : ArePorts (ports_of accepted)
+  pub all_ports : ArePorts (ports_of job.mode accepted)
   -- the lanes
   pub lanes : length m.stimuli ≡ length job.stimuli
-  pub headers : IsTrue tells → HaveHeaders (ports_of accepted) old.contents.files job.stimuli (length job.stimuli)
+  pub headers : IsTrue tells → HaveHeaders (ports_of job.mode accepted) old.contents.files job.stimuli (length job.stimuli)
   pub ready : IsReady 0 m
-  pub opened : IsTrue tells → AreOpened lane (run_of job old.contents.files design accepted.accepted.clock.first (ports_of accepted)) m new.contents
+  pub opened : IsTrue tells → AreOpened lane (run_of job old.contents.files design accepted.accepted.clock.first (ports_of job.mode accepted)) m new.contents
   pub paths : wave_paths ≡ map vcd_path job.stimuli
+  -- the desk
+  pub register_is : new.register ≡ with_texts old.register job job.stimuli
+  pub readable : AreAttached new.register m.stimuli
+  pub kept : IsTrue tells → AreTextsKept old.contents new.contents
+
+-- The design's file was taken to its end, accepted behind the head and loaded, each lane's stimulus is about to give its first vector, and the outputs are
+-- watched, of which nothing was found, where the desk told this before and tells that now, and `lane` reads a lane of a word.
+pub record IsCheckPrepared {W : Type 0} (lane : W → ℕ → Bool) {tells : Bool} (job : Job) (old new : Told tells) (m : Checking W) (size : ℕ) : Type 0 where
+  -- the design
+  pub file : List ℕ
+  pub file_is : IsTrue tells → file ≡ old.contents.files job.design
+  pub taken : IsTrue tells → new.contents.left design_place ≡ []
+  pub design : Design
+  pub accepted : IsAcceptedText (job.head ++ file) job.top job.clock design
+  pub size_is : size ≡ size_of design
+  pub program : IsProgramOf design accepted.accepted.clock.first m.engine.program
+  -- no slot was run
+  pub begun : m.engine.begun ≡ false
+  pub all_ports : ArePorts (ports_of job.mode accepted)
+  -- the lanes
+  pub lanes : length m.stimuli ≡ length job.stimuli
+  pub headers : IsTrue tells → HaveHeaders (ports_of job.mode accepted) old.contents.files job.stimuli (length job.stimuli)
+  pub ready : IsCheckable m
+  pub opened : IsTrue tells → AreWatched lane (run_of job old.contents.files design accepted.accepted.clock.first (ports_of job.mode accepted)) m new.contents
   -- the desk
   pub register_is : new.register ≡ with_texts old.register job job.stimuli
   pub readable : AreAttached new.register m.stimuli
@@ -57,4 +83,17 @@ pub record IsPrepared {W : Type 0} (lane : W → ℕ → Bool) {tells : Bool} (j
 pub record IsDesignLoaded {W : Type 0} (lane : W → ℕ → Bool) (lanes : ℕ) (tells : Bool) (job : Job) (old : Contents) (a : Acceptance) (ports : PortLists) (engine : Running W) : Type 0 where
   pub file : List ℕ
   pub file_is : IsTrue tells → file ≡ old.files job.design
-  pub loaded : IsLoaded lane lanes (job.head ++ file) job.top job.clock a ports engine
+  pub loaded : IsLoaded lane lanes (demands job.mode) (job.head ++ file) job.top job.clock a ports engine
+
+-- The design's file was taken to its end and loaded behind the head as this design with its engine, and each lane's stimulus is about to give its first
+-- vector, where the desk told this before and tells that now.
+pub record IsJobOpened {W : Type 0} (lane : W → ℕ → Bool) (lanes : ℕ) {tells : Bool} (job : Job) (old new : Told tells) (a : Acceptance) (ports : PortLists) (engine : Running W) (ks : List Known) : Type 0 where
+  pub loaded : IsDesignLoaded lane lanes tells job old.contents a ports engine
+  pub taken : IsTrue tells → new.contents.left design_place ≡ []
+  -- behind the design's file
+  pub middle : Contents
+  pub files : IsTrue tells → middle.files ≡ old.contents.files
+  pub opened : AreLanesOpened tells ports middle new.contents job.stimuli ks
+  pub headers : IsTrue tells → HaveHeaders ports middle.files job.stimuli (length job.stimuli)
+  pub numbered : AreLanes ks
+  pub readable : AreAttached new.register ks

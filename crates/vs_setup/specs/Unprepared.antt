@@ -1,4 +1,4 @@
--- Why a run can't begin, by the error.
+-- Why a run or a check can't begin, by the error.
 use Rattle.std.specs.Prelude.{◌≡◌, ℕ, ◌<◌, ◌≤◌, ◌+◌, ◌⊎◌, Bool, IsTrue, List, [], ◌++◌, length, take, Some}
 use Rattle.vs_desk.specs.Desk.{Register, Contents, Told, Fails}
 use Rattle.vs_desk.specs.Places.{stimulus_place, design_place}
@@ -57,13 +57,13 @@ pub record IsFirstRefused (ports : PortLists) (c : Contents) (stimuli : List (Li
 pub record AreEarlierOpened (job : Job) (c : Contents) (lane : ℕ) : Type 0 where
   pub design : Design
   pub accepted : IsDesignOf job c design
-  pub headers : HaveHeaders (ports_of accepted) c.files job.stimuli lane
+  pub headers : HaveHeaders (ports_of job.mode accepted) c.files job.stimuli lane
 
 -- The design is accepted, and this lane's stimulus is the first that is refused up to its header.
 pub record IsHeaderRefusal (job : Job) (c : Contents) (lane : ℕ) (error : StimError) : Type 0 where
   pub design : Design
   pub accepted : IsDesignOf job c design
-  pub first : IsFirstRefused (ports_of accepted) c job.stimuli lane error
+  pub first : IsFirstRefused (ports_of job.mode accepted) c job.stimuli lane error
 
 -- The attach of this lane's stimulus failed, behind the earlier ones, or a take there did, behind bytes of its text that tell neither a header nor
 -- a refusal, where the register was this before the first one.
@@ -91,7 +91,7 @@ IsTextRefusal E.ReadFault = ⊥
 IsTextRefusal E.Memory = ⊥
 IsTextRefusal error = IsHeaderError error
 
--- Why a run can't begin, where the desk told this before and tells that now.
+-- Why a run or a check can't begin, where the desk told this before and tells that now.
 abbrev pub IsUnprepared : {tells : Bool} → Job → Told tells → Told tells → SetupError → Type 0
 IsUnprepared {tells} job old new TooLong = (new.register ≡ with_design old.register job.design) × (IsTrue tells → IsTooLong job.head (old.contents.files job.design) (new.contents.left design_place))
 IsUnprepared {tells} job old new (Refused r) =

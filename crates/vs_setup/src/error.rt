@@ -1,4 +1,4 @@
-//! Why a run can't begin.
+//! Why a run or a check can't begin.
 
 ghost use Rattle.std.specs.Prelude.{◌≡◌};
 ghost use Rattle.vs_setup.specs.declared.error.SetupError.TheVariants.{Memory};
@@ -12,7 +12,7 @@ use vs_desk::DESIGN_PLACE;
 use vs_refusal::Refusal;
 use vs_stim::StimError;
 
-/// Why a run can't begin.
+/// Why a run or a check can't begin.
 #[derive(Debug, Drop, Error)]
 pub enum SetupError {
     /// 3: the design has more than 4,194,304 bytes, with the lines of the macros before it.
@@ -21,7 +21,7 @@ pub enum SetupError {
     /// 10 to 66: the text is no design, or its design breaks a rule. Places are those of the design's file.
     #[error("the design is refused")]
     Refused(Refusal),
-    /// 70, 75 or 76: a lane's stimulus is refused at a line up to its header.
+    /// 70, 75 or 76: a lane's stimulus is refused at a line up to its header. 79: its header names no output, though in a check it has to.
     #[error("lane {lane}: {error}")]
     Stimulus { lane: u32, error: StimError },
     /// A call on the desk failed at this place.

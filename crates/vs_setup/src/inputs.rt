@@ -1,18 +1,20 @@
 //! The data inputs and the outputs of a design.
 
-ghost use Rattle.std.specs.Prelude.{◌≡◌, ◌≤◌, ℕ, IfOk};
-ghost use Rattle.std.specs.List.{list_any};
+ghost use Rattle.std.specs.Prelude.{◌≡◌, ◌<◌, ◌≤◌, ◌^◌, ℕ, IfOk, length, map};
+ghost use Rattle.std.specs.List.{filter, list_any};
 ghost use Rattle.vs_design.specs.Clocks.{same_name};
 ghost use Rattle.vs_design.specs.Footprints.{contains};
 ghost use Rattle.vs_flat.specs.Arena.{signal_length};
 ghost use Rattle.vs_flat.specs.DesignOf.{design_of};
 ghost use Rattle.vs_flat.specs.Lawful.{IsLawful};
 ghost use Rattle.vs_flat.specs.Trees.{signal_of};
+ghost use Rattle.vs_program.specs.Compiled.{span_of};
 ghost use Rattle.vs_rounds.specs.Inputs.{input_of, inputs_among, is_data_input, is_output, output_of, outputs_among};
 
 use std::alloc::{AllocError, Global};
 use vs_base::Text;
 use vs_flat::{Flat, Signal, bits_of};
+use vs_program::Span;
 use vs_stim::{Input, Name, Output};
 
 /// The data inputs of a design whose clock and whose reset inputs are these bits, in order of declaration.
@@ -98,6 +100,37 @@ fn output_of(alloc: Global, signal: &Signal) -> Result<Output, AllocError>
         name: Name::of(name),
         length: bits_of(signal),
     })
+}
+
+/// The bits of the outputs of a design, which have these names, in order of declaration.
+pub(crate) fn output_spans(
+    alloc: Global,
+    flat: &Flat,
+    names: &[Text],
+) -> Result<Vec<Span>, AllocError>
+    requires { IsLawful flat.now }
+    ensures spans { IfOk result (λ spans. spans.items ≡ map span_of (filter (is_output names.now) (design_of flat.now).signals)) }
+    ensures few { IfOk result (λ spans. length spans.items < 2 ^ 32) }
+{
+    let mut spans = Vec::new(alloc);
+    for n in 0..flat.signal_count() {
+        let signal = flat.signal(n);
+        if is_output(signal, names) {
+            spans.push(span_of(signal))?;
+        }
+    }
+    Ok(spans)
+}
+
+/// The bits that a signal has.
+fn span_of(signal: &Signal) -> Span
+    requires { signal_length signal.now ≤ 64 }
+    ensures { (n : ℕ) → result ≡ span_of (signal_of n signal.now) }
+{
+    Span {
+        first: signal.first_bit,
+        length: bits_of(signal),
+    }
 }
 
 /// Whether the name is one of these.

@@ -1,12 +1,21 @@
 //! The loading of a design text.
 
-ghost use Rattle.std.specs.Prelude.{◌≤◌, IfOk, IfErr, length};
+ghost use Rattle.std.specs.Prelude.{◌≡◌, ◌<◌, ◌≤◌, ℕ, false, true, IfOk, IfErr, length};
+ghost use Rattle.vs_design.specs.Levels.{is_level_order};
+ghost use Rattle.vs_design.specs.Networks.{network_of};
+ghost use Rattle.vs_flat.specs.DesignOf.{design_of};
+ghost use Rattle.vs_reads.specs.Footprint.{footprints_of};
+ghost use Rattle.vs_clock.specs.Clocked.{AreResets};
+ghost use Rattle.vs_program.specs.Compiled.{IsProgramOf};
+ghost use Rattle.vs_compile.specs.Known.{IsAcceptedBy};
+ghost use Rattle.vs_engine.specs.Lanes.{state};
+ghost use Rattle.vs_rounds.specs.Inputs.{inputs_among, outputs_among};
 ghost use Rattle.vs_accept.specs.Accepted.{most_bytes};
 ghost use Rattle.vs_accept.specs.Answers.{IsRefusalOf};
 ghost use Rattle.vs_setup.specs.Loaded.{IsLoaded};
 
 use crate::inputs::{data_inputs, outputs_of};
-use std::alloc::Global;
+use std::alloc::{AllocError, Global};
 use vs_accept::{AcceptError, Accepted, accept, answer_law};
 use vs_compile::compile;
 use vs_engine::Engine;
@@ -26,35 +35,76 @@ pub struct Loaded<W: Word> {
 }
 
 /// Loads the design of a text of at most 4,194,304 bytes whose top module and whose clock input have these names: it is accepted and compiled.
+/// Where outputs are demanded, the header of a stimulus has to name one at least.
 /// All memory that an engine needs is taken here. Otherwise the text is refused, by the first rule that it breaks, or there is no memory.
 pub fn load<W: Lanes>(
     alloc: Global,
     text: &[u8],
     top: &[u8],
     clock: &[u8],
+    demanded: bool,
 ) -> Result<Loaded<W>, AcceptError>
     requires { length text.now ≤ most_bytes }
-    ensures loaded { IfOk result (λ l. IsLoaded W.lane W.LANES text.now top.now clock.now l.accepted l.ports l.engine) }
+    ensures loaded { IfOk result (λ l. IsLoaded W.lane W.LANES demanded text.now top.now clock.now l.accepted l.ports l.engine) }
     ensures refused { IfErr result (IsRefusalOf text.now top.now clock.now) }
 {
     inputs_law();
     answer_law();
     let accepted = accept(alloc, text, top, clock)?;
-    let typed = accepted.typed();
-    let clocks = accepted.clocks();
-    let compiled = compile(
-        alloc,
-        typed,
-        accepted.footprints(),
-        clocks,
-        accepted.order(),
-    )?;
-    let engine = Engine::new(alloc, compiled)?;
-    let inputs = data_inputs(alloc, typed.flat(), clocks.bit(), clocks.reset_inputs())?;
-    let outputs = outputs_of(alloc, typed.flat(), accepted.outputs())?;
+    let engine = engine_of(alloc, &accepted)?;
+    let ports = ports_of(alloc, &accepted, demanded)?;
     Ok(Loaded {
         accepted,
         engine,
-        ports: Ports::of(inputs, outputs),
+        ports,
     })
+}
+
+/// The engine of an accepted design.
+fn engine_of<W: Lanes>(alloc: Global, accepted: &Accepted) -> Result<Engine<W>, AllocError>
+    requires accepted { IsAcceptedBy (design_of accepted.now.flat) accepted.now.clocks }
+    requires footprints { accepted.now.footprints ≡ footprints_of (design_of accepted.now.flat) }
+    requires resets { AreResets accepted.now.flat accepted.now.clocks }
+    requires order { is_level_order (design_of accepted.now.flat) accepted.now.order ≡ true }
+    ensures program { IfOk result (λ e. IsProgramOf (design_of accepted.now.flat) accepted.now.clocks.bit e.program) }
+    ensures begun { IfOk result (λ e. e.begun ≡ false) }
+    ensures idle { IfOk result (λ e. (i : ℕ) → i < W.LANES → state W.lane e i ≡ (network_of (design_of accepted.now.flat) accepted.now.clocks.bit).idle) }
+{
+    let compiled = compile(
+        alloc,
+        accepted.typed(),
+        accepted.footprints(),
+        accepted.clocks(),
+        accepted.order(),
+    )?;
+    Engine::new(alloc, compiled)
+}
+
+/// What stimuli name of an accepted design.
+fn ports_of(alloc: Global, accepted: &Accepted, demanded: bool) -> Result<Ports, AllocError>
+    ensures inputs { IfOk result (λ p. p.inputs ≡ inputs_among accepted.now.clocks.reset_inputs accepted.now.clocks.bit (design_of accepted.now.flat).signals) }
+    ensures outputs { IfOk result (λ p. p.outputs ≡ outputs_among accepted.now.outputs (design_of accepted.now.flat).signals) }
+    ensures demanded { IfOk result (λ p. p.demanded ≡ demanded) }
+{
+    let flat = accepted.typed().flat();
+    let clocks = accepted.clocks();
+    let inputs = data_inputs(alloc, flat, clocks.bit(), clocks.reset_inputs())?;
+    let outputs = outputs_of(alloc, flat, accepted.outputs())?;
+    Ok(Ports::of(inputs, outputs, demanded))
+}
+
+impl<W: Word> Loaded<W> {
+    /// What runs it, without the rest.
+    pub(crate) fn into_engine(self) -> Engine<W>
+        ensures { result ≡ self.engine }
+    {
+        let Loaded {
+            accepted,
+            engine,
+            ports,
+        } = self;
+        let _ = accepted;
+        let _ = ports;
+        engine
+    }
 }

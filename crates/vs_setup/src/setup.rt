@@ -1,4 +1,4 @@
-//! The set-up of a run.
+//! The set-up of a run, and what a check's has in common with it.
 
 ghost use Rattle.std.specs.Prelude.{◌≡◌, ◌≤◌, ◌<◌, [], All, IsNone, IsTrue, IfOk, IfErr, OnOk, length, map, string_bytes};
 ghost use Rattle.vs_desk.specs.Taking.{OnlyTaken};
@@ -7,6 +7,7 @@ ghost use Rattle.vs_flat.specs.DesignOf.{design_of};
 ghost use Rattle.vs_accept.specs.Accepted.{most_bytes};
 ghost use Rattle.vs_design.specs.Sizes.{size as size_of};
 ghost use Rattle.vs_setup.specs.Loaded.{IsLoaded};
+ghost use Rattle.vs_setup.specs.Ports.{demands};
 ghost use Rattle.vs_stim.specs.Header.{ArePorts};
 ghost use Rattle.vs_feed.specs.Lanes.{AreAttached, AreLanes, OtherPlacesKept};
 ghost use Rattle.vs_feed.specs.Opened.{AreFree, AreOpened, HaveHeaders, with_lanes};
@@ -14,8 +15,8 @@ ghost use Rattle.vs_waves.specs.Wave.{IsNewWave};
 ghost use Rattle.vs_job.specs.Job.{IsJob, most_head};
 ghost use Rattle.vs_job.specs.Places.{vcd_path};
 ghost use Rattle.vs_setup.specs.DesignText.{with_design};
-ghost use Rattle.vs_setup.specs.Places.{IsFresh};
-ghost use Rattle.vs_setup.specs.Prepared.{AreTextsKept, IsDesignLoaded, IsPrepared};
+ghost use Rattle.vs_setup.specs.Places.{IsFresh, with_texts};
+ghost use Rattle.vs_setup.specs.Prepared.{AreTextsKept, IsDesignLoaded, IsJobOpened, IsPrepared};
 ghost use Rattle.vs_setup.specs.Unprepared.{error_of, IsLoadError, IsUnopened, IsUnprepared};
 
 use crate::SetupError;
@@ -24,7 +25,7 @@ use crate::loading::{Loaded, load};
 use std::alloc::{AllocError, Global};
 use vs_desk::{Desk, FIRST_STIMULUS};
 use vs_feed::{Drive, Stopped, open};
-use vs_job::{Job, stimulus_paths, vcd_paths};
+use vs_job::{Job, Mode, stimulus_paths, vcd_paths};
 use vs_plane::Lanes;
 use vs_rounds::Machine;
 use vs_stim::{Ports, StimError};
@@ -41,6 +42,15 @@ pub struct Prepared<W: Lanes> {
     pub wave_paths: Vec<String>,
 }
 
+/// A loaded design, and the stimuli that were opened behind it.
+#[derive(Drop)]
+pub(crate) struct Opened<W: Lanes> {
+    /// The design, and its engine.
+    pub(crate) loaded: Loaded<W>,
+    /// The stimuli, each about to give its first vector.
+    pub(crate) drive: Drive,
+}
+
 /// Prepares a run: reads the design at place 1 and loads it behind the lines of the job's macros, opens the stimulus of lane i at place
 /// 1000 + i by lane, and takes all the memory that the run needs.
 pub fn prepare<W: Lanes, D: Desk>(
@@ -55,10 +65,29 @@ pub fn prepare<W: Lanes, D: Desk>(
     ensures unprepared { IfErr result (IsUnprepared job.now (D.told desk.old) (D.told desk.new)) }
     ensures kept { IsTrue D.tells → AreTextsKept (D.told desk.old).contents (D.told desk.new).contents }
 {
+    let opened = open_job::<W, D>(alloc, job, desk)?;
+    let prepared = assemble(alloc, job, opened)?;
+    Ok(prepared)
+}
+
+/// Reads the design and loads it, and opens the stimuli.
+pub(crate) fn open_job<W: Lanes, D: Desk>(
+    alloc: Global,
+    job: &Job,
+    desk: &mut D,
+) -> Result<Opened<W>, SetupError>
+    requires lanes { length job.now.stimuli ≤ W.LANES }
+    requires job { IsJob job.now }
+    requires fresh { IsFresh (D.told desk.old).register (length job.now.stimuli) }
+    ensures opened { IfOk result (λ o. IsJobOpened W.lane W.LANES job.now (D.told desk.old) (D.told desk.new)
+        o.loaded.accepted o.loaded.ports o.loaded.engine o.drive) }
+    ensures register { OnOk result ((D.told desk.new).register ≡ with_texts (D.told desk.old).register job.now job.now.stimuli) }
+    ensures unprepared { IfErr result (IsUnprepared job.now (D.told desk.old) (D.told desk.new)) }
+    ensures kept { IsTrue D.tells → AreTextsKept (D.told desk.old).contents (D.told desk.new).contents }
+{
     let loaded = read_and_load::<W, D>(alloc, job, desk)?;
     let drive = open_stimuli(alloc, job, desk, &loaded.ports)?;
-    let prepared = assemble(alloc, job, loaded, drive)?;
-    Ok(prepared)
+    Ok(Opened { loaded, drive })
 }
 
 /// Reads the design and loads it.
@@ -84,12 +113,29 @@ fn read_and_load<W: Lanes, D: Desk>(
 fn load_text<W: Lanes>(alloc: Global, job: &Job, text: &[u8]) -> Result<Loaded<W>, SetupError>
     requires text { length text.now ≤ most_bytes }
     requires head { length job.now.head ≤ most_head }
-    ensures loaded { IfOk result (λ l. IsLoaded W.lane W.LANES text.now job.now.top job.now.clock l.accepted l.ports l.engine) }
+    ensures loaded { IfOk result (λ l. IsLoaded W.lane W.LANES (demands job.now.mode) text.now job.now.top job.now.clock l.accepted l.ports l.engine) }
     ensures refused { IfErr result (IsLoadError (length job.now.head) text.now job.now.top job.now.clock) }
 {
-    match load(alloc, text, job.top.as_bytes(), job.clock.as_bytes()) {
+    let demanded = demands(job.mode);
+    match load(
+        alloc,
+        text,
+        job.top.as_bytes(),
+        job.clock.as_bytes(),
+        demanded,
+    ) {
         Ok(loaded) => Ok(loaded),
         Err(error) => Err(SetupError::unaccepted(error, job.head.as_bytes().len() as u32)),
+    }
+}
+
+/// Whether the header of a stimulus has to name an output: a check has to have something to compare.
+fn demands(mode: Mode) -> bool
+    ensures { result ≡ demands mode }
+{
+    match mode {
+        Mode::Run => false,
+        Mode::Check => true,
     }
 }
 
@@ -139,28 +185,25 @@ fn stopped_at(stopped: Stopped) -> SetupError
 fn assemble<W: Lanes>(
     alloc: Global,
     job: &Job,
-    loaded: Loaded<W>,
-    drive: Drive,
+    opened: Opened<W>,
 ) -> Result<Prepared<W>, AllocError>
-    ensures stimuli { IfOk result (λ p. p.machine.stimuli ≡ drive) }
-    ensures engine { IfOk result (λ p. p.machine.engine ≡ loaded.engine) }
-    ensures lanes { IfOk result (λ p. length p.machine.waves ≡ length drive) }
-    ensures waves { IfOk result (λ p. All (IsNewWave (design_of loaded.accepted.flat) job.now.half) p.machine.waves) }
-    ensures size { IfOk result (λ p. p.size ≡ size_of (design_of loaded.accepted.flat)) }
+    ensures stimuli { IfOk result (λ p. p.machine.stimuli ≡ opened.drive) }
+    ensures engine { IfOk result (λ p. p.machine.engine ≡ opened.loaded.engine) }
+    ensures lanes { IfOk result (λ p. length p.machine.waves ≡ length opened.drive) }
+    ensures waves { IfOk result (λ p. All (IsNewWave (design_of opened.loaded.accepted.flat) job.now.half) p.machine.waves) }
+    ensures size { IfOk result (λ p. p.size ≡ size_of (design_of opened.loaded.accepted.flat)) }
     ensures paths { IfOk result (λ p. map string_bytes p.wave_paths.items ≡ map vcd_path job.now.stimuli) }
 {
-    let Loaded {
-        accepted,
-        engine,
-        ports,
-    } = loaded;
-    let _ = ports;
+    let typed = opened.loaded.accepted.typed();
+    let size = typed.size();
     let half = job.half as u64;
-    let typed = accepted.typed();
-    let waves = Waves::new(alloc, typed.flat(), half, drive.lanes())?;
+    let waves = Waves::new(alloc, typed.flat(), half, opened.drive.lanes())?;
+    let Opened { loaded, drive } = opened;
+    let machine = Machine::new(alloc, drive, waves, loaded.into_engine())?;
+    let wave_paths = vcd_paths(alloc, job)?;
     Ok(Prepared {
-        machine: Machine::new(alloc, drive, waves, engine)?,
-        size: typed.size(),
-        wave_paths: vcd_paths(alloc, job)?,
+        machine,
+        size,
+        wave_paths,
     })
 }

@@ -2,14 +2,15 @@
 use Rattle.std.proofs.Common.{◌≡◌, ℕ, zero, suc, ◌+◌, Bool, true, false, nat_eq, List, [], ◌∷◌, ◌++◌, length, take, refl, ap, sym, ◌∙◌}
 use Rattle.std.proofs.lemmas.List.{take_at}
 use Rattle.std.specs.Prelude.{Option, Some, None}
-use Rattle.vs_stim.specs.Header.{PortLists, ColumnLists}
+use Rattle.vs_stim.specs.Header.{PortLists, ColumnLists, lacks_output}
 use Rattle.vs_stim.specs.declared.error.StimError.{StimError}
-use Rattle.vs_stim.specs.declared.error.StimError.TheVariants.{BadHeader, BadVector}
+use Rattle.vs_stim.specs.declared.error.StimError.TheVariants.{BadHeader, NoExpectation, BadVector}
 use Rattle.vs_stim.specs.Lines.{Line, Lines, lines, all_lines, with_lf, with_byte, content}
 use Rattle.vs_stim.specs.Reading.{Reading, refused, with_vector, limits, Place, behind, too_long, Said, header_line, vector_line, not_taken, first_place, reading, read_vectors, read_header}
 use Rattle.vs_stim.specs.Reading.Said.{Skipped, Malformed, Given}
 use Rattle.vs_stim.specs.Vectors.{Entry}
 use Rattle.vs_four.specs.declared.Bit4.{Bit4}
+use Rattle.vs_stim.proofs.Turns.{if_named}
 
 abbrev Vector : Type 0
 Vector = List (List Bit4)
@@ -95,11 +96,17 @@ vectors_begin cs p count (l ∷ ls) ms =
     go None Malformed taken a b c d h k = none_first (refused (BadVector p.number)) (refused (BadVector p.number)) refl
     go None (Given v) taken a b c d h k = last v (taken v) c d k
 
+named_begins : (b : Bool) (x y : Reading) → Begins x y → Begins (if_named b x) (if_named b y)
+unfolding if_named
+named_begins true x y h = none_first (refused NoExpectation) (refused NoExpectation) refl
+named_begins false x y h = h
+
 header_begins : (is : PortLists) (p : Place) (ls ms : List Line) → Begins (read_header limits is p (ls ++ last_lines)) (read_header limits is p (ls ++ ms))
+unfolding if_named
 header_begins is p [] ms = none_first (read_header limits is p last_lines) (read_header limits is p ms) (last_header is p)
 header_begins is p (l ∷ ls) ms =
     go (too_long limits p (length l.bytes) l.ended) (header_line is (content l)) _ _ _ _ (header_begins is (behind p (length l.bytes)) ls ms)
-    (λ cs. vectors_begin cs (behind p (length l.bytes)) 0 ls ms)
+    (λ cs. named_begins (lacks_output is cs) _ _ (vectors_begin cs (behind p (length l.bytes)) 0 ls ms))
   where
     turn : Option StimError → Said (ColumnLists) → Reading → (ColumnLists → Reading) → Reading
     turn long s skipped given =

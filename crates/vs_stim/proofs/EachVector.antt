@@ -1,17 +1,18 @@
 -- What holds of each vector that is taken holds of all vectors of a reading.
-use Rattle.std.proofs.Common.{◌≡◌, ℕ, zero, suc, ◌+◌, List, [], ◌∷◌, length, refl}
+use Rattle.std.proofs.Common.{◌≡◌, ℕ, zero, suc, ◌+◌, Bool, true, false, List, [], ◌∷◌, length, refl}
 use Rattle.std.proofs.lemmas.List.Elements.{All-from_recursion, recursion_from_All}
 use Rattle.std.specs.Prelude.{All, Option, Some, None}
 use Rattle.std.specs.List.{AllByRecursion}
 use Rattle.vs_four.specs.declared.Bit4.{Bit4}
 use Rattle.vs_stim.specs.declared.error.StimError.{StimError}
 use Rattle.vs_stim.specs.declared.error.StimError.TheVariants.{BadHeader, BadVector}
-use Rattle.vs_stim.specs.Header.{PortLists, ColumnLists, IsInput}
+use Rattle.vs_stim.specs.Header.{PortLists, ColumnLists, IsInput, lacks_output}
 use Rattle.vs_stim.specs.Vectors.{Entry}
 use Rattle.vs_stim.specs.Lines.{Line, lines, all_lines, content}
 use Rattle.vs_stim.specs.Reading.{Reading, refused, with_vector, limits, Place, behind, too_long, Said, header_line, vector_line, not_taken, first_place, reading, read_vectors, read_header}
 use Rattle.vs_stim.specs.Reading.Said.{Skipped, Malformed, Given}
 use Rattle.vs_stim.proofs.Heads.{IsHead, IfGiven, header_given}
+use Rattle.vs_stim.proofs.Turns.{if_named}
 
 abbrev Vector : Type 0
 Vector = List (List Bit4)
@@ -58,11 +59,17 @@ vectors_taken is cs p count (l ∷ ls) head =
     go None Malformed line skipped given k m = tt
     go None (Given v) line skipped given k m = last v (not_taken limits cs p.number count v) given line refl m
 
+named_taken : (is : PortLists) (b : Bool) (r : Reading) → AreTaken is r → AreTaken is (if_named b r)
+unfolding if_named
+named_taken is true r h = tt
+named_taken is false r h = h
+
 header_taken : (is : PortLists) (p : Place) (ls : List Line) → AllByRecursion IsInput is.inputs → AreTaken is (read_header limits is p ls)
+unfolding if_named
 header_taken is p [] h = tt
 header_taken is p (l ∷ ls) h =
-    go (too_long limits p (length l.bytes) l.ended) (header_line is (content l)) (read_header limits is (behind p (length l.bytes)) ls) (λ cs. read_vectors limits cs (behind p (length l.bytes)) 0 ls) (header_given is (content l) h) (header_taken is (behind p (length l.bytes)) ls h)
-    (λ cs head. vectors_taken is cs (behind p (length l.bytes)) 0 ls head)
+    go (too_long limits p (length l.bytes) l.ended) (header_line is (content l)) (read_header limits is (behind p (length l.bytes)) ls) (λ cs. if_named (lacks_output is cs) (read_vectors limits cs (behind p (length l.bytes)) 0 ls)) (header_given is (content l) h) (header_taken is (behind p (length l.bytes)) ls h)
+    (λ cs head. named_taken is (lacks_output is cs) (read_vectors limits cs (behind p (length l.bytes)) 0 ls) (vectors_taken is cs (behind p (length l.bytes)) 0 ls head))
   where
     go : (long : Option StimError) (s : Said ColumnLists) (skipped : Reading) (given : ColumnLists → Reading) → IfGiven (λ cs. IsHead is.inputs cs.inputs) s → AreTaken is skipped
         → ((cs : ColumnLists) → IsHead is.inputs cs.inputs → AreTaken is (given cs))

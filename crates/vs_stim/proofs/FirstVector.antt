@@ -2,13 +2,14 @@
 use Rattle.std.proofs.Common.{◌≡◌, ℕ, ◌+◌, ◌<◌, Bool, true, false, not, ◌&&◌, nat_eq, List, [], ◌∷◌, length, refl, ap, sym, ◌∙◌, arith}
 use Rattle.std.specs.Prelude.{Option, Some, None}
 use Rattle.vs_four.specs.declared.Bit4.{Bit4}
-use Rattle.vs_stim.specs.Header.{PortLists, ColumnLists}
+use Rattle.vs_stim.specs.Header.{PortLists, ColumnLists, lacks_output}
 use Rattle.vs_stim.specs.declared.error.StimError.{StimError}
-use Rattle.vs_stim.specs.declared.error.StimError.TheVariants.{BadHeader, BadVector, FirstUnknown, UnknownReset, TooManyVectors}
+use Rattle.vs_stim.specs.declared.error.StimError.TheVariants.{BadHeader, NoExpectation, BadVector, FirstUnknown, UnknownReset, TooManyVectors}
 use Rattle.vs_stim.specs.Lines.{Line, lines, all_lines, content}
 use Rattle.vs_stim.specs.Reading.{Reading, refused, with_vector, limits, Place, behind, too_long, Said, header_line, vector_line, not_taken, first_place, reading, read_vectors, read_header}
 use Rattle.vs_stim.specs.Reading.Said.{Skipped, Malformed, Given}
 use Rattle.vs_stim.specs.Vectors.{Entry, vector_known, resets_known}
+use Rattle.vs_stim.proofs.Turns.{if_named}
 
 abbrev Vector : Type 0
 Vector = List (List Bit4)
@@ -88,14 +89,19 @@ head_case P none None Skipped skipped given h k = h
 head_case P none None Malformed skipped given h k = none BadHeader
 head_case P none None (Given cs) skipped given h k = k cs
 
+named_case : (P : Reading → Type 0) → ((e : StimError) → P (refused e)) → (b : Bool) (r : Reading) → P r → P (if_named b r)
+unfolding if_named
+named_case P none true r h = none NoExpectation
+named_case P none false r h = h
+
 header_case : (P : Reading → Type 0) → ((e : StimError) → P (refused e)) → ((cs : ColumnLists) (p : Place) (ls : List Line) → P (read_vectors limits cs p 0 ls))
     → (is : PortLists) (p : Place) (ls : List Line) → P (read_header limits is p ls)
-unfolding head_turn
+unfolding head_turn if_named
 header_case P none vectors is p [] = none BadHeader
 header_case P none vectors is p (l ∷ ls) =
     head_case P none (too_long limits p (length l.bytes) l.ended) (header_line is (content l)) (read_header limits is (behind p (length l.bytes)) ls)
-    (λ cs. read_vectors limits cs (behind p (length l.bytes)) 0 ls) (header_case P none vectors is (behind p (length l.bytes)) ls)
-    (λ cs. vectors cs (behind p (length l.bytes)) ls)
+    (λ cs. if_named (lacks_output is cs) (read_vectors limits cs (behind p (length l.bytes)) 0 ls)) (header_case P none vectors is (behind p (length l.bytes)) ls)
+    (λ cs. named_case P none (lacks_output is cs) (read_vectors limits cs (behind p (length l.bytes)) 0 ls) (vectors cs (behind p (length l.bytes)) ls))
 
 pub first_known : (is : PortLists) (text : List ℕ) → FirstKnown (reading is text)
 first_known is text = header_case FirstKnown none_known vectors_known is first_place (all_lines (lines text))

@@ -18,3 +18,6 @@ pub mod Ahead
 pub mod Marked
 pub mod Wanting
 pub mod Endings
+pub mod Demanded
+pub mod Numbers
+pub mod Once

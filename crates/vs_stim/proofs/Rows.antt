@@ -6,8 +6,9 @@ use Rattle.vs_four.specs.declared.Bit4.TheVariants.{Zero, One, X, Z}
 use Rattle.vs_stim.specs.declared.input.Input.{Input}
 use Rattle.vs_stim.specs.declared.wanted.Digit.TheVariants.{Exactly, Any}
 use Rattle.vs_stim.specs.declared.error.StimError.{StimError}
-use Rattle.vs_stim.specs.declared.error.StimError.TheVariants.{BadHeader, BadVector, FirstUnknown, UnknownReset, NoVector, TooManyVectors, StimulusTooLong, LineTooLong}
+use Rattle.vs_stim.specs.declared.error.StimError.TheVariants.{BadHeader, NoExpectation, BadVector, FirstUnknown, UnknownReset, NoVector, TooManyVectors, StimulusTooLong, LineTooLong}
 use Rattle.vs_stim.specs.Header.{PortLists}
+use Rattle.vs_stim.specs.Numbers.{line_of_vector}
 use Rattle.vs_stim.specs.Reading.{Reading, Limits, reading, reading_within, columns, refused}
 
 -- a line with its LF
@@ -24,7 +25,7 @@ gives vs e = record { vectors = vs; wanted = map (λ v. []) vs; refusal = e }
 
 -- these inputs, and no outputs
 abbrev inputs_alone : List Input → PortLists
-inputs_alone is = record { inputs = is; outputs = [] }
+inputs_alone is = record { inputs = is; outputs = []; demanded = false }
 
 abbrev none : PortLists
 none = inputs_alone []
@@ -159,10 +160,10 @@ reset_past = refl
 -- ---- expectations
 
 abbrev with_outputs : PortLists
-with_outputs = record { inputs = two_inputs; outputs = record { name = codes "y"; length = 1 } ∷ record { name = codes "q"; length = 3 } ∷ [] }
+with_outputs = record { inputs = two_inputs; outputs = record { name = codes "y"; length = 1 } ∷ record { name = codes "q"; length = 3 } ∷ []; demanded = false }
 
 abbrev bare_outputs : PortLists
-bare_outputs = record { inputs = []; outputs = record { name = codes "y"; length = 1 } ∷ [] }
+bare_outputs = record { inputs = []; outputs = record { name = codes "y"; length = 1 } ∷ []; demanded = false }
 
 -- in the header's order, most significant first; `-` is any bit
 expected : reading with_outputs (line (codes "inputs b a -> q y") ++ line (codes "0 1 -> 01- 1") ++ line (codes "1 1 -> zXx  -"))
@@ -221,3 +222,36 @@ header_is : columns with_outputs (line (codes "# s") ++ line (codes "inputs b a 
       expected = record { output = 1; length = 3 } ∷ record { output = 0; length = 1 } ∷ [];
     })
 header_is = refl
+
+-- where outputs are demanded, a header names one
+abbrev demanded : PortLists
+demanded = record with_outputs { demanded = true }
+
+lacking : reading demanded (line (codes "inputs a b") ++ line (codes "1 0")) ≡ refused NoExpectation
+lacking = refl
+
+-- the line is a header but for that, and has no byte past a limit
+bad_lacking : reading demanded (line (codes "inputs a")) ≡ refused BadHeader
+bad_lacking = refl
+
+long_lacking : reading_within small demanded (line (codes "inputs a b ")) ≡ refused (LineTooLong 1)
+long_lacking = refl
+
+-- it comes before any vector
+lacking_first : reading demanded (line (codes "inputs a b") ++ line (codes "2 0")) ≡ refused NoExpectation
+lacking_first = refl
+
+named : reading demanded (line (codes "inputs a b -> y") ++ line (codes "1 0 -> 1")) ≡ record { vectors = one_zero ∷ []; wanted = ((Exactly One ∷ []) ∷ []) ∷ []; refusal = None }
+named = refl
+
+-- ---- the lines of vectors
+
+abbrev numbered : List ℕ
+numbered = line (codes "# s") ++ line (codes "inputs a b") ++ line [] ++ line (codes "1 0") ++ crlf (codes " ") ++ codes "1 1"
+
+first_number : line_of_vector numbered 0 ≡ 4
+first_number = refl
+
+-- the last line may lack its LF
+last_number : line_of_vector numbered 1 ≡ 6
+last_number = refl

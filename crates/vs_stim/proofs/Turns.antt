@@ -3,12 +3,12 @@ use Rattle.std.proofs.Common.{◌≡◌, ℕ, ◌+◌, ◌≤◌, Bool, true, fa
 use Rattle.std.proofs.lemmas.Bool.{le-ltb}
 use Rattle.std.specs.Prelude.{Option, Some, None, IsTrue}
 use Rattle.vs_stim.specs.declared.error.StimError.{StimError}
-use Rattle.vs_stim.specs.declared.error.StimError.TheVariants.{BadHeader, BadVector, StimulusTooLong}
+use Rattle.vs_stim.specs.declared.error.StimError.TheVariants.{BadHeader, NoExpectation, BadVector, StimulusTooLong}
 use Rattle.vs_stim.specs.Lines.{lines, all_lines}
 use Rattle.vs_stim.specs.Reading.{Reading, refused, with_vector, limits, behind, too_long, Said, said, header_line, header_fault, vector_line, not_taken, at_end, read_vectors, read_header}
 use Rattle.vs_stim.specs.Reading.Said.{Skipped, Malformed, Given}
 use Rattle.vs_stim.specs.Fields.{is_skipped, fields}
-use Rattle.vs_stim.specs.Header.{PortLists, ColumnLists}
+use Rattle.vs_stim.specs.Header.{PortLists, ColumnLists, lacks_output}
 use Rattle.vs_stim.specs.Vectors.{Entry, entry}
 use Rattle.vs_stim.specs.Known.{lines_tell}
 use Rattle.vs_stim.specs.Source.{Open, line_length, line_refusal, says, vectors_from, header_from, header_fault_from, text_tells, is_told, Passes}
@@ -54,7 +54,7 @@ fault_turn is o r s =
       | None ↦ elim s [
         | Skipped ↦ header_fault limits is (behind o.at (length (lines o.rest).first.bytes)) (lines o.rest).later
         | Malformed ↦ Some BadHeader
-        | Given cs ↦ None
+        | Given cs ↦ elim (lacks_output is cs) [ true ↦ Some NoExpectation | false ↦ None ]
       ]
     ]
 
@@ -63,6 +63,28 @@ unfolding fault_turn
 fault_skipped is o p z h s =
     let turned : header_fault_from is o ≡ fault_turn is o None Skipped = λ i. fault_turn is o ((refusal_here o z ∙ h.kept) i) (s i) in
     turned ∙ (λ i. header_fault limits is (sym (h.at refl ∙ ap (behind o.at) (length_here o z)) i) (sym (h.more refl) i))
+
+-- why a header is refused, by whether it lacks an output
+fault_lacking : Bool → Option StimError
+fault_lacking b = elim b [ true ↦ Some NoExpectation | false ↦ None ]
+
+fault_given : (is : PortLists) (cs : ColumnLists) (o p : Open) (last : Bool) (b : Bool) → o.taken ≡ 0 → Passes last o p → header_line is (says o) ≡ Given cs → lacks_output is cs ≡ b
+    → header_fault_from is o ≡ fault_lacking b
+unfolding fault_turn fault_lacking
+fault_given is cs o p last b z h s e =
+    let turned : header_fault_from is o ≡ fault_turn is o None (Given cs) = λ i. fault_turn is o ((refusal_here o z ∙ h.kept) i) (s i) in
+    turned ∙ ap fault_lacking e
+
+-- A header that names no output is refused where it has to name one, and else it is none.
+pub fault_lacked : (is : PortLists) (cs : ColumnLists) (o p : Open) (last : Bool) → o.taken ≡ 0 → Passes last o p → header_line is (says o) ≡ Given cs → lacks_output is cs ≡ true
+    → header_fault_from is o ≡ Some NoExpectation
+unfolding fault_lacking
+fault_lacked is cs o p last z h s e = fault_given is cs o p last true z h s e
+
+pub fault_found : (is : PortLists) (cs : ColumnLists) (o p : Open) (last : Bool) → o.taken ≡ 0 → Passes last o p → header_line is (says o) ≡ Given cs → lacks_output is cs ≡ false
+    → header_fault_from is o ≡ None
+unfolding fault_lacking
+fault_found is cs o p last z h s e = fault_given is cs o p last false z h s e
 
 last_vectors : (cs : ColumnLists) (o p : Open) (count : ℕ) → Passes true o p → read_vectors limits cs (behind o.at (length (lines o.rest).first.bytes)) count (lines o.rest).later ≡ at_end count
 last_vectors cs o p count h = ap (read_vectors limits cs (behind o.at (length (lines o.rest).first.bytes)) count) (h.none refl)
@@ -89,6 +111,10 @@ pub vectors_found : (cs : ColumnLists) (o p : Open) (count : ℕ) (v : Entry) (l
 vectors_found cs o p count v true z h b s n = vectors_taken_last cs o p count v z h b s n
 vectors_found cs o p count v false z h b s n = vectors_taken cs o p count v z h s n
 
+-- what lines behind a header give, by whether it lacks an output
+unfoldable pub if_named : Bool → Reading → Reading
+if_named b r = elim b [ true ↦ refused NoExpectation | false ↦ r ]
+
 -- a line before the vectors, by its refusal and by what it says
 header_turn : PortLists → Open → Option StimError → Said ColumnLists → Reading
 header_turn is o r s =
@@ -97,26 +123,35 @@ header_turn is o r s =
       | None ↦ elim s [
         | Skipped ↦ read_header limits is (behind o.at (length (lines o.rest).first.bytes)) (lines o.rest).later
         | Malformed ↦ refused BadHeader
-        | Given cs ↦ read_vectors limits cs (behind o.at (length (lines o.rest).first.bytes)) 0 (lines o.rest).later
+        | Given cs ↦ if_named (lacks_output is cs) (read_vectors limits cs (behind o.at (length (lines o.rest).first.bytes)) 0 (lines o.rest).later)
       ]
     ]
 
+header_given : (is : PortLists) (cs : ColumnLists) (o : Open) (b : Bool) → o.taken ≡ 0 → line_refusal o ≡ None → header_line is (says o) ≡ Given cs → lacks_output is cs ≡ b
+    → header_from is o ≡ if_named b (read_vectors limits cs (behind o.at (length (lines o.rest).first.bytes)) 0 (lines o.rest).later)
+unfolding header_turn if_named
+header_given is cs o b z h s e =
+    let turned : header_from is o ≡ header_turn is o None (Given cs) = λ i. header_turn is o ((refusal_here o z ∙ h) i) (s i) in
+    turned ∙ ap (λ c. if_named c (read_vectors limits cs (behind o.at (length (lines o.rest).first.bytes)) 0 (lines o.rest).later)) e
+
 -- A header was read, with which the text ends.
-pub header_last : (is : PortLists) (cs : ColumnLists) (o p : Open) → o.taken ≡ 0 → Passes true o p → p.at.start ≤ 4294967296 → header_line is (says o) ≡ Given cs
+pub header_last : (is : PortLists) (cs : ColumnLists) (o p : Open) → o.taken ≡ 0 → Passes true o p → p.at.start ≤ 4294967296 → header_line is (says o) ≡ Given cs → lacks_output is cs ≡ false
     → header_from is o ≡ vectors_from cs 0 p
-unfolding header_turn
-header_last is cs o p z h b s =
-    let turned : header_from is o ≡ header_turn is o None (Given cs) = λ i. header_turn is o ((refusal_here o z ∙ h.kept) i) (s i) in
-    turned ∙ last_vectors cs o p 0 h ∙ sym (nothing_left cs p 0 (h.nothing refl) b)
+unfolding if_named
+header_last is cs o p z h b s e = header_given is cs o false z h.kept s e ∙ last_vectors cs o p 0 h ∙ sym (nothing_left cs p 0 (h.nothing refl) b)
 
 -- A header was read.
-pub header_found : (is : PortLists) (cs : ColumnLists) (o p : Open) (last : Bool) → o.taken ≡ 0 → Passes last o p → p.at.start ≤ 4294967296 → header_line is (says o) ≡ Given cs
+pub header_found : (is : PortLists) (cs : ColumnLists) (o p : Open) (last : Bool) → o.taken ≡ 0 → Passes last o p → p.at.start ≤ 4294967296 → header_line is (says o) ≡ Given cs → lacks_output is cs ≡ false
     → header_from is o ≡ vectors_from cs 0 p
-unfolding header_turn
-header_found is cs o p true z h b s = header_last is cs o p z h b s
-header_found is cs o p false z h b s =
-    let turned : header_from is o ≡ header_turn is o None (Given cs) = λ i. header_turn is o ((refusal_here o z ∙ h.kept) i) (s i) in
-    turned ∙ later_vectors cs o p 0 z h
+unfolding if_named
+header_found is cs o p true z h b s e = header_last is cs o p z h b s e
+header_found is cs o p false z h b s e = header_given is cs o false z h.kept s e ∙ later_vectors cs o p 0 z h
+
+-- A header was read that names no output, though it has to.
+pub header_lacked : (is : PortLists) (cs : ColumnLists) (o p : Open) (last : Bool) → o.taken ≡ 0 → Passes last o p → header_line is (says o) ≡ Given cs → lacks_output is cs ≡ true
+    → header_from is o ≡ refused NoExpectation
+unfolding if_named
+header_lacked is cs o p last z h s e = header_given is cs o true z h.kept s e
 
 -- what is skipped
 pub skipped_is : {A : Type 0} (t : List ℕ) (o : Option A) → Skipped ≡ (elim (is_skipped t) as (λ _. Said A) [ true ↦ Skipped | false ↦ said o ]) → is_skipped t ≡ true
@@ -129,6 +164,14 @@ skipped_is {A = A} t o e = go (is_skipped t) e
     go : (b : Bool) → Skipped ≡ (elim b as (λ _. Said A) [ true ↦ Skipped | false ↦ said o ]) → b ≡ true
     go true f = refl
     go false f = absurd (never o f)
+
+-- what is given isn't skipped
+pub given_is : {A : Type 0} (t : List ℕ) (o : Option A) (v : A) → (elim (is_skipped t) as (λ _. Said A) [ true ↦ Skipped | false ↦ said o ]) ≡ Given v → is_skipped t ≡ false
+given_is {A = A} t o v e = go (is_skipped t) e
+  where
+    go : (b : Bool) → (elim b as (λ _. Said A) [ true ↦ Skipped | false ↦ said o ]) ≡ Given v → b ≡ false
+    go true f = absurd (cc)
+    go false f = refl
 
 -- whether lines tell, by the first one's refusal, its LF, whether it is skipped, and whether the others tell
 tell : Option StimError → Bool → Bool → Bool → Bool

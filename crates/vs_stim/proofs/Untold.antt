@@ -3,12 +3,13 @@ use Rattle.std.proofs.Common.{◌≡◌, ℕ, ◌+◌, ◌≤◌, Bool, true, fa
 use Rattle.std.proofs.lemmas.Bool.{le-ltb}
 use Rattle.std.specs.Prelude.{Option, Some, None}
 use Rattle.vs_stim.specs.declared.error.StimError.{StimError}
-use Rattle.vs_stim.specs.declared.error.StimError.TheVariants.{BadHeader, BadVector, LineTooLong, StimulusTooLong}
+use Rattle.vs_stim.specs.declared.error.StimError.TheVariants.{BadHeader, NoExpectation, BadVector, LineTooLong, StimulusTooLong}
 use Rattle.vs_stim.specs.Fields.{is_skipped, fields}
-use Rattle.vs_stim.specs.Header.{PortLists, ColumnLists, header}
+use Rattle.vs_stim.specs.Header.{PortLists, ColumnLists, lacks_output, header}
 use Rattle.vs_stim.specs.Lines.{Lines, lines, all_lines, with_lf, with_byte, content, no_lf}
 use Rattle.vs_stim.specs.Known.{lines_tell, IsUntold}
-use Rattle.vs_stim.specs.Reading.{limits, Place, behind, too_long, Reading, Said, said, refused, with_vector, not_taken, read_vectors, read_header}
+use Rattle.vs_stim.specs.Numbers.{filled}
+use Rattle.vs_stim.specs.Reading.{limits, Place, behind, too_long, Reading, Said, said, refused, with_vector, not_taken, read_vectors, read_header, header_columns}
 use Rattle.vs_stim.specs.Reading.Said.{Skipped, Malformed, Given}
 use Rattle.vs_stim.specs.Vectors.{Entry, entry}
 use Rattle.vs_stim.specs.Source.{Open, line_length, says, GoesOn, PassesLf, Passes}
@@ -72,6 +73,8 @@ pub record WholeLines (old new : Open) : Type 0 where
   pub vectors : (cs : ColumnLists) (count : ℕ) (more : List ℕ)
       → read_vectors limits cs old.at count (all_lines (lines (bytes ++ more))) ≡ read_vectors limits cs new.at count (all_lines (lines more))
   pub headers : (is : PortLists) (more : List ℕ) → read_header limits is old.at (all_lines (lines (bytes ++ more))) ≡ read_header limits is new.at (all_lines (lines more))
+  pub columns : (is : PortLists) (more : List ℕ) → header_columns limits is old.at (all_lines (lines (bytes ++ more))) ≡ header_columns limits is new.at (all_lines (lines more))
+  pub numbers : (more : List ℕ) → filled old.at.number (all_lines (lines (bytes ++ more))) ≡ filled new.at.number (all_lines (lines more))
 
 -- the reader passed whole lines, which tell nothing, and give nothing
 unfoldable pub IsPassed : Open → Open → Type 0
@@ -79,7 +82,7 @@ IsPassed old new = WholeLines old new
 
 pub none_passed : (o : Open) → IsPassed o o
 unfolding IsPassed
-none_passed o = record { bytes = []; rest = refl; tells = λ more. refl; vectors = λ cs count more. refl; headers = λ is more. refl }
+none_passed o = record { bytes = []; rest = refl; tells = λ more. refl; vectors = λ cs count more. refl; headers = λ is more. refl; columns = λ is more. refl; numbers = λ more. refl }
 
 passed_on : (a b c : Open) → IsPassed a b → IsPassed b c → IsPassed a c
 unfolding IsPassed
@@ -94,6 +97,10 @@ passed_on a b c h k = record {
       ∙ k.vectors cs count more;
   headers = λ is more.
       ap (λ bs. read_header limits is a.at (all_lines (lines bs))) (append_assoc h.bytes k.bytes more) ∙ h.headers is (k.bytes ++ more) ∙ k.headers is more;
+  columns = λ is more.
+      ap (λ bs. header_columns limits is a.at (all_lines (lines bs))) (append_assoc h.bytes k.bytes more) ∙ h.columns is (k.bytes ++ more) ∙ k.columns is more;
+  numbers = λ more.
+      ap (λ bs. filled a.at.number (all_lines (lines bs))) (append_assoc h.bytes k.bytes more) ∙ h.numbers (k.bytes ++ more) ∙ k.numbers more;
 }
 
 -- whether lines tell, by the first one's refusal, and whether it is skipped, where it has its LF
@@ -108,9 +115,21 @@ give_ended {A = A} r s other later malformed given =
       | None ↦ elim (elim s as (λ _. Said A) [ true ↦ Skipped | false ↦ other ]) [ Skipped ↦ later | Malformed ↦ malformed | Given a ↦ given a ]
     ]
 
+-- the columns that lines call for, by the first one's refusal, whether it is skipped, what it says else, and what the later lines call for
+unfoldable pub call_ended : Option StimError → Bool → Said ColumnLists → Option ColumnLists → (ColumnLists → Option ColumnLists) → Option ColumnLists
+call_ended r s other later given =
+    elim r [
+      | Some e ↦ None
+      | None ↦ elim (elim s as (λ _. Said ColumnLists) [ true ↦ Skipped | false ↦ other ]) [ Skipped ↦ later | Malformed ↦ None | Given cs ↦ given cs ]
+    ]
+
+-- the numbers of lines, by whether the first is skipped, its number, and those of the later lines
+unfoldable pub number_here : Bool → ℕ → List ℕ → List ℕ
+number_here s n later = elim s [ true ↦ later | false ↦ n ∷ later ]
+
 -- a line that was skipped
 line_passed : (o p : Open) → o.taken ≡ 0 → PassesLf o p → Passes false o p → is_skipped (says o) ≡ true → IsPassed o p
-unfolding tell_ended give_ended IsPassed
+unfolding tell_ended give_ended call_ended number_here IsPassed
 line_passed o p z h k s =
     let first : lines o.rest ≡ record { first = record { bytes = h.bytes; ended = true }; later = all_lines (lines p.rest) } =
     ap lines h.rest ∙ lines_closed h.bytes p.rest h.inner in
@@ -139,11 +158,26 @@ line_passed o p z h k s =
           let next = behind o.at (length h.bytes) in
           let later = all_lines (lines more) in
           let text = content (record { bytes = h.bytes; ended = true }) in
-          let given : ColumnLists → Reading = λ cs. read_vectors limits cs next 0 later in
+          let given : ColumnLists → Reading = λ cs. elim (lacks_output is cs) [ true ↦ refused NoExpectation | false ↦ read_vectors limits cs next 0 later ] in
           ap (λ bs. read_header limits is o.at (all_lines (lines bs))) (append_assoc h.bytes (10 ∷ []) more)
           ∙ ap (λ t. read_header limits is o.at (all_lines t)) (lines_closed h.bytes more h.inner)
           ∙ (λ i. give_ended (kept i) (skipped i) (said (header is (fields text))) (read_header limits is next later) (refused BadHeader) given)
           ∙ ap (λ at. read_header limits is at later) (sym (k.at refl ∙ ap (behind o.at) long));
+      columns = λ is more.
+          let next = behind o.at (length h.bytes) in
+          let later = all_lines (lines more) in
+          let text = content (record { bytes = h.bytes; ended = true }) in
+          let given : ColumnLists → Option ColumnLists = λ cs. elim (lacks_output is cs) [ true ↦ None | false ↦ Some cs ] in
+          ap (λ bs. header_columns limits is o.at (all_lines (lines bs))) (append_assoc h.bytes (10 ∷ []) more)
+          ∙ ap (λ t. header_columns limits is o.at (all_lines t)) (lines_closed h.bytes more h.inner)
+          ∙ (λ i. call_ended (kept i) (skipped i) (said (header is (fields text))) (header_columns limits is next later) given)
+          ∙ ap (λ at. header_columns limits is at later) (sym (k.at refl ∙ ap (behind o.at) long));
+      numbers = λ more.
+          let later = all_lines (lines more) in
+          ap (λ bs. filled o.at.number (all_lines (lines bs))) (append_assoc h.bytes (10 ∷ []) more)
+          ∙ ap (λ t. filled o.at.number (all_lines t)) (lines_closed h.bytes more h.inner)
+          ∙ (λ i. number_here (skipped i) o.at.number (filled (o.at.number + 1) later))
+          ∙ ap (λ at. filled at.number later) (sym (k.at refl));
     }
 
 pub passed_more : (a o p : Open) → IsPassed a o → o.taken ≡ 0 → PassesLf o p → Passes false o p → is_skipped (says o) ≡ true → IsPassed a p

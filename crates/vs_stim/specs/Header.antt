@@ -7,10 +7,15 @@ use Rattle.vs_stim.specs.declared.input.Output.{Output}
 use Rattle.vs_stim.specs.declared.input.Column.{Column}
 use Rattle.vs_stim.specs.declared.input.Expected.{Expected}
 
--- the data inputs and the outputs of a design, each in the design's order
+-- the data inputs and the outputs of a design, each in the design's order, and whether a header has to name outputs
 pub record PortLists : Type 0 where
   pub inputs : List Input
   pub outputs : List Output
+  pub demanded : Bool
+
+-- the same inputs and outputs, where a header need not name any of the outputs
+abbrev pub undemanded : PortLists → PortLists
+undemanded ports = record { inputs = ports.inputs; outputs = ports.outputs; demanded = false }
 
 -- an input of 1 to 64 bits
 pub record IsInput (i : Input) : Type 0 where
@@ -38,6 +43,15 @@ output_lengths os = map (λ o. o.length) os
 pub record ColumnLists : Type 0 where
   pub inputs : List Column
   pub expected : List Expected
+
+-- there are none
+abbrev pub is_nil : List Expected → Bool
+is_nil [] = true
+is_nil (e ∷ es) = false
+
+-- these are the columns of a header that names no output, though it has to
+abbrev pub lacks_output : PortLists → ColumnLists → Bool
+lacks_output ports cs = ports.demanded && is_nil cs.expected
 
 -- ---- inputs
 

@@ -9,9 +9,9 @@ use Rattle.vs_stim.specs.declared.heading.Section.{Section}
 use Rattle.vs_stim.specs.declared.heading.Section.TheVariants.{Title, Inputs, Outputs}
 use Rattle.vs_stim.specs.declared.heading.Heading.{Heading}
 use Rattle.vs_stim.specs.Fields.{is_skipped, words, fields}
-use Rattle.vs_stim.specs.Header.{PortLists, ColumnLists, lengths, column_of, count_of, each_once, is_arrow, expected_of, is_expected}
+use Rattle.vs_stim.specs.Header.{PortLists, ColumnLists, lengths, output_lengths, column_of, count_of, each_once, is_arrow, expected_of, is_expected}
 use Rattle.vs_stim.specs.Row.{IsColumn}
-use Rattle.vs_stim.specs.Wants.{IsExpected}
+use Rattle.vs_stim.specs.Wants.{IsExpected, IsExpectedOf, is_each_once}
 use Rattle.vs_stim.specs.Reading.{Said}
 use Rattle.vs_stim.specs.Reading.Said.{Skipped, Malformed, Given}
 
@@ -104,6 +104,8 @@ pub record IsHeading (ports : PortLists) (h : Heading) : Type 0 where
   pub counts : AreCounts (length ports.inputs) h.counts.items h.columns.items
   pub columns : All (IsColumn (lengths ports.inputs)) h.columns.items
   pub expected : All IsExpected h.expected.items
+  pub outputs : All (IsExpectedOf (output_lengths ports.outputs)) h.expected.items
+  pub once : is_each_once h.expected.items ≡ true
   pub named : AreNamed h.section (length ports.inputs) h.columns.items
   pub untouched : IsUntouched h.stage h
 

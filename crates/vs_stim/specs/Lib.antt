@@ -1,5 +1,6 @@
 pub mod Lines
 pub mod Fields
+pub mod Numbers
 pub mod Header
 pub mod Vectors
 pub mod Reading

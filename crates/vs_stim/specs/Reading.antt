@@ -5,10 +5,10 @@ use Rattle.vs_stim.specs.declared.input.Input.{Input}
 use Rattle.vs_stim.specs.declared.input.Output.{Output}
 use Rattle.vs_stim.specs.declared.wanted.Digit.{Digit}
 use Rattle.vs_stim.specs.declared.error.StimError.{StimError}
-use Rattle.vs_stim.specs.declared.error.StimError.TheVariants.{BadHeader, BadVector, FirstUnknown, UnknownReset, NoVector, TooManyVectors, StimulusTooLong, LineTooLong}
+use Rattle.vs_stim.specs.declared.error.StimError.TheVariants.{BadHeader, NoExpectation, BadVector, FirstUnknown, UnknownReset, NoVector, TooManyVectors, StimulusTooLong, LineTooLong}
 use Rattle.vs_stim.specs.Lines.{Line, lines, all_lines, content}
 use Rattle.vs_stim.specs.Fields.{is_skipped, fields}
-use Rattle.vs_stim.specs.Header.{PortLists, ColumnLists, header}
+use Rattle.vs_stim.specs.Header.{PortLists, ColumnLists, lacks_output, header}
 use Rattle.vs_stim.specs.Vectors.{Entry, entry, vector_known, resets_known}
 
 -- the greatest number of vectors, of bytes in a line before its LF, and of bytes in the text
@@ -130,7 +130,7 @@ read_header l ports p (line ∷ later) =
       | None ↦ elim (header_line ports (content line)) [
         | Skipped ↦ read_header l ports (behind p (length line.bytes)) later
         | Malformed ↦ refused BadHeader
-        | Given cs ↦ read_vectors l cs (behind p (length line.bytes)) 0 later
+        | Given cs ↦ elim (lacks_output ports cs) [ true ↦ refused NoExpectation | false ↦ read_vectors l cs (behind p (length line.bytes)) 0 later ]
       ]
     ]
 
@@ -143,7 +143,7 @@ header_fault l ports p (line ∷ later) =
       | None ↦ elim (header_line ports (content line)) [
         | Skipped ↦ header_fault l ports (behind p (length line.bytes)) later
         | Malformed ↦ Some BadHeader
-        | Given cs ↦ None
+        | Given cs ↦ elim (lacks_output ports cs) [ true ↦ Some NoExpectation | false ↦ None ]
       ]
     ]
 
@@ -162,7 +162,7 @@ reading ports text = reading_within limits ports text
 abbrev pub header_refusal : PortLists → List ℕ → Option StimError
 header_refusal ports text = header_fault limits ports first_place (all_lines (lines text))
 
--- the columns that the header of lines calls for; none where they have no header
+-- the columns that the header of lines calls for; none where they have no header, or one that names no output, though it has to
 abbrev pub header_columns : Limits → PortLists → Place → List Line → Option ColumnLists
 header_columns l ports p [] = None
 header_columns l ports p (line ∷ later) =
@@ -171,7 +171,7 @@ header_columns l ports p (line ∷ later) =
       | None ↦ elim (header_line ports (content line)) [
         | Skipped ↦ header_columns l ports (behind p (length line.bytes)) later
         | Malformed ↦ None
-        | Given cs ↦ Some cs
+        | Given cs ↦ elim (lacks_output ports cs) [ true ↦ None | false ↦ Some cs ]
       ]
     ]
 
@@ -183,4 +183,4 @@ columns ports text = header_columns limits ports first_place (all_lines (lines t
 -- `->` are wanted to have these digits.
 abbrev pub stimulus : List ℕ → List Input → List Output → List (List (List Bit4)) → List (List (List Digit)) → Type 0
 stimulus text inputs outputs vectors wanted =
-    reading (record { inputs = inputs; outputs = outputs }) text ≡ record { vectors = vectors; wanted = wanted; refusal = None }
+    reading (record { inputs = inputs; outputs = outputs; demanded = false }) text ≡ record { vectors = vectors; wanted = wanted; refusal = None }

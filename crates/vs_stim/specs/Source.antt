@@ -4,14 +4,15 @@ use Rattle.vs_desk.specs.Desk.{Told}
 use Rattle.vs_four.specs.declared.Bit4.{Bit4}
 use Rattle.vs_stim.specs.declared.error.StimError.{StimError}
 use Rattle.vs_stim.specs.declared.wanted.Digit.{Digit}
-use Rattle.vs_stim.specs.declared.error.StimError.TheVariants.{BadHeader, BadVector, FirstUnknown, UnknownReset, NoVector, TooManyVectors, StimulusTooLong, LineTooLong, ReadFault, Memory}
+use Rattle.vs_stim.specs.declared.error.StimError.TheVariants.{BadHeader, NoExpectation, BadVector, FirstUnknown, UnknownReset, NoVector, TooManyVectors, StimulusTooLong, LineTooLong, ReadFault, Memory}
 use Rattle.vs_stim.specs.declared.source.Source.{Source}
 use Rattle.vs_stim.specs.declared.source.Piece.{Piece}
 use Rattle.vs_stim.specs.declared.source.Piece.TheVariants.{Byte, LineEnd, TextEnd}
 use Rattle.vs_stim.specs.Known.{lines_tell}
 use Rattle.vs_stim.specs.Header.{PortLists, ColumnLists}
 use Rattle.vs_stim.specs.Lines.{lines, all_lines, content, no_lf, is_inner}
-use Rattle.vs_stim.specs.Reading.{limits, Place, behind, too_long, Reading, with_vector, read_vectors, read_header, header_fault}
+use Rattle.vs_stim.specs.Numbers.{filled}
+use Rattle.vs_stim.specs.Reading.{limits, Place, behind, too_long, Reading, with_vector, read_vectors, read_header, header_fault, header_columns}
 use Rattle.vs_stim.specs.declared.row.Row.{Row}
 use Rattle.vs_stim.specs.Vectors.{Entry, bits_of, wanted_of}
 use Rattle.vs_stim.specs.declared.wants.Wants.{Wants}
@@ -114,6 +115,7 @@ IsReadError number ReadFault = Unit {0}
 IsReadError number StimulusTooLong = Unit {0}
 IsReadError number (LineTooLong line) = line ≡ number
 IsReadError number BadHeader = ⊥
+IsReadError number NoExpectation = ⊥
 IsReadError number (BadVector line) = ⊥
 IsReadError number FirstUnknown = ⊥
 IsReadError number (UnknownReset line) = ⊥
@@ -169,6 +171,7 @@ vectors_from cs count o = read_vectors limits cs o.at count (all_lines (lines o.
 -- the answers of a line that should be a vector, but for Ok
 abbrev pub IsVectorError : StimError → Type 0
 IsVectorError BadHeader = ⊥
+IsVectorError NoExpectation = ⊥
 IsVectorError (BadVector line) = Unit {0}
 IsVectorError FirstUnknown = Unit {0}
 IsVectorError (UnknownReset line) = Unit {0}
@@ -190,6 +193,7 @@ header_fault_from ports o = header_fault limits ports o.at (all_lines (lines o.r
 -- the answers of a line that should be a header, but for Ok
 abbrev pub IsHeaderError : StimError → Type 0
 IsHeaderError BadHeader = Unit {0}
+IsHeaderError NoExpectation = Unit {0}
 IsHeaderError (BadVector line) = ⊥
 IsHeaderError FirstUnknown = ⊥
 IsHeaderError (UnknownReset line) = ⊥
@@ -219,15 +223,20 @@ pub record SameLine (old new : Open) : Type 0 where
 abbrev pub text_tells : Open → Bool
 text_tells o = lines_tell o.at (all_lines (lines o.rest))
 
--- The reader passed lines, the last of which is a vector: whatever stands behind them, or nothing where the text ends.
-pub record PassesVector (cs : ColumnLists) (count : ℕ) (v : Entry) (old new : Open) : Type 0 where
+-- The reader passed lines, the last of which, that of this number, is a vector, and the others are skipped: whatever stands behind them, or nothing where
+-- the text ends.
+pub record PassesVector (cs : ColumnLists) (count line : ℕ) (v : Entry) (old new : Open) : Type 0 where
   pub bytes : List ℕ
   pub rest : old.rest ≡ bytes ++ new.rest
   pub gives : (more : List ℕ) → (new.rest ≡ [] → more ≡ [])
       → read_vectors limits cs old.at count (all_lines (lines (bytes ++ more))) ≡ with_vector v (read_vectors limits cs new.at (count + 1) (all_lines (lines more)))
+  pub filled : (more : List ℕ) → (new.rest ≡ [] → more ≡ []) → filled old.at.number (all_lines (lines (bytes ++ more))) ≡ line ∷ filled new.at.number (all_lines (lines more))
 
 -- And the same of lines whose last is the header.
 pub record PassesHeader (ports : PortLists) (cs : ColumnLists) (old new : Open) : Type 0 where
   pub bytes : List ℕ
   pub rest : old.rest ≡ bytes ++ new.rest
+  pub columns_are : header_columns limits ports old.at (all_lines (lines old.rest)) ≡ Some cs
   pub gives : (more : List ℕ) → (new.rest ≡ [] → more ≡ []) → read_header limits ports old.at (all_lines (lines (bytes ++ more))) ≡ read_vectors limits cs new.at 0 (all_lines (lines more))
+  pub line : ℕ
+  pub filled : (more : List ℕ) → (new.rest ≡ [] → more ≡ []) → filled old.at.number (all_lines (lines (bytes ++ more))) ≡ line ∷ filled new.at.number (all_lines (lines more))

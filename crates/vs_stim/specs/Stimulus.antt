@@ -13,6 +13,7 @@ known s = record {
   live = s.live;
   columns = columns_in s.row;
   count = s.count;
+  line = s.line;
   vector = s.row.values.items;
   wanted = s.row.wants.values.items;
   at = record { number = s.source.number; start = s.source.start };

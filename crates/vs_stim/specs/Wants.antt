@@ -1,12 +1,12 @@
 -- What a line says behind the fields of its inputs, where some of it was read already: the field `->`, and what outputs are wanted to have.
-use Rattle.std.specs.Prelude.{◌≡◌, ℕ, ◌+◌, ◌<◌, ◌≤◌, List, [], ◌∷◌, ◌++◌, length, map, drop, nat_eq, Bool, true, false, Some, None, slice_set, slice_index, All}
+use Rattle.std.specs.Prelude.{◌≡◌, ℕ, ◌+◌, ◌<◌, ◌≤◌, ◌&&◌, not, List, [], ◌∷◌, ◌++◌, length, map, drop, nat_eq, Bool, true, false, Some, None, slice_set, slice_index, All}
 use Rattle.vs_stim.specs.declared.input.Expected.{Expected}
 use Rattle.vs_stim.specs.declared.wanted.Digit.{Digit}
 use Rattle.vs_stim.specs.declared.wants.Part.{Part}
 use Rattle.vs_stim.specs.declared.wants.Part.TheVariants.{Start, Minus, Arrow, Gap, Field, Bad}
 use Rattle.vs_stim.specs.declared.wants.Wants.{Wants}
 use Rattle.vs_stim.specs.Fields.{Fields, words, fields}
-use Rattle.vs_stim.specs.Header.{is_arrow}
+use Rattle.vs_stim.specs.Header.{is_arrow, is_expected}
 use Rattle.vs_stim.specs.Vectors.{wanted_of, wanted}
 use Rattle.vs_stim.specs.Wanted.{Wanteds, wanted_sizes}
 use Rattle.vs_stim.specs.Reading.{Said}
@@ -59,6 +59,16 @@ expected_lengths es = map (λ e. e.length) es
 pub record IsExpected (e : Expected) : Type 0 where
   pub some : 1 ≤ e.length
   pub at_most_64 : e.length ≤ 64
+
+-- the column's output is one of those that have these lengths
+pub record IsExpectedOf (lengths : List ℕ) (e : Expected) : Type 0 where
+  pub known : e.output < length lengths
+  pub size : slice_index lengths e.output ≡ e.length
+
+-- no two of these columns are of one output
+abbrev pub is_each_once : List Expected → Bool
+is_each_once [] = true
+is_each_once (e ∷ es) = not (is_expected e.output es) && is_each_once es
 
 -- what is kept at each part
 abbrev pub IsPart : Part → List Expected → ℕ → List Digit → Type 0

@@ -13,6 +13,9 @@ pub enum StimError {
     /// 70: no line but skipped ones, or the first of the others is no header.
     #[error("the first line that counts isn't a header")]
     BadHeader,
+    /// 79: the header names no output, though it has to.
+    #[error("the header names no output")]
+    NoExpectation,
     /// 71: a line behind the header is no vector.
     #[error("line {line} isn't a vector")]
     BadVector { line: u64 },

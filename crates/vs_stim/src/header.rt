@@ -4,10 +4,10 @@ ghost use Rattle.std.specs.Prelude.{◌≡◌, ◌≢◌, ◌<◌, All, [], leng
 ghost use Rattle.vs_desk.specs.Desk.{IsAttached, Fails};
 ghost use Rattle.vs_desk.specs.declared.desk.Way.TheVariants.{Read};
 ghost use Rattle.vs_desk.specs.Taking.{OnlyTaken, TakesAt};
-ghost use Rattle.vs_stim.specs.Header.{ArePorts, lengths, each_once};
+ghost use Rattle.vs_stim.specs.Header.{ArePorts, lengths, output_lengths, each_once};
 ghost use Rattle.vs_stim.specs.Reading.{header_line, refused};
 ghost use Rattle.vs_stim.specs.Row.{as_said, IsColumn};
-ghost use Rattle.vs_stim.specs.Wants.{IsExpected};
+ghost use Rattle.vs_stim.specs.Wants.{IsExpected, IsExpectedOf, is_each_once};
 ghost use Rattle.vs_stim.specs.Heading.{heading_with, columns_of_heading, lists_of, IsUnread, IsHeading};
 ghost use Rattle.vs_stim.specs.Source.{open_at, line_refusal, says, rest_of, vectors_from, header_from, header_fault_from, IsSource, IsHeaderError, GoesOn, PassesLf, Passes, PassesHeader};
 ghost use Rattle.vs_stim.specs.Known.{IsUntold};
@@ -43,6 +43,7 @@ fn feed_heading<D: Desk>(
 
     ensures refused { IsTrue D.tells → IfErr result (λ e. e ≢ StimError.ReadFault → e ≢ StimError.Memory → line_refusal (open_at source.old (D.told desk.old)) ≡ Some e) }
     ensures errors { IfErr result IsHeaderError }
+    ensures lacking { result ≢ Err StimError.NoExpectation }
     ensures desk { TakesAt source.old.place (D.told desk.old) (D.told desk.new) StimError.ReadFault result }
 
     ensures went { IsTrue D.tells → result ≡ Err StimError.ReadFault → GoesOn (open_at source.old (D.told desk.old)) (open_at source.new (D.told desk.new)) }
@@ -82,6 +83,7 @@ fn read_heading<D: Desk>(
 
     ensures refused { IsTrue D.tells → IfErr result (λ e. e ≢ StimError.ReadFault → e ≢ StimError.Memory → line_refusal (open_at source.old (D.told desk.old)) ≡ Some e) }
     ensures errors { IfErr result IsHeaderError }
+    ensures lacking { result ≢ Err StimError.NoExpectation }
     ensures desk { TakesAt source.old.place (D.told desk.old) (D.told desk.new) StimError.ReadFault result }
 
     ensures went { IsTrue D.tells → result ≡ Err StimError.ReadFault → GoesOn (open_at source.old (D.told desk.old)) (open_at source.new (D.told desk.new)) }
@@ -108,6 +110,8 @@ pub(crate) fn find_header<D: Desk>(
     ensures begins { OnOk result (source.new.length ≡ 0) }
     ensures columns { IfOk result (λ cs. All (IsColumn (lengths ports.now.inputs)) cs.inputs.items) }
     ensures expected { IfOk result (λ cs. All IsExpected cs.expected.items) }
+    ensures named { IfOk result (λ cs. All (IsExpectedOf (output_lengths ports.now.outputs)) cs.expected.items) }
+    ensures once { IfOk result (λ cs. is_each_once cs.expected.items ≡ true) }
     ensures each { IfOk result (λ cs. each_once (length ports.now.inputs) cs.inputs.items ≡ true) }
 
     ensures found { IsTrue D.tells → IfOk result (λ cs. header_from ports.now (open_at source.old (D.told desk.old)) ≡ vectors_from (lists_of cs) 0 (open_at source.new (D.told desk.new))) }
@@ -118,6 +122,7 @@ pub(crate) fn find_header<D: Desk>(
     ensures faulty { IsTrue D.tells → IfErr result (λ e. e ≢ StimError.ReadFault → e ≢ StimError.Memory → header_fault_from ports.now (open_at source.old (D.told desk.old)) ≡ Some e) }
 
     ensures errors { IfErr result IsHeaderError }
+    ensures demanded { result ≡ Err StimError.NoExpectation → IsTrue ports.now.demanded }
     ensures desk { TakesAt source.old.place (D.told desk.old) (D.told desk.new) StimError.ReadFault result }
     ensures needed { IsTrue D.tells → result ≡ Err StimError.ReadFault →
         let o = open_at source.old (D.told desk.old) in IsUntold o.at o.rest ((D.told desk.new).contents.left source.old.place) }
@@ -126,7 +131,12 @@ pub(crate) fn find_header<D: Desk>(
     'lines: loop {
         let (kind, last) = read_heading(source, &mut heading, ports, desk)?;
         match kind {
-            LineKind::Given => return Ok(heading.into_columns()),
+            LineKind::Given => {
+                if heading.lacks_output(ports) {
+                    return Err(StimError::NoExpectation);
+                }
+                return Ok(heading.into_columns());
+            }
             LineKind::Malformed => return Err(StimError::BadHeader),
             LineKind::Skipped => {
                 if last {

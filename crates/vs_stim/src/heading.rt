@@ -1,9 +1,9 @@
 //! A line before the vectors, read byte by byte.
 
 ghost use Rattle.std.specs.Prelude.{◌≡◌, ◌+◌, ◌<◌, ◌≤◌, length, codes, bytes_eq, All, IfSome};
-ghost use Rattle.vs_stim.specs.Header.{column_of, expected_of, is_expected, is_arrow, lengths, IsInput, IsOutput, ArePorts};
+ghost use Rattle.vs_stim.specs.Header.{column_of, expected_of, is_expected, is_arrow, lengths, output_lengths, IsInput, IsOutput, ArePorts};
 ghost use Rattle.vs_stim.specs.Row.{IsColumn};
-ghost use Rattle.vs_stim.specs.Wants.{IsExpected};
+ghost use Rattle.vs_stim.specs.Wants.{IsExpected, IsExpectedOf};
 
 use crate::digits::is_blank;
 use crate::input::Columns;
@@ -75,6 +75,7 @@ fn find_output(outputs: &[Output], name: &[u8]) -> Option<Expected>
     requires { All IsOutput outputs.now }
     ensures column { result ≡ expected_of 0 name.now outputs.now }
     ensures known { IfSome result IsExpected }
+    ensures of { IfSome result (IsExpectedOf (output_lengths outputs.now)) }
 {
     for (number, output) in outputs.iter().enumerate() {
         if output.name.is(name) {
@@ -104,7 +105,7 @@ fn is_arrow(field: &[u8]) -> bool
 impl Heading {
     ghost use Rattle.std.specs.Prelude.{◌≡◌, ◌≢◌, ◌<◌, ℕ, List, [], ◌∷◌, ◌++◌, length, true, false, All, Ok, OnOk, IfOk, IfErr};
     ghost use Rattle.vs_stim.specs.Fields.{words, fields};
-    ghost use Rattle.vs_stim.specs.Header.{PortLists, each_once};
+    ghost use Rattle.vs_stim.specs.Header.{PortLists, each_once, lacks_output};
     ghost use Rattle.vs_stim.specs.Row.{as_said};
     ghost use Rattle.vs_stim.specs.Heading.{heading_with, fields_to_come, columns_of_heading, is_whole, AreCounts, AreNamed, IsUnread, IsHeading, IsBetween, IsEnded};
     ghost use Rattle.vs_stim.specs.declared.row.LineKind.TheVariants.{Skipped, Given};
@@ -284,6 +285,7 @@ impl Heading {
     }
 
     /// Ends a field that should be the name of an output that has no column.
+    #[tactic(auto, using(crate::proofs::Once::once_push))]
     fn end_output(&mut self, ports: &Ports) -> Result<(), AllocError>
         requires section { self.old.section ≡ Outputs }
         requires ports { ArePorts ports.now }
@@ -330,6 +332,13 @@ impl Heading {
             }
         }
         true
+    }
+
+    /// Whether no output was named, though one has to be.
+    pub(crate) fn lacks_output(&self, ports: &Ports) -> bool
+        ensures { result ≡ lacks_output ports.now (columns_of_heading self.now) }
+    {
+        ports.demanded() && self.expected.is_empty()
     }
 
     /// Ends the line.

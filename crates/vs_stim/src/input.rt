@@ -65,11 +65,12 @@ pub struct Output {
     pub length: u32,
 }
 
-/// The data inputs and the outputs of a design, which a header may name. Contracts see their lists.
+/// The data inputs and the outputs of a design, which a header may name, and whether it has to name outputs. Contracts see the lists.
 #[derive(Debug, Drop)]
 pub struct Ports {
     inputs: Vec<Input>,
     outputs: Vec<Output>,
+    demanded: bool,
 }
 
 impl Model for Ports {
@@ -77,15 +78,19 @@ impl Model for Ports {
 
     ghost Value = { PortLists };
 
-    ghost view = { λ ports. record { inputs = ports.inputs.items; outputs = ports.outputs.items } };
+    ghost view = { λ ports. record { inputs = ports.inputs.items; outputs = ports.outputs.items; demanded = ports.demanded } };
 }
 
 impl Ports {
-    /// These data inputs and outputs, each in the design's order.
-    pub fn of(inputs: Vec<Input>, outputs: Vec<Output>) -> Ports
-        ensures { result ≡ record { inputs = inputs.items; outputs = outputs.items } }
+    /// These data inputs and outputs, each in the design's order. Where outputs are demanded, a header names one at least.
+    pub fn of(inputs: Vec<Input>, outputs: Vec<Output>, demanded: bool) -> Ports
+        ensures { result ≡ record { inputs = inputs.items; outputs = outputs.items; demanded = demanded } }
     {
-        Ports { inputs, outputs }
+        Ports {
+            inputs,
+            outputs,
+            demanded,
+        }
     }
 
     /// The data inputs, in the design's order.
@@ -100,6 +105,13 @@ impl Ports {
         ensures { result.now ≡ self.now.outputs }
     {
         self.outputs.as_slice()
+    }
+
+    /// Whether a header has to name outputs.
+    pub fn demanded(&self) -> bool
+        ensures { result ≡ self.now.demanded }
+    {
+        self.demanded
     }
 }
 

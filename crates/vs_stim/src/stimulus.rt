@@ -5,10 +5,10 @@ ghost use Rattle.vs_desk.specs.Desk.{IsAttached, Fails, with_place};
 ghost use Rattle.vs_desk.specs.declared.desk.Way.TheVariants.{Read};
 ghost use Rattle.vs_desk.specs.Taking.{OnlyTaken, TakesAt};
 ghost use Rattle.vs_desk.specs.Places.{stimulus_place, waveform_place};
-ghost use Rattle.vs_stim.specs.Header.{PortLists, IsInput, ArePorts, lengths};
+ghost use Rattle.vs_stim.specs.Header.{PortLists, IsInput, ArePorts, lengths, output_lengths};
 ghost use Rattle.vs_stim.specs.Row.{sizes};
 ghost use Rattle.vs_stim.specs.Wanted.{wanted_sizes};
-ghost use Rattle.vs_stim.specs.Wants.{expected_lengths, IsExpected, AreWants, AreUnbegun};
+ghost use Rattle.vs_stim.specs.Wants.{expected_lengths, is_each_once, IsExpected, IsExpectedOf, AreWants, AreUnbegun};
 ghost use Rattle.vs_stim.specs.Reading.{first_place, reading, header_refusal, refused, whole, with_vector};
 ghost use Rattle.vs_stim.specs.Known.{last_entry, remaining, pending_tells, text_left, IsReadBy, IsUntold};
 ghost use Rattle.vs_stim.specs.Source.{IsSource, IsVectorError, IsHeaderError};
@@ -31,6 +31,7 @@ pub struct Stimulus {
     lane: u32,
     live: bool,
     count: u32,
+    line: u64,
     source: Source,
     row: Row,
 }
@@ -51,7 +52,7 @@ impl Stimulus {
     /// Attaches place 1000 + lane to the path, and reads the text's header there.
     ///
     /// The refusals are `BadHeader`, `StimulusTooLong` and `LineTooLong`, each at a line up to the header
-    /// (70, 75, 76). All the memory that the stimulus needs is taken here.
+    /// (70, 75, 76), and `NoExpectation` (79), where the header has to name outputs and names none. All the memory that the stimulus needs is taken here.
     pub fn begin<D: Desk>(
         alloc: Global,
         desk: &mut D,
@@ -74,11 +75,14 @@ impl Stimulus {
 
         // Whatever the desk tells.
         ensures errors { IfErr result IsHeaderError }
+        ensures demanded { result ≡ Err StimError.NoExpectation → IsTrue ports.now.demanded }
         ensures live { IfOk result (λ s. IsTrue s.live) }
         ensures lane { IfOk result (λ s. s.lane ≡ lane) }
         ensures count { IfOk result (λ s. s.count ≡ 0) }
         ensures sizes { IfOk result (λ s. sizes s.vector ≡ lengths ports.now.inputs) }
         ensures wanted_sizes { IfOk result (λ s. wanted_sizes s.wanted ≡ expected_lengths s.columns.expected) }
+        ensures named { IfOk result (λ s. All (IsExpectedOf (output_lengths ports.now.outputs)) s.columns.expected) }
+        ensures once { IfOk result (λ s. is_each_once s.columns.expected ≡ true) }
 
         // On the desk the place is attached and bytes are taken there, and a fault is a failed call.
         ensures attached { OnOk result ((D.told desk.new).register ≡ with_place (D.told desk.old).register (stimulus_place lane) Read (string_bytes path)) }
@@ -104,6 +108,7 @@ impl Stimulus {
             lane,
             live: true,
             count: 0,
+            line: 0,
             source,
             row: Row::new(columns.inputs, values, wants),
         })
@@ -135,6 +140,15 @@ impl Stimulus {
         ensures { result.now ≡ self.now.wanted }
     {
         self.row.wants.values.as_slice()
+    }
+
+    /// The number of the line of the vector that was read last, from 1; skipped lines count too.
+    ///
+    /// It is that of `line_of_vector`, by `line_law`. Before the first vector it is 0.
+    pub fn line(&self) -> u64
+        ensures { result ≡ self.now.line }
+    {
+        self.line
     }
 
     /// Reads the next vector, which then stands in `vector`. Answers false at the end of the text.
@@ -173,12 +187,15 @@ impl Stimulus {
             IsUntold self.old.at (text_left self.old (D.told desk.old).contents) ((D.told desk.new).contents.left (stimulus_place self.old.lane)) }
     {
         self.live = false;
-        let found = find_vector(&mut self.source, &mut self.row, self.count, desk)?;
-        if found {
-            self.live = true;
-            self.count += 1;
+        match find_vector(&mut self.source, &mut self.row, self.count, desk)? {
+            Some(line) => {
+                self.live = true;
+                self.count += 1;
+                self.line = line;
+                Ok(true)
+            }
+            None => Ok(false),
         }
-        Ok(found)
     }
 }
 

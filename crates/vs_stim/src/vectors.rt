@@ -1,6 +1,6 @@
 //! The lines behind the header.
 
-ghost use Rattle.std.specs.Prelude.{All, Some, None, ◌≡◌, ◌≢◌, ◌≤◌, ◌<◌, ◌+◌, [], length, true, false, IsTrue, IfOk, IfErr, OnOk};
+ghost use Rattle.std.specs.Prelude.{All, Some, None, Ok, Err, ◌≡◌, ◌≢◌, ◌≤◌, ◌<◌, ◌+◌, [], length, true, false, IsTrue, IsSome, IfSome, IfOk, IfErr, OnOk};
 ghost use Rattle.vs_desk.specs.Desk.{IsAttached, Fails};
 ghost use Rattle.vs_desk.specs.declared.desk.Way.TheVariants.{Read};
 ghost use Rattle.vs_desk.specs.Taking.{OnlyTaken, TakesAt};
@@ -162,8 +162,7 @@ fn check_vector(row: &Row, number: u64, count: u32) -> Result<(), StimError>
 }
 
 /// The end of a text that has this many vectors.
-fn end_vectors(count: u32) -> Result<bool, StimError>
-    ensures ok { IfOk result (λ more. more ≡ false) }
+fn end_vectors(count: u32) -> Result<(), StimError>
     ensures whole { OnOk result (at_end count ≡ whole) }
     ensures err { IfErr result (λ e. at_end count ≡ refused e) }
     ensures errors { IfErr result (λ e. e ≡ StimError.NoVector) }
@@ -171,18 +170,18 @@ fn end_vectors(count: u32) -> Result<bool, StimError>
     if count == 0 {
         Err(StimError::NoVector)
     } else {
-        Ok(false)
+        Ok(())
     }
 }
 
-/// Reads lines up to the next vector, which then stands in the row. Answers false at the end of
+/// Reads lines up to the next vector, which then stands in the row, and answers the number of its line; none at the end of
 /// the text. This many vectors stand before it.
 pub(crate) fn find_vector<D: Desk>(
     source: &mut Source,
     row: &mut Row,
     count: u32,
     desk: &mut D,
-) -> Result<bool, StimError>
+) -> Result<Option<u64>, StimError>
     requires source { IsSource source.old }
     requires begins { source.old.length ≡ 0 }
     requires row { IsRow row.old }
@@ -194,14 +193,14 @@ pub(crate) fn find_vector<D: Desk>(
     ensures form { SameForm row.old row.new }
     ensures place { source.new.place ≡ source.old.place }
     ensures begins { OnOk result (source.new.length ≡ 0) }
-    ensures room { result ≡ Ok true → count < limits.vectors }
+    ensures room { IfOk result (λ found. IsSome found → count < limits.vectors) }
 
-    ensures found { IsTrue D.tells → result ≡ Ok true → vectors_from (columns_in row.old) count (open_at source.old (D.told desk.old))
-        ≡ with_vector (entry_in row.new) (vectors_from (columns_in row.old) (count + 1) (open_at source.new (D.told desk.new))) }
-    ensures passes { IsTrue D.tells → result ≡ Ok true
-        → PassesVector (columns_in row.old) count (entry_in row.new) (open_at source.old (D.told desk.old)) (open_at source.new (D.told desk.new)) }
-    ensures whole { IsTrue D.tells → result ≡ Ok false → vectors_from (columns_in row.old) count (open_at source.old (D.told desk.old)) ≡ whole }
-    ensures end { IsTrue D.tells → result ≡ Ok false → rest_of source.new (D.told desk.new) ≡ [] }
+    ensures found { IsTrue D.tells → IfOk result (λ found. IsSome found → vectors_from (columns_in row.old) count (open_at source.old (D.told desk.old))
+        ≡ with_vector (entry_in row.new) (vectors_from (columns_in row.old) (count + 1) (open_at source.new (D.told desk.new)))) }
+    ensures passes { IsTrue D.tells → IfOk result (λ found. IfSome found (λ line.
+        PassesVector (columns_in row.old) count line (entry_in row.new) (open_at source.old (D.told desk.old)) (open_at source.new (D.told desk.new)))) }
+    ensures whole { IsTrue D.tells → result ≡ Ok None → vectors_from (columns_in row.old) count (open_at source.old (D.told desk.old)) ≡ whole }
+    ensures end { IsTrue D.tells → result ≡ Ok None → rest_of source.new (D.told desk.new) ≡ [] }
     ensures refused { IsTrue D.tells → IfErr result (λ e. e ≢ StimError.ReadFault → vectors_from (columns_in row.old) count (open_at source.old (D.told desk.old)) ≡ refused e) }
 
     ensures errors { IfErr result IsVectorError }
@@ -217,11 +216,12 @@ pub(crate) fn find_vector<D: Desk>(
             LineKind::Malformed => return Err(StimError::BadVector { line: number }),
             LineKind::Given => {
                 check_vector(row, number, count)?;
-                return Ok(true);
+                return Ok(Some(number));
             }
             LineKind::Skipped => {
                 if last {
-                    return end_vectors(count);
+                    end_vectors(count)?;
+                    return Ok(None);
                 }
             }
         }

@@ -36,13 +36,13 @@ all_unused lanes = record { texts = record { design = refl; stimuli = λ i h. re
 
 -- how a bench ended, from how its job did
 pub bench_ended : (b : Bench) (j : Job) (old new : Told true) (inner o : Outcome) → j ≡ bench.job b.lanes
-    → old.register ≡ no_register → old.contents ≡ bench.files b.vectors b.lanes → IsEnd j old new inner → o ≡ of_bench inner → IsBenchEnd b o
+    → old.register ≡ no_register → old.contents ≡ bench.files b.vectors b.lanes → IsEnd j old new [] inner → o ≡ of_bench inner → IsBenchEnd b o
 bench_ended b j old new inner o job_is register_is contents_are ended is = record {
   told = new;
   inner = inner;
-  ended = subst (λ (c : Contents). IsEnd (bench.job b.lanes) (record { register = no_register; contents = c }) new inner) contents_are
-      (subst (λ (r : Register). IsEnd (bench.job b.lanes) (record { register = r; contents = old.contents }) new inner) register_is
-      (subst (λ (k : Job). IsEnd k old new inner) job_is ended));
+  ended = subst (λ (c : Contents). IsEnd (bench.job b.lanes) (record { register = no_register; contents = c }) new [] inner) contents_are
+      (subst (λ (r : Register). IsEnd (bench.job b.lanes) (record { register = r; contents = old.contents }) new [] inner) register_is
+      (subst (λ (k : Job). IsEnd k old new [] inner) job_is ended));
   outcome_is = is;
 }
 
@@ -62,7 +62,7 @@ bench_usage b o (inl memory) = λ h. never (sym memory ∙ h)
     never : Memory ≡ Refused (Bare Usage) → ⊥
     never h = cc
 bench_usage b o (inr e) = λ h.
-    end_usage (bench.job b.lanes) _ e.told e.inner e.ended (inner_usage e.inner (sym h ∙ e.outcome_is))
+    end_usage (bench.job b.lanes) _ e.told [] e.inner e.ended (inner_usage e.inner (sym h ∙ e.outcome_is))
 
 -- nor with a failed call
 no_fault : {tells : Bool} (old new : Told tells) (o : Outcome) (inner : Outcome) → o ≡ of_bench inner → IsStopped o → new.register.faults ≡ old.register.faults → ShowsCause old new o
@@ -89,7 +89,7 @@ bench_stopped_cause b old new o result stopped end is line =
     go (inr e) = no_fault old new o e.inner e.outcome_is stopped same
 
 pub bench_done_cause : {tells : Bool} (old new : Told tells) (s : Summary) (result : Outcome)
-    → ReportsDone old new (Done s) result → ShowsCause old new result
+    → ReportsDone old new [] (Done s) result → ShowsCause old new result
 bench_done_cause old new s result (inl r) =
     subst (ShowsCause old new) (sym r.0) (ap (λ (k : Register). k.faults) r.1.same, ap (λ (k : Register). k.losses) r.1.same)
 bench_done_cause old new s result (inr r) =
@@ -97,7 +97,7 @@ bench_done_cause old new s result (inr r) =
 
 -- a run that is done and reported isn't a faulty list of words
 pub done_usage : {tells : Bool} (old new : Told tells) (s : Summary) (result : Outcome)
-    → ReportsDone old new (Done s) result → result ≢ Refused (Bare Usage)
+    → ReportsDone old new [] (Done s) result → result ≢ Refused (Bare Usage)
 done_usage old new s result (inl r) = λ h. never (sym r.0 ∙ h)
   where
     never : Done s ≡ Refused (Bare Usage) → ⊥

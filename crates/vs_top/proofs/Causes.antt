@@ -1,5 +1,5 @@
 -- What the desk's counts say of each answer.
-use Rattle.std.proofs.Common.{◌≡◌, ◌≢◌, ◌⊎◌, ℕ, suc, ◌+◌, Bool, List, [], ◌∷◌, take, refl, sym, ap, ◌∙◌, subst, inl, inr, arith}
+use Rattle.std.proofs.Common.{◌≡◌, ◌≢◌, ◌⊎◌, ℕ, suc, ◌+◌, Bool, List, [], ◌∷◌, ◌++◌, take, refl, sym, ap, ◌∙◌, subst, inl, inr, arith}
 use Rattle.vs_desk.specs.declared.desk.Way.{Way}
 use Rattle.vs_desk.specs.declared.desk.Way.TheVariants.{Read, Write}
 use Rattle.vs_desk.specs.Desk.{Told, Register, Rose, Fails, with_place}
@@ -22,10 +22,11 @@ use Rattle.vs_top.specs.declared.outcome.Outcome.{Outcome}
 use Rattle.vs_top.specs.declared.outcome.Outcome.TheVariants.{Done, Refused, ReadFault, WriteFault, Memory}
 use Rattle.vs_top.specs.Answers.{stimulus_outcome, setup_outcome, stop_outcome}
 use Rattle.vs_refusal.specs.declared.refusal.Refusal.TheVariants.{SamePath}
-use Rattle.vs_top.specs.Ended.{IsEnd, IsRoundEnd, IsWholeEnd, IsStopped, with_waves, wave_paths}
-use Rattle.vs_top.specs.Ended.IsEnd.{same, setup, first, attached, stopped, whole, unflushed}
+use Rattle.vs_top.specs.Ended.{IsEnd, IsRoundEnd, IsWholeEnd, IsCheckedEnd, IsStopped, with_waves, wave_paths}
+use Rattle.vs_top.specs.Ended.IsEnd.{same, setup, first, attached, stopped, whole, unflushed, check_stopped, checked}
 use Rattle.vs_top.specs.Outcomes.{outcome_line}
-use Rattle.vs_top.specs.Reported.{ReportsLine, ReportsDone, OnStopped}
+use Rattle.vs_top.specs.Reported.{ReportsLine, ReportsDone, OnDone, OnStopped}
+use Rattle.vs_top.specs.Reports.{IsSimulated}
 use Rattle.vs_top.specs.Causes.{IsFaultAt, ShowsCause}
 use Rattle.vs_top.proofs.Losing.{Rose-trans}
 
@@ -88,6 +89,7 @@ record Ends (old new : Register) (o : Outcome) : Type 0 where
 -- the refusal of a stimulus
 refusal_ends : (old new : Register) (i : ℕ) (e : StimError) → (e ≢ E.ReadFault) → Quiet old new → Ends old new (stimulus_outcome i e)
 refusal_ends old new i E.BadHeader other q = record { fault = q.faults; losses = q.losses }
+refusal_ends old new i E.NoExpectation other q = record { fault = q.faults; losses = q.losses }
 refusal_ends old new i (E.BadVector n) other q = record { fault = q.faults; losses = q.losses }
 refusal_ends old new i E.FirstUnknown other q = record { fault = q.faults; losses = q.losses }
 refusal_ends old new i (E.UnknownReset n) other q = record { fault = q.faults; losses = q.losses }
@@ -175,25 +177,32 @@ whole_ends job old new o e =
     let q = quiet_at old.register (with_waves old.register job (wave_paths job)) new.register (waves old.register job (wave_paths job)) e.register_is in
     of_outcome old.register new.register o (Done e.summary) e.outcome_is (record { fault = q.faults; losses = q.losses })
 
-ends : {tells : Bool} (job : Job) (old new : Told tells) (o : Outcome) → IsEnd job old new o → Ends old.register new.register o
-ends job old new o (same e) =
+checked_ends : {tells : Bool} (job : Job) (old new : Told tells) (lines : List ℕ) (o : Outcome) → IsCheckedEnd job old new lines o → Ends old.register new.register o
+checked_ends job old new lines o e =
+    let q = quiet_at old.register (with_texts old.register job job.stimuli) new.register (texts old.register job job.stimuli) e.register_is in
+    of_outcome old.register new.register o (Done e.summary) e.outcome_is (record { fault = q.faults; losses = q.losses })
+
+ends : {tells : Bool} (job : Job) (old new : Told tells) (lines : List ℕ) (o : Outcome) → IsEnd job old new lines o → Ends old.register new.register o
+ends job old new lines o (same l e) =
     let q = quiet_at old.register old.register new.register (quiet old.register) e.register_is in
     of_outcome old.register new.register o (Refused (SamePath e.first e.second)) e.outcome_is (record { fault = q.faults; losses = q.losses })
-ends job old new o (setup d e) = of_outcome old.register new.register o (setup_outcome e.error) e.outcome_is (setup_ends job old new e.error e.cause)
-ends job old new o (first d e) = of_outcome old.register new.register o (stop_outcome e.stop) e.outcome_is (stop_ends old.register (with_texts old.register job job.stimuli) new.register e.stop (texts old.register job job.stimuli) e.cause)
-ends job old new o (attached d e) =
+ends job old new lines o (setup l d e) = of_outcome old.register new.register o (setup_outcome e.error) e.outcome_is (setup_ends job old new e.error e.cause)
+ends job old new lines o (first l d e) = of_outcome old.register new.register o (stop_outcome e.stop) e.outcome_is (stop_ends old.register (with_texts old.register job job.stimuli) new.register e.stop (texts old.register job job.stimuli) e.cause)
+ends job old new lines o (attached l m d e) =
     let paths = take e.lane (wave_paths job) in
     of_outcome old.register new.register o (WriteFault (wave_place e.lane)) e.outcome_is
     (write_ends old.register (with_waves old.register job paths) new.register (wave_place e.lane) (path_at (wave_paths job) e.lane) (waves old.register job paths) (λ z. omega arith) e.fails)
-ends job old new o (stopped d e) = round_ends job old new o e
-ends job old new o (whole d e) = whole_ends job old new o e
-ends job old new o (unflushed d e) =
+ends job old new lines o (stopped l m d e) = round_ends job old new o e
+ends job old new lines o (whole l m d e) = whole_ends job old new o e
+ends job old new lines o (unflushed l m d e) =
     of_outcome old.register new.register o (WriteFault (wave_place e.lane)) e.outcome_is
     (unflushed_ends old.register e.before.register new.register e.answer (wave_place e.lane) (λ z. omega arith) (before e.ended) e.fails.fails)
   where
     before : IsRoundEnd job old e.before e.answer ⊎ IsWholeEnd job old e.before e.answer → Ends old.register e.before.register e.answer
     before (inl r) = round_ends job old e.before e.answer r
     before (inr w) = whole_ends job old e.before e.answer w
+ends job old new lines o (check_stopped m d e) = of_outcome old.register new.register o (stop_outcome e.stop) e.outcome_is (stop_ends old.register (with_texts old.register job job.stimuli) new.register e.stop (texts old.register job job.stimuli) e.cause)
+ends job old new lines o (checked m d e) = checked_ends job old new lines o e
 
 -- ---- the report
 
@@ -226,26 +235,34 @@ on_stopped (ReadFault place) P h p = p
 on_stopped (WriteFault place) P h p = p
 on_stopped Memory P h p = p
 
--- a job that stopped, and its report
-pub stopped_cause : {tells : Bool} (job : Job) (old middle new : Told tells) (o result : Outcome)
-    → IsStopped o → IsEnd job old middle o
-    → OnStopped o (result ≡ o) → OnStopped o (ReportsLine middle new (outcome_line o)) → ShowsCause old new result
-stopped_cause job old middle new o result halted end is line =
-    subst (ShowsCause old new) (sym (on_stopped o (result ≡ o) halted is))
-    (stopped_shows old middle new o halted (ends job old middle o end)
-    (report_keeps middle new (outcome_line o) (on_stopped o (ReportsLine middle new (outcome_line o)) halted line)))
+-- a job that ended, and its report
+stopped_cause : {tells : Bool} (job : Job) (old middle new : Told tells) (lines : List ℕ) (o result : Outcome)
+    → IsStopped o → IsEnd job old middle lines o → result ≡ o → ReportsLine middle new (lines ++ outcome_line o) → ShowsCause old new result
+stopped_cause job old middle new lines o result halted end is line =
+    subst (ShowsCause old new) (sym is)
+    (stopped_shows old middle new o halted (ends job old middle lines o end) (report_keeps middle new (lines ++ outcome_line o) line))
 
--- a job that is done, and its report
-pub done_cause : {tells : Bool} (job : Job) (old middle new : Told tells) (s : Summary) (result : Outcome)
-    → IsEnd job old middle (Done s) → ReportsDone middle new (Done s) result → ShowsCause old new result
-done_cause job old middle new s result end (inl r) =
-    let e = ends job old middle (Done s) end in
+done_cause : {tells : Bool} (job : Job) (old middle new : Told tells) (lines : List ℕ) (s : Summary) (result : Outcome)
+    → IsEnd job old middle lines (Done s) → ReportsDone middle new lines (Done s) result → ShowsCause old new result
+done_cause job old middle new lines s result end (inl r) =
+    let e = ends job old middle lines (Done s) end in
     subst (ShowsCause old new) (sym r.0)
     (ap (λ (r : Register). r.faults) r.1.same ∙ e.fault, ap (λ (r : Register). r.losses) r.1.same ∙ e.losses)
-done_cause job old middle new s result end (inr r) =
-    let e = ends job old middle (Done s) end in
+done_cause job old middle new lines s result end (inr r) =
+    let e = ends job old middle lines (Done s) end in
     subst (ShowsCause old new) (sym r.0)
     (inr (refl, record { rose = rose_from old.register.losses middle.register.losses new.register.losses e.losses (r.1.failed.loss refl); no_fault = r.1.failed.no_fault refl ∙ e.fault }))
+
+pub simulated_cause : {tells : Bool} {D : Type 0} (told : D → Told tells) (job : Job) (old new : D) (result : Outcome) → IsSimulated told job old new result → ShowsCause (told old) (told new) result
+simulated_cause told job old new result s = go s.outcome s.ended s.done s.stopped s.stopped_line
+  where
+    go : (o : Outcome) → IsEnd job (told old) (told s.middle) s.lines o → OnDone o (ReportsDone (told s.middle) (told new) s.lines o result) → OnStopped o (result ≡ o)
+        → OnStopped o (ReportsLine (told s.middle) (told new) (s.lines ++ outcome_line o)) → ShowsCause (told old) (told new) result
+    go (Done t) e d is line = done_cause job (told old) (told s.middle) (told new) s.lines t result e d
+    go (Refused r) e d is line = stopped_cause job (told old) (told s.middle) (told new) s.lines (Refused r) result tt e is line
+    go (ReadFault p) e d is line = stopped_cause job (told old) (told s.middle) (told new) s.lines (ReadFault p) result tt e is line
+    go (WriteFault p) e d is line = stopped_cause job (told old) (told s.middle) (told new) s.lines (WriteFault p) result tt e is line
+    go Memory e d is line = stopped_cause job (told old) (told s.middle) (told new) s.lines Memory result tt e is line
 
 -- a report alone, of a refusal or of want of memory
 pub refused_cause : {tells : Bool} (old new : Told tells) (line : List ℕ) → ReportsLine old new line → new.register.faults ≡ old.register.faults

@@ -1,5 +1,5 @@
 -- What stays of a run once its line was reported.
-use Rattle.std.proofs.Common.{◌≡◌, ◌≢◌, ℕ, List, ◌++◌, length, inl, inr, IsTrue, Bool, Option, None, Some, sym, ap, ◌∙◌, subst, arith}
+use Rattle.std.proofs.Common.{◌≡◌, ◌≢◌, ℕ, List, ◌++◌, length, inl, inr, Bool, Option, None, Some, sym, ap, ◌∙◌, subst, arith}
 use Rattle.std.proofs.lemmas.Bool.{ne_eqb, cond-false}
 use Rattle.vs_desk.specs.Desk.{Told, Register, Contents, with_put}
 use Rattle.vs_desk.specs.Places.{stimulus_place}
@@ -31,9 +31,8 @@ use Rattle.vs_setup.specs.Unprepared.{IsUnprepared}
 use Rattle.vs_top.specs.declared.outcome.Outcome.TheVariants.{Done, Refused, ReadFault, WriteFault, Memory}
 use Rattle.vs_top.specs.Answers.{stimulus_outcome, setup_outcome, stop_outcome}
 use Rattle.vs_top.specs.Ended.{IsEnd}
-use Rattle.vs_top.specs.Ended.IsEnd.{same, setup, first, attached, stopped, whole, unflushed}
+use Rattle.vs_top.specs.Ended.IsEnd.{same, setup, first, attached, stopped, whole, unflushed, check_stopped, checked}
 use Rattle.vs_top.specs.Reports.{IsSimulated}
-use Rattle.vs_top.specs.Outcomes.{outcome_line}
 use Rattle.vs_top.specs.Reported.{OnDone, OnStopped, ReportsDone}
 use Rattle.vs_top.specs.Headline.{IsWritten, IsLaneWritten}
 use Rattle.vs_top.proofs.Behind.{bare_behind}
@@ -42,37 +41,28 @@ use Rattle.vs_top.proofs.Behind.{bare_behind}
 kept : (r : Register) (c : Contents) (line : List ℕ) (i : ℕ) → (with_put r c 0 line).put (wave_place i) ≡ c.put (wave_place i)
 kept r c line i = cond-false _ _ _ (ne_eqb (wave_place i) 0 (λ e. omega arith))
 
-written_still : (job : Job) (old mid new : Contents) (r : Register) (line : List ℕ) (s : Summary) → new ≡ with_put r mid 0 line → IsWritten job old mid s → IsWritten job old new s
+pub written_still : (job : Job) (old mid new : Contents) (r : Register) (line : List ℕ) (s : Summary) → new ≡ with_put r mid 0 line → IsWritten job old mid s → IsWritten job old new s
 written_still job old mid new r line s e w = record {
   design = w.design;
   accepted = w.accepted;
   design_taken = ap (λ (c : Contents). c.left 1) e ∙ w.design_taken;
   stimuli_taken = λ i h. ap (λ (c : Contents). c.left (stimulus_place i)) e ∙ w.stimuli_taken i h;
-  lanes = λ i h. subst (λ (put : List ℕ). IsLaneWritten w.design w.accepted.accepted.clock.first job.half (ports_of w.accepted) (old.files (path_at job.stimuli i)) put) (sym (ap (λ (c : Contents). c.put (wave_place i)) e ∙ kept r mid line i)) (w.lanes i h);
+  lanes = λ i h. subst (λ (put : List ℕ). IsLaneWritten w.design w.accepted.accepted.clock.first job.half (ports_of job.mode w.accepted) (old.files (path_at job.stimuli i)) put) (sym (ap (λ (c : Contents). c.put (wave_place i)) e ∙ kept r mid line i)) (w.lanes i h);
   lanes_are = w.lanes_are;
   counted = w.counted;
   size_is = w.size_is;
+  unchecked = w.unchecked;
   stored = w.stored;
 }
 
-same_summary : (s t : Summary) → Done s ≡ Done t → s ≡ t
+pub same_summary : (s t : Summary) → Done s ≡ Done t → s ≡ t
 same_summary s t e = cc
-
--- a run that is done and reported is written
-pub reported_written : {tells : Bool} (job : Job) (old : Contents) (middle new : Told tells) (s t : Summary) (result : Outcome)
-    → ReportsDone middle new (Done s) result → result ≡ Done t → IsTrue tells → IsWritten job old middle.contents s → IsWritten job old new.contents t
-reported_written job old middle new s t result (inl r) e told w =
-    let same : s ≡ t = same_summary s t (sym r.0 ∙ e) in
-    subst (IsWritten job old new.contents) same (written_still job old middle.contents new.contents middle.register (outcome_line (Done s)) s (r.1.put told) w)
-reported_written job old middle new s t result (inr r) e told w = absurd (never (sym r.0 ∙ e))
-  where
-    never : WriteFault 0 ≡ Done t → ⊥
-    never e = cc
 
 -- ---- no job that is one ends as a faulty list of words
 
 stimulus_usage : (i : ℕ) (e : StimError) → stimulus_outcome i e ≡ Refused (Bare Usage) → ⊥
 stimulus_usage i E.BadHeader h = cc
+stimulus_usage i E.NoExpectation h = cc
 stimulus_usage i (E.BadVector n) h = cc
 stimulus_usage i E.FirstUnknown h = cc
 stimulus_usage i (E.UnknownReset n) h = cc
@@ -151,32 +141,31 @@ stop_usage (R.WriteFault i) h = cc
 fault_usage : (p : ℕ) → WriteFault p ≡ Refused (Bare Usage) → ⊥
 fault_usage p h = cc
 
-pub end_usage : {tells : Bool} (job : Job) (old new : Told tells) (o : Outcome) → IsEnd job old new o → o ≡ Refused (Bare Usage) → ⊥
-end_usage job old new o (same e) h = same_usage e.first e.second (sym e.outcome_is ∙ h)
+done_usage : (s : Summary) → Done s ≡ Refused (Bare Usage) → ⊥
+done_usage s h = cc
+
+pub end_usage : {tells : Bool} (job : Job) (old new : Told tells) (lines : List ℕ) (o : Outcome) → IsEnd job old new lines o → o ≡ Refused (Bare Usage) → ⊥
+end_usage job old new lines o (same l e) h = same_usage e.first e.second (sym e.outcome_is ∙ h)
   where
     same_usage : (a b : ℕ) → Refused (SamePath a b) ≡ Refused (Bare Usage) → ⊥
     same_usage a b h = cc
-end_usage job old new o (setup d e) h = setup_usage job old new e.error e.cause (sym e.outcome_is ∙ h)
-end_usage job old new o (first d e) h = stop_usage e.stop (sym e.outcome_is ∙ h)
-end_usage job old new o (attached d e) h = fault_usage (wave_place e.lane) (sym e.outcome_is ∙ h)
-end_usage job old new o (unflushed d e) h = fault_usage (wave_place e.lane) (sym e.outcome_is ∙ h)
-end_usage job old new o (stopped d e) h = stop_usage e.stop (sym e.outcome_is ∙ h)
-end_usage job old new o (whole d e) h = done_usage e.summary (sym e.outcome_is ∙ h)
-  where
-    done_usage : (s : Summary) → Done s ≡ Refused (Bare Usage) → ⊥
-    done_usage s h = cc
+end_usage job old new lines o (setup l d e) h = setup_usage job old new e.error e.cause (sym e.outcome_is ∙ h)
+end_usage job old new lines o (first l d e) h = stop_usage e.stop (sym e.outcome_is ∙ h)
+end_usage job old new lines o (attached l m d e) h = fault_usage (wave_place e.lane) (sym e.outcome_is ∙ h)
+end_usage job old new lines o (stopped l m d e) h = stop_usage e.stop (sym e.outcome_is ∙ h)
+end_usage job old new lines o (whole l m d e) h = done_usage e.summary (sym e.outcome_is ∙ h)
+end_usage job old new lines o (unflushed l m d e) h = fault_usage (wave_place e.lane) (sym e.outcome_is ∙ h)
+end_usage job old new lines o (check_stopped m d e) h = stop_usage e.stop (sym e.outcome_is ∙ h)
+end_usage job old new lines o (checked m d e) h = done_usage e.summary (sym e.outcome_is ∙ h)
 
 pub simulated_usage : {tells : Bool} {D : Type 0} (told : D → Told tells) (job : Job) (old new : D) (result : Outcome) → IsSimulated told job old new result → result ≢ Refused (Bare Usage)
 simulated_usage told job old new result s = λ h. by_outcome s.outcome s.ended s.done s.stopped h
   where
-    by_end : (o : Outcome) → IsEnd job (told old) (told s.middle) o → result ≡ o → result ≡ Refused (Bare Usage) → ⊥
-    by_end o e is h = end_usage job (told old) (told s.middle) o e (sym is ∙ h)
+    by_end : (o : Outcome) → IsEnd job (told old) (told s.middle) s.lines o → result ≡ o → result ≡ Refused (Bare Usage) → ⊥
+    by_end o e is h = end_usage job (told old) (told s.middle) s.lines o e (sym is ∙ h)
 
-    done_usage : (t : Summary) → Done t ≡ Refused (Bare Usage) → ⊥
-    done_usage t h = cc
-
-    by_outcome : (o : Outcome) → IsEnd job (told old) (told s.middle) o
-        → OnDone o (ReportsDone (told s.middle) (told new) o result) → OnStopped o (result ≡ o) → result ≡ Refused (Bare Usage) → ⊥
+    by_outcome : (o : Outcome) → IsEnd job (told old) (told s.middle) s.lines o
+        → OnDone o (ReportsDone (told s.middle) (told new) s.lines o result) → OnStopped o (result ≡ o) → result ≡ Refused (Bare Usage) → ⊥
     by_outcome (Done t) e (inl r) is h = done_usage t (sym r.0 ∙ h)
     by_outcome (Done t) e (inr r) is h = fault_usage 0 (sym r.0 ∙ h)
     by_outcome (Refused r) e d is h = by_end (Refused r) e is h

@@ -1,5 +1,5 @@
 -- A job whose rounds ended or stopped, before and after what was put is written out.
-use Rattle.std.proofs.Common.{◌≡◌, ℕ, ◌<◌, Bool, List, length, IsTrue, IfOk, IfErr, Result, Ok, Err, refl, sym, ap, ◌∙◌, inl, inr, subst}
+use Rattle.std.proofs.Common.{◌≡◌, ℕ, ◌<◌, Bool, List, [], length, IfOk, IfErr, Result, Ok, Err, refl, sym, ap, ◌∙◌, inl, inr, subst}
 use Rattle.std.specs.Prelude.{None, Option}
 use Rattle.vs_desk.specs.declared.desk.Way.TheVariants.{Write}
 use Rattle.vs_desk.specs.Desk.{Told, Register, Contents, Attachment, FailsAlone, Stays, IsAttached}
@@ -10,6 +10,7 @@ use Rattle.vs_rounds.specs.declared.stop.Stop.{Stop}
 use Rattle.vs_rounds.specs.declared.stop.Stop.TheVariants as R
 use Rattle.vs_rounds.specs.Stops.{HasCause, StopsIn}
 use Rattle.vs_job.specs.declared.job.Job.{Job}
+use Rattle.vs_job.specs.declared.job.Mode.TheVariants as modes
 use Rattle.vs_job.specs.Places.{same_paths}
 use Rattle.vs_top.specs.declared.outcome.Summary.{Summary}
 use Rattle.vs_top.specs.declared.outcome.Outcome.{Outcome}
@@ -39,6 +40,7 @@ whole_stays : {tells : Bool} (job : Job) (old now new : Told tells) (o : Outcome
 whole_stays job old now new o s e = record {
   summary = e.summary;
   outcome_is = e.outcome_is;
+  unchecked = e.unchecked;
   register_is = s.same ∙ e.register_is;
   written = λ t. subst (λ (c : Contents). IsWritten job old.contents c e.summary) (sym (s.bytes t)) (e.written t);
   puts = λ t. subst (λ (c : Contents). OnlyWavesPut (length job.stimuli) old.contents c) (sym (s.bytes t)) (e.puts t);
@@ -57,26 +59,21 @@ round_stays job old now new o s e = record {
 }
 
 -- all was written out: the job ended as its rounds did
-pub done_end : {tells : Bool} (job : Job) (old now new : Told tells) (r : Result Summary Outcome) → same_paths job ≡ None → Stays now new
-    → IfOk r (λ s. IsWholeEnd job old now (Done s)) → IfOk r (λ s. IsEnd job old new (Done s))
-done_end job old now new (Ok s) d stays e = whole d (whole_stays job old now new (Done s) stays e)
-done_end job old now new (Err o) d stays e = tt
+pub done_end : {tells : Bool} (job : Job) (old now new : Told tells) (r : Result Summary Outcome) → job.mode ≡ modes.Run → same_paths job ≡ None → Stays now new
+    → IfOk r (λ s. IsWholeEnd job old now (Done s)) → IfOk r (λ s. IsEnd job old new [] (Done s))
+done_end job old now new (Ok s) m d stays e = whole refl m d (whole_stays job old now new (Done s) stays e)
+done_end job old now new (Err o) m d stays e = tt
 
-pub stopped_end : {tells : Bool} (job : Job) (old now new : Told tells) (r : Result Summary Outcome) → same_paths job ≡ None → Stays now new
-    → IfErr r (IsRoundEnd job old now) → IfErr r (IsEnd job old new)
-stopped_end job old now new (Ok s) d stays e = tt
-stopped_end job old now new (Err o) d stays e = stopped d (round_stays job old now new o stays e)
-
-pub written_end : {tells : Bool} (job : Job) (old now new : Told tells) (r : Result Summary Outcome) → IsTrue tells → Stays now new
-    → IfOk r (IsWritten job old.contents now.contents) → IfOk r (IsWritten job old.contents new.contents)
-written_end job old now new (Ok s) t stays e = subst (λ (c : Contents). IsWritten job old.contents c s) (sym (stays.bytes t)) e
-written_end job old now new (Err o) t stays e = tt
+pub stopped_end : {tells : Bool} (job : Job) (old now new : Told tells) (r : Result Summary Outcome) → job.mode ≡ modes.Run → same_paths job ≡ None → Stays now new
+    → IfErr r (IsRoundEnd job old now) → IfErr r (IsEnd job old new [])
+stopped_end job old now new (Ok s) m d stays e = tt
+stopped_end job old now new (Err o) m d stays e = stopped refl m d (round_stays job old now new o stays e)
 
 -- something was not
-pub unflushed_end : {tells : Bool} (job : Job) (old now new : Told tells) (r : Result Summary Outcome) (lane : ℕ) → same_paths job ≡ None → lane < length job.stimuli
+pub unflushed_end : {tells : Bool} (job : Job) (old now new : Told tells) (r : Result Summary Outcome) (lane : ℕ) → job.mode ≡ modes.Run → same_paths job ≡ None → lane < length job.stimuli
     → IfOk r (λ s. IsWholeEnd job old now (Done s)) → IfErr r (IsRoundEnd job old now)
-    → FailsAlone now new (wave_place lane) now.register.asked → IsEnd job old new (WriteFault (wave_place lane))
-unflushed_end job old now new (Ok s) lane d below w e f =
-    unflushed d (record { lane = lane; is_lane = below; outcome_is = refl; before = now; answer = Done s; ended = inr w; fails = f })
-unflushed_end job old now new (Err o) lane d below w e f =
-    unflushed d (record { lane = lane; is_lane = below; outcome_is = refl; before = now; answer = o; ended = inl e; fails = f })
+    → FailsAlone now new (wave_place lane) now.register.asked → IsEnd job old new [] (WriteFault (wave_place lane))
+unflushed_end job old now new (Ok s) lane m d below w e f =
+    unflushed refl m d (record { lane = lane; is_lane = below; outcome_is = refl; before = now; answer = Done s; ended = inr w; fails = f })
+unflushed_end job old now new (Err o) lane m d below w e f =
+    unflushed refl m d (record { lane = lane; is_lane = below; outcome_is = refl; before = now; answer = o; ended = inl e; fails = f })

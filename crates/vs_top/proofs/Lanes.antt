@@ -1,47 +1,78 @@
 -- What each lane has got.
-use Rattle.std.proofs.Common.{◌≡◌, ℕ, suc, ◌<◌, ◌≤◌, List, [], ◌∷◌, ◌++◌, length, map, None, All, IsTrue, refl, sym, ap, ◌∙◌, subst, arith, Bool}
+use Rattle.std.proofs.Common.{◌≡◌, ℕ, suc, ◌<◌, ◌≤◌, List, [], ◌∷◌, ◌++◌, length, map, Option, None, All, IsTrue, refl, sym, ap, ◌∙◌, subst, arith, Bool, false}
+use Rattle.vs_net.specs.Network.{State}
 use Rattle.vs_net.specs.Queue.{start, ends}
 use Rattle.vs_design.specs.Designs.{Design}
 use Rattle.vs_design.specs.Networks.{network_of}
 use Rattle.vs_design.specs.Accepted.{IsAcceptedDesign}
-use Rattle.vs_desk.specs.Desk.{Told}
+use Rattle.vs_desk.specs.Desk.{Contents, Told}
 use Rattle.vs_accept.specs.Accepted.{IsAcceptedText, IsRead, most_bytes}
 use Rattle.vs_stim.specs.Header.{PortLists, IsInput}
 use Rattle.vs_stim.specs.Reading.{reading, stimulus}
 use Rattle.vs_stim.specs.Laws.{WholeHasVector}
+use Rattle.vs_feed.specs.Opened.{HaveHeaders}
+use Rattle.vs_misses.specs.Missed.{Found}
 use Rattle.vs_vcd.specs.Texts.{vcd}
 use Rattle.vs_rounds.specs.Drives.{Vector, vector_state}
 use Rattle.vs_rounds.specs.Given.{IsGiven}
 use Rattle.vs_rounds.specs.Inputs.{AreDataInputs}
-use Rattle.vs_rounds.specs.Headline.{IsLawfulLane, TextOfEveryRun, SomeRun}
+use Rattle.vs_rounds.specs.Missed.{missed_of}
+use Rattle.vs_rounds.specs.Headline.{IsLawfulLane, TextOfEveryRun, VerdictOfEveryRun, SomeRun}
 use Rattle.vs_rounds.specs.Lanes.{Simulation}
+use Rattle.vs_rounds.specs.Checked.{Checking, IsFound}
 use Rattle.vs_job.specs.declared.job.Job.{Job}
 use Rattle.vs_rounds.specs.Inputs.{data_inputs}
 use Rattle.vs_setup.specs.DesignText.{design_text}
 use Rattle.vs_setup.specs.Ports.{ports_of}
-use Rattle.vs_setup.specs.Prepared.{IsPrepared, run_of}
-use Rattle.vs_top.specs.Headline.{IsLaneWritten}
+use Rattle.vs_setup.specs.Prepared.{IsPrepared, IsCheckPrepared, run_of}
+use Rattle.vs_top.specs.Headline.{IsRunOn, IsLaneWritten}
+use Rattle.vs_top.specs.Checked.{IsLaneChecked}
 use Rattle.vs_top.specs.Ended.{IsRunOf}
 
 pub are_data_inputs : (d : Design) (clock : ℕ) → All IsInput (data_inputs d clock) → AreDataInputs d clock (data_inputs d clock)
 are_data_inputs d clock all = record { each = all; inputs_are = refl }
 
+-- a valid text gives its vectors
+abbrev gives : (ports : PortLists) (text : List ℕ) → (reading ports text).refusal ≡ None → (vs : List Vector) → (reading ports text).vectors ≡ vs
+    → reading ports text ≡ record { vectors = vs; wanted = (reading ports text).wanted; refusal = None }
+gives ports text whole vs e = λ i. record { vectors = e i; wanted = (reading ports text).wanted; refusal = whole i }
+
+abbrev lawful : (d : Design) (name : List ℕ) (a : IsAcceptedDesign d name) (ports : PortLists) → AreDataInputs d a.clock.first ports.inputs → (text : List ℕ) → (reading ports text).refusal ≡ None
+    → (first : Vector) (later : List Vector) → (reading ports text).vectors ≡ first ∷ later → IsLawfulLane d name ports text first later
+lawful d name a ports driven text whole first later e =
+    record { accepted = a; inputs_are = driven; wanted = (reading ports text).wanted; valid = gives ports text whole (first ∷ later) e }
+
+-- it has a vector
+no_vectors : WholeHasVector → (ports : PortLists) (text : List ℕ) → (reading ports text).refusal ≡ None → (reading ports text).vectors ≡ [] → ⊥
+no_vectors has_vector ports text whole e =
+    let some = has_vector ports text whole in
+    let none : length (reading ports text).vectors ≡ 0 = ap length e in
+    absurd (omega (arith, some, none))
+
+-- and there is a run of the queue on these
+run_on : SomeRun → (d : Design) (name : List ℕ) (ports : PortLists) (text : List ℕ) (v : Vector) (vs : List Vector) (h : IsLawfulLane d name ports text v vs) → (values : List State) × IsRunOn d h.accepted.clock.first (v ∷ vs) values
+run_on some_run d name ports text v vs h =
+    let one = some_run d name ports text v vs h in
+    let clock = h.accepted.clock.first in
+    let n = network_of d clock in
+    let q = start n n.idle (vector_state d clock v) (map (vector_state d clock) vs) in
+    (ends n q one.1.0, record { first = v; later = vs; vectors_are = refl; idle = n.idle; is_first = one.0; choices = one.1.0; completed = one.1.1; values_are = refl })
+
+-- ports that aren't demanded
+plain : (ports : PortLists) → ports.demanded ≡ false → ports ≡ record { inputs = ports.inputs; outputs = ports.outputs; demanded = false }
+plain ports e = λ i. record { inputs = ports.inputs; outputs = ports.outputs; demanded = e i }
+
 -- a lane that has got all is written
-pub lane_written : TextOfEveryRun → SomeRun → WholeHasVector → (d : Design) (name : List ℕ) (a : IsAcceptedDesign d name) (half : ℕ) (ports : PortLists) → AreDataInputs d a.clock.first ports.inputs
+pub lane_written : TextOfEveryRun → SomeRun → WholeHasVector → (d : Design) (name : List ℕ) (a : IsAcceptedDesign d name) (half : ℕ) (ports : PortLists) → ports.demanded ≡ false → AreDataInputs d a.clock.first ports.inputs
     → (text put : List ℕ) → (reading ports text).refusal ≡ None → IsGiven d a.clock.first half (reading ports text) (suc (length (reading ports text).vectors)) put → IsLaneWritten d a.clock.first half ports text put
-lane_written every_run some_run has_vector d name a half ports driven text put whole given = go (reading ports text).vectors refl
+lane_written every_run some_run has_vector d name a half ports free driven text put whole given = go (reading ports text).vectors refl
   where
     valid : (vs : List Vector) → (reading ports text).vectors ≡ vs → stimulus text ports.inputs ports.outputs vs (reading ports text).wanted
-    valid vs e = λ i. record { vectors = e i; wanted = (reading ports text).wanted; refusal = whole i }
-
-    lawful : (first : Vector) (later : List Vector) → (reading ports text).vectors ≡ first ∷ later → IsLawfulLane d name ports text first later
-    lawful first later e = record { accepted = a; inputs_are = driven; wanted = (reading ports text).wanted; valid = valid (first ∷ later) e }
+    valid vs e =
+        subst (λ (is : PortLists). reading is text ≡ record { vectors = vs; wanted = (reading ports text).wanted; refusal = None }) (plain ports free) (gives ports text whole vs e)
 
     go : (vs : List Vector) → (reading ports text).vectors ≡ vs → IsLaneWritten d a.clock.first half ports text put
-    go [] e =
-        let some = has_vector ports text whole in
-        let none : length (reading ports text).vectors ≡ 0 = ap length e in
-        absurd (omega (arith, some, none))
+    go [] e = absurd (no_vectors has_vector ports text whole e)
     go (v ∷ vs) e = record {
       vectors = v ∷ vs;
       wanted = (reading ports text).wanted;
@@ -50,13 +81,29 @@ lane_written every_run some_run has_vector d name a half ports driven text put w
           let same : (reading ports text).vectors ≡ run.first ∷ run.later = e ∙ run.vectors_are in
           let long : length (reading ports text).vectors ≡ length (run.first ∷ run.later) = ap length same in
           let below : length (run.first ∷ run.later) < suc (length (reading ports text).vectors) = omega (arith, long) in
-          every_run d name half ports text run.first run.later (lawful run.first run.later same) (suc (length (reading ports text).vectors)) put below given run.idle run.is_first run.choices run.completed
+          every_run d name half ports text run.first run.later (lawful d name a ports driven text whole run.first run.later same) (suc (length (reading ports text).vectors)) put below given run.idle run.is_first run.choices run.completed
           ∙ ap (vcd d half) (sym run.values_are);
-      some =
-          let one = some_run d name ports text v vs (lawful v vs e) in
-          let n = network_of d a.clock.first in
-          let q = start n n.idle (vector_state d a.clock.first v) (map (vector_state d a.clock.first) vs) in
-          (ends n q one.1.0, record { first = v; later = vs; vectors_are = refl; idle = n.idle; is_first = one.0; choices = one.1.0; completed = one.1.1; values_are = refl });
+      some = run_on some_run d name ports text v vs (lawful d name a ports driven text whole v vs e);
+    }
+
+-- a lane of which all was compared is checked
+pub lane_checked : VerdictOfEveryRun → SomeRun → WholeHasVector → (d : Design) (name : List ℕ) (a : IsAcceptedDesign d name) (ports : PortLists) → AreDataInputs d a.clock.first ports.inputs
+    → (text : List ℕ) (found : Option Found) → (reading ports text).refusal ≡ None → IsFound d a.clock.first ports text (length (reading ports text).vectors) found → IsLaneChecked d a.clock.first ports text found
+lane_checked every_run some_run has_vector d name a ports driven text found whole given = go (reading ports text).vectors refl
+  where
+    go : (vs : List Vector) → (reading ports text).vectors ≡ vs → IsLaneChecked d a.clock.first ports text found
+    go [] e = absurd (no_vectors has_vector ports text whole e)
+    go (v ∷ vs) e = record {
+      vectors = v ∷ vs;
+      wanted = (reading ports text).wanted;
+      valid = gives ports text whole (v ∷ vs) e;
+      every = λ values run.
+          let same : (reading ports text).vectors ≡ run.first ∷ run.later = e ∙ run.vectors_are in
+          let long : length (reading ports text).vectors ≡ length (run.first ∷ run.later) = ap length same in
+          let within : length (run.first ∷ run.later) ≤ length (reading ports text).vectors = omega (arith, long) in
+          every_run d name ports text run.first run.later (lawful d name a ports driven text whole run.first run.later same) (length (reading ports text).vectors) found within given run.idle run.is_first run.choices run.completed
+          ∙ ap (missed_of d ports text (reading ports text).wanted) (sym run.values_are);
+      some = run_on some_run d name ports text v vs (lawful d name a ports driven text whole v vs e);
     }
 
 -- an equal text is accepted as the same design
@@ -70,12 +117,22 @@ accepted_as top clock d text other e a = record {
   accepted = a.accepted;
 }
 
+-- an accepted text and headers make the run of the job
+pub run_as : (job : Job) (old : Contents) (d : Design) (file : List ℕ) → file ≡ old.files job.design → (a : IsAcceptedText (job.head ++ file) job.top job.clock d)
+    → HaveHeaders (ports_of job.mode a) old.files job.stimuli (length job.stimuli) → IsRunOf job old (run_of job old.files d a.accepted.clock.first (ports_of job.mode a))
+run_as job old d file e a headers = record {
+  design = d;
+  accepted = accepted_as job.top job.clock d (job.head ++ file) (design_text job old) (ap (λ (file : List ℕ). job.head ++ file) e) a;
+  run_is = refl;
+  headers = headers;
+}
+
 -- a prepared run is that of the job
 pub run_is : {W : Type 0} (lane : W → ℕ → Bool) {tells : Bool} (job : Job) (old new : Told tells) (m : Simulation W) (size : ℕ) (paths : List (List ℕ))
-    (p : IsPrepared lane job old new m size paths) → IsTrue tells → IsRunOf job old.contents (run_of job old.contents.files p.design p.accepted.accepted.clock.first (ports_of p.accepted))
-run_is lane job old new m size paths p t = record {
-  design = p.design;
-  accepted = accepted_as job.top job.clock p.design (job.head ++ p.file) (design_text job old.contents) (ap (λ (file : List ℕ). job.head ++ file) (p.file_is t)) p.accepted;
-  run_is = refl;
-  headers = p.headers t;
-}
+    (p : IsPrepared lane job old new m size paths) → IsTrue tells → IsRunOf job old.contents (run_of job old.contents.files p.design p.accepted.accepted.clock.first (ports_of job.mode p.accepted))
+run_is lane job old new m size paths p t = run_as job old.contents p.design p.file (p.file_is t) p.accepted (p.headers t)
+
+-- and so is a prepared check
+pub check_is : {W : Type 0} (lane : W → ℕ → Bool) {tells : Bool} (job : Job) (old new : Told tells) (m : Checking W) (size : ℕ)
+    (p : IsCheckPrepared lane job old new m size) → IsTrue tells → IsRunOf job old.contents (run_of job old.contents.files p.design p.accepted.accepted.clock.first (ports_of job.mode p.accepted))
+check_is lane job old new m size p t = run_as job old.contents p.design p.file (p.file_is t) p.accepted (p.headers t)

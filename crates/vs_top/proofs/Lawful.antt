@@ -1,36 +1,49 @@
 -- On a desk without a fault a lawful job is done and a refused one is refused so, unless there was no memory.
-use Rattle.std.proofs.Common.{◌≡◌, ℕ, ◌<◌, Bool, IsTrue, List, [], ◌∷◌, length, Option, Some, None, refl, sym, ap, ◌∙◌, subst, inl, inr, arith}
+use Rattle.std.proofs.Common.{◌≡◌, ℕ, ◌<◌, Bool, true, false, IsTrue, List, [], ◌∷◌, length, Option, Some, None, refl, sym, ap, ◌∙◌, subst, inl, inr, arith}
 use Rattle.vs_desk.specs.Desk.{Told, Contents}
+use Rattle.vs_design.specs.Designs.{Design}
 use Rattle.vs_stim.specs.declared.wanted.Digit.{Digit}
-use Rattle.vs_stim.specs.Header.{PortLists, ColumnLists}
+use Rattle.vs_stim.specs.Header.{PortLists, ColumnLists, lacks_output}
 use Rattle.vs_stim.specs.declared.error.StimError.{StimError}
-use Rattle.vs_stim.specs.declared.error.StimError.TheVariants.{BadHeader}
+use Rattle.vs_stim.specs.declared.error.StimError.TheVariants.{BadHeader, NoExpectation}
+use Rattle.vs_stim.specs.declared.error.StimError.TheVariants as E
 use Rattle.vs_stim.specs.Lines.{Line, lines, all_lines, content}
 use Rattle.vs_stim.specs.Reading.{Limits, Place, Reading, limits, refused, behind, too_long, Said, header_line, read_vectors, read_header, header_fault, first_place, header_refusal, reading, stimulus}
 use Rattle.vs_stim.specs.Reading.Said.{Skipped, Malformed, Given}
 use Rattle.vs_feed.specs.Opened.{path_at}
+use Rattle.vs_misses.specs.Missed.{Found}
+use Rattle.vs_waves.specs.Puts.{wave_place}
 use Rattle.vs_rounds.specs.Drives.{Vector}
 use Rattle.vs_rounds.specs.Lanes.{Run, reading_of}
+use Rattle.vs_rounds.specs.declared.stop.Stop.{Stop}
+use Rattle.vs_rounds.specs.declared.stop.Stop.TheVariants as R
 use Rattle.vs_refusal.specs.declared.refusal.Refusal.{Refusal}
 use Rattle.vs_refusal.specs.declared.refusal.Refusal.TheVariants.{SamePath}
-use Rattle.vs_accept.specs.Accepted.{NotBoth, OneRefusal}
+use Rattle.vs_accept.specs.Accepted.{IsAcceptedText, NotBoth, OneRefusal}
 use Rattle.vs_job.specs.declared.job.Job.{Job}
+use Rattle.vs_job.specs.declared.job.Mode.{Mode}
+use Rattle.vs_job.specs.declared.job.Mode.TheVariants as modes
 use Rattle.vs_job.specs.Places.{same_paths}
 use Rattle.vs_setup.specs.DesignText.{design_text}
+use Rattle.vs_setup.specs.declared.error.SetupError.{SetupError}
+use Rattle.vs_setup.specs.declared.error.SetupError.TheVariants as S
 use Rattle.vs_setup.specs.Ports.{ports_of}
 use Rattle.vs_setup.specs.Prepared.{run_of}
 use Rattle.vs_setup.specs.Unprepared.{IsHeaderRefusal}
 use Rattle.vs_top.specs.declared.outcome.Summary.{Summary}
 use Rattle.vs_top.specs.declared.outcome.Outcome.{Outcome}
 use Rattle.vs_top.specs.declared.outcome.Outcome.TheVariants.{Done, Refused, ReadFault, WriteFault, Memory}
+use Rattle.vs_top.specs.Answers.{stimulus_outcome, setup_outcome, stop_outcome}
 use Rattle.vs_top.specs.Headline.{IsWritten}
+use Rattle.vs_top.specs.Checked.{IsChecked}
 use Rattle.vs_top.specs.Ended.{IsEnd, IsStopped, IsRunOf}
-use Rattle.vs_top.specs.Ended.IsEnd.{same, setup, first, attached, stopped, whole, unflushed}
-use Rattle.vs_top.specs.Reported.{ReportsDone, OnStopped}
+use Rattle.vs_top.specs.Ended.IsEnd.{same, setup, first, attached, stopped, whole, unflushed, check_stopped, checked}
+use Rattle.vs_top.specs.Reported.{ReportsDone, OnDone, OnStopped}
+use Rattle.vs_top.specs.Reports.{IsSimulated}
 use Rattle.vs_top.specs.Causes.{ShowsCause, IsLawful, IsFaultless, IsDoneOrMemory}
 use Rattle.vs_top.specs.Refused.{IsRefusedJob, ByPaths, ByLength, ByDesign, ByHeader, ByLine, IsRefusedSo}
-use Rattle.vs_top.proofs.Causes.{on_stopped}
-use Rattle.vs_top.proofs.Refusals.{some_none, refused_job, OneText, one_ports, alike}
+use Rattle.vs_top.proofs.Causes.{simulated_cause}
+use Rattle.vs_top.proofs.Refusals.{some_none, refused_job, no_fault, OneText, one_ports, alike}
 
 -- ---- a valid stimulus is nowhere refused
 
@@ -42,7 +55,7 @@ gives l is p n later t s =
       | None ↦ elim s [
         | Skipped ↦ read_header l is (behind p n) later
         | Malformed ↦ refused BadHeader
-        | Given cs ↦ read_vectors l cs (behind p n) 0 later
+        | Given cs ↦ elim (lacks_output is cs) [ true ↦ refused NoExpectation | false ↦ read_vectors l cs (behind p n) 0 later ]
       ]
     ]
 
@@ -53,9 +66,19 @@ faults l is p n later t s =
       | None ↦ elim s [
         | Skipped ↦ header_fault l is (behind p n) later
         | Malformed ↦ Some BadHeader
-        | Given cs ↦ None
+        | Given cs ↦ elim (lacks_output is cs) [ true ↦ Some NoExpectation | false ↦ None ]
       ]
     ]
+
+-- a header that lacks outputs refuses the text
+refuses_lacking : (l : Limits) (p : Place) (n : ℕ) (later : List Line) (cs : ColumnLists) (e : StimError) (lacks : Bool)
+    → (elim lacks as (λ (b : Bool). Option StimError) [ true ↦ Some NoExpectation | false ↦ None ]) ≡ Some e
+    → (elim lacks as (λ (b : Bool). Reading) [ true ↦ refused NoExpectation | false ↦ read_vectors l cs (behind p n) 0 later ]).refusal ≡ Some e
+refuses_lacking l p n later cs e true h = h
+refuses_lacking l p n later cs e false h = absurd (never h)
+  where
+    never : ◌≡◌ {A = Option StimError} None (Some e) → ⊥
+    never h = cc
 
 -- a refusal by a line, where the lines behind it refuse the text too
 refuses_here : (l : Limits) (is : PortLists) (p : Place) (n : ℕ) (later : List Line) (e : StimError) (t : Option StimError) (s : Said ColumnLists)
@@ -64,10 +87,7 @@ unfolding gives faults
 refuses_here l is p n later e (Some f) s next h = h
 refuses_here l is p n later e None Skipped next h = next h
 refuses_here l is p n later e None Malformed next h = h
-refuses_here l is p n later e None (Given cs) next h = absurd (never h)
-  where
-    never : ◌≡◌ {A = Option StimError} None (Some e) → ⊥
-    never h = cc
+refuses_here l is p n later e None (Given cs) next h = refuses_lacking l p n later cs e (lacks_output is cs) h
 
 -- what refuses the header refuses the text
 refuses : (l : Limits) (is : PortLists) (p : Place) (ls : List Line) (e : StimError) → header_fault l is p ls ≡ Some e → (read_header l is p ls).refusal ≡ Some e
@@ -76,24 +96,18 @@ refuses l is p [] e h = h
 refuses l is p (line ∷ later) e h =
     refuses_here l is p (length line.bytes) later e (too_long l p (length line.bytes) line.ended) (header_line is (content line)) (refuses l is (behind p (length line.bytes)) later e) h
 
-valid_whole : (text : List ℕ) (is : PortLists) (vectors : List Vector) (wanted : List (List (List Digit))) → stimulus text is.inputs is.outputs vectors wanted → (reading is text).refusal ≡ None
-valid_whole text is vectors wanted h = ap (λ (r : Reading). r.refusal) h
-
-no_header_refusal : (text : List ℕ) (is : PortLists) (vectors : List Vector) (wanted : List (List (List Digit))) (e : StimError) → stimulus text is.inputs is.outputs vectors wanted → header_refusal is text ≡ Some e → ⊥
-no_header_refusal text is vectors wanted e valid h = some_none (reading is text).refusal e (refuses limits is first_place (all_lines (lines text)) e h) (valid_whole text is vectors wanted valid)
+no_header_refusal : (text : List ℕ) (is : PortLists) (e : StimError) → (reading is text).refusal ≡ None → header_refusal is text ≡ Some e → ⊥
+no_header_refusal text is e valid h = some_none (reading is text).refusal e (refuses limits is first_place (all_lines (lines text)) e h) valid
 
 -- ---- no refusal of a lawful job
 
 lawful_line : (job : Job) (c : Contents) (l : IsLawful job c) (run : Run) → IsRunOf job c run → (i : ℕ) (e : StimError) → i < length job.stimuli → (reading_of run i).refusal ≡ Some e → ⊥
 lawful_line job c l run r i e lt h =
-    let v = l.valid r.design r.accepted i lt in
-    let none : (reading_of (run_of job c.files r.design r.accepted.accepted.clock.first (ports_of r.accepted)) i).refusal ≡ None = valid_whole (c.files (path_at job.stimuli i)) (ports_of r.accepted) v.0 v.1.0 v.1.1 in
+    let none : (reading_of (run_of job c.files r.design r.accepted.accepted.clock.first (ports_of job.mode r.accepted)) i).refusal ≡ None = l.valid r.design r.accepted i lt in
     some_none (reading_of run i).refusal e h (subst (λ (n : Run). (reading_of n i).refusal ≡ None) (sym r.run_is) none)
 
 lawful_header : (job : Job) (c : Contents) (l : IsLawful job c) (i : ℕ) (e : StimError) → i < length job.stimuli → IsHeaderRefusal job c i e → ⊥
-lawful_header job c l i e lt h =
-    let v = l.valid h.design h.accepted i lt in
-    no_header_refusal (c.files (path_at job.stimuli i)) (ports_of h.accepted) v.0 v.1.0 e v.1.1 h.first.refused
+lawful_header job c l i e lt h = no_header_refusal (c.files (path_at job.stimuli i)) (ports_of job.mode h.accepted) e (l.valid h.design h.accepted i lt) h.first.refused
 
 no_refusal : NotBoth → (job : Job) (c : Contents) → IsLawful job c → (r : Refusal) → IsRefusedJob job c r → ⊥
 no_refusal not_both job c l r (ByPaths x y two is) = some_none (same_paths job) (x, y) two l.paths
@@ -104,21 +118,85 @@ no_refusal not_both job c l r (ByDesign d short t) = not_both (design_text job c
 no_refusal not_both job c l r (ByHeader d i e lt h is) = lawful_header job c l i e lt h
 no_refusal not_both job c l r (ByLine d run k i e lt m h is) = lawful_line job c l run m i e lt h.refusal
 
--- ---- what is written is lawful
+-- ---- what is done is lawful
 
-written_lawful : OneText → (job : Job) (old new : Contents) (s : Summary) → same_paths job ≡ None → IsWritten job old new s → IsLawful job old
-written_lawful one job old new s paths w = record {
+-- the ports of a run have to name no output
+pub run_free : (mode : Mode) {text top clock : List ℕ} {d : Design} (a : IsAcceptedText text top clock d) → mode ≡ modes.Run → (ports_of mode a).demanded ≡ false
+run_free mode a e = subst (λ (m : Mode). (ports_of m a).demanded ≡ false) (sym e) refl
+
+-- a valid stimulus by ports that aren't demanded is one by these
+stimulus_whole : (ports : PortLists) (text : List ℕ) (vectors : List Vector) (wanted : List (List (List Digit))) → ports.demanded ≡ false
+    → stimulus text ports.inputs ports.outputs vectors wanted → (reading ports text).refusal ≡ None
+stimulus_whole ports text vectors wanted free valid =
+    let same : ports ≡ record { inputs = ports.inputs; outputs = ports.outputs; demanded = false } = λ i. record { inputs = ports.inputs; outputs = ports.outputs; demanded = free i } in
+    subst (λ (is : PortLists). (reading is text).refusal ≡ None) (sym same) (ap (λ (r : Reading). r.refusal) valid)
+
+written_lawful : OneText → (job : Job) (old new : Contents) (s : Summary) → job.mode ≡ modes.Run → same_paths job ≡ None → IsWritten job old new s → IsLawful job old
+written_lawful one job old new s mode paths w = record {
   paths = paths;
   design = w.design;
   accepted = w.accepted;
   valid = λ d a i lt.
       let lane = w.lanes i lt in
-      (lane.vectors, (lane.wanted, subst (λ (is : PortLists). stimulus (old.files (path_at job.stimuli i)) is.inputs is.outputs lane.vectors lane.wanted) (one_ports one job old w.design w.accepted d a) lane.valid));
+      let text = old.files (path_at job.stimuli i) in
+      subst (λ (is : PortLists). (reading is text).refusal ≡ None) (one_ports one job old w.design w.accepted d a)
+      (stimulus_whole (ports_of job.mode w.accepted) text lane.vectors lane.wanted (run_free job.mode w.accepted mode) lane.valid);
 }
+
+checked_lawful : OneText → (job : Job) (old new : Contents) (found : List (Option Found)) (s : Summary) → same_paths job ≡ None → IsChecked job old new found s → IsLawful job old
+checked_lawful one job old new found s paths w = record {
+  paths = paths;
+  design = w.design;
+  accepted = w.accepted;
+  valid = λ d a i lt.
+      let lane = w.lanes i lt in
+      let text = old.files (path_at job.stimuli i) in
+      subst (λ (is : PortLists). (reading is text).refusal ≡ None) (one_ports one job old w.design w.accepted d a) (ap (λ (r : Reading). r.refusal) lane.valid);
+}
+
+-- no answer of what stopped is one of what is done
+pub stimulus_stops : (i : ℕ) (e : StimError) → IsStopped (stimulus_outcome i e)
+stimulus_stops i E.BadHeader = tt
+stimulus_stops i E.NoExpectation = tt
+stimulus_stops i (E.BadVector n) = tt
+stimulus_stops i E.FirstUnknown = tt
+stimulus_stops i (E.UnknownReset n) = tt
+stimulus_stops i E.NoVector = tt
+stimulus_stops i E.TooManyVectors = tt
+stimulus_stops i E.StimulusTooLong = tt
+stimulus_stops i (E.LineTooLong n) = tt
+stimulus_stops i E.ReadFault = tt
+stimulus_stops i E.Memory = tt
+
+pub setup_stops : (e : SetupError) → IsStopped (setup_outcome e)
+setup_stops S.TooLong = tt
+setup_stops (S.Refused r) = tt
+setup_stops (S.Stimulus i e) = stimulus_stops i e
+setup_stops (S.ReadFault place) = tt
+setup_stops S.Memory = tt
+
+pub stop_stops : (s : Stop) → IsStopped (stop_outcome s)
+stop_stops (R.Refused i e) = stimulus_stops i e
+stop_stops (R.ReadFault i) = tt
+stop_stops (R.WriteFault i) = tt
+
+pub not_done : (s : Summary) (o : Outcome) → Done s ≡ o → IsStopped o → ⊥
+not_done s o e h = subst IsStopped (sym e) h
+
+done_lawful : {tells : Bool} → OneText → (job : Job) (old new : Told tells) (lines : List ℕ) (s : Summary) → IsTrue tells → IsEnd job old new lines (Done s) → IsLawful job old.contents
+done_lawful one job old new lines s told (same l e) = absurd (not_done s (Refused (SamePath e.first e.second)) e.outcome_is tt)
+done_lawful one job old new lines s told (setup l d e) = absurd (not_done s (setup_outcome e.error) e.outcome_is (setup_stops e.error))
+done_lawful one job old new lines s told (first l d e) = absurd (not_done s (stop_outcome e.stop) e.outcome_is (stop_stops e.stop))
+done_lawful one job old new lines s told (attached l m d e) = absurd (not_done s (WriteFault (wave_place e.lane)) e.outcome_is tt)
+done_lawful one job old new lines s told (stopped l m d e) = absurd (not_done s (stop_outcome e.stop) e.outcome_is (stop_stops e.stop))
+done_lawful one job old new lines s told (whole l m d e) = written_lawful one job old.contents new.contents e.summary m d (e.written told)
+done_lawful one job old new lines s told (unflushed l m d e) = absurd (not_done s (WriteFault (wave_place e.lane)) e.outcome_is tt)
+done_lawful one job old new lines s told (check_stopped m d e) = absurd (not_done s (stop_outcome e.stop) e.outcome_is (stop_stops e.stop))
+done_lawful one job old new lines s told (checked m d e) = checked_lawful one job old.contents new.contents e.found e.summary d (e.checked told)
 
 -- ---- an answer of a desk without a fault
 
--- it is a refusal, or the run is done, or there was no memory
+-- it is a refusal, or the job is done, or there was no memory
 on_answer : {tells : Bool} (old new : Told tells) (result : Outcome) (P : Outcome → Type 0) → IsFaultless old new → ShowsCause old new result
     → ((s : Summary) → result ≡ Done s → P (Done s)) → ((r : Refusal) → result ≡ Refused r → P (Refused r)) → P Memory → P result
 on_answer old new (Done s) P f cause done refused memory = done s refl
@@ -128,57 +206,40 @@ on_answer old new (WriteFault p) P f (inl c) done refused memory = absurd (f.no_
 on_answer old new (WriteFault p) P f (inr c) done refused memory = absurd (f.no_loss c.1.rose)
 on_answer old new Memory P f cause done refused memory = memory
 
-not_stopped : (o : Outcome) (s : Summary) → IsStopped o → o ≡ Done s → ⊥
-not_stopped o s h e = subst IsStopped e h
-
--- a job that stopped, by its report
-pub stopped_complete : {tells : Bool} (job : Job) (old middle new : Told tells) (o result : Outcome) → NotBoth
-    → IsStopped o → IsEnd job old middle o → OnStopped o (result ≡ o) → ShowsCause old new result
-    → IsTrue tells → IsLawful job old.contents → IsFaultless old new → IsDoneOrMemory result
-stopped_complete job old middle new o result not_both halted end is cause told l f =
-    let same = on_stopped o (result ≡ o) halted is in
-    on_answer old new result IsDoneOrMemory f cause (λ s e. tt)
-    (λ r e. no_refusal not_both job old.contents l r (refused_job job old middle told o r (sym e ∙ same) end)) tt
-
-pub stopped_refused : {tells : Bool} (job : Job) (old middle new : Told tells) (o result : Outcome) → OneText → NotBoth → OneRefusal
-    → IsStopped o → IsEnd job old middle o → OnStopped o (result ≡ o) → ShowsCause old new result
-    → IsTrue tells → (q : Refusal) → IsRefusedJob job old.contents q → IsFaultless old new → IsRefusedSo q result
-stopped_refused job old middle new o result one not_both texts halted end is cause told q job_refused f =
-    let same = on_stopped o (result ≡ o) halted is in
-    on_answer old new result (IsRefusedSo q) f cause (λ s e. absurd (not_stopped o s halted (sym same ∙ e)))
-    (λ r e. alike one not_both texts job old.contents r q (refused_job job old middle told o r (sym e ∙ same) end) job_refused) tt
-
--- a job that is done, by its report
-pub done_complete : {tells : Bool} (old middle new : Told tells) (s : Summary) (result : Outcome)
-    → ReportsDone middle new (Done s) result → ShowsCause old new result → IsFaultless old new → IsDoneOrMemory result
-done_complete old middle new s result report cause f =
-    on_answer old new result IsDoneOrMemory f cause (λ t e. tt) (λ r e. not_refused report r e) tt
+-- a refusal is that of a job which ended so
+refused_by : {tells : Bool} {D : Type 0} (told : D → Told tells) (job : Job) (old new : D) (result : Outcome) → IsTrue tells → IsSimulated told job old new result
+    → (r : Refusal) → result ≡ Refused r → IsRefusedJob job (told old).contents r
+refused_by told job old new result tells s r is = go s.outcome s.ended s.done s.stopped
   where
-    not_refused : ReportsDone middle new (Done s) result → (r : Refusal) → result ≡ Refused r → ⊥
-    not_refused (inl h) r e = clash (sym h.0 ∙ e)
-      where
-        clash : Done s ≡ Refused r → ⊥
-        clash e = cc
-    not_refused (inr h) r e = clash (sym h.0 ∙ e)
-      where
-        clash : WriteFault 0 ≡ Refused r → ⊥
-        clash e = cc
+    go : (o : Outcome) → IsEnd job (told old) (told s.middle) s.lines o → OnDone o (ReportsDone (told s.middle) (told new) s.lines o result) → OnStopped o (result ≡ o) → IsRefusedJob job (told old).contents r
+    go (Done t) e (inl h) answer = absurd (not_done t (Refused r) (sym h.0 ∙ is) tt)
+    go (Done t) e (inr h) answer = absurd (no_fault r 0 (sym is ∙ h.0))
+    go (Refused q) e d answer = refused_job job (told old) (told s.middle) s.lines tells (Refused q) r (sym is ∙ answer) e
+    go (ReadFault p) e d answer = refused_job job (told old) (told s.middle) s.lines tells (ReadFault p) r (sym is ∙ answer) e
+    go (WriteFault p) e d answer = refused_job job (told old) (told s.middle) s.lines tells (WriteFault p) r (sym is ∙ answer) e
+    go Memory e d answer = refused_job job (told old) (told s.middle) s.lines tells Memory r (sym is ∙ answer) e
 
--- the paths of a job that is done differ
-different : {tells : Bool} (job : Job) (old new : Told tells) (s : Summary) → IsEnd job old new (Done s) → same_paths job ≡ None
-different job old new s (same e) = absurd (clash e.first e.second e.outcome_is)
+-- a job that is done is lawful
+lawful_by : {tells : Bool} {D : Type 0} → OneText → (told : D → Told tells) (job : Job) (old new : D) (result : Outcome) → IsTrue tells → IsSimulated told job old new result
+    → (t : Summary) → result ≡ Done t → IsLawful job (told old).contents
+lawful_by one told job old new result tells s t is = go s.outcome s.ended s.stopped
   where
-    clash : (x y : ℕ) → Done s ≡ Refused (SamePath x y) → ⊥
-    clash x y e = cc
-different job old new s (setup d e) = d
-different job old new s (first d e) = d
-different job old new s (attached d e) = d
-different job old new s (stopped d e) = d
-different job old new s (whole d e) = d
-different job old new s (unflushed d e) = d
+    go : (o : Outcome) → IsEnd job (told old) (told s.middle) s.lines o → OnStopped o (result ≡ o) → IsLawful job (told old).contents
+    go (Done u) e answer = done_lawful one job (told old) (told s.middle) s.lines u tells e
+    go (Refused q) e answer = absurd (not_done t (Refused q) (sym is ∙ answer) tt)
+    go (ReadFault p) e answer = absurd (not_done t (ReadFault p) (sym is ∙ answer) tt)
+    go (WriteFault p) e answer = absurd (not_done t (WriteFault p) (sym is ∙ answer) tt)
+    go Memory e answer = absurd (not_done t Memory (sym is ∙ answer) tt)
 
--- a job that is refused isn't done
-pub refused_undone : {tells : Bool} (job : Job) (old new : Told tells) (s : Summary) → OneText → NotBoth
-    → IsEnd job old new (Done s) → IsWritten job old.contents new.contents s → (q : Refusal) → IsRefusedJob job old.contents q → ⊥
-refused_undone job old new s one not_both end written q job_refused =
-    no_refusal not_both job old.contents (written_lawful one job old.contents new.contents s (different job old new s end) written) q job_refused
+pub simulated_complete : {tells : Bool} {D : Type 0} → NotBoth → (told : D → Told tells) (job : Job) (old new : D) (result : Outcome) → IsTrue tells → IsSimulated told job old new result
+    → IsLawful job (told old).contents → IsFaultless (told old) (told new) → IsDoneOrMemory result
+simulated_complete not_both told job old new result tells s l f =
+    on_answer (told old) (told new) result IsDoneOrMemory f (simulated_cause told job old new result s) (λ t e. tt)
+    (λ r e. no_refusal not_both job (told old).contents l r (refused_by told job old new result tells s r e)) tt
+
+pub simulated_refused : {tells : Bool} {D : Type 0} → OneText → NotBoth → OneRefusal → (told : D → Told tells) (job : Job) (old new : D) (result : Outcome) → IsTrue tells → IsSimulated told job old new result
+    → (q : Refusal) → IsRefusedJob job (told old).contents q → IsFaultless (told old) (told new) → IsRefusedSo q result
+simulated_refused one not_both texts told job old new result tells s q job_refused f =
+    on_answer (told old) (told new) result (IsRefusedSo q) f (simulated_cause told job old new result s)
+    (λ t e. absurd (no_refusal not_both job (told old).contents (lawful_by one told job old new result tells s t e) q job_refused))
+    (λ r e. alike one not_both texts job (told old).contents r q (refused_by told job old new result tells s r e) job_refused) tt

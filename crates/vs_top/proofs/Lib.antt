@@ -1,11 +1,15 @@
 pub mod Behind
 pub mod Losing
+pub mod Telling
 pub mod Places
 pub mod Lanes
 pub mod Ends
 pub mod Causes
 pub mod Refusals
 pub mod Lawful
+pub mod Simulated
+pub mod Checks
+pub mod Others
 pub mod Benches
 pub mod Stores
 pub mod Flushing

@@ -1,18 +1,35 @@
 -- A line that was lost, and one that was put behind it.
-use Rattle.std.proofs.Common.{◌≡◌, ℕ, inl, inr, Bool, List, length, take, IsTrue, OnOk, Result, Ok, Err, refl, sym, ap, ◌∙◌, subst, arith}
+use Rattle.std.proofs.Common.{◌≡◌, ℕ, inl, inr, Bool, List, ◌++◌, length, take, Ok, Err, refl, sym, ap, ◌∙◌, subst, arith}
 use Rattle.std.proofs.Math.Seq.{take-length}
-use Rattle.vs_desk.specs.Desk.{Told, Register, Contents, with_put, Rose, Fails, PutsPart}
+use Rattle.vs_desk.specs.Desk.{Told, Register, Contents, with_put, Rose, Fails, PutsAll, PutsPart}
 use Rattle.vs_desk.specs.Laws.{PutsInParts}
 use Rattle.vs_top.specs.declared.outcome.Outcome.{Outcome}
 use Rattle.vs_top.specs.declared.outcome.Outcome.TheVariants.{Done, Refused, ReadFault, WriteFault, Memory}
 use Rattle.vs_top.specs.Outcomes.{outcome_line}
-use Rattle.vs_top.specs.Reported.{PutsLine, LosesLine, ReportsLine, PutsBoth, LosesBoth, OnDone, ReportsDone}
+use Rattle.vs_top.specs.Reported.{PutsLine, LosesLine, ReportsLine, PutsBoth, LosesBoth, OnDone, OnStopped, ReportsDone}
 
--- what a call that puts a line ensures on Ok
-pub puts_line : {tells : Bool} {V E : Type 0} (old new : Told tells) (line : List ℕ) (result : Result V E)
-    → (IsTrue tells → OnOk result (new.contents ≡ with_put old.register old.contents 0 line)) → OnOk result (new.register ≡ old.register) → OnOk result (PutsLine old new line)
-puts_line old new line (Ok v) put same = record { same = same; put = put }
-puts_line old new line (Err e) put same = tt
+-- what a call that puts a line has done
+pub put_whole : {tells : Bool} {V E : Type 0} (old new : Told tells) (line : List ℕ) (v : V) → PutsAll {E = E} old new 0 line (Ok v) → PutsLine old new line
+put_whole old new line v p = record { same = p.same; put = p.put }
+
+pub put_part : {tells : Bool} {V E : Type 0} (old new : Told tells) (line : List ℕ) (e : E) → PutsAll {V = V} old new 0 line (Err e) → LosesLine old new line
+put_part old new line e p = record { failed = p.failed; put = p.part }
+
+-- all was put
+pub done_put : {tells : Bool} (old new : Told tells) (before : List ℕ) (outcome : Outcome) → PutsLine old new (before ++ outcome_line outcome) → OnDone outcome (ReportsDone old new before outcome outcome)
+done_put old new before (Done s) p = inl (refl, p)
+done_put old new before (Refused r) p = tt
+done_put old new before (ReadFault place) p = tt
+done_put old new before (WriteFault place) p = tt
+done_put old new before Memory p = tt
+
+-- the fact, where it holds of each outcome
+pub stopped_of : (outcome : Outcome) (P : Type 0) → P → OnStopped outcome P
+stopped_of (Done s) P p = tt
+stopped_of (Refused r) P p = p
+stopped_of (ReadFault place) P p = p
+stopped_of (WriteFault place) P p = p
+stopped_of Memory P p = p
 
 pub Rose-trans : (a b c : ℕ) → Rose a b → Rose b c → Rose a c
 Rose-trans a b c (inl x) (inl y) = inl (omega arith, y.1)
@@ -50,12 +67,27 @@ loses_both parts old now new first second a (inr q) = record {
   put = λ t. let p = q.put t in both old.register now.register old.contents now.contents new.contents parts first second p.0 (a.put t) p.2;
 }
 
--- the report of a run that was done, and whose line was lost
-pub done_lost : {tells : Bool} → PutsInParts → (old now new : Told tells) (outcome result : Outcome)
-    → LosesLine old now (outcome_line outcome) → OnDone outcome (result ≡ WriteFault 0) → OnDone outcome (ReportsLine now new (outcome_line (WriteFault 0)))
-    → OnDone outcome (ReportsDone old new outcome result)
-done_lost parts old now new (Done s) result a e b = inr (e, loses_both parts old now new (outcome_line (Done s)) (outcome_line (WriteFault 0)) a b)
-done_lost parts old now new (Refused r) result a e b = tt
-done_lost parts old now new (ReadFault p) result a e b = tt
-done_lost parts old now new (WriteFault p) result a e b = tt
-done_lost parts old now new Memory result a e b = tt
+-- the report of what was done, some of which was lost
+pub done_lost : {tells : Bool} → PutsInParts → (old now new : Told tells) (before : List ℕ) (outcome result : Outcome)
+    → LosesLine old now (before ++ outcome_line outcome) → OnDone outcome (result ≡ WriteFault 0) → OnDone outcome (ReportsLine now new (outcome_line (WriteFault 0)))
+    → OnDone outcome (ReportsDone old new before outcome result)
+done_lost parts old now new before (Done s) result a e b = inr (e, loses_both parts old now new (before ++ outcome_line (Done s)) (outcome_line (WriteFault 0)) a b)
+done_lost parts old now new before (Refused r) result a e b = tt
+done_lost parts old now new before (ReadFault p) result a e b = tt
+done_lost parts old now new before (WriteFault p) result a e b = tt
+done_lost parts old now new before Memory result a e b = tt
+
+-- and of what was stopped
+pub stopped_lost : {tells : Bool} {D : Type 0} (told : D → Told tells) (old : Told tells) (now new : D) (line : List ℕ) (outcome : Outcome)
+    → LosesLine old (told now) line → OnStopped outcome (new ≡ now) → OnStopped outcome (ReportsLine old (told new) line)
+stopped_lost {tells} {D} told old now new line outcome l e = go outcome e
+  where
+    by : new ≡ now → ReportsLine old (told new) line
+    by e = inr (subst (λ (d : D). LosesLine old (told d) line) (sym e) l)
+
+    go : (o : Outcome) → OnStopped o (new ≡ now) → OnStopped o (ReportsLine old (told new) line)
+    go (Done s) e = tt
+    go (Refused r) e = by e
+    go (ReadFault p) e = by e
+    go (WriteFault p) e = by e
+    go Memory e = by e

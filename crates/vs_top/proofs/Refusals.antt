@@ -32,7 +32,7 @@ use Rattle.vs_top.specs.declared.outcome.Outcome.{Outcome}
 use Rattle.vs_top.specs.declared.outcome.Outcome.TheVariants.{Done, Refused, WriteFault}
 use Rattle.vs_top.specs.Answers.{stimulus_outcome, setup_outcome, stop_outcome}
 use Rattle.vs_top.specs.Ended.{IsEnd, IsRunOf}
-use Rattle.vs_top.specs.Ended.IsEnd.{same, setup, first, attached, stopped, whole, unflushed}
+use Rattle.vs_top.specs.Ended.IsEnd.{same, setup, first, attached, stopped, whole, unflushed, check_stopped, checked}
 use Rattle.vs_top.specs.Refused.{IsRefusedJob, ByPaths, ByLength, ByDesign, ByHeader, ByLine}
 use Rattle.vs_top.proofs.Behind.{told_alike}
 
@@ -70,27 +70,31 @@ unsettled job old d run is k new (R.ReadFault i) r lane s e = cc
 unsettled job old d run is k new (R.WriteFault i) r lane s e = cc
 
 -- a refusal is no fault
-no_fault : (r : Refusal) (p : ℕ) → Refused r ≡ WriteFault p → ⊥
+pub no_fault : (r : Refusal) (p : ℕ) → Refused r ≡ WriteFault p → ⊥
 no_fault r p h = cc
 
-pub refused_job : {tells : Bool} (job : Job) (old new : Told tells) → IsTrue tells
-    → (o : Outcome) (r : Refusal) → Refused r ≡ o → IsEnd job old new o → IsRefusedJob job old.contents r
-refused_job job old new told o r is (same e) =
+not_done : (r : Refusal) (s : Summary) → Refused r ≡ Done s → ⊥
+not_done r s h = cc
+
+pub refused_job : {tells : Bool} (job : Job) (old new : Told tells) (lines : List ℕ) → IsTrue tells
+    → (o : Outcome) (r : Refusal) → Refused r ≡ o → IsEnd job old new lines o → IsRefusedJob job old.contents r
+refused_job job old new lines told o r is (same l e) =
     let outcome = Refused (SamePath e.first e.second) in
     ByPaths e.first e.second e.same (same_refusal outcome r (SamePath e.first e.second) (is ∙ e.outcome_is) refl)
-refused_job job old new told o r is (setup d e) = unprepared job old new told d e.error r e.cause (is ∙ e.outcome_is)
-refused_job job old new told o r is (first d e) =
+refused_job job old new lines told o r is (setup l d e) = unprepared job old new told d e.error r e.cause (is ∙ e.outcome_is)
+refused_job job old new lines told o r is (first l d e) =
     let s = e.stops told in
     unread job old.contents d s.0 s.1 0 new.contents e.stop r e.lane s.2 (is ∙ e.outcome_is)
-refused_job job old new told o r is (attached d e) = absurd (no_fault r (wave_place e.lane) (is ∙ e.outcome_is))
-refused_job job old new told o r is (unflushed d e) = absurd (no_fault r (wave_place e.lane) (is ∙ e.outcome_is))
-refused_job job old new told o r is (stopped d e) =
+refused_job job old new lines told o r is (attached l m d e) = absurd (no_fault r (wave_place e.lane) (is ∙ e.outcome_is))
+refused_job job old new lines told o r is (unflushed l m d e) = absurd (no_fault r (wave_place e.lane) (is ∙ e.outcome_is))
+refused_job job old new lines told o r is (stopped l m d e) =
     let s = e.stops told in
     unsettled job old.contents d s.0 s.1 s.2.0 new.contents e.stop r e.lane s.2.1 (is ∙ e.outcome_is)
-refused_job job old new told o r is (whole d e) = absurd (done e.summary (is ∙ e.outcome_is))
-  where
-    done : (s : Summary) → Refused r ≡ Done s → ⊥
-    done s h = cc
+refused_job job old new lines told o r is (whole l m d e) = absurd (not_done r e.summary (is ∙ e.outcome_is))
+refused_job job old new lines told o r is (check_stopped m d e) =
+    let s = e.stops told in
+    unread job old.contents d s.0 s.1 s.2.0 new.contents e.stop r e.lane s.2.1.read (is ∙ e.outcome_is)
+refused_job job old new lines told o r is (checked m d e) = absurd (not_done r e.summary (is ∙ e.outcome_is))
 
 -- ---- a job has one design, and so one run
 
@@ -104,11 +108,11 @@ one_clock one job c d a e b =
     subst (λ (e : Design). (b : IsDesignOf job c e) → a.accepted.clock.first ≡ b.accepted.clock.first) (one.design (design_text job c) job.top job.clock d e a b)
     (λ b. ap (λ (s : Signal). s.first) (some_same _ a.accepted.clock b.accepted.clock a.accepted.clock_found b.accepted.clock_found)) b
 
-pub one_ports : OneText → (job : Job) (c : Contents) (d : Design) (a : IsDesignOf job c d) (e : Design) (b : IsDesignOf job c e) → ports_of a ≡ ports_of b
+pub one_ports : OneText → (job : Job) (c : Contents) (d : Design) (a : IsDesignOf job c d) (e : Design) (b : IsDesignOf job c e) → ports_of job.mode a ≡ ports_of job.mode b
 one_ports one job c d a e b =
     let design = one.design (design_text job c) job.top job.clock d e a b in
     let source = one.reading (design_text job c) a.tokens b.tokens a.source b.source a.read b.read in
-    λ i. record { inputs = data_inputs (design i) (one_clock one job c d a e b i); outputs = outputs (design i) (top_outputs (source i) job.top) }
+    λ i. record { inputs = data_inputs (design i) (one_clock one job c d a e b i); outputs = outputs (design i) (top_outputs (source i) job.top); demanded = (ports_of job.mode a).demanded }
 
 one_run : OneText → (job : Job) (c : Contents) (m n : Run) → IsRunOf job c m → IsRunOf job c n → m ≡ n
 one_run one job c m n a b =
@@ -160,7 +164,7 @@ no_header is c stimuli lanes i error lt refused have = some_none (header_refusal
 one_header : OneText → (job : Job) (c : Contents) (i j : ℕ) (e f : StimError) → IsHeaderRefusal job c i e → IsHeaderRefusal job c j f → stimulus_outcome i e ≡ stimulus_outcome j f
 one_header one job c i j e f a b =
     let ports = one_ports one job c b.design b.accepted a.design a.accepted in
-    let is = ports_of a.accepted in
+    let is = ports_of job.mode a.accepted in
     let refused = subst (λ (is : PortLists). header_refusal is (text_of c job.stimuli j) ≡ Some f) ports b.first.refused in
     let earlier = subst (λ (is : PortLists). HaveHeaders is c.files job.stimuli j) ports b.first.earlier in
     elim (cases_order i j) [
@@ -213,7 +217,7 @@ by_design laws job c r q d short t (ByLine e n l j f lt m h be) = absurd (laws.n
 header_run : OneText → (job : Job) (c : Contents) (i : ℕ) (e : StimError) (n : Run) → i < length job.stimuli → IsHeaderRefusal job c i e → IsRunOf job c n → ⊥
 header_run one job c i e n lt h m =
     let ports = ap (λ (n : Run). n.ports) m.run_is ∙ one_ports one job c m.design m.accepted h.design h.accepted in
-    no_header (ports_of h.accepted) c job.stimuli (length job.stimuli) i e lt h.first.refused
+    no_header (ports_of job.mode h.accepted) c job.stimuli (length job.stimuli) i e lt h.first.refused
     (subst (λ (is : PortLists). HaveHeaders is c.files job.stimuli (length job.stimuli)) ports m.headers)
 
 by_header : Laws → (job : Job) (c : Contents) (r q : Refusal) → same_paths job ≡ None → (i : ℕ) (e : StimError) → i < length job.stimuli → IsHeaderRefusal job c i e → Refused r ≡ stimulus_outcome i e → IsRefusedJob job c q → AreAlike r q

@@ -18,6 +18,7 @@ use Rattle.vs_top.specs.declared.outcome.Outcome.TheVariants.{Refused, ReadFault
 -- the stimulus of lane i can't be read on
 abbrev pub stimulus_outcome : ℕ → StimError → Outcome
 stimulus_outcome i E.BadHeader = Refused (Lane lane.BadHeader i)
+stimulus_outcome i E.NoExpectation = Refused (Lane lane.NoExpectation i)
 stimulus_outcome i (E.BadVector n) = Refused (Line line.BadVector i n)
 stimulus_outcome i E.FirstUnknown = Refused (Lane lane.FirstUnknown i)
 stimulus_outcome i (E.UnknownReset n) = Refused (Line line.UnknownReset i n)

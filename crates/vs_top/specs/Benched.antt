@@ -1,5 +1,5 @@
 -- How a bench ended, and what was reported of it.
-use Rattle.std.specs.Prelude.{◌≡◌, ◌⊎◌, Bool, true}
+use Rattle.std.specs.Prelude.{◌≡◌, ◌⊎◌, Bool, true, []}
 use Rattle.vs_desk.specs.Desk.{Told, no_register}
 use Rattle.vs_job.specs.declared.bench.Bench.{Bench}
 use Rattle.vs_bench.specs.Bench as bench
@@ -19,7 +19,7 @@ of_bench o = o
 pub record IsBenchEnd (b : Bench) (o : Outcome) : Type 0 where
   pub told : Told true
   pub inner : Outcome
-  pub ended : IsEnd (bench.job b.lanes) (record { register = no_register; contents = bench.files b.vectors b.lanes }) told inner
+  pub ended : IsEnd (bench.job b.lanes) (record { register = no_register; contents = bench.files b.vectors b.lanes }) told [] inner
   pub outcome_is : o ≡ of_bench inner
 
 -- The bench ended so, or there was no memory for its files, and then its line was reported on the desk that it was handed, which nothing else
@@ -27,6 +27,6 @@ pub record IsBenchEnd (b : Bench) (o : Outcome) : Type 0 where
 pub record IsBenched {tells : Bool} (b : Bench) (old new : Told tells) (result : Outcome) : Type 0 where
   pub outcome : Outcome
   pub ended : (outcome ≡ Memory) ⊎ IsBenchEnd b outcome
-  pub done : OnDone outcome (ReportsDone old new outcome result)
+  pub done : OnDone outcome (ReportsDone old new [] outcome result)
   pub stopped : OnStopped outcome (result ≡ outcome)
   pub stopped_line : OnStopped outcome (IsReported old new outcome)

@@ -1,13 +1,11 @@
 -- What the desk's counts say of each answer, and which jobs are done.
-use Rattle.std.specs.Prelude.{◌≡◌, ◌≢◌, ◌⊎◌, ℕ, ◌<◌, Bool, None, List, length}
+use Rattle.std.specs.Prelude.{◌≡◌, ◌≢◌, ◌⊎◌, ℕ, ◌<◌, Bool, None, length}
 use Rattle.vs_desk.specs.Desk.{Register, Contents, Told, Rose}
 use Rattle.vs_design.specs.Designs.{Design}
-use Rattle.vs_stim.specs.Reading.{stimulus}
+use Rattle.vs_stim.specs.Reading.{reading}
 use Rattle.vs_feed.specs.Opened.{path_at}
-use Rattle.vs_rounds.specs.Drives.{Vector}
 use Rattle.vs_job.specs.declared.job.Job.{Job}
 use Rattle.vs_job.specs.Places.{same_paths}
-use Rattle.vs_stim.specs.declared.wanted.Digit.{Digit}
 use Rattle.vs_setup.specs.Ports.{ports_of}
 use Rattle.vs_setup.specs.Unprepared.{IsDesignOf}
 use Rattle.vs_top.specs.declared.outcome.Outcome.{Outcome}
@@ -34,13 +32,12 @@ ShowsCause old new (ReadFault place) = IsFaultAt old.register new.register place
 ShowsCause old new (WriteFault place) = IsFaultAt old.register new.register place ⊎ ((place ≡ 0) × IsLoss old.register new.register)
 
 -- The paths of the job differ, its design is accepted, and each lane's stimulus is valid for each design that it is accepted as, where the
--- files have these bytes.
+-- files have these bytes. One of a check has to want something of an output.
 pub record IsLawful (job : Job) (c : Contents) : Type 0 where
   pub paths : same_paths job ≡ None
   pub design : Design
   pub accepted : IsDesignOf job c design
-  pub valid : (d : Design) (a : IsDesignOf job c d) (i : ℕ) → i < length job.stimuli
-      → (vectors : List Vector) × ((wanted : List (List (List Digit))) × stimulus (c.files (path_at job.stimuli i)) (ports_of a).inputs (ports_of a).outputs vectors wanted)
+  pub valid : (d : Design) (a : IsDesignOf job c d) (i : ℕ) → i < length job.stimuli → (reading (ports_of job.mode a) (c.files (path_at job.stimuli i))).refusal ≡ None
 
 -- no call failed
 pub record IsFaultless {tells : Bool} (old new : Told tells) : Type 0 where

@@ -1,17 +1,20 @@
 -- How a job ended, before its line is reported.
-use Rattle.std.specs.Prelude.{◌≡◌, ◌≢◌, ◌⊎◌, ℕ, ◌<◌, Bool, IsTrue, List, [], length, map, take, Some, None}
+use Rattle.std.specs.Prelude.{◌≡◌, ◌≢◌, ◌⊎◌, ℕ, ◌<◌, Bool, IsTrue, List, [], length, map, take, Option, Some, None}
 use Rattle.vs_desk.specs.declared.desk.Way.TheVariants.{Write}
 use Rattle.vs_desk.specs.Desk.{Register, Contents, Told, Fails, FailsAlone}
-use Rattle.vs_desk.specs.Places.{with_places, waveform_place}
+use Rattle.vs_desk.specs.Places.{with_places, design_place, stimulus_place, waveform_place}
 use Rattle.vs_design.specs.Designs.{Design}
 use Rattle.vs_feed.specs.Opened.{path_at, HaveHeaders}
+use Rattle.vs_misses.specs.Missed.{Found}
 use Rattle.vs_waves.specs.Puts.{wave_place}
 use Rattle.vs_waves.specs.Attached.{AreEmptied, AreFree}
 use Rattle.vs_rounds.specs.declared.stop.Stop.{Stop}
 use Rattle.vs_rounds.specs.Lanes.{Run}
-use Rattle.vs_rounds.specs.Stops.{AreUnrefused, ReadStops, StopsIn, IsLaneOf, HasCause}
+use Rattle.vs_rounds.specs.Stops.{AreUnrefused, ReadStops, StopsIn, IsLaneOf, IsOfStimulus, HasCause}
+use Rattle.vs_rounds.specs.Verdicts.{IsCheckStop}
 use Rattle.vs_refusal.specs.declared.refusal.Refusal.TheVariants.{SamePath}
 use Rattle.vs_job.specs.declared.job.Job.{Job}
+use Rattle.vs_job.specs.declared.job.Mode.TheVariants as modes
 use Rattle.vs_job.specs.Places.{same_paths, vcd_path}
 use Rattle.vs_setup.specs.declared.error.SetupError.{SetupError}
 use Rattle.vs_setup.specs.Places.{IsFresh, with_texts}
@@ -22,6 +25,8 @@ use Rattle.vs_top.specs.declared.outcome.Summary.{Summary}
 use Rattle.vs_top.specs.declared.outcome.Outcome.{Outcome}
 use Rattle.vs_top.specs.declared.outcome.Outcome.TheVariants.{Done, Refused, WriteFault}
 use Rattle.vs_top.specs.Headline.{IsWritten}
+use Rattle.vs_top.specs.Verdicts.{misses_text, missed_lanes}
+use Rattle.vs_top.specs.Checked.{IsChecked}
 use Rattle.vs_top.specs.Answers.{setup_outcome, stop_outcome}
 
 -- none of a job's places is attached, of so many lanes: those of the design and the stimuli, and those of the waveforms
@@ -37,6 +42,10 @@ with_waves register job paths = with_places (with_texts register job job.stimuli
 abbrev pub wave_paths : Job → List (List ℕ)
 wave_paths job = map vcd_path job.stimuli
 
+-- places below those of stimuli, other than the design's, are attached as they were
+abbrev pub OthersAttached : Register → Register → Type 0
+OthersAttached old new = (p : ℕ) → p < stimulus_place 0 → p ≢ design_place → new.attached p ≡ old.attached p
+
 -- nothing was put but at the places of so many waveforms
 abbrev pub OnlyWavesPut : ℕ → Contents → Contents → Type 0
 OnlyWavesPut lanes old new = (place : ℕ) → ((i : ℕ) → i < lanes → place ≢ wave_place i) → new.put place ≡ old.put place
@@ -45,7 +54,7 @@ OnlyWavesPut lanes old new = (place : ℕ) → ((i : ℕ) → i < lanes → plac
 pub record IsRunOf (job : Job) (old : Contents) (run : Run) : Type 0 where
   pub design : Design
   pub accepted : IsDesignOf job old design
-  pub run_is : run ≡ run_of job old.files design accepted.accepted.clock.first (ports_of accepted)
+  pub run_is : run ≡ run_of job old.files design accepted.accepted.clock.first (ports_of job.mode accepted)
   pub headers : HaveHeaders run.ports old.files job.stimuli (length job.stimuli)
 
 -- Two places have one path. Nothing was called.
@@ -57,7 +66,7 @@ pub record IsSameEnd {tells : Bool} (job : Job) (old new : Told tells) (o : Outc
   pub register_is : new.register ≡ old.register
   pub contents_are : new.contents ≡ old.contents
 
--- The run couldn't begin. No waveform's place is attached.
+-- It couldn't begin. No waveform's place is attached.
 pub record IsSetupEnd {tells : Bool} (job : Job) (old new : Told tells) (o : Outcome) : Type 0 where
   pub error : SetupError
   pub outcome_is : o ≡ setup_outcome error
@@ -98,6 +107,7 @@ pub record IsRoundEnd {tells : Bool} (job : Job) (old new : Told tells) (o : Out
 pub record IsWholeEnd {tells : Bool} (job : Job) (old new : Told tells) (o : Outcome) : Type 0 where
   pub summary : Summary
   pub outcome_is : o ≡ Done summary
+  pub unchecked : summary.missed ≡ None
   pub register_is : new.register ≡ with_waves old.register job (wave_paths job)
   pub written : IsTrue tells → IsWritten job old.contents new.contents summary
   pub puts : IsTrue tells → OnlyWavesPut (length job.stimuli) old.contents new.contents
@@ -113,15 +123,43 @@ pub record IsUnflushedEnd {tells : Bool} (job : Job) (old new : Told tells) (o :
   pub ended : IsRoundEnd job old before answer ⊎ IsWholeEnd job old before answer
   pub fails : FailsAlone before new (wave_place lane) before.register.asked
 
--- How a job ended, where the desk told this before and tells that now: two of its paths are equal, or none are and it went on.
-pub data IsEnd {tells : Bool} (job : Job) (old new : Told tells) (o : Outcome) : Type 0 where
-  same : IsSameEnd job old new o → IsEnd job old new o
-  setup : same_paths job ≡ None → IsSetupEnd job old new o → IsEnd job old new o
-  first : same_paths job ≡ None → IsFirstEnd job old new o → IsEnd job old new o
-  attached : same_paths job ≡ None → IsAttachEnd job old new o → IsEnd job old new o
-  stopped : same_paths job ≡ None → IsRoundEnd job old new o → IsEnd job old new o
-  whole : same_paths job ≡ None → IsWholeEnd job old new o → IsEnd job old new o
-  unflushed : same_paths job ≡ None → IsUnflushedEnd job old new o → IsEnd job old new o
+-- A stimulus stopped a round of a check, behind the first. This is what was found in each lane in the rounds before, and its lines are to be put. No
+-- waveform's place is attached.
+pub record IsCheckEnd {tells : Bool} (job : Job) (old new : Told tells) (lines : List ℕ) (o : Outcome) : Type 0 where
+  pub stop : Stop
+  pub outcome_is : o ≡ stop_outcome stop
+  pub lane : IsLaneOf (length job.stimuli) stop
+  pub of_stimulus : IsOfStimulus stop
+  pub cause : HasCause (with_texts old.register job job.stimuli) new.register stop
+  pub found : List (Option Found)
+  pub found_are : length found ≡ length job.stimuli
+  pub lines_are : lines ≡ misses_text found
+  pub stops : IsTrue tells → (run : Run) × IsRunOf job old.contents run × ((k : ℕ) × IsCheckStop run (length job.stimuli) k found new.contents stop)
+  pub kept : IsTrue tells → AreTextsKept old.contents new.contents
+
+-- A check is done: this was found in each lane, and its lines are to be put. No waveform's place is attached.
+pub record IsCheckedEnd {tells : Bool} (job : Job) (old new : Told tells) (lines : List ℕ) (o : Outcome) : Type 0 where
+  pub summary : Summary
+  pub outcome_is : o ≡ Done summary
+  pub register_is : new.register ≡ with_texts old.register job job.stimuli
+  pub found : List (Option Found)
+  pub missed_are : summary.missed ≡ Some (missed_lanes found)
+  pub lines_are : lines ≡ misses_text found
+  pub checked : IsTrue tells → IsChecked job old.contents new.contents found summary
+  pub kept : IsTrue tells → AreTextsKept old.contents new.contents
+
+-- How a job ended, and what is to be put before its report line, where the desk told this before and tells that now: two of its paths are equal, or none
+-- are and it went on, as a run or as a check. Only a check whose rounds have begun has something to put there.
+pub data IsEnd {tells : Bool} (job : Job) (old new : Told tells) (lines : List ℕ) (o : Outcome) : Type 0 where
+  same : lines ≡ [] → IsSameEnd job old new o → IsEnd job old new lines o
+  setup : lines ≡ [] → same_paths job ≡ None → IsSetupEnd job old new o → IsEnd job old new lines o
+  first : lines ≡ [] → same_paths job ≡ None → IsFirstEnd job old new o → IsEnd job old new lines o
+  attached : lines ≡ [] → job.mode ≡ modes.Run → same_paths job ≡ None → IsAttachEnd job old new o → IsEnd job old new lines o
+  stopped : lines ≡ [] → job.mode ≡ modes.Run → same_paths job ≡ None → IsRoundEnd job old new o → IsEnd job old new lines o
+  whole : lines ≡ [] → job.mode ≡ modes.Run → same_paths job ≡ None → IsWholeEnd job old new o → IsEnd job old new lines o
+  unflushed : lines ≡ [] → job.mode ≡ modes.Run → same_paths job ≡ None → IsUnflushedEnd job old new o → IsEnd job old new lines o
+  check_stopped : job.mode ≡ modes.Check → same_paths job ≡ None → IsCheckEnd job old new lines o → IsEnd job old new lines o
+  checked : job.mode ≡ modes.Check → same_paths job ≡ None → IsCheckedEnd job old new lines o → IsEnd job old new lines o
 
 -- the job isn't done
 abbrev pub IsStopped : Outcome → Type 0

@@ -1,5 +1,5 @@
 -- What a run that is done has written, in the words of the event queue (IEEE 1364-2005, 11.3 and 11.4).
-use Rattle.std.specs.Prelude.{◌≡◌, ℕ, ◌+◌, ◌*◌, ◌<◌, List, [], ◌∷◌, length, map}
+use Rattle.std.specs.Prelude.{◌≡◌, ℕ, ◌+◌, ◌*◌, ◌<◌, List, [], ◌∷◌, length, map, None}
 use Rattle.vs_net.specs.Network.{State}
 use Rattle.vs_net.specs.Queue.{Choice, IsFirst, IsCompleted, start, ends}
 use Rattle.vs_design.specs.Designs.{Design}
@@ -62,10 +62,11 @@ pub record IsWritten (job : Job) (old new : Contents) (s : Summary) : Type 0 whe
   pub design : Design
   pub accepted : IsAcceptedText (design_text job old) job.top job.clock design
   pub lanes : (i : ℕ) → i < length job.stimuli
-      → IsLaneWritten design accepted.accepted.clock.first job.half (ports_of accepted) (old.files (path_at job.stimuli i)) (new.put (wave_place i))
+      → IsLaneWritten design accepted.accepted.clock.first job.half (ports_of job.mode accepted) (old.files (path_at job.stimuli i)) (new.put (wave_place i))
   pub design_taken : new.left design_place ≡ []
   pub stimuli_taken : (i : ℕ) → i < length job.stimuli → new.left (stimulus_place i) ≡ []
   pub lanes_are : s.lanes ≡ length job.stimuli
-  pub counted : AreCounted (run_of job old.files design accepted.accepted.clock.first (ports_of accepted)) (length job.stimuli) s.vectors s.settlings
+  pub counted : AreCounted (run_of job old.files design accepted.accepted.clock.first (ports_of job.mode accepted)) (length job.stimuli) s.vectors s.settlings
   pub size_is : s.size ≡ size_of design
+  pub unchecked : s.missed ≡ None
   pub stored : AreStores design accepted.accepted.clock.first s.settlings s.operations

@@ -1,9 +1,12 @@
 pub mod Outcomes
 pub mod Reported
 pub mod Headline
+pub mod Verdicts
+pub mod Checked
 pub mod Ended
 pub mod Answers
 pub mod Reports
+pub mod Begun
 pub mod Benched
 pub mod Causes
 pub mod Refused

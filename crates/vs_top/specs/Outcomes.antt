@@ -1,5 +1,6 @@
 -- The line and the status of each outcome.
-use Rattle.std.specs.Prelude.{ℕ, nat_le, List, if◌then◌else◌}
+use Rattle.std.specs.Prelude.{ℕ, zero, suc, nat_le, List, Option, Some, None, if◌then◌else◌}
+use Rattle.vs_refusal.specs.declared.ending.Ending.{Ending}
 use Rattle.vs_refusal.specs.declared.ending.Ending.TheVariants as ending
 use Rattle.vs_refusal.specs.Refusals.{number, line}
 use Rattle.vs_refusal.specs.Endings.{ending_line}
@@ -7,9 +8,14 @@ use Rattle.vs_top.specs.declared.outcome.Summary.{Summary}
 use Rattle.vs_top.specs.declared.outcome.Outcome.{Outcome}
 use Rattle.vs_top.specs.declared.outcome.Outcome.TheVariants.{Done, Refused, ReadFault, WriteFault, Memory}
 
--- `ok lanes=1 vectors=2 settlings=4 size=5`, with the end of the line
+-- how a run that is done ended, or a check in which so many lanes missed something
+abbrev pub done_ending : Summary → Option ℕ → Ending
+done_ending s None = ending.Done s.lanes s.vectors s.settlings s.size
+done_ending s (Some missed) = ending.Checked s.lanes s.vectors s.settlings s.size missed
+
+-- `ok lanes=1 vectors=2 settlings=4 size=5`, or with ` missed=0` behind it, with the end of the line
 abbrev pub done_line : Summary → List ℕ
-done_line s = ending_line (ending.Done s.lanes s.vectors s.settlings s.size)
+done_line s = ending_line (done_ending s s.missed)
 
 abbrev pub read_fault_line : ℕ → List ℕ
 read_fault_line place = ending_line (ending.ReadFault place)
@@ -32,8 +38,14 @@ outcome_line Memory = memory_line
 abbrev pub refused_status : ℕ → ℕ
 refused_status n = if nat_le n 2 then 2 else (if nat_le n 66 then 3 else 4)
 
+-- 1 where a lane of a check missed something
+abbrev pub done_status : Option ℕ → ℕ
+done_status None = 0
+done_status (Some zero) = 0
+done_status (Some (suc n)) = 1
+
 abbrev pub status : Outcome → ℕ
-status (Done summary) = 0
+status (Done summary) = done_status summary.missed
 status (Refused refusal) = refused_status (number refusal)
 status (ReadFault place) = 5
 status (WriteFault place) = 6

@@ -5,17 +5,17 @@ use Rattle.vs_top.specs.declared.outcome.Outcome.{Outcome}
 use Rattle.vs_top.specs.declared.outcome.Outcome.TheVariants.{Done, WriteFault}
 use Rattle.vs_top.specs.Outcomes.{outcome_line}
 
--- The whole line was put at place 0, and nothing failed.
+-- All of it was put at place 0, and nothing failed.
 pub record PutsLine {tells : Bool} (old new : Told tells) (line : List ℕ) : Type 0 where
   pub same : new.register ≡ old.register
   pub put : IsTrue tells → new.contents ≡ with_put old.register old.contents 0 line
 
--- A call at place 0 failed, and some first bytes of the line were put, not all.
+-- A call at place 0 failed, and some first bytes of it were put, not all.
 pub record LosesLine {tells : Bool} (old new : Told tells) (line : List ℕ) : Type 0 where
   pub failed : Fails old.register new.register 0 old.register.asked
   pub put : IsTrue tells → PutsPart old.register old.contents new.contents 0 line
 
--- the line was put whole, or lost
+-- it was put whole, or lost
 abbrev pub ReportsLine : {tells : Bool} → Told tells → Told tells → List ℕ → Type 0
 ReportsLine old new line = PutsLine old new line ⊎ LosesLine old new line
 
@@ -39,9 +39,9 @@ abbrev pub OnStopped : Outcome → Type 0 → Type 0
 OnStopped (Done summary) P = Unit {0}
 OnStopped _ P = P
 
--- The report of a run that is done: its line was put and it stays done, or the line was lost, the answer is a fault at
--- place 0, and that has its line behind.
-abbrev pub ReportsDone : {tells : Bool} → Told tells → Told tells → Outcome → Outcome → Type 0
-ReportsDone old new outcome result =
-    ((result ≡ outcome) × PutsLine old new (outcome_line outcome))
-    ⊎ ((result ≡ WriteFault 0) × LosesBoth old new (outcome_line outcome) (outcome_line (WriteFault 0)))
+-- The report of a run or a check that is done, with what stands before its line: all was put and it stays done, or some of it was lost, the answer is
+-- a fault at place 0, and that has its line behind.
+abbrev pub ReportsDone : {tells : Bool} → Told tells → Told tells → List ℕ → Outcome → Outcome → Type 0
+ReportsDone old new before outcome result =
+    ((result ≡ outcome) × PutsLine old new (before ++ outcome_line outcome))
+    ⊎ ((result ≡ WriteFault 0) × LosesBoth old new (before ++ outcome_line outcome) (outcome_line (WriteFault 0)))

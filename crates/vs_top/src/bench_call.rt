@@ -8,7 +8,7 @@ ghost use Rattle.vs_top.specs.declared.outcome.Summary.{Summary};
 ghost use Rattle.vs_top.specs.declared.outcome.Outcome.TheVariants.{Done, Memory, Refused};
 ghost use Rattle.vs_top.specs.Benched.{IsBenchEnd, IsBenched};
 ghost use Rattle.vs_top.specs.Causes.{ShowsCause};
-ghost use Rattle.vs_top.specs.Ended.{IsStopped};
+ghost use Rattle.vs_top.specs.Ended.{IsStopped, OthersAttached};
 
 use crate::outcome::{Outcome, Summary};
 use crate::report_line::report;
@@ -35,6 +35,7 @@ pub fn bench<D: Desk, L: Ledger>(
     ensures ended { IsBenched sizes (D.told desk.old) (D.told desk.new) result }
     ensures causes { ShowsCause (D.told desk.old) (D.told desk.new) result }
     ensures not_usage { result ≢ Refused (Bare Usage) }
+    ensures others { OthersAttached (D.told desk.old).register (D.told desk.new).register }
 {
     match run_bench(alloc, sizes, steps) {
         Ok(summary) => report(desk, Outcome::Done(summary)),

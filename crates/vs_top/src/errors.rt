@@ -21,6 +21,7 @@ pub(crate) fn stimulus_outcome(lane: u32, error: StimError) -> Outcome
 {
     let name = match error {
         StimError::BadHeader => LaneName::BadHeader,
+        StimError::NoExpectation => LaneName::NoExpectation,
         StimError::FirstUnknown => LaneName::FirstUnknown,
         StimError::NoVector => LaneName::NoVector,
         StimError::TooManyVectors => LaneName::TooManyVectors,

@@ -5,14 +5,17 @@ ghost use Rattle.vs_top.specs.Outcomes as spec;
 
 use crate::outcome::Outcome;
 
-/// The status for an outcome: 0 where it is done, 2 for the refusals 1 and 2, 3 for those from 3 to
-/// 66, 4 for those from 70 to 77, 5 for a fault while reading, 6 for one while writing, and 7 where
-/// there was no memory.
+/// The status for an outcome: 0 where it is done, but 1 for a check in which a lane missed something, 2
+/// for the refusals 1 and 2, 3 for those from 3 to 66, 4 for those from 70 to 79, 5 for a fault while
+/// reading, 6 for one while writing, and 7 where there was no memory.
 pub fn status(outcome: &Outcome) -> u8
     ensures { result ≡ spec.status outcome.now }
 {
     match outcome {
-        Outcome::Done(_) => 0,
+        Outcome::Done(summary) => match summary.missed {
+            None | Some(0) => 0,
+            Some(_) => 1,
+        },
         Outcome::Refused(refusal) => match refusal.number() {
             0..=2 => 2,
             3..=66 => 3,

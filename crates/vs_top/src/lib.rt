@@ -1,13 +1,15 @@
-//! The top call: a job from its words to its waveforms and its report line.
+//! The top call: a job from its words to its waveforms, or to what its lanes missed, and to its report line.
 #![tactic(auto)]
 
 mod bench_call;
+mod checking;
 mod errors;
 mod exit_status;
 mod outcome;
 mod report_line;
 mod run_call;
 mod simulation;
+mod verdicts;
 
 pub use bench_call::bench;
 pub use exit_status::status;

@@ -2,7 +2,7 @@
 
 use vs_refusal::Refusal;
 
-/// What a run that is done has done.
+/// What a run or a check that is done has done.
 #[derive(Clone, Copy, PartialEq, Eq, Debug)]
 pub struct Summary {
     /// The number of lanes.
@@ -15,12 +15,15 @@ pub struct Summary {
     pub size: u64,
     /// How many plane operations were executed.
     pub operations: u64,
+    /// How many lanes of a check missed something of what their stimuli want; `None` of a run or a
+    /// bench.
+    pub missed: Option<u32>,
 }
 
 /// How a run ended.
 #[derive(Drop)]
 pub enum Outcome {
-    /// Each lane's waveform was written whole, and the report line too.
+    /// Each lane's waveform was written whole, or each lane was checked, and the report was put whole.
     Done(Summary),
     /// The words, the design or a stimulus was refused.
     Refused(Refusal),

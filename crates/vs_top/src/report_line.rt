@@ -1,29 +1,49 @@
 //! The report line.
 
-ghost use Rattle.std.specs.Prelude.{◌≡◌, OnOk, OnErr};
+ghost use Rattle.std.specs.Prelude.{◌≡◌, []};
+ghost use Rattle.vs_desk.specs.Desk.{PutsAll};
 ghost use Rattle.vs_top.specs.declared.outcome.Outcome.TheVariants.{WriteFault};
-ghost use Rattle.vs_top.specs.Outcomes.{outcome_line};
-ghost use Rattle.vs_top.specs.Reported.{PutsLine, LosesLine, ReportsLine, ReportsDone, OnDone, OnStopped};
+ghost use Rattle.vs_top.specs.Outcomes.{outcome_line, done_ending};
+ghost use Rattle.vs_top.specs.Reported.{ReportsLine, ReportsDone, OnDone, OnStopped};
 
-use crate::outcome::Outcome;
+use crate::outcome::{Outcome, Summary};
 use vs_desk::{Desk, Failed, put_law};
 use vs_refusal::Ending;
 
+/// How a run that is done ended, or a check.
+fn done_ending(summary: &Summary) -> Ending
+    ensures { result ≡ done_ending summary.now summary.now.missed }
+{
+    let Summary {
+        lanes,
+        vectors,
+        settlings,
+        size,
+        ..
+    } = *summary;
+    match summary.missed {
+        None => Ending::Done {
+            lanes,
+            vectors,
+            settlings,
+            size,
+        },
+        Some(missed) => Ending::Checked {
+            lanes,
+            vectors,
+            settlings,
+            size,
+            missed,
+        },
+    }
+}
+
 /// Puts an outcome's line at place 0.
-fn put_line<D: Desk>(desk: &mut D, outcome: &Outcome) -> Result<(), Failed>
-    ensures ok { OnOk result (PutsLine (D.told desk.old) (D.told desk.new) (outcome_line outcome.now)) }
-    ensures err { OnErr result (LosesLine (D.told desk.old) (D.told desk.new) (outcome_line outcome.now)) }
+pub(crate) fn put_line<D: Desk>(desk: &mut D, outcome: &Outcome) -> Result<(), Failed>
+    ensures { PutsAll (D.told desk.old) (D.told desk.new) 0 (outcome_line outcome.now) result }
 {
     match outcome {
-        Outcome::Done(summary) => {
-            let ending = Ending::Done {
-                lanes: summary.lanes,
-                vectors: summary.vectors,
-                settlings: summary.settlings,
-                size: summary.size,
-            };
-            ending.put_line(desk)
-        }
+        Outcome::Done(summary) => done_ending(summary).put_line(desk),
         Outcome::Refused(refusal) => refusal.put_line(desk),
         Outcome::ReadFault { place } => Ending::ReadFault { place: *place }.put_line(desk),
         Outcome::WriteFault { place } => Ending::WriteFault { place: *place }.put_line(desk),
@@ -31,9 +51,9 @@ fn put_line<D: Desk>(desk: &mut D, outcome: &Outcome) -> Result<(), Failed>
     }
 }
 
-/// The answer where the outcome's line was lost. Only a run that was done has another one then, and
+/// The answer where the outcome's line was lost. Only one that was done has another answer then, and
 /// that one's line is put too.
-fn after_loss<D: Desk>(desk: &mut D, outcome: Outcome) -> Outcome
+pub(crate) fn after_loss<D: Desk>(desk: &mut D, outcome: Outcome) -> Outcome
     ensures done { OnDone outcome (result ≡ WriteFault 0) }
     ensures done_line { OnDone outcome (ReportsLine (D.told desk.old) (D.told desk.new) (outcome_line (WriteFault 0))) }
     ensures stopped { OnStopped outcome (result ≡ outcome) }
@@ -54,7 +74,7 @@ fn after_loss<D: Desk>(desk: &mut D, outcome: Outcome) -> Outcome
 /// Where a run that is done has its line lost, the answer is a fault at place 0, and that has its own
 /// line put behind. Every other outcome stays as it is, whether its line was lost or not.
 pub fn report<D: Desk>(desk: &mut D, outcome: Outcome) -> Outcome
-    ensures done { OnDone outcome (ReportsDone (D.told desk.old) (D.told desk.new) outcome result) }
+    ensures done { OnDone outcome (ReportsDone (D.told desk.old) (D.told desk.new) [] outcome result) }
     ensures stopped { OnStopped outcome (result ≡ outcome) }
     ensures stopped_line { OnStopped outcome (ReportsLine (D.told desk.old) (D.told desk.new) (outcome_line outcome)) }
 {

@@ -6,6 +6,7 @@ ghost use Rattle.vs_job.specs.declared.job.Job.{Job};
 ghost use Rattle.vs_job.specs.declared.bench.Bench.{Bench};
 ghost use Rattle.vs_job.specs.Bench.{bench};
 ghost use Rattle.vs_job.specs.Job.{IsJob, job};
+ghost use Rattle.vs_job.specs.declared.job.Mode.TheVariants as modes;
 ghost use Rattle.vs_refusal.specs.declared.names.BareName.TheVariants.{Usage};
 ghost use Rattle.vs_refusal.specs.declared.refusal.Refusal.{Refusal};
 ghost use Rattle.vs_refusal.specs.declared.refusal.Refusal.TheVariants.{Bare};
@@ -13,26 +14,30 @@ ghost use Rattle.vs_top.specs.declared.outcome.Summary.{Summary};
 ghost use Rattle.vs_top.specs.declared.outcome.Outcome.TheVariants.{Done, Memory, Refused};
 ghost use Rattle.vs_top.specs.Benched.{IsBenched};
 ghost use Rattle.vs_top.specs.Causes.{IsDoneOrMemory, IsFaultless, IsLawful, ShowsCause};
-ghost use Rattle.vs_top.specs.Ended.{IsUnused};
+ghost use Rattle.vs_top.specs.Ended.{IsUnused, OthersAttached};
 ghost use Rattle.vs_top.specs.Refused.{IsRefusedJob, IsRefusedSo};
 ghost use Rattle.vs_top.specs.Reports.{IsSimulated, IsReported};
 ghost use Rattle.vs_top.specs.Headline.{IsWritten};
+ghost use Rattle.vs_top.specs.Checked.{IsVerdict};
 
 use crate::bench_call::bench;
+use crate::checking::check_job;
 use crate::outcome::Outcome;
 use crate::report_line::report;
 use crate::simulation::run_job;
 use std::alloc::Global;
 use std::sync::ledger::Ledger;
 use vs_accept::answer_law;
-use vs_desk::Desk;
-use vs_job::{Job, JobError, apart_law, read_bench, read_job};
+use vs_desk::{Desk, attach_law};
+use vs_job::{Job, JobError, Mode, apart_law, read_bench, read_job};
 use vs_plane::Steps;
 use vs_refusal::{BareName, Refusal};
 
-/// Runs a job, and puts its report line on place 0 of the desk.
+/// Runs a job or checks it, by its mode, and puts its report on place 0 of the desk.
 ///
-/// The design is read at place 1, behind the lines of the job's macros, the stimulus of lane i at place 1000 + i, and the waveform of lane i is put at place 2000 + i.
+/// The design is read at place 1, behind the lines of the job's macros, and the stimulus of lane i at place 1000 + i. Of a run the waveform of
+/// lane i is put at place 2000 + i; of a check nothing is put but its report: a line for each lane that missed something, by lane, and then
+/// the report line.
 pub fn simulate<D: Desk, L: Ledger>(
     alloc: Global,
     job: &Job,
@@ -45,11 +50,36 @@ pub fn simulate<D: Desk, L: Ledger>(
     ensures ended { IsSimulated D.told job.now desk.old desk.new result }
     ensures causes { ShowsCause (D.told desk.old) (D.told desk.new) result }
     ensures complete { IsTrue D.tells → IsLawful job.now (D.told desk.old).contents → IsFaultless (D.told desk.old) (D.told desk.new) → IsDoneOrMemory result }
-    ensures refused { IsTrue D.tells → (q : Refusal) → IsRefusedJob job.now (D.told desk.old).contents q → IsFaultless (D.told desk.old) (D.told desk.new) → IsRefusedSo q result }
+    ensures refused { IsTrue D.tells → (q : Refusal) → IsRefusedJob job.now (D.told desk.old).contents q
+        → IsFaultless (D.told desk.old) (D.told desk.new) → IsRefusedSo q result }
     ensures not_usage { result ≢ Refused (Bare Usage) }
-    ensures written { IsTrue D.tells → (s : Summary) → result ≡ Done s → IsWritten job.now (D.told desk.old).contents (D.told desk.new).contents s }
+    ensures written { IsTrue D.tells → job.now.mode ≡ modes.Run → (s : Summary) → result ≡ Done s
+        → IsWritten job.now (D.told desk.old).contents (D.told desk.new).contents s }
+    ensures checked { IsTrue D.tells → job.now.mode ≡ modes.Check → (s : Summary) → result ≡ Done s
+        → IsVerdict job.now (D.told desk.old).contents (D.told desk.new).contents s }
+    ensures others { OthersAttached (D.told desk.old).register (D.told desk.new).register }
 {
     answer_law();
+    attach_law();
+    match job.mode {
+        Mode::Run => run_and_report(alloc, job, desk, steps),
+        Mode::Check => check_job(alloc, job, desk, steps),
+    }
+}
+
+/// Runs a job, and puts its report line.
+fn run_and_report<D: Desk, L: Ledger>(
+    alloc: Global,
+    job: &Job,
+    desk: &mut D,
+    steps: &mut Steps<L>,
+) -> Outcome
+    requires mode { job.now.mode ≡ modes.Run }
+    requires job { IsJob job.now }
+    requires unused { IsUnused (D.told desk.old).register (length job.now.stimuli) }
+    ensures operations { (s : Summary) → result ≡ Done s → (steps.new ≡ steps.old + s.operations) × (s.operations ≤ s.size * s.settlings) }
+    ensures ended { IsSimulated D.told job.now desk.old desk.new result }
+{
     match run_job(alloc, job, desk, steps) {
         Ok(summary) => report(desk, Outcome::Done(summary)),
         Err(outcome) => report(desk, outcome),
@@ -57,12 +87,12 @@ pub fn simulate<D: Desk, L: Ledger>(
 }
 
 /// Runs the job or the bench that the words of the command line call for, the program's own name first: `cyclesim run --top T --clock C
-/// [--half H] [--define NAME[=TEXT]].. DESIGN STIM..`, or `cyclesim bench N [L]`.
+/// [--half H] [--define NAME[=TEXT]].. DESIGN STIM..`, the same with `check` for `run`, or `cyclesim bench N [L]`.
 ///
-/// Where the words call for a job, the design is accepted behind the lines of the macros and every stimulus is valid, a run that ends `Done` has written, for each lane,
-/// exactly the VCD text of the slot-end values that every completed run of the event queue (IEEE 1364-2005, clause 11) on that lane's
-/// stimulus alone has, and has executed at most as many plane operations as the design's size for each half-period of the clock, for all
-/// lanes together.
+/// Where the words call for a job, the design is accepted behind the lines of the macros and every stimulus is valid, a run that ends `Done`
+/// has written, for each lane, exactly the VCD text of the slot-end values that every completed run of the event queue (IEEE 1364-2005,
+/// clause 11) on that lane's stimulus alone has, and has executed at most as many plane operations as the design's size for each half-period
+/// of the clock, for all lanes together. A check that ends `Done` has put, for each lane, exactly what these values miss first of what that lane's stimulus wants.
 pub fn run<D: Desk, L: Ledger>(
     alloc: Global,
     words: &[String],
@@ -71,9 +101,11 @@ pub fn run<D: Desk, L: Ledger>(
 ) -> Outcome
     requires unused { IsUnused (D.told desk.old).register most_lanes }
 
-    // The headline.
-    ensures written { IsTrue D.tells → (j : Job) → job (map string_bytes words.now) ≡ Some j → (s : Summary) → result ≡ Done s
+    // The headline, of a run and of a check.
+    ensures written { IsTrue D.tells → (j : Job) → job (map string_bytes words.now) ≡ Some j → j.mode ≡ modes.Run → (s : Summary) → result ≡ Done s
         → IsWritten j (D.told desk.old).contents (D.told desk.new).contents s }
+    ensures checked { IsTrue D.tells → (j : Job) → job (map string_bytes words.now) ≡ Some j → j.mode ≡ modes.Check → (s : Summary) → result ≡ Done s
+        → IsVerdict j (D.told desk.old).contents (D.told desk.new).contents s }
     ensures operations { (s : Summary) → result ≡ Done s → (steps.new ≡ steps.old + s.operations) × (s.operations ≤ s.size * s.settlings) }
 
     // Every answer has its cause.
@@ -84,6 +116,9 @@ pub fn run<D: Desk, L: Ledger>(
     ensures ended { (j : Job) → job (map string_bytes words.now) ≡ Some j
         → IsSimulated D.told j desk.old desk.new result ⊎ ((result ≡ Memory) × IsReported (D.told desk.old) (D.told desk.new) result) }
     ensures benched { (b : Bench) → bench (map string_bytes words.now) ≡ Some b → IsBenched b (D.told desk.old) (D.told desk.new) result }
+
+    // Places that are none of a job's stay as they were.
+    ensures others { OthersAttached (D.told desk.old).register (D.told desk.new).register }
 
     // And where no call on the desk fails, nothing but want of memory keeps a refused job from its refusal, or a lawful job from its end.
     ensures refused { IsTrue D.tells → (j : Job) → job (map string_bytes words.now) ≡ Some j → (q : Refusal) → IsRefusedJob j (D.told desk.old).contents q

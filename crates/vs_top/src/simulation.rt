@@ -1,12 +1,12 @@
-//! A job from its paths to its waveforms.
+//! A run from its paths to its waveforms.
 
-ghost use Rattle.std.specs.Prelude.{◌≡◌, ◌+◌, ◌*◌, ◌≤◌, None, IsTrue, IfOk, IfErr, OnOk, length};
+ghost use Rattle.std.specs.Prelude.{◌≡◌, ◌+◌, ◌*◌, ◌≤◌, [], None, IfOk, IfErr, OnOk, length};
 ghost use Rattle.vs_desk.specs.Places.{most_lanes};
 ghost use Rattle.vs_job.specs.Job.{IsJob};
+ghost use Rattle.vs_job.specs.declared.job.Mode.TheVariants as modes;
 ghost use Rattle.vs_job.specs.Places.{same_paths};
 ghost use Rattle.vs_waves.specs.Puts.{AreWritable};
 ghost use Rattle.vs_top.specs.declared.outcome.Outcome.TheVariants.{Done};
-ghost use Rattle.vs_top.specs.Headline.{IsWritten};
 ghost use Rattle.vs_top.specs.Ended.{IsEnd, IsRoundEnd, IsWholeEnd, IsStopped, IsUnused};
 
 use crate::errors::{setup_outcome, stop_outcome};
@@ -33,11 +33,11 @@ pub(crate) fn run_job<D: Desk, L: Ledger>(
     desk: &mut D,
     steps: &mut Steps<L>,
 ) -> Result<Summary, Outcome>
+    requires mode { job.now.mode ≡ modes.Run }
     requires job { IsJob job.now }
     requires unused { IsUnused (D.told desk.old).register (length job.now.stimuli) }
-    ensures done { IfOk result (λ s. IsEnd job.now (D.told desk.old) (D.told desk.new) (Done s)) }
-    ensures stopped { IfErr result (IsEnd job.now (D.told desk.old) (D.told desk.new)) }
-    ensures written { IsTrue D.tells → IfOk result (IsWritten job.now (D.told desk.old).contents (D.told desk.new).contents) }
+    ensures done { IfOk result (λ s. IsEnd job.now (D.told desk.old) (D.told desk.new) [] (Done s)) }
+    ensures stopped { IfErr result (IsEnd job.now (D.told desk.old) (D.told desk.new) []) }
     ensures not_done { IfErr result IsStopped }
     ensures counted { IfOk result (λ s. steps.new ≡ steps.old + s.operations) }
     ensures within { IfOk result (λ s. s.operations ≤ s.size * s.settlings) }
@@ -59,15 +59,15 @@ fn run_rounds<D: Desk, L: Ledger>(
     desk: &mut D,
     steps: &mut Steps<L>,
 ) -> Result<Result<Summary, Outcome>, Outcome>
+    requires mode { job.now.mode ≡ modes.Run }
     requires job { IsJob job.now }
     requires unused { IsUnused (D.told desk.old).register (length job.now.stimuli) }
-    ensures unbegun { IfErr result (IsEnd job.now (D.told desk.old) (D.told desk.new)) }
+    ensures unbegun { IfErr result (IsEnd job.now (D.told desk.old) (D.told desk.new) []) }
     ensures not_done { IfErr result IsStopped }
     ensures different { OnOk result (same_paths job.now ≡ None) }
     ensures done { IfOk result (λ ended. IfOk ended (λ s. IsWholeEnd job.now (D.told desk.old) (D.told desk.new) (Done s))) }
     ensures stopped { IfOk result (λ ended. IfErr ended (IsRoundEnd job.now (D.told desk.old) (D.told desk.new))) }
     ensures writable { OnOk result (AreWritable (D.told desk.new).register (length job.now.stimuli)) }
-    ensures written { IsTrue D.tells → IfOk result (λ ended. IfOk ended (IsWritten job.now (D.told desk.old).contents (D.told desk.new).contents)) }
     ensures ended_undone { IfOk result (λ ended. IfErr ended IsStopped) }
     ensures counted { IfOk result (λ ended. IfOk ended (λ s. steps.new ≡ steps.old + s.operations)) }
     ensures within { IfOk result (λ ended. IfOk ended (λ s. s.operations ≤ s.size * s.settlings)) }
@@ -90,17 +90,17 @@ fn run_lanes<W: Lanes, D: Desk, L: Ledger>(
     desk: &mut D,
     steps: &mut Steps<L>,
 ) -> Result<Result<Summary, Outcome>, Outcome>
+    requires mode { job.now.mode ≡ modes.Run }
     requires job { IsJob job.now }
     requires unused { IsUnused (D.told desk.old).register (length job.now.stimuli) }
     requires width { W.LANES ≤ most_lanes }
     requires lanes { length job.now.stimuli ≤ W.LANES }
-    ensures unbegun { IfErr result (IsEnd job.now (D.told desk.old) (D.told desk.new)) }
+    ensures unbegun { IfErr result (IsEnd job.now (D.told desk.old) (D.told desk.new) []) }
     ensures not_done { IfErr result IsStopped }
     ensures different { OnOk result (same_paths job.now ≡ None) }
     ensures done { IfOk result (λ ended. IfOk ended (λ s. IsWholeEnd job.now (D.told desk.old) (D.told desk.new) (Done s))) }
     ensures stopped { IfOk result (λ ended. IfErr ended (IsRoundEnd job.now (D.told desk.old) (D.told desk.new))) }
     ensures writable { OnOk result (AreWritable (D.told desk.new).register (length job.now.stimuli)) }
-    ensures written { IsTrue D.tells → IfOk result (λ ended. IfOk ended (IsWritten job.now (D.told desk.old).contents (D.told desk.new).contents)) }
     ensures ended_undone { IfOk result (λ ended. IfErr ended IsStopped) }
     ensures counted { IfOk result (λ ended. IfOk ended (λ s. steps.new ≡ steps.old + s.operations)) }
     ensures within { IfOk result (λ ended. IfOk ended (λ s. s.operations ≤ s.size * s.settlings)) }
@@ -134,6 +134,7 @@ fn run_lanes<W: Lanes, D: Desk, L: Ledger>(
             settlings: counts.settlings,
             size,
             operations: counts.operations,
+            missed: None,
         })),
         Err(stop) => Ok(Err(stop_outcome(stop))),
     }

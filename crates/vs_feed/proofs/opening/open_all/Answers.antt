@@ -83,6 +83,7 @@ returns-in_err-open_next-clause-stopped g c =
     rw (p.1, p.2) (subst (λ (s : Stopped). StopsOpening c.args.ports.now (texts paths) old new s) (stopped_is c.in_err-open_next.field-0.0 lane h.lane) (record {
       lane = within;
       error = h.errors;
+      demanded = h.demanded;
       refusal = λ t read memory. ap (λ (bytes : List ℕ). header_refusal c.args.ports.now bytes) (λ i. (sym (inv.others t).files) i (here i)) ∙ h.refused t read memory;
       reading = λ t read memory. ap (λ (bytes : List ℕ). reading c.args.ports.now bytes) (λ i. (sym (inv.others t).files) i (here i)) ∙ h.reading t read memory;
       before = inv.headers;

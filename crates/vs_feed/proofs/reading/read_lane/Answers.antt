@@ -7,6 +7,8 @@ returns-in_ok-next-clause-advanced g c =
     record {
       lane = search rules;
       sizes = search rules;
+      columns = search rules;
+      wanted_sizes = search rules;
       ended = search rules;
       vector = search rules;
       count = λ was now. e.count (e.live.0 now);

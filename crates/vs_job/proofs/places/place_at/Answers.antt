@@ -1,6 +1,6 @@
 use Rattle.std.proofs.Common.{ℕ, ◌+◌, ◌-◌, List, get_or, ap, sym, ◌∙◌, arith}
 use Rattle.vs_job.specs.Places.{place, places, vcd_path}
-use Rattle.vs_job.proofs.Listed.{place-design, place-stimulus, place-vcd}
+use Rattle.vs_job.proofs.Listed.{IsBehind, behind_stimuli, place-design, place-stimulus, place-vcd}
 use Rattle.vs_job.proofs.places.place_at.Goals as goal
 
 pub returns-then-n-eq0 : goal.returns-then-n-eq0
@@ -13,4 +13,5 @@ returns-then-n-lanes c = λ d.
 
 pub returns : goal.returns
 returns c = λ d.
-    place-vcd c.args.job.now c.args.n (c.args.n - 1 - c.len-lanes.result) d _ (omega arith) c.get-2.ensures ∙ ap (λ (path : List ℕ). place (2000 + (c.args.n - 1 - c.len-lanes.result)) (vcd_path path)) (sym c.as_str-2.ensures)
+    let behind : IsBehind c.args.job.now c.args.n = behind_stimuli c.args.job.now c.args.n c.requires.place (omega arith) in
+    place-vcd c.args.job.now c.args.n (c.args.n - 1 - c.len-lanes.result) d _ behind.run (omega arith) c.get-2.ensures ∙ ap (λ (path : List ℕ). place (2000 + (c.args.n - 1 - c.len-lanes.result)) (vcd_path path)) (sym c.as_str-2.ensures)

@@ -1,7 +1,7 @@
 use Rattle.std.proofs.Common.{Vec, Global, [], ◌∷◌, ◌++◌, Bool, if◌then◌else◌, ap, ◌∙◌, sym, append-nil}
 use Rattle.vs_stim.specs.declared.input.Input.{Input}
 use Rattle.vs_flat.specs.Trees.{signal_of}
-use Rattle.vs_rounds.specs.Inputs.{input_of}
+use Rattle.vs_rounds.specs.Inputs.{input_of, is_data_input}
 use Rattle.vs_setup.proofs.Signals.{few_bits_at, more, all}
 use Rattle.vs_setup.proofs.inputs.data_inputs.Goals as goal
 use Rattle.vs_setup.proofs.inputs.data_inputs.Goals.{then-is_data_input+in_ok-input_of+in_ok-push, else-is_data_input}
@@ -13,7 +13,7 @@ input_of-requires c =
 pub loop-n-preserved : goal.loop-n-preserved
 loop-n-preserved c =
     let s = c.signal-signal.result.now in
-    more c.args.resets.now c.args.clock c.args.flat.now c.loop-n.n s c.is_data_input.result c.loop-n.inputs.items c.if-is_data_input.inputs.items c.signal-signal.ensures (c.is_data_input.ensures c.loop-n.n)
+    more (input_of c.args.resets.now) (is_data_input c.args.clock) c.args.flat.now c.loop-n.n s c.is_data_input.result c.loop-n.inputs.items c.if-is_data_input.inputs.items c.signal-signal.ensures (c.is_data_input.ensures c.loop-n.n)
     (elim c.if-is_data_input.branch [
       | then-is_data_input+in_ok-input_of+in_ok-push w ↦ ap (λ (v : Vec Input Global). v.items) w.inputs-is ∙ w.in_ok-push.ensures.items
           ∙ ap (λ (x : Input). c.loop-n.inputs.items ++ x ∷ []) (w.in_ok-input_of.ensures c.loop-n.n)
@@ -24,4 +24,4 @@ loop-n-preserved c =
     c.loop-n.invariant
 
 pub returns : goal.returns
-returns c = all c.args.resets.now c.args.clock c.args.flat.now c.loop-n.n c.signal_count-n-end.result c.loop-n.inputs.items c.signal_count-n-end.ensures.count c.loop-n-test.false c.loop-n.invariant
+returns c = all (input_of c.args.resets.now) (is_data_input c.args.clock) c.args.flat.now c.loop-n.n c.signal_count-n-end.result c.loop-n.inputs.items c.signal_count-n-end.ensures.count c.loop-n-test.false c.loop-n.invariant

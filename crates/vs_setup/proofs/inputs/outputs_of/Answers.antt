@@ -1,8 +1,8 @@
 use Rattle.std.proofs.Common.{Vec, Global, [], ◌∷◌, ◌++◌, Bool, if◌then◌else◌, ap, ◌∙◌, sym, append-nil}
 use Rattle.vs_stim.specs.declared.input.Output.{Output}
 use Rattle.vs_flat.specs.Trees.{signal_of}
-use Rattle.vs_rounds.specs.Inputs.{output_of}
-use Rattle.vs_setup.proofs.Signals.{few_output_at, more_outputs, all_outputs}
+use Rattle.vs_rounds.specs.Inputs.{output_of, is_output}
+use Rattle.vs_setup.proofs.Signals.{few_output_at, more, all}
 use Rattle.vs_setup.proofs.inputs.outputs_of.Goals as goal
 use Rattle.vs_setup.proofs.inputs.outputs_of.Goals.{then-is_output+in_ok-output_of+in_ok-push, else-is_output}
 
@@ -13,7 +13,7 @@ output_of-requires c =
 pub loop-n-preserved : goal.loop-n-preserved
 loop-n-preserved c =
     let s = c.signal-signal.result.now in
-    more_outputs c.args.names.now c.args.flat.now c.loop-n.n s c.is_output.result c.loop-n.outputs.items c.if-is_output.outputs.items c.signal-signal.ensures (c.is_output.ensures c.loop-n.n)
+    more output_of (is_output c.args.names.now) c.args.flat.now c.loop-n.n s c.is_output.result c.loop-n.outputs.items c.if-is_output.outputs.items c.signal-signal.ensures (c.is_output.ensures c.loop-n.n)
     (elim c.if-is_output.branch [
       | then-is_output+in_ok-output_of+in_ok-push w ↦ ap (λ (v : Vec Output Global). v.items) w.outputs-is ∙ w.in_ok-push.ensures.items
           ∙ ap (λ (x : Output). c.loop-n.outputs.items ++ x ∷ []) (w.in_ok-output_of.ensures c.loop-n.n)
@@ -24,4 +24,4 @@ loop-n-preserved c =
     c.loop-n.invariant
 
 pub returns : goal.returns
-returns c = all_outputs c.args.names.now c.args.flat.now c.loop-n.n c.signal_count-n-end.result c.loop-n.outputs.items c.signal_count-n-end.ensures.count c.loop-n-test.false c.loop-n.invariant
+returns c = all output_of (is_output c.args.names.now) c.args.flat.now c.loop-n.n c.signal_count-n-end.result c.loop-n.outputs.items c.signal_count-n-end.ensures.count c.loop-n-test.false c.loop-n.invariant

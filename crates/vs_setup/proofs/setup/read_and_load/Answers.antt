@@ -5,6 +5,7 @@ use Rattle.vs_desk.specs.Places.{design_place}
 use Rattle.vs_accept.specs.Accepted.{most_bytes}
 use Rattle.vs_setup.specs.DesignText.{with_design, IsBehind, IsTooLong, DesignFails}
 use Rattle.vs_setup.specs.Loaded.{IsLoaded}
+use Rattle.vs_setup.specs.Ports.{demands}
 use Rattle.vs_setup.specs.Prepared.{IsDesignLoaded}
 use Rattle.vs_setup.specs.Unprepared.{IsLoadError, IsUnprepared}
 use Rattle.vs_setup.specs.declared.design_text.DesignError.{DesignError}
@@ -20,7 +21,7 @@ returns-clause-loaded g c =
     let slice = c.as_slice.result.now in
     let behind : IsBehind tells job.head (old.files job.design) slice = rw c.as_slice.ensures.value
     (rw (c.as_bytes.ensures, path) at c.in_ok-text.ensures.text) in
-    on_ok (λ l. IsLoaded g.W.Word.lane g.W.Word.LANES slice job.top job.clock l.accepted l.ports l.engine) (λ l. IsDesignLoaded g.W.Word.lane g.W.Word.LANES tells job old l.accepted l.ports l.engine) c.load_text.result c.load_text.ensures.loaded
+    on_ok (λ l. IsLoaded g.W.Word.lane g.W.Word.LANES (demands job.mode) slice job.top job.clock l.accepted l.ports l.engine) (λ l. IsDesignLoaded g.W.Word.lane g.W.Word.LANES tells job old l.accepted l.ports l.engine) c.load_text.result c.load_text.ensures.loaded
     (λ l h. loaded_behind g.W.Word.lane g.W.Word.LANES tells job old slice l.accepted l.ports l.engine behind h)
 
 pub returns-clause-unprepared : goal.returns-clause-unprepared

@@ -1,10 +1,10 @@
-use Rattle.std.proofs.Common.{rules, ◌≡◌, ◌++◌, refl, Bool, Global, Vec, sym, ◌∙◌, subst, arith}
+use Rattle.std.proofs.Common.{rules, false, ◌≡◌, ◌++◌, refl, Bool, Global, Vec, sym, ◌∙◌, subst, arith}
 use Rattle.std.proofs.lemmas.Grind.{common_steps}
 use Rattle.vs_stim.specs.declared.input.Column.{Column}
 use Rattle.vs_stim.specs.declared.input.Expected.{Expected}
 use Rattle.vs_stim.specs.Heading.{columns_of_heading}
 use Rattle.vs_stim.specs.Fields.{fields}
-use Rattle.vs_stim.specs.Header.{header}
+use Rattle.vs_stim.specs.Header.{lacks_output, header}
 use Rattle.vs_stim.specs.Source.{open_at, rest_of, says, vectors_from, Passes, PassesHeader}
 use Rattle.vs_stim.proofs.Passed.{header_passed}
 use Rattle.vs_stim.proofs.Turns.{skipped_is, fault_skipped, header_found}
@@ -69,12 +69,13 @@ returns-in-Given-clause-passes g c = λ t.
     let inv = c.lines.invariant in
     let is = c.args.ports.now in
     let columns = columns_of_heading c.read_heading.new.heading in
+    let named : lacks_output c.args.ports.now columns ≡ false = sym c.lacks_output.ensures ∙ c.if-lacks_output.false in
     let a = open_at c.args.source.now (g.D.Desk.told c.args.desk.now) in
     let o = open_at c.lines.source (g.D.Desk.told c.lines.desk) in
     let p = open_at c.read_heading.new.source (g.D.Desk.told c.read_heading.new.desk) in
     subst (λ (es : Vec Expected Global). PassesHeader is (record { inputs = c.into_columns.result.inputs.items; expected = es.items }) a p) (sym c.into_columns.ensures.expected)
     (subst (λ (cs : Vec Column Global). PassesHeader is (record { inputs = cs.items; expected = c.read_heading.new.heading.expected.items }) a p) (sym c.into_columns.ensures.inputs)
-    (header_passed is columns a o p c.in_ok-kind.last (inv.passed t) inv.begins (h.ends t) (h.passes t) (omega (arith, h.source.bytes)) (sym (rw c.in-Given.is at (h.says t)))))
+    (header_passed is columns a o p c.in_ok-kind.last (inv.passed t) inv.begins (h.ends t) (h.passes t) (omega (arith, h.source.bytes)) (sym (rw c.in-Given.is at (h.says t))) named))
 
 pub returns-in-Given-clause-found : goal.returns-in-Given-clause-found
 returns-in-Given-clause-found g c = λ t.
@@ -83,6 +84,7 @@ returns-in-Given-clause-found g c = λ t.
     let columns = columns_of_heading c.read_heading.new.heading in
     let o = open_at c.lines.source (g.D.Desk.told c.lines.desk) in
     let p = open_at c.read_heading.new.source (g.D.Desk.told c.read_heading.new.desk) in
+    let named : lacks_output c.args.ports.now columns ≡ false = sym c.lacks_output.ensures ∙ c.if-lacks_output.false in
     inv.reading t
-    ∙ header_found c.args.ports.now columns o p c.in_ok-kind.last inv.begins (h.passes t) (omega (arith, h.source.bytes)) (sym (rw c.in-Given.is at (h.says t)))
+    ∙ header_found c.args.ports.now columns o p c.in_ok-kind.last inv.begins (h.passes t) (omega (arith, h.source.bytes)) (sym (rw c.in-Given.is at (h.says t))) named
     ∙ (λ i. vectors_from (record { inputs = (sym c.into_columns.ensures.inputs i).items; expected = (sym c.into_columns.ensures.expected i).items }) 0 p)

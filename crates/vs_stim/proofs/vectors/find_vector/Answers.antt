@@ -68,11 +68,11 @@ returns-in-Given-clause-passes g c =
     let columns = columns_in c.lines.row in
     let values = entry_in c.read_row.new.row in
     let taken = ap (λ cs. not_taken limits cs c.lines.source.number c.args.count values) (sym (same_columns c.lines.row c.read_row.new.row h.form)) ∙ c.in_ok-check_vector-in-Given.ensures.ok in
-    λ t _.
+    λ t.
     let o = open_at c.lines.source (g.D.Desk.told c.lines.desk) in
     let p = open_at c.read_row.new.source (g.D.Desk.told c.read_row.new.desk) in
     let a = open_at c.args.source.now (g.D.Desk.told c.args.desk.now) in
-    subst (λ (cs : ColumnLists). PassesVector cs c.args.count values a p) (same_columns c.args.row.now c.lines.row inv.form)
+    subst (λ (cs : ColumnLists). PassesVector cs c.args.count c.lines.source.number values a p) (same_columns c.args.row.now c.lines.row inv.form)
     (vector_passed columns c.args.count values a o p c.in_ok-kind.last (inv.passed t) inv.begins (h.ends t) (h.passes t) (omega (arith, h.source.bytes)) (sym (rw c.in-Given.is at (h.says t))) taken)
 
 pub lines-init : goal.lines-init

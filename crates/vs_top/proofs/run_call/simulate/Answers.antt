@@ -1,59 +1,48 @@
-use Rattle.vs_top.specs.declared.outcome.Outcome.TheVariants.{Done}
-use Rattle.vs_top.proofs.Ends.{reported_written}
-use Rattle.vs_top.proofs.Causes.{stopped_cause, done_cause}
-use Rattle.vs_top.proofs.Lawful.{stopped_complete, stopped_refused, done_complete, refused_undone}
+use Rattle.vs_top.proofs.Causes.{simulated_cause}
+use Rattle.vs_top.proofs.Ends.{simulated_usage}
+use Rattle.vs_top.proofs.Lawful.{simulated_complete, simulated_refused}
+use Rattle.vs_top.proofs.Simulated.{simulated_written, simulated_checked}
+use Rattle.vs_top.proofs.Others.{simulated_others}
 use Rattle.vs_top.proofs.run_call.simulate.Goals as goal
 
-pub returns-in-Ok-clause-ended : goal.returns-in-Ok-clause-ended
-returns-in-Ok-clause-ended g c = record {
-  middle = c.run_job.new.desk;
-  outcome = Done c.in-Ok.summary;
-  ended = c.in-Ok.ensures.done;
-  done = c.report.ensures.done;
-  stopped = c.report.ensures.stopped;
-  stopped_line = c.report.ensures.stopped_line;
-}
+pub returns-in-Run-clause-causes : goal.returns-in-Run-clause-causes
+returns-in-Run-clause-causes g c = simulated_cause g.D.Desk.told c.args.job.now c.args.desk.now c.run_and_report.new.desk c.run_and_report.result c.run_and_report.ensures.ended
 
-pub returns-in-Err-clause-ended : goal.returns-in-Err-clause-ended
-returns-in-Err-clause-ended g c = record {
-  middle = c.run_job.new.desk;
-  outcome = c.in-Err.outcome;
-  ended = c.in-Err.ensures.stopped;
-  done = c.report-in-Err.ensures.done;
-  stopped = c.report-in-Err.ensures.stopped;
-  stopped_line = c.report-in-Err.ensures.stopped_line;
-}
+pub returns-in-Run-clause-complete : goal.returns-in-Run-clause-complete
+returns-in-Run-clause-complete g c = λ told. simulated_complete c.answer_law.ensures.not_both g.D.Desk.told c.args.job.now c.args.desk.now c.run_and_report.new.desk c.run_and_report.result told c.run_and_report.ensures.ended
 
-pub returns-in-Ok-clause-written : goal.returns-in-Ok-clause-written
-returns-in-Ok-clause-written g c = λ t s e.
-    reported_written c.args.job.now (g.D.Desk.told c.args.desk.now).contents (g.D.Desk.told c.run_job.new.desk) (g.D.Desk.told c.report.new.desk) c.in-Ok.summary s c.report.result c.report.ensures.done e t (c.in-Ok.ensures.written t)
+pub returns-in-Run-clause-refused : goal.returns-in-Run-clause-refused
+returns-in-Run-clause-refused g c = λ told. simulated_refused (record { reading = c.answer_law.ensures.reading; design = c.answer_law.ensures.one }) c.answer_law.ensures.not_both c.answer_law.ensures.alike g.D.Desk.told c.args.job.now c.args.desk.now c.run_and_report.new.desk c.run_and_report.result told c.run_and_report.ensures.ended
 
-pub returns-in-Ok-clause-causes : goal.returns-in-Ok-clause-causes
-returns-in-Ok-clause-causes g c =
-    done_cause c.args.job.now (g.D.Desk.told c.args.desk.now) (g.D.Desk.told c.run_job.new.desk) (g.D.Desk.told c.report.new.desk) c.in-Ok.summary c.report.result
-    c.in-Ok.ensures.done c.report.ensures.done
+pub returns-in-Run-clause-not_usage : goal.returns-in-Run-clause-not_usage
+returns-in-Run-clause-not_usage g c = simulated_usage g.D.Desk.told c.args.job.now c.args.desk.now c.run_and_report.new.desk c.run_and_report.result c.run_and_report.ensures.ended
 
-pub returns-in-Ok-clause-complete : goal.returns-in-Ok-clause-complete
-returns-in-Ok-clause-complete g c = λ told lawful faultless.
-    done_complete (g.D.Desk.told c.args.desk.now) (g.D.Desk.told c.run_job.new.desk) (g.D.Desk.told c.report.new.desk) c.in-Ok.summary c.report.result
-    c.report.ensures.done (returns-in-Ok-clause-causes g c) faultless
+pub returns-in-Run-clause-written : goal.returns-in-Run-clause-written
+returns-in-Run-clause-written g c = simulated_written g.D.Desk.told c.args.job.now c.args.desk.now c.run_and_report.new.desk c.run_and_report.result c.run_and_report.ensures.ended
 
-pub returns-in-Err-clause-causes : goal.returns-in-Err-clause-causes
-returns-in-Err-clause-causes g c =
-    stopped_cause c.args.job.now (g.D.Desk.told c.args.desk.now) (g.D.Desk.told c.run_job.new.desk) (g.D.Desk.told c.report-in-Err.new.desk) c.in-Err.outcome c.report-in-Err.result
-    c.in-Err.ensures.not_done c.in-Err.ensures.stopped c.report-in-Err.ensures.stopped c.report-in-Err.ensures.stopped_line
+pub returns-in-Run-clause-checked : goal.returns-in-Run-clause-checked
+returns-in-Run-clause-checked g c = simulated_checked g.D.Desk.told c.args.job.now c.args.desk.now c.run_and_report.new.desk c.run_and_report.result c.run_and_report.ensures.ended
 
-pub returns-in-Err-clause-complete : goal.returns-in-Err-clause-complete
-returns-in-Err-clause-complete g c = λ told lawful faultless.
-    stopped_complete c.args.job.now (g.D.Desk.told c.args.desk.now) (g.D.Desk.told c.run_job.new.desk) (g.D.Desk.told c.report-in-Err.new.desk) c.in-Err.outcome c.report-in-Err.result
-    c.answer_law.ensures.not_both c.in-Err.ensures.not_done c.in-Err.ensures.stopped c.report-in-Err.ensures.stopped (returns-in-Err-clause-causes g c) told lawful faultless
+pub returns-in-Run-clause-others : goal.returns-in-Run-clause-others
+returns-in-Run-clause-others g c = simulated_others c.attach_law.ensures.others g.D.Desk.told c.args.job.now c.args.desk.now c.run_and_report.new.desk c.run_and_report.result c.run_and_report.ensures.ended
 
-pub returns-in-Ok-clause-refused : goal.returns-in-Ok-clause-refused
-returns-in-Ok-clause-refused g c = λ told q job_refused faultless.
-    absurd (refused_undone c.args.job.now (g.D.Desk.told c.args.desk.now) (g.D.Desk.told c.run_job.new.desk) c.in-Ok.summary
-    (record { reading = c.answer_law.ensures.reading; design = c.answer_law.ensures.one }) c.answer_law.ensures.not_both c.in-Ok.ensures.done (c.in-Ok.ensures.written told) q job_refused)
+pub returns-in-Check-clause-causes : goal.returns-in-Check-clause-causes
+returns-in-Check-clause-causes g c = simulated_cause g.D.Desk.told c.args.job.now c.args.desk.now c.check_job.new.desk c.check_job.result c.check_job.ensures.ended
 
-pub returns-in-Err-clause-refused : goal.returns-in-Err-clause-refused
-returns-in-Err-clause-refused g c = λ told q job_refused faultless.
-    stopped_refused c.args.job.now (g.D.Desk.told c.args.desk.now) (g.D.Desk.told c.run_job.new.desk) (g.D.Desk.told c.report-in-Err.new.desk) c.in-Err.outcome c.report-in-Err.result
-    (record { reading = c.answer_law.ensures.reading; design = c.answer_law.ensures.one }) c.answer_law.ensures.not_both c.answer_law.ensures.alike c.in-Err.ensures.not_done c.in-Err.ensures.stopped c.report-in-Err.ensures.stopped (returns-in-Err-clause-causes g c) told q job_refused faultless
+pub returns-in-Check-clause-complete : goal.returns-in-Check-clause-complete
+returns-in-Check-clause-complete g c = λ told. simulated_complete c.answer_law.ensures.not_both g.D.Desk.told c.args.job.now c.args.desk.now c.check_job.new.desk c.check_job.result told c.check_job.ensures.ended
+
+pub returns-in-Check-clause-refused : goal.returns-in-Check-clause-refused
+returns-in-Check-clause-refused g c = λ told. simulated_refused (record { reading = c.answer_law.ensures.reading; design = c.answer_law.ensures.one }) c.answer_law.ensures.not_both c.answer_law.ensures.alike g.D.Desk.told c.args.job.now c.args.desk.now c.check_job.new.desk c.check_job.result told c.check_job.ensures.ended
+
+pub returns-in-Check-clause-not_usage : goal.returns-in-Check-clause-not_usage
+returns-in-Check-clause-not_usage g c = simulated_usage g.D.Desk.told c.args.job.now c.args.desk.now c.check_job.new.desk c.check_job.result c.check_job.ensures.ended
+
+pub returns-in-Check-clause-written : goal.returns-in-Check-clause-written
+returns-in-Check-clause-written g c = simulated_written g.D.Desk.told c.args.job.now c.args.desk.now c.check_job.new.desk c.check_job.result c.check_job.ensures.ended
+
+pub returns-in-Check-clause-checked : goal.returns-in-Check-clause-checked
+returns-in-Check-clause-checked g c = simulated_checked g.D.Desk.told c.args.job.now c.args.desk.now c.check_job.new.desk c.check_job.result c.check_job.ensures.ended
+
+pub returns-in-Check-clause-others : goal.returns-in-Check-clause-others
+returns-in-Check-clause-others g c = simulated_others c.attach_law.ensures.others g.D.Desk.told c.args.job.now c.args.desk.now c.check_job.new.desk c.check_job.result c.check_job.ensures.ended

@@ -1,4 +1,4 @@
-use Rattle.std.proofs.Common.{rules, false, ◌≡◌, ◌*◌, ◌<◌, ℕ, List, ◌++◌, String, Global, IsTrue, IsNone, length, map, take, sym, subst, ap, ◌∙◌, refl, arith}
+use Rattle.std.proofs.Common.{false, None, ◌≡◌, ◌*◌, ◌<◌, ℕ, List, ◌++◌, String, Global, IsTrue, IsNone, length, map, take, sym, subst, ap, ◌∙◌, refl, arith}
 use Rattle.std.specs.Prelude.{string_bytes, if◌then◌else◌, []}
 use Rattle.std.proofs.lemmas.List.{length-map, take-map}
 use Rattle.vs_desk.specs.declared.desk.Way.TheVariants.{Write}
@@ -18,13 +18,12 @@ use Rattle.vs_setup.specs.DesignText.{design_text}
 use Rattle.vs_setup.specs.Ports.{ports_of}
 use Rattle.vs_setup.specs.Prepared.{run_of}
 use Rattle.vs_setup.specs.Places.{with_texts}
-use Rattle.vs_top.specs.declared.outcome.Outcome.TheVariants.{Done}
-use Rattle.vs_top.specs.Ended.{IsWholeEnd, wave_paths, with_waves}
-use Rattle.vs_top.proofs.simulation.run_lanes.Given.{Over}
+use Rattle.vs_top.specs.Ended.{wave_paths, with_waves}
 use Rattle.vs_top.specs.Ended.IsEnd.{setup, first, attached}
 use Rattle.vs_top.proofs.Places.{with_places-at, still_attached, still_free}
 use Rattle.vs_top.proofs.Flushing.{attached_writable, cause_attached, still_writable}
 use Rattle.vs_top.proofs.Lanes.{are_data_inputs, lane_written, accepted_as, run_is}
+use Rattle.vs_top.proofs.Lawful.{run_free}
 use Rattle.vs_top.proofs.Stores.{has_vector, some_settling, are_stores}
 use Rattle.vs_top.proofs.simulation.run_lanes.Goals as goal
 
@@ -33,8 +32,8 @@ returns-in-Err-begin-clause-unbegun g c =
     let job = c.args.job.now in
     let p = c.in-Ok.ensures.prepared in
     let stop = c.in-Err-begin.stop in
-    let run = run_of job (g.D.Desk.told c.args.desk.now).contents.files p.design p.accepted.accepted.clock.first (ports_of p.accepted) in
-    first (sym c.same_paths.ensures ∙ c.in_default.is) (record {
+    let run = run_of job (g.D.Desk.told c.args.desk.now).contents.files p.design p.accepted.accepted.clock.first (ports_of job.mode p.accepted) in
+    first refl (sym c.same_paths.ensures ∙ c.in_default.is) (record {
       stop = stop;
       outcome_is = c.stop_outcome.ensures.outcome;
       lane = subst (λ (n : ℕ). IsLaneOf n stop) p.lanes c.in-Err-begin.ensures.lane;
@@ -85,13 +84,13 @@ returns-in-Err-attach-clause-unbegun g c =
     let lane = c.in-Err-attach.fault.lane in
     let items : List (String Global) = c.in-Ok.prepared.wave_paths.items in
     let lanes : length items ≡ length job.stimuli = sym (length-map items (string_bytes {Z = Global})) ∙ ap length p.paths ∙ length-map job.stimuli vcd_path in
-    let run = run_of job (g.D.Desk.told c.args.desk.now).contents.files p.design p.accepted.accepted.clock.first (ports_of p.accepted) in
+    let run = run_of job (g.D.Desk.told c.args.desk.now).contents.files p.design p.accepted.accepted.clock.first (ports_of job.mode p.accepted) in
     let P : Register → List (List ℕ) → List (List ℕ) → Type 0 = λ r taken all. Fails (with_places r (waveform_place 0) Write taken) now (wave_place lane) (path_at all lane) in
     let begun = subst (λ (r : Register). P r (map string_bytes (take lane items)) (map string_bytes items)) (c.in_default-begin.ensures.same ∙ p.register_is) c.in-Err-attach.ensures.failed in
     let mapped = subst (λ (taken : List (List ℕ)). P (with_texts before job job.stimuli) taken (map string_bytes items)) (sym (take-map string_bytes lane items)) begun in
     let held = c.in-Ok.prepared.wave_paths.ok.0 in
     let within = c.in-Err-attach.ensures.lane in
-    attached (sym c.same_paths.ensures ∙ c.in_default.is) (record {
+    attached refl c.requires.mode (sym c.same_paths.ensures ∙ c.in_default.is) (record {
       lane = lane;
       is_lane = omega (arith, within, held, lanes);
       outcome_is = refl;
@@ -121,9 +120,8 @@ rounds-requires-clause-writable g c = λ i lt _.
     let below : i < length (map (string_bytes {Z = Global}) items) = subst (λ n. i < n) (waves ∙ lanes ∙ sym paths) lt in
     subst (λ (r : Register). IsAttached r (wave_place i) Write) (sym c.in_default-attach.ensures.attached) (with_places-at c.attach_law.ensures.each (g.D.Desk.told c.begin.new.desk).register (waveform_place 0) Write (map (string_bytes {Z = Global}) items) i below)
 
-all_written : (g : Over) (c : goal.After-drop-machine-inside-in-Ok-rounds-24 g) → IsWholeEnd c.args.job.now (g.D.Desk.told c.args.desk.now) (g.D.Desk.told c.rounds.new.desk)
-    (Done (record { lanes = c.len.result; vectors = c.in-Ok-rounds.counts.vectors; settlings = c.in-Ok-rounds.counts.settlings; size = c.in-Ok.prepared.size; operations = c.in-Ok-rounds.counts.operations }))
-all_written g c =
+pub returns-in-Ok-rounds-clause-done : goal.returns-in-Ok-rounds-clause-done
+returns-in-Ok-rounds-clause-done g c =
     let job = c.args.job.now in
     let before = (g.D.Desk.told c.args.desk.now).register in
     let old = (g.D.Desk.told c.args.desk.now).contents in
@@ -131,7 +129,7 @@ all_written g c =
     let p = c.in-Ok.ensures.prepared in
     let counts = c.in-Ok-rounds.counts in
     let clock = p.accepted.accepted.clock.first in
-    let run = run_of job old.files p.design clock (ports_of p.accepted) in
+    let run = run_of job old.files p.design clock (ports_of job.mode p.accepted) in
     let items : List (String Global) = c.in-Ok.prepared.wave_paths.items in
     let lanes : length c.begin.new.self.stimuli ≡ length job.stimuli = c.in_default-begin.ensures.lanes ∙ p.lanes in
     let paths : length items ≡ length job.stimuli = sym (length-map items (string_bytes {Z = Global})) ∙ ap length p.paths ∙ length-map job.stimuli vcd_path in
@@ -147,8 +145,9 @@ all_written g c =
     let some : 0 < length job.stimuli = omega (arith, c.requires.job.some) in
     let done : IsTrue g.D.Desk.tells → AreDone run (length job.stimuli) new = λ t. subst (λ (n : ℕ). AreDone run n new) lanes (c.in-Ok-rounds.ensures.done t run (in_round t)) in
     record {
-      summary = record { lanes = c.len.result; vectors = counts.vectors; settlings = counts.settlings; size = c.in-Ok.prepared.size; operations = counts.operations };
+      summary = record { lanes = c.len.result; vectors = counts.vectors; settlings = counts.settlings; size = c.in-Ok.prepared.size; operations = counts.operations; missed = None };
       outcome_is = refl;
+      unchecked = refl;
       register_is = c.in-Ok-rounds.ensures.same ∙ c.in_default-attach.ensures.attached ∙ ap (λ (ps : List (List ℕ)). with_places (g.D.Desk.told c.begin.new.desk).register (waveform_place 0) Write ps) p.paths
           ∙ ap (λ (r : Register). with_places r (waveform_place 0) Write (wave_paths job)) (c.in_default-begin.ensures.same ∙ p.register_is);
       written = λ t. record {
@@ -156,11 +155,12 @@ all_written g c =
         accepted = accepted_as job.top job.clock p.design (job.head ++ p.file) (design_text job old) (ap (λ (file : List ℕ). job.head ++ file) (p.file_is t)) p.accepted;
         stimuli_taken = λ i h. (done t).taken i h;
         design_taken = (c.rounds.ensures.others t).left 1 (omega arith) ∙ ap (λ (left : ℕ → List ℕ). left 1) (empty t).left ∙ (c.begin.ensures.others t).before 1 (omega arith) ∙ p.taken t;
-        lanes = λ i h. lane_written c.headline_law.ensures.every c.headline_law.ensures.some c.known_law.ensures.some p.design job.clock p.accepted.accepted job.half run.ports (are_data_inputs p.design clock p.all_ports.inputs)
+        lanes = λ i h. lane_written c.headline_law.ensures.every c.headline_law.ensures.some c.known_law.ensures.some p.design job.clock p.accepted.accepted job.half run.ports (run_free job.mode p.accepted c.requires.mode) (are_data_inputs p.design clock p.all_ports.inputs)
             (run.texts i) (new.put (wave_place i)) ((done t).valid i h) ((done t).given i h);
-        lanes_are = search rules;
+        lanes_are = c.len.ensures;
         counted = counted t;
         size_is = p.size_is;
+        unchecked = refl;
         stored = are_stores p.design clock engine.program program engine.begun idle ticked.0 counts.settlings counts.operations c.args.steps.now c.rounds.new.steps ticked.1
             (some_settling run (length job.stimuli) counts.vectors counts.settlings some (has_vector c.known_law.ensures.some run 0 ((done t).valid 0 some)) (counted t)) ticked.2 c.in-Ok-rounds.ensures.operations;
       };
@@ -169,9 +169,6 @@ all_written g c =
           ∙ (empty t).others place (λ i h. other i (omega (arith, h, held, paths)))
           ∙ ap (λ (f : ℕ → List ℕ). f place) ((c.begin.ensures.others t).put ∙ (p.kept t).put);
     }
-
-pub returns-in-Ok-rounds-clause-done : goal.returns-in-Ok-rounds-clause-done
-returns-in-Ok-rounds-clause-done g c = all_written g c
 
 pub returns-in-Ok-rounds-clause-within : goal.returns-in-Ok-rounds-clause-within
 returns-in-Ok-rounds-clause-within g c =
@@ -192,7 +189,7 @@ returns-clause-stopped g c =
     let now = (g.D.Desk.told c.rounds.new.desk).register in
     let p = c.in-Ok.ensures.prepared in
     let stop = c.in-Err-rounds.stop in
-    let run = run_of job old.files p.design p.accepted.accepted.clock.first (ports_of p.accepted) in
+    let run = run_of job old.files p.design p.accepted.accepted.clock.first (ports_of job.mode p.accepted) in
     let items : List (String Global) = c.in-Ok.prepared.wave_paths.items in
     let lanes : length c.begin.new.self.stimuli ≡ length job.stimuli = c.in_default-begin.ensures.lanes ∙ p.lanes in
     let paths : length items ≡ length job.stimuli = sym (length-map items (string_bytes {Z = Global})) ∙ ap length p.paths ∙ length-map job.stimuli vcd_path in
@@ -216,12 +213,8 @@ returns-clause-stopped g c =
           ∙ ap (λ (f : ℕ → List ℕ). f place) ((c.begin.ensures.others t).put ∙ (p.kept t).put);
     }
 
-pub returns-in-Ok-rounds-clause-written : goal.returns-in-Ok-rounds-clause-written
-unfolding all_written
-returns-in-Ok-rounds-clause-written g c = λ t. (all_written g c).written t
-
 pub returns-in-Err-clause-unbegun : goal.returns-in-Err-clause-unbegun
-returns-in-Err-clause-unbegun g c = setup (sym c.same_paths.ensures ∙ c.in_default.is) (record {
+returns-in-Err-clause-unbegun g c = setup refl (sym c.same_paths.ensures ∙ c.in_default.is) (record {
   error = c.in-Err.error;
   outcome_is = c.setup_outcome.ensures.outcome;
   cause = c.in-Err.ensures.unprepared;

@@ -39,9 +39,9 @@ returns-clause-read g c = λ t.
     let place : new.place ≡ 1000 + c.args.lane = search rules in
     let columns : columns_in c.new.result ≡ lists_of c.in_ok-columns.columns =
     λ i. record { inputs = (c.new.ensures.columns i).items; expected = ((ap (λ (w : Wants). w.expected) c.new.ensures.wants ∙ c.in_ok-wants.ensures.expected) i).items } in
-    subst (λ (n : ℕ). IsReadTo is ((g.D.Desk.told c.args.desk.now).contents.files (string_bytes c.args.path)) 0 (columns_in c.new.result) p.at (new.block ++ after.contents.left n)) place
-    (subst (λ (ds : ColumnLists). IsReadTo is ((g.D.Desk.told c.args.desk.now).contents.files (string_bytes c.args.path)) 0 ds p.at p.rest) (sym columns)
-    (subst (λ (text : List ℕ). IsReadTo is text 0 cs p.at p.rest) rest (read_first is cs o p at (c.in_ok-columns.ensures.passes t))))
+    subst (λ (n : ℕ). IsReadTo is ((g.D.Desk.told c.args.desk.now).contents.files (string_bytes c.args.path)) 0 (columns_in c.new.result) 0 p.at (new.block ++ after.contents.left n)) place
+    (subst (λ (ds : ColumnLists). IsReadTo is ((g.D.Desk.told c.args.desk.now).contents.files (string_bytes c.args.path)) 0 ds 0 p.at p.rest) (sym columns)
+    (subst (λ (text : List ℕ). IsReadTo is text 0 cs 0 p.at p.rest) rest (read_first is cs 0 o p at (c.in_ok-columns.ensures.passes t))))
 
 pub returns-clause-header : goal.returns-clause-header
 returns-clause-header g c = λ t.

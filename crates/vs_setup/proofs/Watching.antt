@@ -1,0 +1,86 @@
+-- A check whose parts were put together.
+use Rattle.std.proofs.Common.{◌≡◌, ℕ, ◌<◌, Bool, List, ◌++◌, length, map, IsTrue, None, All, sym, subst, ap, ◌∙◌}
+use Rattle.std.specs.List.{filter, list_all}
+use Rattle.vs_desk.specs.Desk.{Contents}
+use Rattle.vs_flat.specs.DesignOf.{design_of}
+use Rattle.vs_program.specs.declared.compiled.Span.{Span}
+use Rattle.vs_program.specs.Program.{spans}
+use Rattle.vs_program.specs.Compiled.{span_of}
+use Rattle.vs_engine.specs.Lanes.{Running}
+use Rattle.vs_accept.specs.Lent.{Acceptance}
+use Rattle.vs_accept.specs.Accepted.{IsAcceptedText}
+use Rattle.vs_accept.specs.Outputs.{top_outputs}
+use Rattle.vs_stim.specs.declared.input.Output.{Output}
+use Rattle.vs_stim.specs.Header.{PortLists, output_lengths}
+use Rattle.vs_stim.specs.Known.{Known}
+use Rattle.vs_stim.specs.Wants.{IsExpectedOf}
+use Rattle.vs_feed.specs.Lanes.{lane_at}
+use Rattle.vs_misses.specs.Watch.{AllFit, span_lengths, found_at}
+use Rattle.vs_rounds.specs.Inputs.{is_output, outputs}
+use Rattle.vs_rounds.specs.Missed.{output_spans, OutputsHaveSpans, SpansHaveLengths}
+use Rattle.vs_rounds.specs.Checked.{Checking, AreCheckParts, AreWatched}
+use Rattle.vs_job.specs.declared.job.Job.{Job}
+use Rattle.vs_setup.specs.Loaded.{watched}
+use Rattle.vs_setup.proofs.Lanes.{HasLanes, runs, program_is, bits_are, reading_is, has_given, idle_is}
+use Rattle.vs_setup.proofs.Signals.{are_inside}
+
+-- the outputs that are watched are those that stimuli name
+pub watches : OutputsHaveSpans → (text top clock : List ℕ) (a : Acceptance) (accepted : IsAcceptedText text top clock (design_of a.flat)) → a.outputs ≡ top_outputs accepted.source top
+    → watched a ≡ output_spans (design_of a.flat) (outputs (design_of a.flat) (top_outputs accepted.source top))
+watches law text top clock a accepted names_are =
+    let d = design_of a.flat in
+    ap (λ (names : List (List ℕ)). map span_of (filter (is_output names) d.signals)) names_are ∙ sym (law d (top_outputs accepted.source top))
+
+-- they have the lengths of the ports' outputs
+watched_lengths : OutputsHaveSpans → SpansHaveLengths → (text top clock : List ℕ) (a : Acceptance) (accepted : IsAcceptedText text top clock (design_of a.flat)) → a.outputs ≡ top_outputs accepted.source top
+    → (os : List Output) → os ≡ outputs (design_of a.flat) (top_outputs accepted.source top) → span_lengths (watched a) ≡ output_lengths os
+watched_lengths law lengths text top clock a accepted names_are os is =
+    ap span_lengths (watches law text top clock a accepted names_are) ∙ lengths (design_of a.flat) (top_outputs accepted.source top) ∙ sym (ap output_lengths is)
+
+-- the stimuli want as many digits of each
+pub all_fit : {W : Type 0} (lane : W → ℕ → Bool) (lanes : ℕ) (tells : Bool) (job : Job) (old mid new : Contents) (a : Acceptance) (ports : PortLists) (engine now : Running W) (ks : List Known)
+    → OutputsHaveSpans → SpansHaveLengths → HasLanes lane lanes tells job old mid new a ports engine now ks → AllFit (watched a) ks
+all_fit lane lanes tells job old mid new a ports engine now ks law lengths p = record {
+  each = λ i h.
+      let o = p.opened.each i h in
+      let k = lane_at ks i in
+      record {
+        columns = subst (λ (ns : List ℕ). All (IsExpectedOf ns) k.columns.expected) (sym same) o.named;
+        once = o.once;
+        sizes = o.wanted_sizes;
+      };
+}
+  where
+    same : span_lengths (watched a) ≡ output_lengths ports.outputs
+    same = watched_lengths law lengths (job.head ++ p.loaded.file) job.top job.clock a p.loaded.loaded.accepted p.loaded.loaded.names_are ports.outputs (ap (λ (is : PortLists). is.outputs) p.loaded.loaded.ports_are)
+
+-- they are parts of a check
+pub are_parts : {W : Type 0} (lane : W → ℕ → Bool) (lanes : ℕ) (tells : Bool) (job : Job) (old mid new : Contents) (a : Acceptance) (ports : PortLists) (engine now : Running W) (ks : List Known)
+    → (p : HasLanes lane lanes tells job old mid new a ports engine now ks) → AreCheckParts (design_of a.flat) p.loaded.loaded.accepted.accepted.clock.first ks now.program (watched a)
+are_parts lane lanes tells job old mid new a ports engine now ks p =
+    let program = program_is lane lanes tells job old mid new a ports engine now ks p in
+    record {
+      program = program;
+      lanes = p.numbered;
+      bits = bits_are lane lanes tells job old mid new a ports engine now ks p;
+      inside = are_inside (design_of a.flat) a.outputs now.program.bits p.loaded.loaded.accepted.accepted.lawful program.bits;
+    }
+
+-- the parts of a check
+pub record HasWatch {W : Type 0} (lane : W → ℕ → Bool) (lanes : ℕ) (tells : Bool) (job : Job) (old mid new : Contents) (a : Acceptance) (ports : PortLists) (engine : Running W) (m : Checking W) : Type 0 where
+  pub lanes_are : HasLanes lane lanes tells job old mid new a ports engine m.engine m.stimuli
+  pub outputs_are : m.misses.outputs ≡ watched a
+  pub none : (i : ℕ) → found_at m.misses.found i ≡ None
+
+-- Which lane is opened, whatever text of the design the desk told.
+pub is_watched : {W : Type 0} (lane : W → ℕ → Bool) (lanes : ℕ) (tells : Bool) (job : Job) (old mid new : Contents) (a : Acceptance) (ports : PortLists) (engine : Running W) (m : Checking W)
+    → OutputsHaveSpans → (p : HasWatch lane lanes tells job old mid new a ports engine m) → IsTrue tells → AreWatched lane (runs p.lanes_are) m new
+is_watched lane lanes tells job old mid new a ports engine m law p t = record {
+  program = program_is lane lanes tells job old mid new a ports engine m.engine m.stimuli p.lanes_are;
+  outputs = p.outputs_are ∙ watches law (job.head ++ p.lanes_are.loaded.file) job.top job.clock a p.lanes_are.loaded.loaded.accepted p.lanes_are.loaded.loaded.names_are;
+  live = λ i h. (p.lanes_are.opened.each i h).live;
+  reading = reading_is lane lanes tells job old mid new a ports engine m.engine m.stimuli p.lanes_are t;
+  read = has_given lane lanes tells job old mid new a ports engine m.engine m.stimuli p.lanes_are t;
+  none = λ i h. p.none i;
+  idle = idle_is lane lanes tells job old mid new a ports engine m.engine m.stimuli p.lanes_are;
+}

@@ -1,0 +1,55 @@
+use Rattle.std.proofs.Common.{Err, length, sym, subst, ap, ◌∙◌, arith}
+use Rattle.std.proofs.lemmas.Result.{err_from_is_err_and}
+use Rattle.vs_desk.specs.Desk.{Register}
+use Rattle.vs_feed.specs.Opened.{AreFree, with_lanes}
+use Rattle.vs_setup.specs.DesignText.{with_design}
+use Rattle.vs_setup.specs.Unprepared.{IsUnprepared, IsUnopened}
+use Rattle.vs_setup.proofs.Opening.{err_is, unprepared, free_behind}
+use Rattle.vs_setup.proofs.setup.open_job.Goals as goal
+
+pub open_stimuli-requires-clause-free : goal.open_stimuli-requires-clause-free
+open_stimuli-requires-clause-free g c =
+    subst (λ (r : Register). AreFree r (length c.args.job.now.stimuli)) (sym c.in_ok-loaded.ensures.register)
+    (free_behind (g.D.Desk.told c.args.desk.now).register c.args.job.now.design (length c.args.job.now.stimuli) c.requires.fresh)
+
+pub returns-in_err-drive-clause-unprepared : goal.returns-in_err-drive-clause-unprepared
+returns-in_err-drive-clause-unprepared g c =
+    let job = c.args.job.now in
+    let old = g.D.Desk.told c.args.desk.now in
+    let mid = g.D.Desk.told c.read_and_load.new.desk in
+    let new = g.D.Desk.told c.open_stimuli.new.desk in
+    let l = c.in_ok-loaded.loaded in
+    let e = c.in_err-drive.field-0.0 in
+    let unopened : IsUnopened l.ports job.stimuli mid new e = c.in_err-drive.ensures.unopened in
+    let behind : IsUnopened l.ports job.stimuli (record mid { register = with_design old.register job.design }) new e =
+    subst (λ (r : Register). IsUnopened l.ports job.stimuli (record mid { register = r }) new e) c.in_ok-loaded.ensures.register
+    unopened in
+    err_is (IsUnprepared job old new) c.from_residual-in_err-drive.result e (let p = err_from_is_err_and c.from_residual-in_err-drive.result c.from_residual-in_err-drive.ensures.1 in p.1 ∙ ap Err p.2)
+    (unprepared g.W.Word.lane g.W.Word.LANES job old mid new l.accepted l.ports l.engine c.in_ok-loaded.ensures.loaded (λ t. (c.in_ok-loaded.ensures.only t).files) e behind)
+
+pub returns-clause-opened : goal.returns-clause-opened
+returns-clause-opened g c = record {
+  loaded = c.in_ok-loaded.ensures.loaded;
+  taken = λ t. (c.in_ok-drive.ensures.others t).before 1 (omega arith) ∙ c.in_ok-loaded.ensures.taken t;
+  middle = (g.D.Desk.told c.read_and_load.new.desk).contents;
+  files = λ t. (c.in_ok-loaded.ensures.only t).files;
+  opened = c.in_ok-drive.ensures.opened;
+  headers = c.in_ok-drive.ensures.headers;
+  numbered = c.in_ok-drive.ensures.numbered;
+  readable = c.in_ok-drive.ensures.readable;
+}
+
+pub returns-clause-register : goal.returns-clause-register
+returns-clause-register g c = c.in_ok-drive.ensures.register ∙ ap (λ (r : Register). with_lanes r c.args.job.now.stimuli) c.in_ok-loaded.ensures.register
+
+pub returns-clause-kept : goal.returns-clause-kept
+returns-clause-kept g c = λ t. record {
+  files = (c.in_ok-drive.ensures.others t).files ∙ (c.in_ok-loaded.ensures.only t).files;
+  put = (c.in_ok-drive.ensures.others t).put ∙ (c.in_ok-loaded.ensures.only t).put;
+}
+
+pub returns-in_err-drive-clause-kept : goal.returns-in_err-drive-clause-kept
+returns-in_err-drive-clause-kept g c = λ t. record {
+  files = (c.open_stimuli.ensures.others t).files ∙ (c.in_ok-loaded.ensures.only t).files;
+  put = (c.open_stimuli.ensures.others t).put ∙ (c.in_ok-loaded.ensures.only t).put;
+}

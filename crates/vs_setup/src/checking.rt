@@ -1,0 +1,74 @@
+//! The set-up of a check.
+
+ghost use Rattle.std.specs.Prelude.{◌≡◌, ◌≤◌, ℕ, None, IsTrue, IfOk, IfErr, length};
+ghost use Rattle.vs_flat.specs.DesignOf.{design_of};
+ghost use Rattle.vs_design.specs.Designs.{Design};
+ghost use Rattle.vs_design.specs.Sizes.{size as size_of};
+ghost use Rattle.vs_misses.specs.Watch.{AllFit, found_at};
+ghost use Rattle.vs_rounds.specs.Checked.{AreCheckParts, IsCheckable};
+ghost use Rattle.vs_job.specs.Job.{IsJob};
+ghost use Rattle.vs_setup.specs.Loaded.{watched};
+ghost use Rattle.vs_setup.specs.Places.{IsFresh};
+ghost use Rattle.vs_setup.specs.Prepared.{AreTextsKept, IsCheckPrepared};
+ghost use Rattle.vs_setup.specs.Unprepared.{IsUnprepared};
+
+use crate::SetupError;
+use crate::inputs::output_spans;
+use crate::setup::{Opened, open_job};
+use std::alloc::{AllocError, Global};
+use vs_desk::Desk;
+use vs_job::Job;
+use vs_plane::Lanes;
+use vs_rounds::{Checker, outputs_law};
+
+/// A check that can begin.
+#[derive(Drop)]
+pub struct PreparedCheck<W: Lanes> {
+    /// The stimuli, the engine, and what is found of the outputs.
+    pub checker: Checker<W>,
+    /// The size of the design.
+    pub size: u64,
+}
+
+/// Prepares a check: reads the design at place 1 and loads it behind the lines of the job's macros, opens the stimulus of lane i at place
+/// 1000 + i by lane, and takes all the memory that the check needs. Whether the header of a stimulus has to name an output says the job's mode.
+pub fn prepare_check<W: Lanes, D: Desk>(
+    alloc: Global,
+    job: &Job,
+    desk: &mut D,
+) -> Result<PreparedCheck<W>, SetupError>
+    requires lanes { length job.now.stimuli ≤ W.LANES }
+    requires job { IsJob job.now }
+    requires fresh { IsFresh (D.told desk.old).register (length job.now.stimuli) }
+    ensures prepared { IfOk result (λ p. IsCheckPrepared W.lane job.now (D.told desk.old) (D.told desk.new) p.checker p.size) }
+    ensures unprepared { IfErr result (IsUnprepared job.now (D.told desk.old) (D.told desk.new)) }
+    ensures kept { IsTrue D.tells → AreTextsKept (D.told desk.old).contents (D.told desk.new).contents }
+{
+    outputs_law();
+    let opened = open_job::<W, D>(alloc, job, desk)?;
+    let prepared = assemble_check(alloc, opened)?;
+    Ok(prepared)
+}
+
+/// Puts the parts of a check together.
+fn assemble_check<W: Lanes>(
+    alloc: Global,
+    opened: Opened<W>,
+) -> Result<PreparedCheck<W>, AllocError>
+    requires fit { AllFit (watched opened.loaded.accepted) opened.drive }
+    ensures stimuli { IfOk result (λ p. p.checker.stimuli ≡ opened.drive) }
+    ensures engine { IfOk result (λ p. p.checker.engine ≡ opened.loaded.engine) }
+    ensures outputs { IfOk result (λ p. p.checker.misses.outputs ≡ watched opened.loaded.accepted) }
+    ensures none { IfOk result (λ p. (i : ℕ) → found_at p.checker.misses.found i ≡ None) }
+    ensures ready { (d : Design) (clock : ℕ) → AreCheckParts d clock opened.drive opened.loaded.engine.program (watched opened.loaded.accepted)
+        → IfOk result (λ p. IsCheckable p.checker) }
+    ensures size { IfOk result (λ p. p.size ≡ size_of (design_of opened.loaded.accepted.flat)) }
+{
+    let accepted = &opened.loaded.accepted;
+    let typed = accepted.typed();
+    let size = typed.size();
+    let outputs = output_spans(alloc, typed.flat(), accepted.outputs())?;
+    let Opened { loaded, drive } = opened;
+    let checker = Checker::new(alloc, drive, loaded.into_engine(), outputs)?;
+    Ok(PreparedCheck { checker, size })
+}
