@@ -1,96 +1,61 @@
-//! The file that is read again for an explanation.
+//! What is seen again of the files of a job.
 
-ghost use Rattle.std.specs.Prelude.{◌≡◌, ◌≤◌, None, IfSome, IfOk, MatchBool, MatchOption, length, option_map, slice_get};
-ghost use Rattle.vs_reread.specs.Again.{IsAgain, AreUnread, most_bytes, OnlyRead, IsFaultless, IsStart};
+ghost use Rattle.std.specs.Prelude.{◌≡◌, ◌≢◌, ◌≤◌, ℕ, false, Some, None, Err, Option, IsTrue, IsNone, IfOk, List, MatchBool, MatchOption, drop, length, option_map, slice_get, string_bytes};
+ghost use Rattle.vs_names.specs.Drawn.{Drawn};
+ghost use Rattle.vs_reread.specs.Again.{AreUnread, design_again, stimulus_again, most_bytes, OnlyRead, IsFaultless, IsStart};
 ghost use Rattle.vs_reread.specs.Drawings.{IsDrawing};
+ghost use Rattle.vs_explanation.specs.Rows.{refuses_fields as refuses};
+ghost use Rattle.vs_explanation.specs.Seen.{Seen};
 ghost use Rattle.vs_desk.specs.Desk.{Rose};
 ghost use Rattle.vs_explainer.specs.Looks as spec;
-ghost use Rattle.vs_explainer.specs.Lent.{look_of};
+ghost use Rattle.vs_explainer.specs.Lent.{seen_of};
 
 use std::alloc::{AllocError, Global};
 use vs_desk::Desk;
-use vs_explanation::{at_of, has_numbers};
+use vs_explanation::{at_of, has_numbers, refuses_fields};
 use vs_job::Job;
 use vs_names::Drawing;
-use vs_refusal::Refusal;
-use vs_reread::{AgainError, DESIGN_AGAIN, STIMULUS_AGAIN, draw, read_again};
+use vs_refusal::{LaneName, Refusal};
+use vs_reread::{AgainError, DESIGN_AGAIN, STIMULUS_AGAIN, draw, read_again, read_lines};
 
-/// A file that is read again.
+/// What is seen of a file.
 #[derive(Drop)]
-pub(crate) struct Look<'a> {
-    /// The place at which it is read, 2 or 3.
-    pub(crate) place: u32,
-    /// Its path.
-    pub(crate) path: &'a str,
-    /// The lines of macros before it.
-    pub(crate) head: &'a [u8],
-    /// Whether its design is drawn.
-    pub(crate) draws: bool,
+pub(crate) struct View {
+    /// Its bytes, behind the lines of macros, or None where it couldn't be read.
+    pub(crate) text: Option<Vec<u8>>,
+    /// How many bytes these lines have.
+    pub(crate) head: usize,
+    /// The design that they elaborate to, where it was drawn and there is one.
+    pub(crate) drawing: Option<Drawing>,
 }
 
-/// The stimulus of a lane.
-fn stimulus_look(job: &Job, lane: u32) -> Option<Look<'_>>
-    ensures look { option_map look_of result ≡ option_map spec.stimulus_look (slice_get job.now.stimuli lane) }
-    ensures again { IfSome result (λ l. IsAgain l.place) }
-    ensures short { IfSome result (λ l. length l.head.now ≤ most_bytes) }
+/// Nothing is seen of a file.
+fn unseen(head: usize) -> View
+    ensures seen { seen_of result ≡ spec.unseen head }
+    ensures head { result.head ≡ head }
 {
-    if lane as usize >= job.stimuli.len() {
-        return None;
-    }
-    Some(Look {
-        place: STIMULUS_AGAIN,
-        path: job.stimuli.get(lane as usize).as_str(),
-        head: &[],
-        draws: false,
-    })
-}
-
-/// The design.
-fn design_look(job: &Job, draws: bool) -> Look<'_>
-    requires { length job.now.head ≤ most_bytes }
-    ensures look { look_of result ≡ spec.design_look job.now draws }
-    ensures again { IsAgain result.place }
-    ensures short { length result.head.now ≤ most_bytes }
-{
-    Look {
-        place: DESIGN_AGAIN,
-        path: job.design.as_str(),
-        head: job.head.as_bytes(),
-        draws,
+    View {
+        text: None,
+        head,
+        drawing: None,
     }
 }
 
-/// The file that a refusal is about, if it is about a part of one.
-pub(crate) fn look_for<'a>(job: &'a Job, refusal: &Refusal) -> Option<Look<'a>>
-    requires { length job.now.head ≤ most_bytes }
-    ensures look { option_map look_of result ≡ spec.look_for job.now refusal.now }
-    ensures again { IfSome result (λ l. IsAgain l.place) }
-    ensures short { IfSome result (λ l. length l.head.now ≤ most_bytes) }
-{
-    match refusal {
-        Refusal::Line(_, lane, _) => stimulus_look(job, *lane),
-        _ => match at_of(refusal) {
-            Some(_) => Some(design_look(job, has_numbers(refusal))),
-            None => None,
-        },
-    }
-}
-
-/// The text of a file, with the lines of macros before it, or None where a call at its place failed.
-pub(crate) fn read_look<D: Desk>(
+/// The text of the design behind the lines of macros, or None where a call at its place failed.
+fn read_design<D: Desk>(
     alloc: Global,
     desk: &mut D,
-    look: &Look<'_>,
+    job: &Job,
 ) -> Result<Option<Vec<u8>>, AllocError>
-    requires again { IsAgain look.now.place }
-    requires unread { AreUnread (D.told desk.old).register }
-    requires head { length look.now.head.now ≤ most_bytes }
+    requires free { IsNone ((D.told desk.old).register.attached design_again) }
+    requires head { length job.now.head ≤ most_bytes }
     ensures only { OnlyRead (D.told desk.old) (D.told desk.new) }
+    ensures other { (p : ℕ) → p ≢ design_again → (D.told desk.new).register.attached p ≡ (D.told desk.old).register.attached p }
     ensures read { IfOk result (λ o. MatchOption o (Rose (D.told desk.old).register.faults (D.told desk.new).register.faults)
-        (λ text. IsStart D.tells look.now.head.now ((D.told desk.old).contents.files look.now.path.now) text.items × (length text.items ≤ most_bytes) × IsFaultless (D.told desk.old).register (D.told desk.new).register)) }
+        (λ text. IsStart D.tells job.now.head ((D.told desk.old).contents.files job.now.design) text.items × (length text.items ≤ most_bytes) × IsFaultless (D.told desk.old).register (D.told desk.new).register)) }
 {
-    let path = String::from_str(alloc, look.path)?;
-    match read_again(alloc, desk, look.place, path, look.head) {
+    let path = String::from_str(alloc, job.design.as_str())?;
+    match read_again(alloc, desk, DESIGN_AGAIN, path, job.head.as_bytes()) {
         Ok(text) => Ok(Some(text)),
         Err(AgainError::ReadFault) => Ok(None),
         Err(AgainError::Memory) => Err(AllocError),
@@ -98,7 +63,7 @@ pub(crate) fn read_look<D: Desk>(
 }
 
 /// The design of a text, where it is to be drawn.
-pub(crate) fn draw_look(
+fn draw_text(
     alloc: Global,
     draws: bool,
     text: &[u8],
@@ -111,5 +76,169 @@ pub(crate) fn draw_look(
         draw(alloc, text, top)
     } else {
         Ok(None)
+    }
+}
+
+/// What is seen of a text that was read of the design.
+fn view_of(alloc: Global, job: &Job, draws: bool, text: Vec<u8>) -> Result<View, AllocError>
+    requires { length text.items ≤ most_bytes }
+    ensures head { IfOk result (λ view. view.head ≡ length job.now.head) }
+    ensures view { IfOk result (λ view. (drawn : Option Drawn) × MatchBool draws (IsDrawing text.items job.now.top drawn) (drawn ≡ None)
+        × (seen_of view ≡ record { file = Some (drop (length job.now.head) text.items); head = length job.now.head; drawn = drawn })) }
+{
+    let drawing = draw_text(alloc, draws, text.as_slice(), job.top.as_bytes())?;
+    Ok(View {
+        text: Some(text),
+        head: job.head.as_bytes().len(),
+        drawing,
+    })
+}
+
+/// What is seen of the design.
+fn see_design<D: Desk>(
+    alloc: Global,
+    desk: &mut D,
+    job: &Job,
+    draws: bool,
+) -> Result<View, AllocError>
+    requires free { IsNone ((D.told desk.old).register.attached design_again) }
+    requires head { length job.now.head ≤ most_bytes }
+    ensures only { OnlyRead (D.told desk.old) (D.told desk.new) }
+    ensures other { (p : ℕ) → p ≢ design_again → (D.told desk.new).register.attached p ≡ (D.told desk.old).register.attached p }
+    ensures sees { IfOk result (λ view. spec.SeesOf job.now.top (Some (spec.design_look job.now draws)) (D.told desk.old) (D.told desk.new) (seen_of view)) }
+    ensures head { IfOk result (λ view. view.head ≤ most_bytes) }
+{
+    match read_design(alloc, desk, job)? {
+        None => Ok(unseen(job.head.as_bytes().len())),
+        Some(text) => view_of(alloc, job, draws, text),
+    }
+}
+
+/// Takes what is read of a stimulus.
+fn take_stimulus<D: Desk>(
+    alloc: Global,
+    desk: &mut D,
+    path: String,
+    lines: Option<u64>,
+) -> Result<Vec<u8>, AgainError>
+    requires free { IsNone ((D.told desk.old).register.attached stimulus_again) }
+    ensures text { IfOk result (λ text. IsTrue D.tells → text.items ≡ spec.read_of lines ((D.told desk.old).contents.files (string_bytes path))) }
+    ensures only { OnlyRead (D.told desk.old) (D.told desk.new) }
+    ensures failed { result ≡ Err AgainError.ReadFault → Rose (D.told desk.old).register.faults (D.told desk.new).register.faults }
+    ensures faultless { result ≢ Err AgainError.ReadFault → IsFaultless (D.told desk.old).register (D.told desk.new).register }
+{
+    match lines {
+        None => read_again(alloc, desk, STIMULUS_AGAIN, path, &[]),
+        Some(n) => read_lines(alloc, desk, STIMULUS_AGAIN, path, n),
+    }
+}
+
+/// What is read of a stimulus, or None where a call at its place failed.
+fn read_stimulus<D: Desk>(
+    alloc: Global,
+    desk: &mut D,
+    path: &str,
+    lines: Option<u64>,
+) -> Result<Option<Vec<u8>>, AllocError>
+    requires free { IsNone ((D.told desk.old).register.attached stimulus_again) }
+    ensures only { OnlyRead (D.told desk.old) (D.told desk.new) }
+    ensures read { IfOk result (λ o. MatchOption o (Rose (D.told desk.old).register.faults (D.told desk.new).register.faults)
+        (λ text. (IsTrue D.tells → text.items ≡ spec.read_of lines ((D.told desk.old).contents.files path.now)) × IsFaultless (D.told desk.old).register (D.told desk.new).register)) }
+{
+    let path = String::from_str(alloc, path)?;
+    match take_stimulus(alloc, desk, path, lines) {
+        Ok(text) => Ok(Some(text)),
+        Err(AgainError::ReadFault) => Ok(None),
+        Err(AgainError::Memory) => Err(AllocError),
+    }
+}
+
+/// What is seen of a stimulus.
+fn see_path<D: Desk>(
+    alloc: Global,
+    desk: &mut D,
+    path: &str,
+    lines: Option<u64>,
+) -> Result<View, AllocError>
+    requires free { IsNone ((D.told desk.old).register.attached stimulus_again) }
+    ensures only { OnlyRead (D.told desk.old) (D.told desk.new) }
+    ensures sees { IfOk result (λ view. (top : List ℕ) → spec.SeesOf top (Some (spec.stimulus_look lines path.now)) (D.told desk.old) (D.told desk.new) (seen_of view)) }
+    ensures head { IfOk result (λ view. view.head ≡ 0) }
+{
+    match read_stimulus(alloc, desk, path, lines)? {
+        None => Ok(unseen(0)),
+        Some(text) => Ok(View {
+            text: Some(text),
+            head: 0,
+            drawing: None,
+        }),
+    }
+}
+
+/// What is seen of the stimulus of a lane.
+fn see_stimulus<D: Desk>(
+    alloc: Global,
+    desk: &mut D,
+    job: &Job,
+    lane: u32,
+    lines: Option<u64>,
+) -> Result<View, AllocError>
+    requires free { IsNone ((D.told desk.old).register.attached stimulus_again) }
+    ensures only { OnlyRead (D.told desk.old) (D.told desk.new) }
+    ensures sees { IfOk result (λ view. spec.SeesOf job.now.top (option_map (spec.stimulus_look lines) (slice_get job.now.stimuli lane)) (D.told desk.old) (D.told desk.new) (seen_of view)) }
+    ensures head { IfOk result (λ view. view.head ≡ 0) }
+{
+    if lane as usize >= job.stimuli.len() {
+        return Ok(unseen(0));
+    }
+    let path = job.stimuli.get(lane as usize).as_str();
+    see_path(alloc, desk, path, lines)
+}
+
+/// What is seen of the design where a vector's fields are held against its ports.
+pub(crate) fn see_ports<D: Desk>(
+    alloc: Global,
+    desk: &mut D,
+    job: &Job,
+    refusal: &Refusal,
+) -> Result<View, AllocError>
+    requires unread { AreUnread (D.told desk.old).register }
+    requires head { length job.now.head ≤ most_bytes }
+    ensures only { OnlyRead (D.told desk.old) (D.told desk.new) }
+    ensures stimulus { IsNone ((D.told desk.new).register.attached stimulus_again) }
+    ensures design { refuses refusal.now ≡ false → IsNone ((D.told desk.new).register.attached design_again) }
+    ensures sees { IfOk result (λ view. spec.SeesOf job.now.top (spec.ports_look job.now refusal.now) (D.told desk.old) (D.told desk.new) (seen_of view)) }
+{
+    if refuses_fields(refusal) {
+        see_design(alloc, desk, job, true)
+    } else {
+        Ok(unseen(0))
+    }
+}
+
+/// What is seen of the file of which lines are shown for a refusal, if there is one.
+pub(crate) fn see_file<D: Desk>(
+    alloc: Global,
+    desk: &mut D,
+    job: &Job,
+    refusal: &Refusal,
+) -> Result<View, AllocError>
+    requires stimulus { IsNone ((D.told desk.old).register.attached stimulus_again) }
+    requires design { refuses refusal.now ≡ false → IsNone ((D.told desk.old).register.attached design_again) }
+    requires head { length job.now.head ≤ most_bytes }
+    ensures only { OnlyRead (D.told desk.old) (D.told desk.new) }
+    ensures sees { IfOk result (λ view. spec.SeesOf job.now.top (spec.look_for job.now refusal.now) (D.told desk.old) (D.told desk.new) (seen_of view)) }
+    ensures head { IfOk result (λ view. view.head ≤ most_bytes) }
+{
+    match refusal {
+        Refusal::Line(_, lane, row) => see_stimulus(alloc, desk, job, *lane, Some(*row)),
+        Refusal::Lane(
+            LaneName::BadHeader | LaneName::FirstUnknown | LaneName::NoExpectation,
+            lane,
+        ) => see_stimulus(alloc, desk, job, *lane, None),
+        _ => match at_of(refusal) {
+            Some(_) => see_design(alloc, desk, job, has_numbers(refusal)),
+            None => Ok(unseen(0)),
+        },
     }
 }

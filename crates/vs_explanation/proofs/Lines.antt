@@ -1,6 +1,6 @@
 -- What stands behind newlines, one more of which was passed.
 use Rattle.std.proofs.Common.{◌≡◌, ℕ, suc, ◌-◌, ◌<◌, List, Option, Some, sym, ◌∙◌, refl, arith}
-use Rattle.vs_explanation.specs.Refused.{behind_newline, behind_newlines}
+use Rattle.vs_explanation.specs.Rows.{behind_newline, behind_newlines}
 
 step : (left fewer : ℕ) (rest next : List ℕ) → left ≡ suc fewer → behind_newline rest ≡ Some next → behind_newlines left rest ≡ behind_newlines fewer next
 step left fewer rest next e at = rw (e, at) refl

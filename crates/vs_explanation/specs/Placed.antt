@@ -13,13 +13,17 @@ abbrev pub reaching : Option (List ℕ) → ℕ → Option (List ℕ)
 reaching None at = None
 reaching (Some text) at = if nat_le at (length text) then Some text else None
 
--- the place of byte `at` of a file, and the path alone where that isn't there
-abbrev pub place_in : List ℕ → Option (List ℕ) → ℕ → List ℕ
-place_in path None at = escaped path
-place_in path (Some text) at = escaped path ++ line_column (line_number text at) (column text at)
+-- the line and the column of byte `at` of a file, and nothing where that isn't there
+abbrev pub position_in : Option (List ℕ) → ℕ → List ℕ
+position_in None at = []
+position_in (Some text) at = line_column (line_number text at) (column text at)
 
+abbrev pub position_text : Option (List ℕ) → ℕ → List ℕ
+position_text file at = position_in (reaching file at) at
+
+-- the place of byte `at` of a file, and the path alone where that isn't there
 abbrev pub place_text : List ℕ → Option (List ℕ) → ℕ → List ℕ
-place_text path file at = place_in path (reaching file at) at
+place_text path file at = escaped path ++ position_text file at
 
 -- its line with a caret below it
 abbrev pub caret_in : Option (List ℕ) → ℕ → List ℕ

@@ -9,6 +9,7 @@ mod puts;
 mod refused;
 mod roles;
 mod seen;
+mod stimuli;
 mod subjects;
 
 pub use ended::{
@@ -17,3 +18,4 @@ pub use ended::{
 pub use notes::has_numbers;
 pub use refused::{at_of, push_refusal};
 pub use seen::Seen;
+pub use stimuli::refuses_fields;

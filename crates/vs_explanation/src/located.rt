@@ -63,6 +63,6 @@ pub(crate) fn push_located(
     push_place(page, job.design.as_bytes(), seen.file, at)?;
     page.text(": ")?;
     push_error(page, job, seen, refusal)?;
-    push_caret(page, seen.file, at)?;
+    push_caret(page, seen.file, at as usize)?;
     push_notes(page, job, seen, refusal, at)
 }

@@ -16,6 +16,22 @@ pub(crate) fn push_line_column(page: &mut Page, line: u64, column: u64) -> Resul
     page.number(column)
 }
 
+/// Adds the line and the column of byte `at` of a file, or nothing where that isn't there.
+pub(crate) fn push_position(
+    page: &mut Page,
+    file: Option<&[u8]>,
+    at: usize,
+) -> Result<(), AllocError>
+    ensures { OnOk result (page.new ≡ page.old ++ spec.position_text (option_map (λ t. t.now) file.entry) at) }
+{
+    match file {
+        Some(text) if at <= text.len() => {
+            push_line_column(page, line_number(text, at) as u64, column(text, at) as u64)
+        }
+        _ => Ok(()),
+    }
+}
+
 /// Adds the place of byte `at` of a file, or the path alone where that isn't there.
 pub(crate) fn push_place(
     page: &mut Page,
@@ -26,21 +42,15 @@ pub(crate) fn push_place(
     ensures { OnOk result (page.new ≡ page.old ++ spec.place_text path.now (option_map (λ t. t.now) file.entry) at) }
 {
     page.escaped(path)?;
-    match file {
-        Some(text) if at as usize <= text.len() => {
-            let at = at as usize;
-            push_line_column(page, line_number(text, at) as u64, column(text, at) as u64)
-        }
-        _ => Ok(()),
-    }
+    push_position(page, file, at as usize)
 }
 
 /// Adds the line of byte `at` of a file and a caret below it, where that is there.
-pub(crate) fn push_caret(page: &mut Page, file: Option<&[u8]>, at: u32) -> Result<(), AllocError>
+pub(crate) fn push_caret(page: &mut Page, file: Option<&[u8]>, at: usize) -> Result<(), AllocError>
     ensures { OnOk result (page.new ≡ page.old ++ spec.caret_text (option_map (λ t. t.now) file.entry) at) }
 {
     match file {
-        Some(text) if at as usize <= text.len() => push_excerpt(page, text, at as usize),
+        Some(text) if at <= text.len() => push_excerpt(page, text, at),
         _ => Ok(()),
     }
 }

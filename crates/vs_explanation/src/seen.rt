@@ -9,6 +9,6 @@ pub struct Seen<'a> {
     pub file: Option<&'a [u8]>,
     /// How many bytes the lines of macros before the file have.
     pub head: u32,
-    /// The design that these lines and the file elaborate to, or None where they don't.
+    /// The design that these lines and the file elaborate to, or of a stimulus the design that it is for; None where there is none.
     pub drawing: Option<&'a Drawing>,
 }

@@ -1,6 +1,7 @@
 -- A design and the tokens of its text.
-use Rattle.std.specs.Prelude.{ℕ, List, Option, option_map, option_and_then, slice_get}
+use Rattle.std.specs.Prelude.{ℕ, Bool, ◌&&◌, ◌==◌, List, find, Option, Some, None, option_map, option_and_then, slice_get, bytes_eq}
 use Rattle.vs_lexer.specs.declared.token.Token.{Token}
+use Rattle.vs_design.specs.Expressions.{Signal, signal_length}
 use Rattle.vs_design.specs.Designs.{Process, process_place}
 use Rattle.vs_flat.specs.Arena.{Arena}
 use Rattle.vs_flat.specs.DesignOf.{design_of}
@@ -13,3 +14,12 @@ pub record Drawn : Type 0 where
 -- the byte of the text at which a reader finds the token that begins a process; none where there is no such process or token
 abbrev pub process_byte : Drawn → ℕ → Option ℕ
 process_byte d p = option_and_then (λ (q : Process). option_map (λ (t : Token). t.at) (slice_get d.tokens (process_place q))) (slice_get (design_of d.flat).processes p)
+
+-- the top declares the signal, by this name
+abbrev pub is_port : List ℕ → Signal → Bool
+is_port name s = s.scope == 0 && bytes_eq name s.name
+
+-- how many bits the signal has that the top declares by this name; none where it declares none
+abbrev pub port_bits : Option Drawn → List ℕ → Option ℕ
+port_bits None name = None
+port_bits (Some d) name = option_map signal_length (find (is_port name) (design_of d.flat).signals)

@@ -1,11 +1,12 @@
 //! The names of signals and bits.
 
-ghost use Rattle.std.specs.Prelude.{◌≡◌, ◌++◌, ◌<◌, ◌≤◌, ◌^◌, ℕ, None, Some, OnOk, MatchOption, find, length};
+ghost use Rattle.std.specs.Prelude.{◌≡◌, ◌++◌, ◌<◌, ◌≤◌, ◌^◌, ℕ, None, Some, OnOk, MatchOption, find, length, option_map};
 ghost use Rattle.vs_design.specs.Expressions as E;
 ghost use Rattle.vs_flat.specs.Arena.{signal_length};
 ghost use Rattle.vs_flat.specs.DesignOf.{arena_signals, design_of};
 ghost use Rattle.vs_flat.specs.Trees.{signal_at, signal_of};
 ghost use Rattle.vs_names.specs.Names as spec;
+ghost use Rattle.vs_names.specs.Drawn as D;
 
 use crate::indices::push_place;
 use crate::scopes::push_scope;
@@ -30,6 +31,35 @@ fn signal_with(flat: &Flat, bit: u32) -> Option<u32>
     for n in 0..flat.signal_count() {
         if has_bit(flat.signal(n), bit) {
             return Some(n);
+        }
+    }
+    None
+}
+
+/// Whether the top declares the signal, by this name.
+fn is_port(signal: &Signal, name: &[u8]) -> bool
+    ensures { (n : ℕ) → result ≡ D.is_port name.now (signal_of n signal.now) }
+{
+    signal.scope == 0 && name == signal.name.as_slice()
+}
+
+/// How many bits a signal has.
+fn signal_bits(signal: &Signal) -> u32
+    requires { signal_length signal.now ≤ 2 ^ 20 }
+    ensures { (n : ℕ) → result ≡ E.signal_length (signal_of n signal.now) }
+{
+    bits_of(signal)
+}
+
+/// How many bits the signal has that the top declares by this name.
+pub(crate) fn port_bits(flat: &Flat, name: &[u8]) -> Option<u32>
+    ensures { result ≡ option_map E.signal_length (find (D.is_port name.now) (arena_signals flat.now)) }
+{
+    trees_law();
+    for n in 0..flat.signal_count() {
+        let signal = flat.signal(n);
+        if is_port(signal, name) {
+            return Some(signal_bits(signal));
         }
     }
     None

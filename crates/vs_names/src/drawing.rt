@@ -1,11 +1,11 @@
 //! A design and the tokens of its text.
 
-ghost use Rattle.std.specs.Prelude.{◌≡◌, ◌++◌, OnOk};
+ghost use Rattle.std.specs.Prelude.{◌≡◌, ◌++◌, Some, OnOk};
 ghost use Rattle.vs_flat.specs.DesignOf.{design_of};
 ghost use Rattle.vs_names.specs.Names as spec;
-ghost use Rattle.vs_names.specs.Drawn.{process_byte};
+ghost use Rattle.vs_names.specs.Drawn.{process_byte, port_bits as spec_bits};
 
-use crate::bits::{push_bit, push_signal};
+use crate::bits::{port_bits, push_bit, push_signal};
 use std::alloc::AllocError;
 use std::marker::Model;
 use vs_excerpt::Page;
@@ -46,6 +46,14 @@ impl Drawing {
         }
         let at = self.flat.process(process).at;
         Some(self.tokens.get(at as usize)?.at)
+    }
+
+    /// How many bits the signal has that the top declares by this name. None where it declares none.
+    pub fn port_bits(&self, name: &[u8]) -> Option<u32>
+        ensures { result ≡ spec_bits (Some self.now) name.now }
+    {
+        trees_law();
+        port_bits(&self.flat, name)
     }
 
     /// Adds the name of a bit to a page, as `net top.u.q[3]`, or its number where no signal has it. The only error is that memory ran out.

@@ -1,6 +1,7 @@
 -- Files that are read again, at places of their own.
-use Rattle.std.specs.Prelude.{◌≡◌, ◌≢◌, ◌⊎◌, ℕ, ◌-◌, Bool, IsTrue, IsNone, List, ◌++◌, length, take}
+use Rattle.std.specs.Prelude.{◌≡◌, ◌≢◌, ◌⊎◌, ℕ, zero, suc, ◌-◌, Bool, IsTrue, IsNone, List, [], ◌∷◌, ◌++◌, length, take, if◌then◌else◌}
 use Rattle.vs_desk.specs.Desk.{Register, Told}
+use Rattle.vs_excerpt.specs.Positions.{is_newline}
 
 -- the places at which files are read again, a design and a stimulus; a run has no such places
 abbrev pub design_again : ℕ
@@ -26,6 +27,16 @@ pub record IsStart (tells : Bool) (head file text : List ℕ) : Type 0 where
   pub taken : List ℕ
   pub text_is : text ≡ head ++ taken
   pub taken_is : IsTrue tells → taken ≡ take (most_bytes - length head) file
+
+-- the greatest number of bytes in the text of a stimulus
+abbrev pub most_stimulus : ℕ
+most_stimulus = 4294967296
+
+-- the first n lines of a text, each with its LF; all of a text that has fewer
+abbrev pub first_lines : ℕ → List ℕ → List ℕ
+first_lines zero text = []
+first_lines (suc n) [] = []
+first_lines (suc n) (b ∷ bs) = b ∷ first_lines (if is_newline b then n else suc n) bs
 
 -- Nothing that a desk tells has changed but at the places at which files are read again. A call at such a place may have failed.
 pub record OnlyRead {tells : Bool} (old new : Told tells) : Type 0 where

@@ -1,7 +1,7 @@
 use Rattle.std.proofs.Common.{◌≡◌, true, arith, rules, get_or}
 use Rattle.vs_excerpt.specs.Positions.{is_newline}
 use Rattle.vs_explanation.proofs.Newlines.{behind_first, behind_none}
-use Rattle.vs_explanation.proofs.refused.behind_newline.Goals as goal
+use Rattle.vs_explanation.proofs.stimuli.behind_newline.Goals as goal
 
 pub returns-then-text-end-eq10 : goal.returns-then-text-end-eq10
 returns-then-text-end-eq10 c =

@@ -1,0 +1,12 @@
+use Rattle.std.proofs.Common.{◌≡◌, ℕ, ◌≤◌, ◌<◌, ◌-◌, get_or, length, false}
+use Rattle.vs_excerpt.specs.Positions.{is_newline}
+use Rattle.vs_explanation.proofs.stimuli.behind_newline.Given as goal
+
+abbrev pub invariant-loop-end : goal.invariant-loop-end
+invariant-loop-end l = record {
+  within : l.end ≤ length l.text;
+  none : (k : ℕ) → k < l.end → is_newline (get_or l.text k 0) ≡ false;
+}
+
+abbrev pub decreases-loop-end : goal.decreases-loop-end
+decreases-loop-end l = length l.text - l.end

@@ -1,0 +1,4 @@
+pub mod Found
+pub mod Parts
+pub mod Starts
+pub mod Onward
