@@ -8,7 +8,8 @@
 # Of the processor time it shows what goes to accept and to compile the design, to settle it, to find what changed in each slot (scan), to read
 # the stimuli (those of a run whose design has the inputs alone) and to put the text into files (the time of the system); the rest is to write the
 # text. Where Icarus Verilog or Verilator is installed (Debian's packages iverilog and verilator), it runs the first design and the last on the same
-# stimuli by them, one lane after the other. It is no part of the gate. It proves and builds what it runs first, from what `rt check` kept here.
+# stimuli by them, one lane after the other. At the end it prints what `tools/bench_check.sh` does, of checks. It is no part of the gate. It proves
+# and builds what it runs first, from what `rt check` kept here.
 set -eu
 vectors=${1:-1000}
 . "$(dirname "$0")/scratch.sh"
@@ -579,3 +580,4 @@ for design, own_time in times.items():
             seconds += own + system
         print("%s, %s in 64 runs one after the other: %.3f s, %.1f MB of VCD: %.2f times the time of 64 lanes" % (name, design, seconds, written() / 1e6, seconds / own_time))
 SHOW
+CYCLESIM="$work/crates/cyclesim/out/cyclesim" "$top/tools/bench_check.sh"

@@ -1,7 +1,7 @@
 #!/usr/bin/env bash
 # Proves and builds the program where it stands, runs it on each folder of examples/, and compares the report and the waveforms with the
 # expected ones. It draws the queue's, and says where the program is. Its first run takes long, since all below is proved first; what was
-# proved is kept in the folders out/. `tools/try.sh` does the same in a minute, without a proof.
+# proved is kept in the folders out/. `tools/try.sh` does the same in two minutes, without a proof.
 set -eu
 top=$(cd "$(dirname "$0")/.." && pwd)
 work=$(mktemp -d)

@@ -1,6 +1,6 @@
 #!/usr/bin/env bash
 # A first look: runs the program on each folder of examples/ as its source stands, compares the report lines and the waveforms with the expected
-# ones byte by byte, and draws the queue's. It takes about a minute and 2 GB of memory, and needs nothing built. Nothing is proved by it:
+# ones byte by byte, and draws the queue's. It takes about two minutes and 2 GB of memory, and needs nothing built. Nothing is proved by it:
 # `tools/example.sh` does the same with the proved program.
 set -eu
 top=$(cd "$(dirname "$0")/.." && pwd)
