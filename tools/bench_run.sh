@@ -97,7 +97,7 @@ fn times<W: Lanes>(
     requires { length text.now ≤ 4194304 }
 {
     let start = rt.thread_cpu_time()?;
-    if let Ok(mut loaded) = load::<W>(rt.alloc(), text, b"top", b"clk") {
+    if let Ok(mut loaded) = load::<W>(rt.alloc(), text, b"top", b"clk", false) {
         let load = rt.thread_cpu_time()?.saturating_sub(start).as_micros();
         let settle = time::<W, Brand>(rt, &mut loaded.engine, rounds, Blank::new(1))?;
         println!(rt; "lanes={} load={load} settle={settle}", W::LANES)?;
@@ -128,7 +128,7 @@ fn loaded(alloc: Global, text: &[u8]) -> Result<Loaded<Words<1>>, AcceptError>
     requires { length text.now ≤ 4194304 }
     ensures { IfOk result (λ l. map (λ (s : Span). s.length) l.engine.program.signals ≡ map signal_length (shown_signals (design_of l.accepted.flat))) }
 {
-    load(alloc, text, b"top", b"clk")
+    load(alloc, text, b"top", b"clk", false)
 }
 
 /// One round of all lanes.
