@@ -1,7 +1,6 @@
 //! The outputs of a text's top.
 
 ghost use Rattle.std.specs.Prelude.{◌≡◌, ◌++◌, IfOk, OnOk, map, flat_map, option_map};
-ghost use Rattle.vs_design.specs.Clocks.{same_name};
 ghost use Rattle.vs_ast.specs.Views as view;
 ghost use Rattle.vs_elaborated.specs.Ports.{find_in};
 ghost use Rattle.vs_accept.specs.Outputs.{is_output, names_in, outputs_in, item_outputs, header_outputs, module_outputs, top_outputs};
@@ -9,6 +8,7 @@ ghost use Rattle.vs_accept.specs.Outputs.{is_output, names_in, outputs_in, item_
 use std::alloc::{AllocError, Global};
 use vs_ast::{Declarator, Header, Item, Module, SignalKind, Signals, Source};
 use vs_base::Text;
+use vs_clock::are_same;
 
 /// Whether it declares an output port.
 fn is_output(kind: SignalKind) -> bool
@@ -18,13 +18,6 @@ fn is_output(kind: SignalKind) -> bool
         SignalKind::Output | SignalKind::OutputWire | SignalKind::OutputReg => true,
         SignalKind::Input | SignalKind::InputWire | SignalKind::Reg | SignalKind::Wire => false,
     }
-}
-
-/// Whether two texts are the same.
-fn are_same(a: &[u8], b: &[u8]) -> bool
-    ensures { result ≡ same_name a.now b.now }
-{
-    a == b
 }
 
 /// Adds the names of declarators.

@@ -10,8 +10,8 @@ use crate::ports::only_bit;
 use std::alloc::{AllocError, Global};
 use vs_flat::{Flat, trees_law};
 
-/// Whether two texts are the same.
-fn are_same(a: &[u8], b: &[u8]) -> bool
+/// Whether two names are the same, byte by byte (IEEE 1364-2005, 3.7).
+pub fn are_same(a: &[u8], b: &[u8]) -> bool
     ensures { result ≡ same_name a.now b.now }
 {
     a == b

@@ -21,4 +21,5 @@ mod targets;
 pub use clocked::check;
 pub use clocks::Clocks;
 pub use error::ClockError;
+pub use inputs::are_same;
 pub use resets::Reset;

@@ -25,7 +25,8 @@ use Rattle.vs_build.proofs.SignalNames.{signal_is, signal_within, plain_signal}
 use Rattle.vs_build.proofs.Wider.{same_signals}
 use Rattle.vs_items.specs.declared.connections.Connection.{Connection}
 use Rattle.vs_items.specs.Connections.{said, said_one}
-use Rattle.vs_elab.specs.Wiring.{IsSignalOf, IsWirable, AreWirable, and_processes}
+use Rattle.vs_build.specs.Items.{and_processes}
+use Rattle.vs_elab.specs.Wiring.{IsSignalOf, IsWirable, AreWirable}
 use Rattle.vs_elab.proofs.Wider.{wirable_wider}
 use Rattle.vs_elab.proofs.Sequences.{each_at}
 

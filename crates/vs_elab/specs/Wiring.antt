@@ -1,12 +1,11 @@
 -- Ports that can be built: what they are connected to is without a fault, and inside there is a signal of their name that is no memory.
-use Rattle.std.specs.Prelude.{◌≡◌, ℕ, true, false, List, ◌++◌, Some}
-use Rattle.vs_design.specs.Designs.{Process, Design}
+use Rattle.std.specs.Prelude.{◌≡◌, ℕ, true, false, List, Some}
+use Rattle.vs_design.specs.Designs.{Design}
 use Rattle.vs_design.specs.Elaborated.{is_plain}
 use Rattle.vs_grammar.specs.Shapes.{Each}
 use Rattle.vs_ast.specs.Views.{expr}
 use Rattle.vs_const.specs.Meanings.{SignalMeaning, Find}
 use Rattle.vs_elaborated.specs.Environments.{OfSignal, Entry, find_entry}
-use Rattle.vs_build.specs.Drafts.{Draft}
 use Rattle.vs_build.specs.Buildable.{IsBuildable}
 use Rattle.vs_build.specs.Outputs.{IsOutput}
 use Rattle.vs_items.specs.declared.connections.Connection.{Connection}
@@ -27,7 +26,3 @@ pub record IsWirable (d : Design) (find : Find) (es : List Entry) (c : Connectio
 
 abbrev pub AreWirable : Design → Find → List Entry → List Connection → Type 0
 AreWirable d find es cs = Each (IsWirable d find es) cs
-
--- with these processes more
-abbrev pub and_processes : Draft → List Process → Draft
-and_processes s ps = record s { design = record s.design { processes = s.design.processes ++ ps } }

@@ -8,7 +8,8 @@ ghost use Rattle.vs_build.specs.Growth.{draft};
 ghost use Rattle.vs_scope.specs.Frames.{view_env};
 ghost use Rattle.vs_scope.specs.Views.{entries};
 ghost use Rattle.vs_items.specs.Connections.{said, said_one};
-ghost use Rattle.vs_elab.specs.Wiring.{AreWirable, IsSignalOf, IsWirable, and_processes};
+ghost use Rattle.vs_build.specs.Items.{and_processes};
+ghost use Rattle.vs_elab.specs.Wiring.{AreWirable, IsSignalOf, IsWirable};
 
 use std::alloc::{AllocError, Global};
 use vs_build::{Builder, input_port, output_port};

@@ -1,5 +1,5 @@
 -- Words that ask for an explanation.
-use Rattle.std.specs.Prelude.{ℕ, Bool, false, List, [], ◌∷◌, drop, codes, bytes_eq}
+use Rattle.std.specs.Prelude.{Bool, false, List, ◌∷◌, drop, codes, bytes_eq}
 use Rattle.vs_job.specs.Job.{Text}
 
 -- `--explain` is the first word behind the program's own name

@@ -1,6 +1,6 @@
 //! A run that explains its answer.
 
-ghost use Rattle.std.specs.Prelude.{◌≡◌, ◌≢◌, ◌≤◌, None, true, false, length, map, option_map, string_bytes};
+ghost use Rattle.std.specs.Prelude.{◌≡◌, ◌≢◌, ◌≤◌, List, Option, None, true, false, length, map, option_map, string_bytes};
 ghost use Rattle.vs_desk.specs.Places.{most_lanes};
 ghost use Rattle.std.specs.Option.{ForSome};
 ghost use Rattle.vs_refusal.specs.declared.ending.Ending.TheVariants as ending;
@@ -10,16 +10,18 @@ ghost use Rattle.vs_top.specs.Outcomes.{done_ending};
 ghost use Rattle.vs_reread.specs.Again.{AreUnread, most_bytes};
 ghost use Rattle.vs_explainer.specs.Told.{IsPut, ending_text};
 ghost use Rattle.vs_explain.specs.Asked as spec;
-ghost use Rattle.vs_explain.specs.Answered.{IsRun, Explains, ExplainsRefused, ExplainsWords};
+ghost use Rattle.vs_explain.specs.Answered.{IsRun, KeepsFound, Explains, ExplainsRefused, ExplainsWords};
+ghost use Rattle.vs_misses.specs.Missed.{Found};
 
 use std::alloc::Global;
 use std::sync::ledger::Ledger;
 use vs_desk::Desk;
-use vs_explainer::{explain_ending, explain_refusal, explain_usage};
+use vs_explainer::{explain_done, explain_ending, explain_refusal, explain_usage};
 use vs_job::{Job, JobError, read_job};
+use vs_misses::Finding;
 use vs_plane::Steps;
 use vs_refusal::{Ending, Refusal};
-use vs_top::{Outcome, Summary, run};
+use vs_top::{Answered, Outcome, Summary, answer};
 
 /// Whether the first word behind the program's own name is `--explain`.
 fn is_asked(words: &[String]) -> bool
@@ -82,16 +84,17 @@ fn done_ending(summary: &Summary) -> Ending
 }
 
 /// Puts what an answer says to a person behind its report line.
-fn explain<D: Desk>(alloc: Global, job: Option<&Job>, outcome: &Outcome, desk: &mut D)
+fn explain<D: Desk>(alloc: Global, job: Option<&Job>, answered: &Answered, desk: &mut D)
     requires unread { AreUnread (D.told desk.old).register }
     requires heads { ForSome job (λ j. length j.now.head ≤ most_bytes) }
-    ensures { Explains (option_map (λ j. j.now) job.entry) outcome.now (D.told desk.old) (D.told desk.new) }
+    requires few { length answered.now.found.items ≤ most_lanes }
+    ensures { Explains (option_map (λ j. j.now) job.entry) answered.now.outcome answered.now.found.items (D.told desk.old) (D.told desk.new) }
 {
-    match outcome {
+    match &answered.outcome {
         Outcome::Refused(refusal) => explain_refused(alloc, job, refusal, desk),
         Outcome::Done(summary) => {
             let done = done_ending(summary);
-            explain_ending(job, &done, desk);
+            explain_done(alloc, job, &answered.found, &done, desk);
         }
         Outcome::ReadFault { place } => {
             let fault = Ending::ReadFault { place: *place };
@@ -116,37 +119,41 @@ fn explain_unread<D: Desk>(outcome: &Outcome, desk: &mut D)
 }
 
 /// Puts what an answer to these words says.
-fn explain_words<D: Desk>(alloc: Global, words: &[String], outcome: &Outcome, desk: &mut D)
+fn explain_words<D: Desk>(alloc: Global, words: &[String], answered: &Answered, desk: &mut D)
     requires unread { AreUnread (D.told desk.old).register }
-    ensures { ExplainsWords (map string_bytes words.now) outcome.now (D.told desk.old) (D.told desk.new) }
+    requires few { length answered.now.found.items ≤ most_lanes }
+    ensures { ExplainsWords (map string_bytes words.now) answered.now.outcome answered.now.found.items (D.told desk.old) (D.told desk.new) }
 {
     match read_job(alloc, words) {
-        Ok(job) => explain(alloc, Some(&job), outcome, desk),
-        Err(JobError::Usage) => explain(alloc, None, outcome, desk),
-        Err(JobError::Memory) => explain_unread(outcome, desk),
+        Ok(job) => explain(alloc, Some(&job), answered, desk),
+        Err(JobError::Usage) => explain(alloc, None, answered, desk),
+        Err(JobError::Memory) => explain_unread(&answered.outcome, desk),
     }
 }
 
-/// Runs words as `run` of `vs_top` does. The places at which files are read again stay as they are.
+/// Runs words as `answer` of `vs_top` does. The places at which files are read again stay as they are.
 fn run_words<D: Desk, L: Ledger>(
     alloc: Global,
     words: &[String],
     desk: &mut D,
     steps: &mut Steps<L>,
-) -> Outcome
+) -> Answered
     requires unused { IsUnused (D.told desk.old).register most_lanes }
-    ensures run { IsRun D.told (map string_bytes words.now) desk.old desk.new steps.old steps.new result }
+    ensures run { IsRun D.told (map string_bytes words.now) desk.old desk.new steps.old steps.new result.outcome }
+    ensures kept { KeepsFound D.told (map string_bytes words.now) desk.old desk.new result.outcome result.found.items }
+    ensures few { length result.found.items ≤ most_lanes }
     ensures unread { AreUnread (D.told desk.old).register → AreUnread (D.told desk.new).register }
 {
-    run(alloc, words, desk, steps)
+    answer(alloc, words, desk, steps)
 }
 
 /// Runs the words of the command line as `run` of `vs_top` does, the program's own name first. Where the word behind that is `--explain`, the words behind it are
 /// run, and then what the answer says to a person is put on place 0, behind its report line. The answer is the run's, whatever becomes of that.
 ///
-/// The files that a refusal is about are read again, at places 2 and 3. Memory is taken for the job of the words, which is read again, and for a refusal of it:
-/// where it runs out nothing is put. Want of memory itself, and words that call for no job, are explained without any. Where a call at place 0 fails some first
-/// bytes are put.
+/// The files that a refusal is about are read again, at places 2 and 3, and the stimulus of a lane of a check that missed something at place 4 + the lane. Memory is
+/// taken for the job of the words, which is read again, and for a refusal of it: where it runs out nothing is put. It is taken for the stimuli of a check, too: where
+/// it runs out the lane's line is put without what would be found there. Want of memory itself, and words that call for no job, are explained without any. Where a call
+/// at place 0 fails some first bytes are put.
 pub fn explain_run<D: Desk, L: Ledger>(
     alloc: Global,
     words: &[String],
@@ -159,16 +166,18 @@ pub fn explain_run<D: Desk, L: Ledger>(
     // Without `--explain` it is the run.
     ensures plain { spec.is_asked (map string_bytes words.now) ≡ false → IsRun D.told (map string_bytes words.now) desk.old desk.new steps.old steps.new result }
 
-    // With it, it is the run of the other words up to a desk in between, and then what the answer says is put on place 0.
+    // With it, it is the run of the other words up to a desk in between, and then what the answer says is put on place 0, with what was found in the lanes of a check.
     ensures asked { spec.is_asked (map string_bytes words.now) ≡ true
-        → (middle : D) × IsRun D.told (spec.asked (map string_bytes words.now)) desk.old middle steps.old steps.new result
-        × ExplainsWords (spec.asked (map string_bytes words.now)) result (D.told middle) (D.told desk.new) }
+        → (middle : D) × (found : List (Option Found)) × IsRun D.told (spec.asked (map string_bytes words.now)) desk.old middle steps.old steps.new result
+        × KeepsFound D.told (spec.asked (map string_bytes words.now)) desk.old middle result found
+        × ExplainsWords (spec.asked (map string_bytes words.now)) result found (D.told middle) (D.told desk.new) }
 {
     if !is_asked(words) {
-        return run_words(alloc, words, desk, steps);
+        let plain = run_words(alloc, words, desk, steps);
+        return plain.outcome;
     }
     let asked = behind_name(words);
-    let outcome = run_words(alloc, asked, desk, steps);
-    explain_words(alloc, asked, &outcome, desk);
-    outcome
+    let answered = run_words(alloc, asked, desk, steps);
+    explain_words(alloc, asked, &answered, desk);
+    answered.outcome
 }

@@ -1,1 +1,3 @@
 pub mod Sights
+pub mod Founds
+pub mod Weighed

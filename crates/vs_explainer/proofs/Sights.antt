@@ -4,41 +4,65 @@ use Rattle.std.specs.Prelude.{MatchBool}
 use Rattle.std.proofs.lemmas.List.{drop_at}
 use Rattle.vs_desk.specs.Desk.{Told, Rose}
 use Rattle.vs_names.specs.Drawn.{Drawn}
+use Rattle.vs_explanation.specs.declared.heavy.Heavy.{Heavy}
 use Rattle.vs_explanation.specs.Seen.{Seen}
 use Rattle.vs_reread.specs.Again.{IsStart, IsFaultless, OnlyRead}
 use Rattle.vs_reread.specs.Drawings.{IsDrawing}
-use Rattle.vs_explainer.specs.Looks.{IsDesignRead, SeesOf, read_of, unseen}
-use Rattle.vs_explainer.specs.Looks.Look.{design, stimulus}
+use Rattle.vs_explainer.specs.Heavy.{AreWeighed}
+use Rattle.vs_explainer.specs.Looks.{IsDesignRead, IsDesignWeighed, SeesOf, read_of, unseen}
+use Rattle.vs_explainer.specs.Looks.Look.{design, weighed, stimulus}
 
 -- ---- the design
 
 design_read : {tells : Bool} (top path head : List ℕ) (draws : Bool) (old new : Told tells) (text : List ℕ) (drawn : Option Drawn) → IsStart tells head (old.contents.files path) text
     → IsFaultless old.register new.register → MatchBool draws (IsDrawing text top drawn) (drawn ≡ None)
-    → IsDesignRead top path head draws old new (record { file = Some (drop (length head) text); head = length head; drawn = drawn })
+    → IsDesignRead top path head draws old new (record { file = Some (drop (length head) text); head = length head; drawn = drawn; heavy = None })
 design_read top path head draws old new text drawn s quiet d = record {
   taken = s.taken;
   file_is = ap Some (ap (λ (xs : List ℕ). drop (length head) xs) s.text_is ∙ drop_at head s.taken (length head) refl);
   taken_is = s.taken_is;
   head_is = refl;
   drawn_is = subst (λ (t : List ℕ). MatchBool draws (IsDrawing t top drawn) (drawn ≡ None)) s.text_is d;
+  heavy_is = refl;
   faultless = quiet;
 }
 
 pub sees_design : {tells : Bool} (top path head : List ℕ) (draws : Bool) (old new : Told tells) (text : List ℕ) (drawn : Option Drawn) (seen : Seen) → OnlyRead old new
     → IsStart tells head (old.contents.files path) text → IsFaultless old.register new.register → MatchBool draws (IsDrawing text top drawn) (drawn ≡ None)
-    → seen ≡ record { file = Some (drop (length head) text); head = length head; drawn = drawn } → SeesOf top (Some (design path head draws)) old new seen
+    → seen ≡ record { file = Some (drop (length head) text); head = length head; drawn = drawn; heavy = None } → SeesOf top (Some (design path head draws)) old new seen
 sees_design top path head draws old new text drawn seen only s quiet d e =
     subst (λ (x : Seen). SeesOf top (Some (design path head draws)) old new x) (sym e) (only, inr (design_read top path head draws old new text drawn s quiet d))
 
 -- a head that is as long
-pub as_long : (head other : ℕ) (text : List ℕ) (drawn : Option Drawn) → head ≡ other
-    → ◌≡◌ {A = Seen} (record { file = Some (drop head text); head = head; drawn = drawn }) (record { file = Some (drop other text); head = other; drawn = drawn })
-as_long head other text drawn e = rw e refl
+pub as_long : (head other : ℕ) (text : List ℕ) (drawn : Option Drawn) (heavy : Option (List Heavy)) → head ≡ other
+    → ◌≡◌ {A = Seen} (record { file = Some (drop head text); head = head; drawn = drawn; heavy = heavy }) (record { file = Some (drop other text); head = other; drawn = drawn; heavy = heavy })
+as_long head other text drawn heavy e = rw e refl
+
+-- ---- the design, weighed
+
+design_weighed : {tells : Bool} (top path head : List ℕ) (old new : Told tells) (text : List ℕ) (heavy : Option (List Heavy)) → IsStart tells head (old.contents.files path) text
+    → IsFaultless old.register new.register → AreWeighed text top heavy
+    → IsDesignWeighed top path head old new (record { file = Some (drop (length head) text); head = length head; drawn = None; heavy = heavy })
+design_weighed top path head old new text heavy s quiet w = record {
+  taken = s.taken;
+  file_is = ap Some (ap (λ (xs : List ℕ). drop (length head) xs) s.text_is ∙ drop_at head s.taken (length head) refl);
+  taken_is = s.taken_is;
+  head_is = refl;
+  drawn_is = refl;
+  heavy_is = subst (λ (t : List ℕ). AreWeighed t top heavy) s.text_is w;
+  faultless = quiet;
+}
+
+pub sees_weighed : {tells : Bool} (top path head : List ℕ) (old new : Told tells) (text : List ℕ) (heavy : Option (List Heavy)) (seen : Seen) → OnlyRead old new
+    → IsStart tells head (old.contents.files path) text → IsFaultless old.register new.register → AreWeighed text top heavy
+    → seen ≡ record { file = Some (drop (length head) text); head = length head; drawn = None; heavy = heavy } → SeesOf top (Some (weighed path head)) old new seen
+sees_weighed top path head old new text heavy seen only s quiet w e =
+    subst (λ (x : Seen). SeesOf top (Some (weighed path head)) old new x) (sym e) (only, inr (design_weighed top path head old new text heavy s quiet w))
 
 -- ---- a stimulus
 
 pub sees_stimulus : {tells : Bool} (top path : List ℕ) (lines : Option ℕ) (old new : Told tells) (text : List ℕ) (seen : Seen) → OnlyRead old new
-    → (IsTrue tells → text ≡ read_of lines (old.contents.files path)) → IsFaultless old.register new.register → seen ≡ record { file = Some text; head = 0; drawn = None }
+    → (IsTrue tells → text ≡ read_of lines (old.contents.files path)) → IsFaultless old.register new.register → seen ≡ record { file = Some text; head = 0; drawn = None; heavy = None }
     → SeesOf top (Some (stimulus path lines)) old new seen
 sees_stimulus top path lines old new text seen only is quiet e = (only, inr (record { taken = text; seen_is = e; taken_is = is; faultless = quiet }))
 
@@ -64,9 +88,9 @@ then_only old middle new a b = record {
 
 -- ---- what is said
 
-pub same_seen : (file other : Option (List ℕ)) (head : ℕ) (drawn another : Option Drawn) → file ≡ other → drawn ≡ another
-    → ◌≡◌ {A = Seen} (record { file = file; head = head; drawn = drawn }) (record { file = other; head = head; drawn = another })
-same_seen file other head drawn another e k = rw (e, k) refl
+pub same_seen : (file other : Option (List ℕ)) (head : ℕ) (drawn another : Option Drawn) (heavy heavier : Option (List Heavy)) → file ≡ other → drawn ≡ another → heavy ≡ heavier
+    → ◌≡◌ {A = Seen} (record { file = file; head = head; drawn = drawn; heavy = heavy }) (record { file = other; head = head; drawn = another; heavy = heavier })
+same_seen file other head drawn another heavy heavier e k h = rw (e, k, h) refl
 
 -- a text stands on a page that was empty
 pub on_page : (text : Seen → List ℕ) (old new : List ℕ) (lent seen : Seen) → old ≡ [] → new ≡ old ++ text lent → lent ≡ seen → new ≡ text seen

@@ -1,3 +1,5 @@
+pub mod Heavy
 pub mod Looks
 pub mod Lent
 pub mod Told
+pub mod Missed

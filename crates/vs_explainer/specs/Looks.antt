@@ -5,18 +5,20 @@ use Rattle.vs_desk.specs.Desk.{Told, Rose}
 use Rattle.vs_job.specs.declared.job.Job.{Job}
 use Rattle.vs_refusal.specs.declared.names.LaneName.TheVariants.{BadHeader, FirstUnknown, NoExpectation}
 use Rattle.vs_refusal.specs.declared.refusal.Refusal.{Refusal}
-use Rattle.vs_refusal.specs.declared.refusal.Refusal.TheVariants.{Lane, Line}
+use Rattle.vs_refusal.specs.declared.refusal.Refusal.TheVariants.{TooLarge, Lane, Line}
 use Rattle.vs_explanation.specs.Seen.{Seen}
 use Rattle.vs_explanation.specs.Located.{has_numbers}
 use Rattle.vs_explanation.specs.Rows.{refuses_fields}
 use Rattle.vs_explanation.specs.Refused.{at_of}
 use Rattle.vs_reread.specs.Again.{most_bytes, most_stimulus, first_lines, OnlyRead, IsFaultless}
 use Rattle.vs_reread.specs.Drawings.{IsDrawing}
+use Rattle.vs_explainer.specs.Heavy.{AreWeighed}
 
--- A file that is read again: the design, with the lines of macros before it, which is drawn or isn't; or a stimulus, as far as one of its lines or, where none is known,
+-- A file that is read again: the design, with the lines of macros before it, which is drawn or isn't; the design, of which the processes are weighed; or a stimulus, as far as one of its lines or, where none is known,
 -- as far as the text of a design may go.
 pub data Look : Type 0 where
   design : (path head : List ℕ) → (draws : Bool) → Look
+  weighed : (path head : List ℕ) → Look
   stimulus : (path : List ℕ) → (lines : Option ℕ) → Look
 
 abbrev pub stimulus_look : (lines : Option ℕ) → List ℕ → Look
@@ -25,9 +27,14 @@ stimulus_look lines path = stimulus path lines
 abbrev pub design_look : Job → (draws : Bool) → Look
 design_look job draws = design job.design job.head draws
 
+abbrev pub weighed_look : Job → Look
+weighed_look job = weighed job.design job.head
+
 -- The file of which lines are shown. Of a refusal with a byte it is the design, which is drawn where the refusal has numbers of the elaborated design; of one of a line
--- of a stimulus it is the lane's stimulus, as far as that line; of one of the header or of the first vector it is the lane's stimulus; and of any other it is none.
+-- of a stimulus it is the lane's stimulus, as far as that line; of one of the header or of the first vector it is the lane's stimulus; of a design that is too large it
+-- is the design, of which the processes are weighed; and of any other it is none.
 abbrev pub look_for : Job → Refusal → Option Look
+look_for job (TooLarge size) = Some (weighed_look job)
 look_for job (Line kind lane row) = option_map (stimulus_look (Some row)) (slice_get job.stimuli lane)
 look_for job (Lane BadHeader lane) = option_map (stimulus_look None) (slice_get job.stimuli lane)
 look_for job (Lane FirstUnknown lane) = option_map (stimulus_look None) (slice_get job.stimuli lane)
@@ -45,7 +52,7 @@ read_of (Some n) file = first_lines n (take most_stimulus file)
 
 -- nothing was seen of a file
 abbrev pub unseen : ℕ → Seen
-unseen head = record { file = None; head = head; drawn = None }
+unseen head = record { file = None; head = head; drawn = None; heavy = None }
 
 -- The file couldn't be read: a call at the place where it is read again failed.
 pub record IsUnread {tells : Bool} (head : ℕ) (old new : Told tells) (seen : Seen) : Type 0 where
@@ -59,12 +66,23 @@ pub record IsDesignRead {tells : Bool} (top path head : List ℕ) (draws : Bool)
   pub taken_is : IsTrue tells → taken ≡ take (most_bytes - length head) (old.contents.files path)
   pub head_is : seen.head ≡ length head
   pub drawn_is : MatchBool draws (IsDrawing (head ++ taken) top seen.drawn) (seen.drawn ≡ None)
+  pub heavy_is : seen.heavy ≡ None
+  pub faultless : IsFaultless old.register new.register
+
+-- The design was read, as far as its text may go, and its processes were weighed.
+pub record IsDesignWeighed {tells : Bool} (top path head : List ℕ) (old new : Told tells) (seen : Seen) : Type 0 where
+  pub taken : List ℕ
+  pub file_is : seen.file ≡ Some taken
+  pub taken_is : IsTrue tells → taken ≡ take (most_bytes - length head) (old.contents.files path)
+  pub head_is : seen.head ≡ length head
+  pub drawn_is : seen.drawn ≡ None
+  pub heavy_is : AreWeighed (head ++ taken) top seen.heavy
   pub faultless : IsFaultless old.register new.register
 
 -- The stimulus was read, as far as it is to be.
 pub record IsStimulusRead {tells : Bool} (path : List ℕ) (lines : Option ℕ) (old new : Told tells) (seen : Seen) : Type 0 where
   pub taken : List ℕ
-  pub seen_is : seen ≡ record { file = Some taken; head = 0; drawn = None }
+  pub seen_is : seen ≡ record { file = Some taken; head = 0; drawn = None; heavy = None }
   pub taken_is : IsTrue tells → taken ≡ read_of lines (old.contents.files path)
   pub faultless : IsFaultless old.register new.register
 
@@ -72,11 +90,12 @@ pub record IsStimulusRead {tells : Bool} (path : List ℕ) (lines : Option ℕ) 
 abbrev pub SeesOf : {tells : Bool} → List ℕ → Option Look → Told tells → Told tells → Seen → Type 0
 SeesOf top None old new seen = (new ≡ old) × (seen ≡ unseen 0)
 SeesOf top (Some (design path head draws)) old new seen = OnlyRead old new × (IsUnread (length head) old new seen ⊎ IsDesignRead top path head draws old new seen)
+SeesOf top (Some (weighed path head)) old new seen = OnlyRead old new × (IsUnread (length head) old new seen ⊎ IsDesignWeighed top path head old new seen)
 SeesOf top (Some (stimulus path lines)) old new seen = OnlyRead old new × (IsUnread 0 old new seen ⊎ IsStimulusRead path lines old new seen)
 
 -- what is seen of a file, with the design that was drawn of another where none was of it
 abbrev pub with_ports : (ports file : Seen) → Seen
-with_ports ports file = record { file = file.file; head = file.head; drawn = option_or file.drawn ports.drawn }
+with_ports ports file = record { file = file.file; head = file.head; drawn = option_or file.drawn ports.drawn; heavy = file.heavy }
 
 -- What was seen again of the files that a refusal of a job is about: of the design for its ports, and then of the file of which lines are shown. Of what the desk tells
 -- nothing changed but at the places of files that are read again.

@@ -2,8 +2,11 @@
 #![tactic(auto)]
 
 mod endings;
+mod heavy;
 mod looks;
+mod missed;
 mod refusals;
 
 pub use endings::{explain_ending, explain_usage};
+pub use missed::explain_done;
 pub use refusals::explain_refusal;

@@ -10,9 +10,10 @@ ghost use Rattle.vs_desk.specs.Desk.{Rose};
 ghost use Rattle.vs_explainer.specs.Looks as spec;
 ghost use Rattle.vs_explainer.specs.Lent.{seen_of};
 
+use crate::heavy::see_weights;
 use std::alloc::{AllocError, Global};
 use vs_desk::Desk;
-use vs_explanation::{at_of, has_numbers, refuses_fields};
+use vs_explanation::{Heavy, at_of, has_numbers, refuses_fields};
 use vs_job::Job;
 use vs_names::Drawing;
 use vs_refusal::{LaneName, Refusal};
@@ -27,10 +28,12 @@ pub(crate) struct View {
     pub(crate) head: usize,
     /// The design that they elaborate to, where it was drawn and there is one.
     pub(crate) drawing: Option<Drawing>,
+    /// The heaviest processes of a design that is too large, where they were weighed.
+    pub(crate) heavy: Option<Vec<Heavy>>,
 }
 
 /// Nothing is seen of a file.
-fn unseen(head: usize) -> View
+pub(crate) fn unseen(head: usize) -> View
     ensures seen { seen_of result ≡ spec.unseen head }
     ensures head { result.head ≡ head }
 {
@@ -38,11 +41,12 @@ fn unseen(head: usize) -> View
         text: None,
         head,
         drawing: None,
+        heavy: None,
     }
 }
 
 /// The text of the design behind the lines of macros, or None where a call at its place failed.
-fn read_design<D: Desk>(
+pub(crate) fn read_design<D: Desk>(
     alloc: Global,
     desk: &mut D,
     job: &Job,
@@ -84,13 +88,14 @@ fn view_of(alloc: Global, job: &Job, draws: bool, text: Vec<u8>) -> Result<View,
     requires { length text.items ≤ most_bytes }
     ensures head { IfOk result (λ view. view.head ≡ length job.now.head) }
     ensures view { IfOk result (λ view. (drawn : Option Drawn) × MatchBool draws (IsDrawing text.items job.now.top drawn) (drawn ≡ None)
-        × (seen_of view ≡ record { file = Some (drop (length job.now.head) text.items); head = length job.now.head; drawn = drawn })) }
+        × (seen_of view ≡ record { file = Some (drop (length job.now.head) text.items); head = length job.now.head; drawn = drawn; heavy = None })) }
 {
     let drawing = draw_text(alloc, draws, text.as_slice(), job.top.as_bytes())?;
     Ok(View {
         text: Some(text),
         head: job.head.as_bytes().len(),
         drawing,
+        heavy: None,
     })
 }
 
@@ -171,6 +176,7 @@ fn see_path<D: Desk>(
             text: Some(text),
             head: 0,
             drawing: None,
+            heavy: None,
         }),
     }
 }
@@ -236,6 +242,7 @@ pub(crate) fn see_file<D: Desk>(
             LaneName::BadHeader | LaneName::FirstUnknown | LaneName::NoExpectation,
             lane,
         ) => see_stimulus(alloc, desk, job, *lane, None),
+        Refusal::TooLarge { .. } => see_weights(alloc, desk, job),
         _ => match at_of(refusal) {
             Some(_) => see_design(alloc, desk, job, has_numbers(refusal)),
             None => Ok(unseen(0)),

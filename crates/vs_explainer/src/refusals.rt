@@ -13,7 +13,7 @@ use crate::looks::{View, see_file, see_ports};
 use std::alloc::{AllocError, Global};
 use vs_desk::{Desk, put_all};
 use vs_excerpt::Page;
-use vs_explanation::{Seen, push_refusal};
+use vs_explanation::{Heavy, Seen, push_refusal};
 use vs_job::Job;
 use vs_names::Drawing;
 use vs_refusal::Refusal;
@@ -38,6 +38,16 @@ fn drawing_of<'a>(ports: &'a View, file: &'a View) -> Option<&'a Drawing>
     }
 }
 
+/// The processes that were weighed.
+fn heavy_of(view: &View) -> Option<&[Heavy]>
+    ensures { option_map (λ t. t.now) result ≡ (seen_of view.now).heavy }
+{
+    match &view.heavy {
+        Some(heavy) => Some(heavy.as_slice()),
+        None => None,
+    }
+}
+
 /// What is said of a refusal, by what is seen of the design for its ports, and of the file of which lines are shown.
 fn seen_page(
     alloc: Global,
@@ -54,6 +64,7 @@ fn seen_page(
         file: file_of(file),
         head: file.head as u32,
         drawing: drawing_of(ports, file),
+        heavy: heavy_of(file),
     };
     push_refusal(alloc, &mut page, job, &seen, refusal)?;
     Ok(page)
@@ -77,7 +88,7 @@ fn page_of<D: Desk>(
 }
 
 /// Puts at place 0 of a desk what is said of a refusal of a job: where it is told, its sentence, the line with a caret, further places, names for numbers, the field of
-/// a vector that is wrong, and a remedy. For that the design is read again at place 2, and a stimulus at place 3.
+/// a vector that is wrong, the heaviest processes of a design that is too large, and a remedy. For that the design is read again at place 2, and a stimulus at place 3.
 ///
 /// Where memory runs out nothing is put, and where a call at place 0 fails some first bytes are.
 pub fn explain_refusal<D: Desk>(alloc: Global, job: &Job, refusal: &Refusal, desk: &mut D)

@@ -3,3 +3,4 @@ pub mod Printable
 pub mod Waves
 pub mod Newlines
 pub mod Lines
+pub mod HeavySteps

@@ -4,11 +4,12 @@ use Rattle.std.specs.Option.{option_map_or}
 use Rattle.vs_desk.specs.Places.{stimulus_place}
 use Rattle.vs_job.specs.declared.job.Job.{Job}
 use Rattle.vs_refusal.specs.declared.refusal.Refusal.{Refusal}
-use Rattle.vs_refusal.specs.declared.refusal.Refusal.TheVariants.{SamePath, At, Latch, Sensitivity, TwoDrivers, Process, Cycle, Lane, Line}
+use Rattle.vs_refusal.specs.declared.refusal.Refusal.TheVariants.{SamePath, At, TooLarge, Latch, Sensitivity, TwoDrivers, Process, Cycle, Lane, Line}
 use Rattle.vs_rows.specs.Fields.{Wrong}
 use Rattle.vs_explanation.specs.Seen.{Seen}
 use Rattle.vs_explanation.specs.Placed.{line_column}
 use Rattle.vs_explanation.specs.Subjects.{subject, path_text}
+use Rattle.vs_explanation.specs.Heavy.{heavy_text}
 use Rattle.vs_explanation.specs.Located.{error_at, remedy_text, located}
 use Rattle.vs_explanation.specs.Rows.{from_line, row_text, wrong_of, row_at, fields_text, row_of, row_position, row_caret}
 
@@ -40,7 +41,12 @@ abbrev pub unlined : Job → Seen → Refusal → (at : Option ℕ) → List ℕ
 unlined job seen r at =
     error_at (path_text job (about r) ++ row_position seen.file at) r (subject job seen.drawn r) ++ (row_caret r seen.file at ++ remedy_text r)
 
+-- all lines of a design that is too large
+abbrev pub oversized : Job → Seen → Refusal → List ℕ
+oversized job seen r = error_at (path_text job (about r)) r (subject job seen.drawn r) ++ (heavy_text job.design seen seen.heavy ++ remedy_text r)
+
 abbrev pub unlocated : Job → Seen → Refusal → List ℕ
+unlocated job seen (TooLarge size) = oversized job seen (TooLarge size)
 unlocated job seen (Line kind lane row) =
     lined job seen (Line kind lane row) row (from_line seen.file row) (wrong_of (Line kind lane row) seen.drawn seen.file (from_line seen.file row))
 unlocated job seen r = unlined job seen r (row_of r seen.file)

@@ -2,7 +2,9 @@
 #![tactic(auto)]
 
 mod ended;
+mod heavy;
 mod located;
+mod missed;
 mod notes;
 mod placed;
 mod puts;
@@ -15,6 +17,8 @@ mod subjects;
 pub use ended::{
     put_checked, put_done, put_memory, put_output_fault, put_read_fault, put_waves, put_write_fault,
 };
+pub use heavy::{Heavy, heaviest};
+pub use missed::{Spot, find_spot, put_miss};
 pub use notes::has_numbers;
 pub use refused::{at_of, push_refusal};
 pub use seen::Seen;

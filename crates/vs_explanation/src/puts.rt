@@ -86,7 +86,7 @@ fn put_each_escaped<D: Desk>(desk: &mut D, bytes: &[u8]) -> Result<(), Failed>
 }
 
 /// Puts bytes, of which those that aren't printable are escaped.
-fn put_escaped<D: Desk>(desk: &mut D, bytes: &[u8]) -> Result<(), Failed>
+pub(crate) fn put_escaped<D: Desk>(desk: &mut D, bytes: &[u8]) -> Result<(), Failed>
     ensures { PutsAll (D.told desk.old) (D.told desk.new) 0 (escaped bytes.now) result }
 {
     if are_printable(bytes) {
@@ -105,7 +105,7 @@ pub(crate) fn put_path_and<D: Desk>(desk: &mut D, path: &[u8], behind: &str) -> 
 }
 
 /// Puts the path of a lane's stimulus, or nothing where the job has no such lane.
-fn put_stimulus<D: Desk>(desk: &mut D, job: &Job, lane: usize) -> Result<(), Failed>
+pub(crate) fn put_stimulus<D: Desk>(desk: &mut D, job: &Job, lane: usize) -> Result<(), Failed>
     ensures { PutsAll (D.told desk.old) (D.told desk.new) 0 (spec.stimulus_path job.now lane) result }
 {
     if lane >= job.stimuli.len() {

@@ -6,6 +6,7 @@ ghost use Rattle.vs_explanation.specs.Seen.{seen_of};
 ghost use Rattle.vs_rows.specs.Lent.{wrong_of as lent};
 
 use crate::Seen;
+use crate::heavy::push_heavy;
 use crate::located::{push_error, push_located};
 use crate::notes::push_remedy;
 use crate::placed::push_line_column;
@@ -88,8 +89,24 @@ fn push_unlined(
     push_remedy(page, refusal)
 }
 
+/// Adds all lines of a design that is too large.
+fn push_oversized(
+    page: &mut Page,
+    job: &Job,
+    seen: &Seen<'_>,
+    refusal: &Refusal,
+) -> Result<(), AllocError>
+    ensures { OnOk result (page.new ≡ page.old ++ spec.oversized job.now (seen_of seen.now) refusal.now) }
+{
+    push_path(page, job, about(refusal))?;
+    page.text(": ")?;
+    push_error(page, job, seen, refusal)?;
+    push_heavy(page, job.design.as_bytes(), seen)?;
+    push_remedy(page, refusal)
+}
+
 /// Adds all lines of a refusal of a job: where it is told, by which name and sentence, the line of the text with a caret, further places, the field of a vector that is
-/// wrong, what has changed in the file, and a remedy. The only error is that memory ran out.
+/// wrong, the heaviest processes of a design that is too large, what has changed in the file, and a remedy. The only error is that memory ran out.
 pub fn push_refusal(
     alloc: Global,
     page: &mut Page,
@@ -106,6 +123,9 @@ pub fn push_refusal(
         let line = from_line(seen.file, *row);
         let wrong = wrong_of(alloc, refusal, seen.drawing, seen.file, line)?;
         return push_line(page, job, seen, refusal, *row, line, &wrong);
+    }
+    if let Refusal::TooLarge { .. } = refusal {
+        return push_oversized(page, job, seen, refusal);
     }
     push_unlined(page, job, seen, refusal, row_of(refusal, seen.file))
 }

@@ -1,5 +1,6 @@
 //! What was seen again of a job's files.
 
+use crate::Heavy;
 use vs_names::Drawing;
 
 /// What was seen again of the file that an answer is about.
@@ -11,4 +12,6 @@ pub struct Seen<'a> {
     pub head: u32,
     /// The design that these lines and the file elaborate to, or of a stimulus the design that it is for; None where there is none.
     pub drawing: Option<&'a Drawing>,
+    /// The heaviest processes of a design that is too large, or None where none was weighed.
+    pub heavy: Option<&'a [Heavy]>,
 }

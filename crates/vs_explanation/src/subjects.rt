@@ -46,7 +46,7 @@ fn push_roles(page: &mut Page, first: u32, second: u32) -> Result<(), AllocError
 }
 
 /// Adds the size of a design.
-fn push_size(page: &mut Page, size: u64) -> Result<(), AllocError>
+pub(crate) fn push_size(page: &mut Page, size: u64) -> Result<(), AllocError>
     ensures { OnOk result (page.new ≡ page.old ++ spec.size_text size) }
 {
     page.number(size)?;

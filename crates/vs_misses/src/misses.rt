@@ -98,6 +98,14 @@ impl<W: Lanes> Misses<W> {
         self.found[lane as usize].as_ref()
     }
 
+    /// What each lane missed first, if it missed something.
+    pub fn into_found(self) -> Vec<Option<Finding>>
+        ensures found { result.items ≡ self.found }
+        ensures few { length result.items ≤ most_lanes }
+    {
+        self.found
+    }
+
     /// In how many lanes something was found.
     pub fn count(&self) -> u32
         ensures { result ≡ count_by is_some self.now.found }

@@ -11,9 +11,13 @@ pub record Drawn : Type 0 where
   pub tokens : List Token
   pub flat : Arena
 
--- the byte of the text at which a reader finds the token that begins a process; none where there is no such process or token
+-- the byte of the text at which a reader finds the token that begins a process; none where there is no such token
+abbrev pub byte_of : Drawn → Process → Option ℕ
+byte_of d q = option_map (λ (t : Token). t.at) (slice_get d.tokens (process_place q))
+
+-- of the process of this number; none where there is no such process either
 abbrev pub process_byte : Drawn → ℕ → Option ℕ
-process_byte d p = option_and_then (λ (q : Process). option_map (λ (t : Token). t.at) (slice_get d.tokens (process_place q))) (slice_get (design_of d.flat).processes p)
+process_byte d p = option_and_then (byte_of d) (slice_get (design_of d.flat).processes p)
 
 -- the top declares the signal, by this name
 abbrev pub is_port : List ℕ → Signal → Bool

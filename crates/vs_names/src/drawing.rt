@@ -1,12 +1,12 @@
 //! A design and the tokens of its text.
 
-ghost use Rattle.std.specs.Prelude.{◌≡◌, ◌++◌, Some, OnOk};
+ghost use Rattle.std.specs.Prelude.{◌≡◌, ◌++◌, Some, IfOk, OnOk, map};
 ghost use Rattle.vs_flat.specs.DesignOf.{design_of};
 ghost use Rattle.vs_names.specs.Names as spec;
-ghost use Rattle.vs_names.specs.Drawn.{process_byte, port_bits as spec_bits};
+ghost use Rattle.vs_names.specs.Drawn.{byte_of, process_byte, port_bits as spec_bits};
 
 use crate::bits::{port_bits, push_bit, push_signal};
-use std::alloc::AllocError;
+use std::alloc::{AllocError, Global};
 use std::marker::Model;
 use vs_excerpt::Page;
 use vs_flat::{Flat, trees_law};
@@ -46,6 +46,26 @@ impl Drawing {
         }
         let at = self.flat.process(process).at;
         Some(self.tokens.get(at as usize)?.at)
+    }
+
+    /// Of each process, by number, the byte of the text at which a reader finds it. The only error is that memory ran out.
+    pub fn process_bytes(&self, alloc: Global) -> Result<Vec<Option<u32>>, AllocError>
+        ensures { IfOk result (λ v. v.items ≡ map (byte_of self.now) (design_of self.now.flat).processes) }
+    {
+        trees_law();
+        let mut bytes = Vec::new(alloc);
+        for process in 0..self.flat.process_count() {
+            let byte = self.process_byte(process);
+            bytes.push(byte)?;
+        }
+        Ok(bytes)
+    }
+
+    /// The design.
+    pub fn into_flat(self) -> Flat
+        ensures { result ≡ self.flat }
+    {
+        self.flat
     }
 
     /// How many bits the signal has that the top declares by this name. None where it declares none.

@@ -1,3 +1,4 @@
 pub mod Taken
 pub mod Lines
 pub mod Drawn
+pub mod Left

@@ -1,6 +1,7 @@
 -- Files that are read again, at places of their own.
-use Rattle.std.specs.Prelude.{◌≡◌, ◌≢◌, ◌⊎◌, ℕ, zero, suc, ◌-◌, Bool, IsTrue, IsNone, List, [], ◌∷◌, ◌++◌, length, take, if◌then◌else◌}
+use Rattle.std.specs.Prelude.{◌≡◌, ◌≢◌, ◌⊎◌, ℕ, zero, suc, ◌+◌, ◌-◌, ◌<◌, Bool, IsTrue, IsNone, List, [], ◌∷◌, ◌++◌, length, take, if◌then◌else◌}
 use Rattle.vs_desk.specs.Desk.{Register, Told}
+use Rattle.vs_desk.specs.Places.{most_lanes}
 use Rattle.vs_excerpt.specs.Positions.{is_newline}
 
 -- the places at which files are read again, a design and a stimulus; a run has no such places
@@ -13,10 +14,15 @@ stimulus_again = 3
 abbrev pub IsAgain : ℕ → Type 0
 IsAgain place = (place ≡ design_again) ⊎ (place ≡ stimulus_again)
 
--- nothing is attached there
+-- the places at which stimuli of several lanes are read again, one behind the other: each has a place of its own, since one is attached only once
+abbrev pub lane_again : ℕ → ℕ
+lane_again lane = 4 + lane
+
+-- nothing is attached at any of these
 pub record AreUnread (register : Register) : Type 0 where
   pub design : IsNone (register.attached design_again)
   pub stimulus : IsNone (register.attached stimulus_again)
+  pub lanes : (lane : ℕ) → lane < most_lanes → IsNone (register.attached (lane_again lane))
 
 -- the greatest number of bytes in the text of a design
 abbrev pub most_bytes : ℕ
@@ -45,6 +51,14 @@ pub record OnlyRead {tells : Bool} (old new : Told tells) : Type 0 where
   pub files : IsTrue tells → new.contents.files ≡ old.contents.files
   pub put : IsTrue tells → new.contents.put ≡ old.contents.put
   pub left : IsTrue tells → (p : ℕ) → p ≢ design_again → p ≢ stimulus_again → new.contents.left p ≡ old.contents.left p
+
+-- Nothing that a desk tells has changed but at this place. A call there may have failed.
+pub record OnlyReadAt {tells : Bool} (place : ℕ) (old new : Told tells) : Type 0 where
+  pub others : (p : ℕ) → p ≢ place → new.register.attached p ≡ old.register.attached p
+  pub losses : new.register.losses ≡ old.register.losses
+  pub files : IsTrue tells → new.contents.files ≡ old.contents.files
+  pub put : IsTrue tells → new.contents.put ≡ old.contents.put
+  pub left : IsTrue tells → (p : ℕ) → p ≢ place → new.contents.left p ≡ old.contents.left p
 
 -- no call failed
 pub record IsFaultless (old new : Register) : Type 0 where

@@ -2,11 +2,12 @@
 
 ghost use Rattle.std.specs.Prelude.{◌≡◌, ◌≢◌, ◌<◌, ◌≤◌, ◌++◌, ◌-◌, ℕ, [], Err, length, take, count_by, if◌then◌else◌, IsTrue, IsNone, IfOk, OnOk, OnErr, string_bytes};
 ghost use Rattle.vs_desk.specs.Desk.{IsAttached, Fails, Rose};
+ghost use Rattle.vs_desk.specs.Places.{most_lanes};
 ghost use Rattle.vs_desk.specs.Taking.{OnlyTaken, TakesAt};
 ghost use Rattle.vs_desk.specs.declared.desk.Way.TheVariants.{Read};
 ghost use Rattle.vs_reread.specs.declared.again.AgainError.TheVariants.{ReadFault, Memory};
 ghost use Rattle.vs_excerpt.specs.Positions.{is_newline};
-ghost use Rattle.vs_reread.specs.Again.{IsAgain, most_bytes, most_stimulus, first_lines, IsStart, OnlyRead, IsFaultless};
+ghost use Rattle.vs_reread.specs.Again.{IsAgain, lane_again, most_bytes, most_stimulus, first_lines, IsStart, OnlyRead, OnlyReadAt, IsFaultless};
 
 use std::alloc::{AllocError, Global};
 use thiserror::Error;
@@ -18,6 +19,9 @@ pub const DESIGN_AGAIN: u32 = 2;
 
 /// The place at which a stimulus is read again.
 pub const STIMULUS_AGAIN: u32 = 3;
+
+/// The place at which the stimulus of lane 0 is read again where those of several lanes are; that of each other lane stands behind it.
+const FIRST_LANE_AGAIN: u32 = 4;
 
 /// The greatest number of bytes in the text of a stimulus.
 const MAX_STIMULUS: usize = 4_294_967_296;
@@ -215,6 +219,29 @@ pub fn read_lines<D: Desk>(
     ensures failed { result ≡ Err AgainError.ReadFault → Rose (D.told desk.old).register.faults (D.told desk.new).register.faults }
     ensures faultless { result ≢ Err AgainError.ReadFault → IsFaultless (D.told desk.old).register (D.told desk.new).register }
 {
+    desk.attach(place, path, Way::Read)?;
+    take_lines(alloc, desk, place, n)
+}
+
+/// Reads the stimulus of a lane again, as far as its line n: attaches place 4 + lane to its path, and takes the first n lines of it, each with its LF, of the
+/// 4,294,967,296 bytes that a stimulus may have. So the stimuli of all lanes can be read again, one behind the other.
+///
+/// `ReadFault` comes only where a call at that place failed.
+pub fn read_lane<D: Desk>(
+    alloc: Global,
+    desk: &mut D,
+    lane: u32,
+    path: String,
+    n: u64,
+) -> Result<Vec<u8>, AgainError>
+    requires lane { lane < most_lanes }
+    requires free { IsNone ((D.told desk.old).register.attached (lane_again lane)) }
+    ensures text { IfOk result (λ text. IsTrue D.tells → text.items ≡ first_lines n (take most_stimulus ((D.told desk.old).contents.files (string_bytes path)))) }
+    ensures only { OnlyReadAt (lane_again lane) (D.told desk.old) (D.told desk.new) }
+    ensures failed { result ≡ Err AgainError.ReadFault → Rose (D.told desk.old).register.faults (D.told desk.new).register.faults }
+    ensures faultless { result ≢ Err AgainError.ReadFault → IsFaultless (D.told desk.old).register (D.told desk.new).register }
+{
+    let place = FIRST_LANE_AGAIN + lane;
     desk.attach(place, path, Way::Read)?;
     take_lines(alloc, desk, place, n)
 }

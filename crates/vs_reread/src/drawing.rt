@@ -1,6 +1,6 @@
 //! The design that a text elaborates to.
 
-ghost use Rattle.std.specs.Prelude.{◌≡◌, ◌≤◌, ℕ, List, Ok, IfOk, MatchOption, length};
+ghost use Rattle.std.specs.Prelude.{◌≡◌, ◌≤◌, ℕ, List, Ok, IfOk, IfSome, MatchOption, length};
 ghost use Rattle.vs_lexer.specs.declared.token.Token.{Token};
 ghost use Rattle.vs_pre.specs.Reads.{ReadsAs};
 ghost use Rattle.vs_grammar.specs.Trees as tree;
@@ -10,6 +10,7 @@ ghost use Rattle.vs_ast.specs.Views as view;
 ghost use Rattle.vs_elaborated.specs.Elaborated.{elaborated};
 ghost use Rattle.vs_design.specs.Designs.{Design};
 ghost use Rattle.vs_flat.specs.DesignOf.{design_of};
+ghost use Rattle.vs_flat.specs.Lawful.{IsLawful};
 ghost use Rattle.vs_reread.specs.Drawings.{IsDrawing};
 
 use std::alloc::{AllocError, Global};
@@ -60,7 +61,8 @@ fn tree_of(alloc: Global, text: &[u8], tokens: &[Token]) -> Result<Option<Source
 /// The flat design that a tree elaborates to, if it does.
 fn flat_of(alloc: Global, source: &Source, top: &[u8]) -> Result<Option<Flat>, AllocError>
     requires { IsShaped (view.source source.now) }
-    ensures { IfOk result (λ o. MatchOption o ((d : Design) → elaborated (view.source source.now) top.now ≡ Ok d → ⊥) (λ f. elaborated (view.source source.now) top.now ≡ Ok (design_of f))) }
+    ensures design { IfOk result (λ o. MatchOption o ((d : Design) → elaborated (view.source source.now) top.now ≡ Ok d → ⊥) (λ f. elaborated (view.source source.now) top.now ≡ Ok (design_of f))) }
+    ensures lawful { IfOk result (λ o. IfSome o IsLawful) }
 {
     match flatten(alloc, source, top) {
         Ok(flat) => Ok(Some(flat)),
@@ -70,10 +72,11 @@ fn flat_of(alloc: Global, source: &Source, top: &[u8]) -> Result<Option<Flat>, A
 }
 
 /// The design that a text of at most 4,194,304 bytes elaborates to from the module of this name, with the tokens of the text, whether or not it keeps the
-/// rules of an accepted design; None where it elaborates to none. The only error is that memory ran out.
+/// rules of an accepted design; None where it elaborates to none. The design is lawful. The only error is that memory ran out.
 pub fn draw(alloc: Global, text: &[u8], top: &[u8]) -> Result<Option<Drawing>, AllocError>
     requires { length text.now ≤ MAX_BYTES }
-    ensures { IfOk result (λ o. IsDrawing text.now top.now o) }
+    ensures drawing { IfOk result (λ o. IsDrawing text.now top.now o) }
+    ensures lawful { IfOk result (λ o. IfSome o (λ d. IsLawful d.flat)) }
 {
     tokens_law();
     kept_law();

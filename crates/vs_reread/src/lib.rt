@@ -4,5 +4,5 @@
 mod again;
 mod drawing;
 
-pub use again::{AgainError, DESIGN_AGAIN, STIMULUS_AGAIN, read_again, read_lines};
+pub use again::{AgainError, DESIGN_AGAIN, STIMULUS_AGAIN, read_again, read_lane, read_lines};
 pub use drawing::draw;

@@ -26,7 +26,7 @@ use std::sync::ledger::Ledger;
 use vs_desk::Desk;
 use vs_engine::Engine;
 use vs_feed::Drive;
-use vs_misses::Misses;
+use vs_misses::{Finding, Misses};
 use vs_plane::{Lanes, Steps};
 use vs_program::Span;
 use vs_stim::laws::line_law;
@@ -74,6 +74,14 @@ impl<W: Lanes> Checker<W> {
         ensures { result.now ≡ self.now.misses }
     {
         &self.misses
+    }
+
+    /// What was found in each lane so far.
+    pub fn into_found(self) -> Vec<Option<Finding>>
+        ensures found { result.items ≡ self.misses.found }
+        ensures few { length result.items ≤ most_lanes }
+    {
+        self.misses.into_found()
     }
 
     /// Reads the first vector of each lane, by lane.

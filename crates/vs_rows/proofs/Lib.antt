@@ -2,3 +2,4 @@ pub mod Found
 pub mod Parts
 pub mod Starts
 pub mod Onward
+pub mod Behind

@@ -37,24 +37,24 @@ both_known true A B C (inr b) more = elim (more refl) [ inl a ↦ inl a | inr c 
 both_known false A B C (inr b) more = inr (b, λ h. absurd (cc))
 
 -- what is no fault and no want of memory is a refusal
-text_refusal : (error : StimError) → IsHeaderError error → error ≢ E.ReadFault → error ≢ E.Memory → IsTextRefusal error
-text_refusal E.BadHeader h r m = h
-text_refusal E.NoExpectation h r m = h
-text_refusal (E.BadVector line) h r m = h
-text_refusal E.FirstUnknown h r m = h
-text_refusal (E.UnknownReset line) h r m = h
-text_refusal E.NoVector h r m = h
-text_refusal E.TooManyVectors h r m = h
-text_refusal E.StimulusTooLong h r m = h
-text_refusal (E.LineTooLong line) h r m = h
-text_refusal E.ReadFault h r m = absurd (r refl)
-text_refusal E.Memory h r m = absurd (m refl)
+text_refusal : (demanded : Bool) (error : StimError) → IsHeaderError error → (error ≡ E.NoExpectation → IsTrue demanded) → error ≢ E.ReadFault → error ≢ E.Memory → IsTextRefusal demanded error
+text_refusal demanded E.BadHeader h d r m = h
+text_refusal demanded E.NoExpectation h d r m = d refl
+text_refusal demanded (E.BadVector line) h d r m = h
+text_refusal demanded E.FirstUnknown h d r m = h
+text_refusal demanded (E.UnknownReset line) h d r m = h
+text_refusal demanded E.NoVector h d r m = h
+text_refusal demanded E.TooManyVectors h d r m = h
+text_refusal demanded E.StimulusTooLong h d r m = h
+text_refusal demanded (E.LineTooLong line) h d r m = h
+text_refusal demanded E.ReadFault h d r m = absurd (r refl)
+text_refusal demanded E.Memory h d r m = absurd (m refl)
 
 refusal : {tells : Bool} (ports : PortLists) (stimuli : List (List ℕ)) (old new : Told tells) (lane : ℕ) (error : StimError)
     → StopsOpening ports stimuli old new (record { lane = lane; error = error }) → error ≢ E.ReadFault → error ≢ E.Memory
-    → (lane < length stimuli) × IsTextRefusal error × (new.register ≡ with_lanes old.register (take (lane + 1) stimuli)) × (IsTrue tells → IsFirstRefused ports old.contents stimuli lane error)
+    → (lane < length stimuli) × IsTextRefusal ports.demanded error × (new.register ≡ with_lanes old.register (take (lane + 1) stimuli)) × (IsTrue tells → IsFirstRefused ports old.contents stimuli lane error)
 refusal ports stimuli old new lane error s r m =
-    (s.lane, text_refusal error s.error r m, s.attached r m, λ t. record { refused = s.refusal t r m; earlier = s.before t })
+    (s.lane, text_refusal ports.demanded error s.error s.demanded r m, s.attached r m, λ t. record { refused = s.refusal t r m; earlier = s.before t })
 
 pub unopened : {tells : Bool} (ports : PortLists) (stimuli : List (List ℕ)) (old new : Told tells) (lane : ℕ) (error : StimError)
     → StopsOpening ports stimuli old new (record { lane = lane; error = error }) → IsUnopened ports stimuli old new (error_of lane error)
@@ -187,7 +187,7 @@ unprepared {W} {tells} lane lanes job old mid new a ports engine l same e u = by
     by_error (Refused r) u = absurd u
     by_error (Stimulus n error) u = (
       u.0,
-      u.1,
+      subst (λ (demanded : Bool). IsTextRefusal demanded error) (ap (λ (is : PortLists). is.demanded) l.loaded.ports_are) u.1,
       u.2,
       λ t. record {
         design = design_of a.flat;

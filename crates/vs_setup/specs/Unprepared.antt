@@ -20,7 +20,7 @@ use Rattle.vs_setup.specs.declared.design_text.DesignError.{DesignError}
 use Rattle.vs_setup.specs.declared.design_text.DesignError.TheVariants as D
 use Rattle.vs_setup.specs.declared.error.SetupError.{SetupError}
 use Rattle.vs_setup.specs.declared.error.SetupError.TheVariants.{TooLong, Refused, Stimulus, ReadFault, Memory}
-use Rattle.vs_setup.specs.Ports.{ports_of}
+use Rattle.vs_setup.specs.Ports.{demands, ports_of}
 use Rattle.vs_setup.specs.DesignText.{design_text, with_design, IsTooLong, DesignFails}
 use Rattle.vs_setup.specs.Places.{with_texts}
 
@@ -85,11 +85,12 @@ pub record IsStimulusFault {tells : Bool} (job : Job) (old new : Told tells) (pl
   pub fails : StimulusFails job.stimuli (with_design old.register job.design) old new lane
   pub earlier : IsTrue tells → AreEarlierOpened job old.contents lane
 
--- a text is refused up to its header; a fault isn't that, nor is want of memory
-abbrev pub IsTextRefusal : StimError → Type 0
-IsTextRefusal E.ReadFault = ⊥
-IsTextRefusal E.Memory = ⊥
-IsTextRefusal error = IsHeaderError error
+-- A text is refused up to its header, for want of outputs only where these are demanded; a fault isn't that, nor is want of memory.
+abbrev pub IsTextRefusal : (demanded : Bool) → StimError → Type 0
+IsTextRefusal demanded E.ReadFault = ⊥
+IsTextRefusal demanded E.Memory = ⊥
+IsTextRefusal demanded E.NoExpectation = IsTrue demanded
+IsTextRefusal demanded error = IsHeaderError error
 
 -- Why a run or a check can't begin, where the desk told this before and tells that now.
 abbrev pub IsUnprepared : {tells : Bool} → Job → Told tells → Told tells → SetupError → Type 0
@@ -97,7 +98,7 @@ IsUnprepared {tells} job old new TooLong = (new.register ≡ with_design old.reg
 IsUnprepared {tells} job old new (Refused r) =
     (new.register ≡ with_design old.register job.design) × IsSomeRefusal job r × (IsTrue tells → IsDesignRefused job old.contents new.contents r)
 IsUnprepared {tells} job old new (Stimulus lane error) =
-    (lane < length job.stimuli) × IsTextRefusal error × (new.register ≡ with_texts old.register job (take (lane + 1) job.stimuli)) × (IsTrue tells → IsHeaderRefusal job old.contents lane error)
+    (lane < length job.stimuli) × IsTextRefusal (demands job.mode) error × (new.register ≡ with_texts old.register job (take (lane + 1) job.stimuli)) × (IsTrue tells → IsHeaderRefusal job old.contents lane error)
 IsUnprepared {tells} job old new (ReadFault place) = IsDesignFault job old new place ⊎ IsStimulusFault job old new place
 IsUnprepared {tells} job old new Memory = (new.register ≡ old.register) ⊎ ((lanes : ℕ) × (lanes ≤ length job.stimuli) × (new.register ≡ with_texts old.register job (take lanes job.stimuli)))
 
@@ -106,7 +107,7 @@ abbrev pub IsUnopened : {tells : Bool} → PortLists → List (List ℕ) → Tol
 IsUnopened {tells} ports stimuli old new TooLong = ⊥
 IsUnopened {tells} ports stimuli old new (Refused r) = ⊥
 IsUnopened {tells} ports stimuli old new (Stimulus lane error) =
-    (lane < length stimuli) × IsTextRefusal error × (new.register ≡ with_lanes old.register (take (lane + 1) stimuli)) × (IsTrue tells → IsFirstRefused ports old.contents stimuli lane error)
+    (lane < length stimuli) × IsTextRefusal ports.demanded error × (new.register ≡ with_lanes old.register (take (lane + 1) stimuli)) × (IsTrue tells → IsFirstRefused ports old.contents stimuli lane error)
 IsUnopened {tells} ports stimuli old new (ReadFault place) =
     (lane : ℕ) × (lane < length stimuli) × (place ≡ stimulus_place lane) × StimulusFails stimuli old.register old new lane × (IsTrue tells → HaveHeaders ports old.contents.files stimuli lane)
 IsUnopened {tells} ports stimuli old new Memory = (lanes : ℕ) × (lanes ≤ length stimuli) × (new.register ≡ with_lanes old.register (take lanes stimuli))

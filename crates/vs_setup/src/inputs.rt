@@ -13,6 +13,7 @@ ghost use Rattle.vs_rounds.specs.Inputs.{input_of, inputs_among, is_data_input, 
 
 use std::alloc::{AllocError, Global};
 use vs_base::Text;
+use vs_clock::are_same;
 use vs_flat::{Flat, Signal, bits_of};
 use vs_program::Span;
 use vs_stim::{Input, Name, Output};
@@ -138,11 +139,4 @@ fn is_among(names: &[Text], name: &[u8]) -> bool
     ensures { result ≡ list_any (same_name name.now) names.now }
 {
     names.iter().any(|other| are_same(name, other.as_slice()))
-}
-
-/// Whether two texts are the same.
-fn are_same(a: &[u8], b: &[u8]) -> bool
-    ensures { result ≡ same_name a.now b.now }
-{
-    a == b
 }

@@ -83,7 +83,7 @@ unknown_below Z = omega arith
 -- ---- bytes that are digits
 
 -- a digit is no other byte
-other : {D : Type 0} (read : ℕ → Option D) (a n : ℕ) (d : D) → read a ≡ Some d → read n ≡ None → nat_eq a n ≡ false
+pub other : {D : Type 0} (read : ℕ → Option D) (a n : ℕ) (d : D) → read a ≡ Some d → read n ≡ None → nat_eq a n ≡ false
 other {D = D} read a n d h k = elim (eqb_tells a n) [ inl e ↦ absurd (never (sym h ∙ ap read e.1 ∙ k)) | inr e ↦ e.0 ]
   where
     never : ◌≡◌ {A = Option D} (Some d) None → ⊥
@@ -216,11 +216,11 @@ read_plain bytes count n v u value unknown b (suc (suc m)) h k e few p q = absur
 -- ---- in a field
 
 -- no digit is a blank
-record NoBlanks {D : Type 0} (read : ℕ → Option D) : Type 0 where
-  space : read 32 ≡ None
-  tab : read 9 ≡ None
+pub record NoBlanks {D : Type 0} (read : ℕ → Option D) : Type 0 where
+  pub space : read 32 ≡ None
+  pub tab : read 9 ≡ None
 
-words_ahead : {D : Type 0} (read : ℕ → Option D) → NoBlanks read → (text rest : List ℕ) (digits : List D) → digits_by read text ≡ Some digits
+pub words_ahead : {D : Type 0} (read : ℕ → Option D) → NoBlanks read → (text rest : List ℕ) (digits : List D) → digits_by read text ≡ Some digits
     → words (text ++ rest) ≡ record { word = text ++ (words rest).word; later = (words rest).later }
 words_ahead read n [] rest digits h = refl
 words_ahead read n (a ∷ text) rest digits h =
@@ -291,17 +291,17 @@ inner_parts a text h =
     is_false false e = refl
 
 -- no digit ends a line
-record NoEnds {D : Type 0} (read : ℕ → Option D) : Type 0 where
-  lf : read 10 ≡ None
-  cr : read 13 ≡ None
+pub record NoEnds {D : Type 0} (read : ℕ → Option D) : Type 0 where
+  pub lf : read 10 ≡ None
+  pub cr : read 13 ≡ None
 
-inner_digits : {D : Type 0} (read : ℕ → Option D) → NoEnds read → (text : List ℕ) (digits : List D) → digits_by read text ≡ Some digits → is_inner text ≡ true
+pub inner_digits : {D : Type 0} (read : ℕ → Option D) → NoEnds read → (text : List ℕ) (digits : List D) → digits_by read text ≡ Some digits → is_inner text ≡ true
 inner_digits read n [] digits h = refl
 inner_digits read n (a ∷ text) digits h =
     let f = first_digit read a text digits h in
     (λ i. not (other read a 10 f.first f.is n.lf i) && not (other read a 13 f.first f.is n.cr i) && is_inner text) ∙ inner_digits read n text f.later f.are
 
-inner-append : (a b : List ℕ) → is_inner a ≡ true → is_inner b ≡ true → is_inner (a ++ b) ≡ true
+pub inner-append : (a b : List ℕ) → is_inner a ≡ true → is_inner b ≡ true → is_inner (a ++ b) ≡ true
 inner-append [] b h k = k
 inner-append (x ∷ a) b h k =
     let p = inner_parts x a h in
@@ -314,11 +314,11 @@ lines_ahead (a ∷ text) rest h =
     let p = inner_parts a text h in
     ap (λ b. elim b as (λ _. Lines) [ true ↦ with_lf (lines (text ++ rest)) | false ↦ with_byte a (lines (text ++ rest)) ]) p.0 ∙ ap (with_byte a) (lines_ahead text rest p.2)
 
-no_lf_ahead : (text : List ℕ) → is_inner text ≡ true → no_lf text ≡ true
+pub no_lf_ahead : (text : List ℕ) → is_inner text ≡ true → no_lf text ≡ true
 no_lf_ahead [] h = refl
 no_lf_ahead (a ∷ text) h = let p = inner_parts a text h in ap (λ b. not b && no_lf text) p.0 ∙ no_lf_ahead text p.2
 
-without_cr_ahead : (text rest : List ℕ) → is_inner text ≡ true → without_cr (text ++ rest) ≡ text ++ without_cr rest
+pub without_cr_ahead : (text rest : List ℕ) → is_inner text ≡ true → without_cr (text ++ rest) ≡ text ++ without_cr rest
 without_cr_ahead [] rest h = refl
 without_cr_ahead (a ∷ text) rest h = let p = inner_parts a text h in kept (text ++ rest) p.1 ∙ ap (λ bs. a ∷ bs) (without_cr_ahead text rest p.2)
   where

@@ -21,3 +21,4 @@ pub mod Endings
 pub mod Demanded
 pub mod Numbers
 pub mod Once
+pub mod LineRead

@@ -1,5 +1,5 @@
 -- Digits of which some stand for any bit, as planes.
-use Rattle.std.proofs.Common.{◌≡◌, ℕ, zero, suc, ◌+◌, ◌*◌, ◌/◌, ◌%◌, ◌^◌, ◌<◌, ◌≤◌, ◌≢◌, Bool, true, false, nat_eq, List, [], ◌∷◌, ◌++◌, length, take, refl, sym, ap, ◌∙◌, subst, arith, lit≤, add-one, length-append}
+use Rattle.std.proofs.Common.{◌≡◌, ℕ, zero, suc, ◌+◌, ◌*◌, ◌/◌, ◌%◌, ◌^◌, ◌<◌, ◌≤◌, ◌≢◌, Bool, true, false, nat_eq, List, [], ◌∷◌, ◌++◌, length, take, refl, sym, ap, ◌∙◌, subst, arith, lit≤, add-one, length-append, append-nil}
 use Rattle.std.proofs.Math.Nat.{mul_assoc, mul_comm, pow-suc, mul-lt-mul_of_pos_right, pow-le-pow_right}
 use Rattle.std.proofs.lemmas.Nat.{pow_pos, pow-add}
 use Rattle.vs_four.specs.declared.Bit4.{Bit4}
@@ -49,6 +49,11 @@ marked_read (b ∷ bs) bits any =
 -- none that stands for any
 pub marked_none : (bs bits : List Bit4) → marked (bs ++ bits) 0 ≡ exactly bs ++ marked bits 0
 marked_none bs bits = ap (marked (bs ++ bits)) (omega arith) ∙ marked_read bs bits 0
+
+-- bits of which none stands for any
+pub marked_exact : (bits : List Bit4) → marked bits 0 ≡ exactly bits
+unfolding marked
+marked_exact bits = ap (λ bs. marked bs 0) (sym (append-nil bits)) ∙ marked_none bits [] ∙ append-nil (exactly bits)
 
 pub view_length : (bits : List Bit4) (any : ℕ) (ds : List Digit) → marked bits any ≡ ds → length bits ≡ length ds
 view_length bits any ds e = sym (marked_length bits any) ∙ ap (λ xs. length xs) e

@@ -12,3 +12,4 @@ pub mod Stimulus
 pub mod Laws
 pub mod Wanted
 pub mod Wants
+pub mod Plain

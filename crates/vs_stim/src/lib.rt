@@ -8,6 +8,7 @@ mod header;
 mod heading;
 mod input;
 pub mod laws;
+mod plain;
 mod row;
 mod source;
 mod stimulus;

@@ -7,6 +7,7 @@ ghost use Rattle.vs_stim.specs.Row.{as_said, with_values};
 
 use crate::Column;
 use crate::digits::{Digits, bit_of, is_blank};
+use crate::plain::read_line;
 use crate::source::Source;
 use crate::wants::Wants;
 use vs_four::Bits;
@@ -55,11 +56,12 @@ pub(crate) struct Row {
 }
 
 impl Row {
-    ghost use Rattle.std.specs.Prelude.{All, ◌<◌, ◌≤◌, ℕ, List, [], ◌∷◌, length, drop, true, false};
+    ghost use Rattle.std.specs.Prelude.{All, ◌<◌, ◌≤◌, ℕ, List, [], ◌∷◌, length, drop, true, false, IfSome};
     ghost use Rattle.vs_stim.specs.Fields.{is_blank, words, fields};
     ghost use Rattle.vs_stim.specs.Row.{row_with, in_field, to_come, entry_in, sizes, IsRow, IsOutside, IsColumn, SameForm};
     ghost use Rattle.vs_stim.specs.Wants.{wants_said, AreWants, AreUnbegun};
     ghost use Rattle.vs_stim.specs.Source.{IsSource, ReadsAhead};
+    ghost use Rattle.vs_stim.specs.Plain.{HasLine};
     ghost use Rattle.vs_stim.specs.declared.row.Spot.TheVariants.{Start};
 
     /// Before the first line. The values are written over.
@@ -96,6 +98,37 @@ impl Row {
         self.spot = Spot::Start;
         self.column = 0;
         self.wants.begin();
+    }
+
+    /// Reads a whole line, which is a vector of plain digits, where it stands in the source's block, and answers how many bytes it has with its LF.
+    /// Where there is none, the values are written over in part.
+    #[tactic(auto, using(crate::proofs::LineRead::has_line))]
+    pub(crate) fn read_line(&mut self, source: &Source) -> Option<usize>
+        requires row { IsRow self.old }
+        requires spot { self.old.spot ≡ Start }
+        requires source { IsSource source.now }
+        ensures row { IsRow self.new }
+        ensures form { SameForm self.old self.new }
+        ensures line { IfSome result (λ count. HasLine self.old self.new source.now count) }
+        ensures some { IfSome result (λ count. 0 < count) }
+        ensures within { IfSome result (λ count. count ≤ length source.now.block) }
+    {
+        if self.columns.is_empty() {
+            return None;
+        }
+        let wants = &mut self.wants;
+        let count = read_line(
+            &self.columns,
+            &mut self.values,
+            &wants.expected,
+            &mut wants.values,
+            source.block.as_slice(),
+        )?;
+        if source.has_room(count) {
+            Some(count)
+        } else {
+            None
+        }
     }
 
     /// Reads the next byte of the line.

@@ -164,6 +164,37 @@ impl Source {
         Ok(())
     }
 
+    /// Whether this many bytes more of the line are past no limit.
+    pub(crate) fn has_room(&self, count: usize) -> bool
+        requires { IsSource self.now }
+        ensures line { IsTrue result → self.now.length + count ≤ limits.line }
+        ensures bytes { IsTrue result → self.now.start + self.now.length + count ≤ limits.bytes }
+    {
+        let bytes = count as u64;
+        bytes <= LINE_BYTES - self.length && bytes <= TEXT_BYTES - self.start - self.length
+    }
+
+    /// Passes the rest of a line: this many bytes with its LF, which stand first in the block.
+    pub(crate) fn pass_line(&mut self, count: usize)
+        requires source { IsSource self.old }
+        requires some { 0 < count }
+        requires within { count ≤ length self.old.block }
+        requires line { self.old.length + count ≤ limits.line }
+        requires bytes { self.old.start + self.old.length + count ≤ limits.bytes }
+        ensures source { IsSource self.new }
+        ensures passed { self.new ≡ record self.old {
+          block = drop count self.old.block;
+          number = self.old.number + 1;
+          start = self.old.start + self.old.length + count;
+          length = 0;
+        } }
+    {
+        self.block.skip(count);
+        self.number += 1;
+        self.start += self.length + count as u64;
+        self.length = 0;
+    }
+
     /// Ends a line that the text ends with.
     fn end_text(&mut self)
         requires { IsSource self.old }

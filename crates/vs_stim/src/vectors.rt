@@ -58,8 +58,8 @@ fn feed_row<D: Desk>(source: &mut Source, row: &mut Row, desk: &mut D) -> Result
     }
 }
 
-/// Reads a line, and answers what it is and whether the text ends with it.
-fn read_row<D: Desk>(
+/// Reads a line byte by byte, and answers what it is and whether the text ends with it.
+fn feed_line<D: Desk>(
     source: &mut Source,
     row: &mut Row,
     desk: &mut D,
@@ -92,6 +92,45 @@ fn read_row<D: Desk>(
     row.begin();
     let last = feed_row(source, row, desk)?;
     Ok((row.finish(), last))
+}
+
+/// Reads a line, and answers what it is and whether the text ends with it: whole, where it can be, else byte by byte.
+fn read_row<D: Desk>(
+    source: &mut Source,
+    row: &mut Row,
+    desk: &mut D,
+) -> Result<(LineKind, bool), StimError>
+    requires source { IsSource source.old }
+    requires row { IsRow row.old }
+    requires each { IsTrue (each_input row.old) }
+    requires attached { IsAttached (D.told desk.old).register source.old.place Read }
+    ensures source { IsSource source.new }
+    ensures row { IsRow row.new }
+    ensures form { SameForm row.old row.new }
+    ensures place { source.new.place ≡ source.old.place }
+    ensures moves { IfOk result (λ line. line.1 ≡ false → source.old.start < source.new.start) }
+    ensures begins { OnOk result (source.new.length ≡ 0) }
+    ensures says { IsTrue D.tells → IfOk result (λ line. as_said line.0 (entry_in row.new) ≡ vector_line (columns_in row.old) (says (open_at source.old (D.told desk.old)))) }
+    ensures passes { IsTrue D.tells → IfOk result (λ line. Passes line.1 (open_at source.old (D.told desk.old)) (open_at source.new (D.told desk.new))) }
+
+    ensures refused { IsTrue D.tells → IfErr result (λ e. e ≢ StimError.ReadFault → line_refusal (open_at source.old (D.told desk.old)) ≡ Some e) }
+    ensures errors { IfErr result (IsReadError source.old.number) }
+    ensures desk { TakesAt source.old.place (D.told desk.old) (D.told desk.new) StimError.ReadFault result }
+    ensures frugal { IsTrue (is_told (in_block source.old)) → desk.new ≡ desk.old }
+    ensures told { IsTrue (is_told (in_block source.old)) → IfOk result (λ line. Passes line.1 (in_block source.old) (in_block source.new)) }
+    ensures told_last { IsTrue (is_told (in_block source.old)) → IfOk result (λ line. line.1 ≡ false) }
+    ensures told_says { IsTrue (is_told (in_block source.old)) → IfOk result (λ line. as_said line.0 (entry_in row.new) ≡ vector_line (columns_in row.old) (says (in_block source.old))) }
+
+    ensures went { IsTrue D.tells → result ≡ Err StimError.ReadFault → GoesOn (open_at source.old (D.told desk.old)) (open_at source.new (D.told desk.new)) }
+    ensures empty { result ≡ Err StimError.ReadFault → source.new.block ≡ [] }
+    ensures ends { IsTrue D.tells → IfOk result (λ line. line.1 ≡ false → PassesLf (open_at source.old (D.told desk.old)) (open_at source.new (D.told desk.new))) }
+{
+    row.begin();
+    if let Some(count) = row.read_line(source) {
+        source.pass_line(count);
+        return Ok((LineKind::Given, false));
+    }
+    feed_line(source, row, desk)
 }
 
 /// Whether a bit is 0 or 1.

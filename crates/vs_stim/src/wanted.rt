@@ -2,7 +2,7 @@
 
 ghost use Rattle.std.specs.Prelude.{◌≡◌, ◌+◌, ◌≤◌, ◌<◌, ◌*◌, ◌^◌, [], ◌∷◌, length};
 ghost use Rattle.vs_four.specs.Planes.{bits_of_planes};
-ghost use Rattle.vs_stim.specs.Wanted.{marked};
+ghost use Rattle.vs_stim.specs.Wanted.{marked, exactly};
 ghost use Rattle.vs_stim.specs.Vectors.{wanted_digit};
 
 use crate::digits::{Digits, bit_of};
@@ -44,6 +44,14 @@ impl Wanted {
             bits: Bits::of_planes(len, 0, 0),
             any: u64::MAX,
         }
+    }
+
+    /// These bits.
+    #[inline]
+    pub(crate) fn exactly(bits: Bits) -> Wanted
+        ensures { result ≡ exactly bits }
+    {
+        Wanted { bits, any: 0 }
     }
 
     /// The planes of the bits, as those of `Bits`, and a word with a 1 for each digit that stands for any bit. The bits of such digits say nothing.

@@ -16,6 +16,7 @@ use Rattle.vs_setup.specs.declared.error.SetupError.{SetupError}
 use Rattle.vs_setup.specs.declared.error.SetupError.TheVariants as S
 use Rattle.vs_setup.specs.DesignText.{with_design, DesignFails}
 use Rattle.vs_setup.specs.Places.{with_texts}
+use Rattle.vs_setup.specs.Ports.{demands}
 use Rattle.vs_setup.specs.Unprepared.{IsUnprepared, IsTextRefusal, IsDesignFault, IsStimulusFault, StimulusFails}
 use Rattle.vs_top.specs.declared.outcome.Summary.{Summary}
 use Rattle.vs_top.specs.declared.outcome.Outcome.{Outcome}
@@ -103,8 +104,8 @@ refusal_ends old new i E.Memory other q = record { fault = q.faults; losses = q.
 line_refusal : (e : StimError) → IsLineRefusal e → e ≢ E.ReadFault
 line_refusal e h is = subst IsLineRefusal is h
 
-text_refusal : (e : StimError) → IsTextRefusal e → e ≢ E.ReadFault
-text_refusal e h is = subst IsTextRefusal is h
+text_refusal : (demanded : Bool) (e : StimError) → IsTextRefusal demanded e → e ≢ E.ReadFault
+text_refusal demanded e h is = subst (IsTextRefusal demanded) is h
 
 -- the register is one in which only places were attached
 quiet_at : (old mid new : Register) → Quiet old mid → new ≡ mid → Quiet old new
@@ -140,7 +141,7 @@ setup_ends : {tells : Bool} (job : Job) (old new : Told tells) (e : SetupError) 
 setup_ends job old new S.TooLong h = let q = quiet_at old.register (with_design old.register job.design) new.register (placed old.register 1 Read (job.design ∷ [])) h.0 in record { fault = q.faults; losses = q.losses }
 setup_ends job old new (S.Refused r) h = let q = quiet_at old.register (with_design old.register job.design) new.register (placed old.register 1 Read (job.design ∷ [])) h.0 in record { fault = q.faults; losses = q.losses }
 setup_ends job old new (S.Stimulus i e) h =
-    refusal_ends old.register new.register i e (text_refusal e h.1) (quiet_at old.register (with_texts old.register job (take (i + 1) job.stimuli)) new.register (texts old.register job (take (i + 1) job.stimuli)) h.2)
+    refusal_ends old.register new.register i e (text_refusal (demands job.mode) e h.1) (quiet_at old.register (with_texts old.register job (take (i + 1) job.stimuli)) new.register (texts old.register job (take (i + 1) job.stimuli)) h.2)
 setup_ends job old new (S.ReadFault place) (inl h) = design_ends job old new place h
 setup_ends job old new (S.ReadFault place) (inr h) = stimulus_ends job old new place h
 setup_ends job old new S.Memory (inl h) = let q = quiet_at old.register old.register new.register (quiet old.register) h in record { fault = q.faults; losses = q.losses }

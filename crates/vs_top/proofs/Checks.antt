@@ -27,6 +27,7 @@ use Rattle.vs_top.specs.declared.outcome.Outcome.TheVariants.{Done}
 use Rattle.vs_top.specs.Answers.{stop_outcome}
 use Rattle.vs_top.specs.Verdicts.{misses_text, missed_lanes}
 use Rattle.vs_top.specs.Begun.{IsCheckBegun}
+use Rattle.vs_top.specs.Checked.{IsChecked}
 use Rattle.vs_top.specs.Ended.{IsEnd}
 use Rattle.vs_top.specs.Ended.IsEnd.{check_stopped, checked}
 use Rattle.vs_top.proofs.Lanes.{are_data_inputs, lane_checked, accepted_as, check_is}
@@ -46,16 +47,38 @@ pub record AreWhole {W : Type 0} (lane : W → ℕ → Bool) {tells : Bool} (m :
   pub ticked : (n : ℕ) × (s.settlings ≡ 2 * n) × TicksRounds m.engine.program m.engine.begun n before after
   pub others : IsTrue tells → OtherPlacesKept (length m.stimuli) now.contents new.contents
 
-pub whole_check : {W : Type 0} (lane : W → ℕ → Bool) {tells : Bool} → VerdictOfEveryRun → SomeRun → WholeHasVector → (job : Job) (old now new : Told tells) (m : Checking W) (size : ℕ) (found : List (Option Found)) (s : Summary) (before after : ℕ)
-    → job.mode ≡ modes.Check → 0 < length job.stimuli → s.lanes ≡ length job.stimuli → s.size ≡ size → s.missed ≡ Some (missed_lanes found)
-    → IsCheckBegun lane job old now m size → AreWhole lane m now new found s before after → IsEnd job old new (misses_text found) (Done s)
-whole_check lane every_run some_run vectors job old now new m size found s before after mode some lanes_are size_is missed_are b r =
+pub whole_checked : {W : Type 0} (lane : W → ℕ → Bool) {tells : Bool} → VerdictOfEveryRun → SomeRun → WholeHasVector → (job : Job) (old now new : Told tells) (m : Checking W) (size : ℕ) (found : List (Option Found)) (s : Summary) (before after : ℕ)
+    → 0 < length job.stimuli → s.lanes ≡ length job.stimuli → s.size ≡ size → s.missed ≡ Some (missed_lanes found)
+    → IsCheckBegun lane job old now m size → AreWhole lane m now new found s before after → IsTrue tells → IsChecked job old.contents new.contents found s
+whole_checked lane every_run some_run vectors job old now new m size found s before after some lanes_are size_is missed_are b r t =
     let p = b.prepared in
     let clock = p.accepted.accepted.clock.first in
     let run = run_of job old.contents.files p.design clock (ports_of job.mode p.accepted) in
     let lanes : length m.stimuli ≡ length job.stimuli = b.lanes ∙ p.lanes in
     let program : IsProgramOf p.design clock m.engine.program = subst (λ (e : Running _). IsProgramOf p.design clock e.program) (sym b.engine) p.program in
     let idle : m.engine.begun ≡ false = ap (λ (e : Running _). e.begun) b.engine ∙ p.begun in
+    let done : AreChecked run (length job.stimuli) found new.contents = subst (λ (n : ℕ). AreChecked run n found new.contents) lanes (r.done t run (b.in_round t)) in
+    let counted : AreCounted run (length job.stimuli) s.vectors s.settlings = subst (λ (n : ℕ). AreCounted run n s.vectors s.settlings) lanes (r.counted t run (b.in_round t)) in
+    record {
+      design = p.design;
+      accepted = accepted_as job.top job.clock p.design (job.head ++ p.file) (design_text job old.contents) (ap (λ (file : List ℕ). job.head ++ file) (p.file_is t)) p.accepted;
+      lanes = λ i h. lane_checked every_run some_run vectors p.design job.clock p.accepted.accepted run.ports (are_data_inputs p.design clock p.all_ports.inputs) (run.texts i) (found_at found i) (done.valid i h) (done.found i h);
+      found_are = r.lanes ∙ lanes;
+      design_taken = (r.others t).before 1 (omega arith) ∙ (b.others t).before 1 (omega arith) ∙ p.taken t;
+      stimuli_taken = λ i h. done.taken i h;
+      lanes_are = lanes_are;
+      counted = counted;
+      size_is = size_is ∙ p.size_is;
+      missed_are = missed_are;
+      stored = are_stores p.design clock m.engine.program program m.engine.begun idle r.ticked.0 s.settlings s.operations before after r.ticked.1
+          (some_settling run (length job.stimuli) s.vectors s.settlings some (has_vector vectors run 0 (done.valid 0 some)) counted) r.ticked.2 r.operations;
+    }
+
+pub whole_check : {W : Type 0} (lane : W → ℕ → Bool) {tells : Bool} → VerdictOfEveryRun → SomeRun → WholeHasVector → (job : Job) (old now new : Told tells) (m : Checking W) (size : ℕ) (found : List (Option Found)) (s : Summary) (before after : ℕ)
+    → job.mode ≡ modes.Check → 0 < length job.stimuli → s.lanes ≡ length job.stimuli → s.size ≡ size → s.missed ≡ Some (missed_lanes found)
+    → IsCheckBegun lane job old now m size → AreWhole lane m now new found s before after → IsEnd job old new (misses_text found) (Done s)
+whole_check lane every_run some_run vectors job old now new m size found s before after mode some lanes_are size_is missed_are b r =
+    let p = b.prepared in
     checked mode b.different (record {
       summary = s;
       outcome_is = refl;
@@ -63,23 +86,7 @@ whole_check lane every_run some_run vectors job old now new m size found s befor
       found = found;
       missed_are = missed_are;
       lines_are = refl;
-      checked = λ t.
-          let done : AreChecked run (length job.stimuli) found new.contents = subst (λ (n : ℕ). AreChecked run n found new.contents) lanes (r.done t run (b.in_round t)) in
-          let counted : AreCounted run (length job.stimuli) s.vectors s.settlings = subst (λ (n : ℕ). AreCounted run n s.vectors s.settlings) lanes (r.counted t run (b.in_round t)) in
-          record {
-            design = p.design;
-            accepted = accepted_as job.top job.clock p.design (job.head ++ p.file) (design_text job old.contents) (ap (λ (file : List ℕ). job.head ++ file) (p.file_is t)) p.accepted;
-            lanes = λ i h. lane_checked every_run some_run vectors p.design job.clock p.accepted.accepted run.ports (are_data_inputs p.design clock p.all_ports.inputs) (run.texts i) (found_at found i) (done.valid i h) (done.found i h);
-            found_are = r.lanes ∙ lanes;
-            design_taken = (r.others t).before 1 (omega arith) ∙ (b.others t).before 1 (omega arith) ∙ p.taken t;
-            stimuli_taken = λ i h. done.taken i h;
-            lanes_are = lanes_are;
-            counted = counted;
-            size_is = size_is ∙ p.size_is;
-            missed_are = missed_are;
-            stored = are_stores p.design clock m.engine.program program m.engine.begun idle r.ticked.0 s.settlings s.operations before after r.ticked.1
-                (some_settling run (length job.stimuli) s.vectors s.settlings some (has_vector vectors run 0 (done.valid 0 some)) counted) r.ticked.2 r.operations;
-          };
+      checked = λ t. whole_checked lane every_run some_run vectors job old now new m size found s before after some lanes_are size_is missed_are b r t;
       kept = λ t. kept_since b.middle.contents now.contents new.contents _ _ (b.others t) (r.others t) old.contents (p.kept t);
     })
 

@@ -13,3 +13,4 @@ pub mod Others
 pub mod Benches
 pub mod Stores
 pub mod Flushing
+pub mod Keeping

@@ -23,7 +23,7 @@ use Rattle.vs_top.proofs.Ends.{same_summary, written_still}
 use Rattle.vs_top.proofs.Lawful.{not_done, setup_stops, stop_stops}
 
 -- a job isn't both run and checked
-one_mode : (m : Mode) → m ≡ modes.Run → m ≡ modes.Check → ⊥
+pub one_mode : (m : Mode) → m ≡ modes.Run → m ≡ modes.Check → ⊥
 one_mode m a b = clash (sym a ∙ b)
   where
     clash : modes.Run ≡ modes.Check → ⊥
@@ -40,7 +40,7 @@ end_written job old new lines s told run (unflushed l m d e) = absurd (not_done 
 end_written job old new lines s told run (check_stopped m d e) = absurd (one_mode job.mode run m)
 end_written job old new lines s told run (checked m d e) = absurd (one_mode job.mode run m)
 
-end_checked : {tells : Bool} (job : Job) (old new : Told tells) (lines : List ℕ) (s : Summary) → job.mode ≡ modes.Check → IsEnd job old new lines (Done s) → IsCheckedEnd job old new lines (Done s)
+pub end_checked : {tells : Bool} (job : Job) (old new : Told tells) (lines : List ℕ) (s : Summary) → job.mode ≡ modes.Check → IsEnd job old new lines (Done s) → IsCheckedEnd job old new lines (Done s)
 end_checked job old new lines s check (same l e) = absurd (not_done s (Refused (SamePath e.first e.second)) e.outcome_is tt)
 end_checked job old new lines s check (setup l d e) = absurd (not_done s (setup_outcome e.error) e.outcome_is (setup_stops e.error))
 end_checked job old new lines s check (first l d e) = absurd (not_done s (stop_outcome e.stop) e.outcome_is (stop_stops e.stop))
@@ -82,7 +82,7 @@ simulated_written told job old new result simulated t run s is =
     (λ middle lines u e put. written_still job (told old).contents middle.contents (told new).contents middle.register (lines ++ done_line u) u (put t) (end_written job (told old) middle lines u t run e))
 
 -- what was found stays so where lines are put at place 0
-checked_still : (job : Job) (old mid new : Contents) (found : List (Option Found)) (s : Summary) → new.left ≡ mid.left → IsChecked job old mid found s → IsChecked job old new found s
+pub checked_still : (job : Job) (old mid new : Contents) (found : List (Option Found)) (s : Summary) → new.left ≡ mid.left → IsChecked job old mid found s → IsChecked job old new found s
 checked_still job old mid new found s e w = record {
   design = w.design;
   accepted = w.accepted;

@@ -10,3 +10,4 @@ pub mod Begun
 pub mod Benched
 pub mod Causes
 pub mod Refused
+pub mod Answered

@@ -1,6 +1,6 @@
 //! A check from its paths to its report.
 
-ghost use Rattle.std.specs.Prelude.{◌≡◌, ◌+◌, ◌*◌, ◌≤◌, [], IfOk, IfErr, length};
+ghost use Rattle.std.specs.Prelude.{◌≡◌, ◌+◌, ◌*◌, ◌≤◌, [], IfOk, IfErr, IsTrue, Some, length};
 ghost use Rattle.vs_desk.specs.Desk.{Told};
 ghost use Rattle.vs_desk.specs.Places.{most_lanes};
 ghost use Rattle.vs_feed.specs.Lanes.{AreAttached};
@@ -9,13 +9,15 @@ ghost use Rattle.vs_job.specs.declared.job.Mode.TheVariants as modes;
 ghost use Rattle.vs_rounds.specs.Checked.{IsCheckable};
 ghost use Rattle.vs_top.specs.declared.outcome.Summary.{Summary};
 ghost use Rattle.vs_top.specs.declared.outcome.Outcome.TheVariants.{Done};
+ghost use Rattle.vs_top.specs.Answered.{IsAnswered};
 ghost use Rattle.vs_top.specs.Begun.{IsCheckBegun};
+ghost use Rattle.vs_top.specs.Checked.{IsChecked};
 ghost use Rattle.vs_top.specs.Ended.{IsEnd, IsStopped, IsUnused};
-ghost use Rattle.vs_top.specs.Reports.{IsSimulated};
-ghost use Rattle.vs_top.specs.Verdicts.{misses_text};
+ghost use Rattle.vs_top.specs.Verdicts.{misses_text, missed_lanes};
 
+use crate::answered::{found_kept, nothing_kept};
 use crate::errors::{setup_outcome, stop_outcome};
-use crate::outcome::{Outcome, Summary};
+use crate::outcome::{Answered, Outcome, Summary};
 use crate::report_line::report;
 use crate::verdicts::report_verdicts;
 use std::alloc::Global;
@@ -29,18 +31,19 @@ use vs_setup::{PreparedCheck, prepare_check};
 use vs_stim::laws::known_law;
 
 /// Checks the lanes of a job, and puts at place 0 of the desk what they missed and then the report line, in words of as many lanes as it
-/// needs: 64, 128 or 256.
+/// needs: 64, 128 or 256. What was found is kept where it is done.
 pub(crate) fn check_job<D: Desk, L: Ledger>(
     alloc: Global,
     job: &Job,
     desk: &mut D,
     steps: &mut Steps<L>,
-) -> Outcome
+) -> Answered
     requires mode { job.now.mode ≡ modes.Check }
     requires job { IsJob job.now }
     requires unused { IsUnused (D.told desk.old).register (length job.now.stimuli) }
-    ensures operations { (s : Summary) → result ≡ Done s → (steps.new ≡ steps.old + s.operations) × (s.operations ≤ s.size * s.settlings) }
-    ensures ended { IsSimulated D.told job.now desk.old desk.new result }
+    ensures operations { (s : Summary) → result.outcome ≡ Done s → (steps.new ≡ steps.old + s.operations) × (s.operations ≤ s.size * s.settlings) }
+    ensures answered { IsAnswered D.told job.now desk.old desk.new result.outcome result.found.items }
+    ensures few { length result.found.items ≤ most_lanes }
 {
     let lanes = job.stimuli.len();
     if lanes <= 64 {
@@ -61,22 +64,24 @@ fn check_lanes<W: Lanes, D: Desk, L: Ledger>(
     job: &Job,
     desk: &mut D,
     steps: &mut Steps<L>,
-) -> Outcome
+) -> Answered
     requires mode { job.now.mode ≡ modes.Check }
     requires job { IsJob job.now }
     requires unused { IsUnused (D.told desk.old).register (length job.now.stimuli) }
     requires width { W.LANES ≤ most_lanes }
     requires lanes { length job.now.stimuli ≤ W.LANES }
-    ensures operations { (s : Summary) → result ≡ Done s → (steps.new ≡ steps.old + s.operations) × (s.operations ≤ s.size * s.settlings) }
-    ensures ended { IsSimulated D.told job.now desk.old desk.new result }
+    ensures operations { (s : Summary) → result.outcome ≡ Done s → (steps.new ≡ steps.old + s.operations) × (s.operations ≤ s.size * s.settlings) }
+    ensures answered { IsAnswered D.told job.now desk.old desk.new result.outcome result.found.items }
+    ensures few { length result.found.items ≤ most_lanes }
 {
     match begin_check::<W, D>(alloc, job, desk) {
         Ok(mut check) => {
             let lanes = job.stimuli.len() as u32;
             let outcome = check_rounds(job, &mut check, desk, steps);
-            report_verdicts(desk, check.checker.misses(), lanes, outcome)
+            let reported = report_verdicts(desk, check.checker.misses(), lanes, outcome);
+            found_kept(alloc, reported, check.checker)
         }
-        Err(outcome) => report(desk, outcome),
+        Err(outcome) => nothing_kept(alloc, report(desk, outcome)),
     }
 }
 
@@ -126,6 +131,9 @@ fn check_rounds<W: Lanes, D: Desk, L: Ledger>(
     ensures ended { (old : Told D.tells) → IsCheckBegun W.lane job.now old (D.told desk.old) check.old.checker check.old.size
         → IsEnd job.now old (D.told desk.new) (misses_text check.new.checker.misses.found) result }
     ensures lanes { length check.new.checker.misses.found ≡ length job.now.stimuli }
+    ensures missed { (s : Summary) → result ≡ Done s → s.missed ≡ Some (missed_lanes check.new.checker.misses.found) }
+    ensures checked { (old : Told D.tells) → IsCheckBegun W.lane job.now old (D.told desk.old) check.old.checker check.old.size
+        → IsTrue D.tells → (s : Summary) → result ≡ Done s → IsChecked job.now old.contents (D.told desk.new).contents check.new.checker.misses.found s }
     ensures operations { (s : Summary) → result ≡ Done s → steps.new ≡ steps.old + s.operations }
     ensures within { (old : Told D.tells) → IsCheckBegun W.lane job.now old (D.told desk.old) check.old.checker check.old.size
         → (s : Summary) → result ≡ Done s → s.operations ≤ s.size * s.settlings }

@@ -1,6 +1,7 @@
 //! The top call: a job from its words to its waveforms, or to what its lanes missed, and to its report line.
 #![tactic(auto)]
 
+mod answered;
 mod bench_call;
 mod checking;
 mod errors;
@@ -13,6 +14,6 @@ mod verdicts;
 
 pub use bench_call::bench;
 pub use exit_status::status;
-pub use outcome::{Outcome, Summary};
+pub use outcome::{Answered, Outcome, Summary};
 pub use report_line::report;
-pub use run_call::{run, simulate};
+pub use run_call::{answer, run, simulate};

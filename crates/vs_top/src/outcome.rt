@@ -1,5 +1,6 @@
 //! How a run ends.
 
+use vs_misses::Finding;
 use vs_refusal::Refusal;
 
 /// What a run or a check that is done has done.
@@ -33,4 +34,14 @@ pub enum Outcome {
     WriteFault { place: u32 },
     /// There was no memory.
     Memory,
+}
+
+/// How a run ended, and what was found in the lanes of a check.
+#[derive(Drop)]
+pub struct Answered {
+    /// How it ended.
+    pub outcome: Outcome,
+    /// What each lane of a check that is done missed first, if it missed something; of every other
+    /// outcome nothing.
+    pub found: Vec<Option<Finding>>,
 }

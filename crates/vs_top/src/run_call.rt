@@ -12,6 +12,7 @@ ghost use Rattle.vs_refusal.specs.declared.refusal.Refusal.{Refusal};
 ghost use Rattle.vs_refusal.specs.declared.refusal.Refusal.TheVariants.{Bare};
 ghost use Rattle.vs_top.specs.declared.outcome.Summary.{Summary};
 ghost use Rattle.vs_top.specs.declared.outcome.Outcome.TheVariants.{Done, Memory, Refused};
+ghost use Rattle.vs_top.specs.Answered.{IsAnswered, IsKept};
 ghost use Rattle.vs_top.specs.Benched.{IsBenched};
 ghost use Rattle.vs_top.specs.Causes.{IsDoneOrMemory, IsFaultless, IsLawful, ShowsCause};
 ghost use Rattle.vs_top.specs.Ended.{IsUnused, OthersAttached};
@@ -20,9 +21,10 @@ ghost use Rattle.vs_top.specs.Reports.{IsSimulated, IsReported};
 ghost use Rattle.vs_top.specs.Headline.{IsWritten};
 ghost use Rattle.vs_top.specs.Checked.{IsVerdict};
 
+use crate::answered::nothing_kept;
 use crate::bench_call::bench;
 use crate::checking::check_job;
-use crate::outcome::Outcome;
+use crate::outcome::{Answered, Outcome};
 use crate::report_line::report;
 use crate::simulation::run_job;
 use std::alloc::Global;
@@ -59,12 +61,57 @@ pub fn simulate<D: Desk, L: Ledger>(
         → IsVerdict job.now (D.told desk.old).contents (D.told desk.new).contents s }
     ensures others { OthersAttached (D.told desk.old).register (D.told desk.new).register }
 {
+    let answered = answer_job(alloc, job, desk, steps);
+    answered.outcome
+}
+
+/// Runs a job or checks it, and puts its report. What was found in the lanes of a check that is done is kept.
+fn answer_job<D: Desk, L: Ledger>(
+    alloc: Global,
+    job: &Job,
+    desk: &mut D,
+    steps: &mut Steps<L>,
+) -> Answered
+    requires job { IsJob job.now }
+    requires unused { IsUnused (D.told desk.old).register (length job.now.stimuli) }
+    ensures operations { (s : Summary) → result.outcome ≡ Done s → (steps.new ≡ steps.old + s.operations) × (s.operations ≤ s.size * s.settlings) }
+    ensures ended { IsSimulated D.told job.now desk.old desk.new result.outcome }
+    ensures causes { ShowsCause (D.told desk.old) (D.told desk.new) result.outcome }
+    ensures complete { IsTrue D.tells → IsLawful job.now (D.told desk.old).contents → IsFaultless (D.told desk.old) (D.told desk.new) → IsDoneOrMemory result.outcome }
+    ensures refused { IsTrue D.tells → (q : Refusal) → IsRefusedJob job.now (D.told desk.old).contents q
+        → IsFaultless (D.told desk.old) (D.told desk.new) → IsRefusedSo q result.outcome }
+    ensures not_usage { result.outcome ≢ Refused (Bare Usage) }
+    ensures written { IsTrue D.tells → job.now.mode ≡ modes.Run → (s : Summary) → result.outcome ≡ Done s
+        → IsWritten job.now (D.told desk.old).contents (D.told desk.new).contents s }
+    ensures checked { IsTrue D.tells → job.now.mode ≡ modes.Check → (s : Summary) → result.outcome ≡ Done s
+        → IsVerdict job.now (D.told desk.old).contents (D.told desk.new).contents s }
+    ensures others { OthersAttached (D.told desk.old).register (D.told desk.new).register }
+    ensures answered { IsAnswered D.told job.now desk.old desk.new result.outcome result.found.items }
+    ensures few { length result.found.items ≤ most_lanes }
+{
     answer_law();
     attach_law();
     match job.mode {
-        Mode::Run => run_and_report(alloc, job, desk, steps),
+        Mode::Run => answer_run(alloc, job, desk, steps),
         Mode::Check => check_job(alloc, job, desk, steps),
     }
+}
+
+/// Runs a job, and puts its report line. Nothing is kept of its lanes.
+fn answer_run<D: Desk, L: Ledger>(
+    alloc: Global,
+    job: &Job,
+    desk: &mut D,
+    steps: &mut Steps<L>,
+) -> Answered
+    requires mode { job.now.mode ≡ modes.Run }
+    requires job { IsJob job.now }
+    requires unused { IsUnused (D.told desk.old).register (length job.now.stimuli) }
+    ensures operations { (s : Summary) → result.outcome ≡ Done s → (steps.new ≡ steps.old + s.operations) × (s.operations ≤ s.size * s.settlings) }
+    ensures answered { IsAnswered D.told job.now desk.old desk.new result.outcome result.found.items }
+    ensures few { length result.found.items ≤ most_lanes }
+{
+    nothing_kept(alloc, run_and_report(alloc, job, desk, steps))
 }
 
 /// Runs a job, and puts its report line.
@@ -126,13 +173,61 @@ pub fn run<D: Desk, L: Ledger>(
     ensures complete { IsTrue D.tells → (j : Job) → job (map string_bytes words.now) ≡ Some j → IsLawful j (D.told desk.old).contents
         → IsFaultless (D.told desk.old) (D.told desk.new) → IsDoneOrMemory result }
 {
+    let answered = answer(alloc, words, desk, steps);
+    answered.outcome
+}
+
+/// Runs the words of the command line as `run` does, and keeps what was found in the lanes of a check that is done: what each missed first, if it missed
+/// something, by lane. Of every other answer nothing is kept.
+pub fn answer<D: Desk, L: Ledger>(
+    alloc: Global,
+    words: &[String],
+    desk: &mut D,
+    steps: &mut Steps<L>,
+) -> Answered
+    requires unused { IsUnused (D.told desk.old).register most_lanes }
+
+    // The headline, of a run and of a check.
+    ensures written { IsTrue D.tells → (j : Job) → job (map string_bytes words.now) ≡ Some j → j.mode ≡ modes.Run → (s : Summary) → result.outcome ≡ Done s
+        → IsWritten j (D.told desk.old).contents (D.told desk.new).contents s }
+    ensures checked { IsTrue D.tells → (j : Job) → job (map string_bytes words.now) ≡ Some j → j.mode ≡ modes.Check → (s : Summary) → result.outcome ≡ Done s
+        → IsVerdict j (D.told desk.old).contents (D.told desk.new).contents s }
+    ensures operations { (s : Summary) → result.outcome ≡ Done s → (steps.new ≡ steps.old + s.operations) × (s.operations ≤ s.size * s.settlings) }
+
+    // Every answer has its cause.
+    ensures usage { job (map string_bytes words.now) ≡ None → bench (map string_bytes words.now) ≡ None
+        → (result.outcome ≡ Refused (Bare Usage)) × IsReported (D.told desk.old) (D.told desk.new) result.outcome }
+    ensures usage_only { result.outcome ≡ Refused (Bare Usage) → (job (map string_bytes words.now) ≡ None) × (bench (map string_bytes words.now) ≡ None) }
+    ensures causes { ShowsCause (D.told desk.old) (D.told desk.new) result.outcome }
+    ensures ended { (j : Job) → job (map string_bytes words.now) ≡ Some j
+        → IsSimulated D.told j desk.old desk.new result.outcome ⊎ ((result.outcome ≡ Memory) × IsReported (D.told desk.old) (D.told desk.new) result.outcome) }
+    ensures benched { (b : Bench) → bench (map string_bytes words.now) ≡ Some b → IsBenched b (D.told desk.old) (D.told desk.new) result.outcome }
+
+    // Places that are none of a job's stay as they were.
+    ensures others { OthersAttached (D.told desk.old).register (D.told desk.new).register }
+
+    // And where no call on the desk fails, nothing but want of memory keeps a refused job from its refusal, or a lawful job from its end.
+    ensures refused { IsTrue D.tells → (j : Job) → job (map string_bytes words.now) ≡ Some j → (q : Refusal) → IsRefusedJob j (D.told desk.old).contents q
+        → IsFaultless (D.told desk.old) (D.told desk.new) → IsRefusedSo q result.outcome }
+    ensures complete { IsTrue D.tells → (j : Job) → job (map string_bytes words.now) ≡ Some j → IsLawful j (D.told desk.old).contents
+        → IsFaultless (D.told desk.old) (D.told desk.new) → IsDoneOrMemory result.outcome }
+
+    // What is kept of the lanes is what was found and told.
+    ensures kept { IsKept result.outcome result.found.items }
+    ensures answered { (j : Job) → job (map string_bytes words.now) ≡ Some j
+        → IsAnswered D.told j desk.old desk.new result.outcome result.found.items ⊎ ((result.outcome ≡ Memory) × IsReported (D.told desk.old) (D.told desk.new) result.outcome) }
+    ensures few { length result.found.items ≤ most_lanes }
+{
     apart_law();
     if let Some(sizes) = read_bench(words) {
-        return bench(alloc, sizes, desk, steps);
+        return nothing_kept(alloc, bench(alloc, sizes, desk, steps));
     }
     match read_job(alloc, words) {
-        Ok(job) => simulate(alloc, &job, desk, steps),
-        Err(JobError::Usage) => report(desk, Outcome::Refused(Refusal::Bare(BareName::Usage))),
-        Err(JobError::Memory) => report(desk, Outcome::Memory),
+        Ok(job) => answer_job(alloc, &job, desk, steps),
+        Err(JobError::Usage) => nothing_kept(
+            alloc,
+            report(desk, Outcome::Refused(Refusal::Bare(BareName::Usage))),
+        ),
+        Err(JobError::Memory) => nothing_kept(alloc, report(desk, Outcome::Memory)),
     }
 }

@@ -194,15 +194,27 @@ found_kind each a p process k x at is h =
     same : (y z : D.Process) → Some y ≡ Some z → y ≡ z
     same y z e = cc
 
-pub refused_at : (d : D.Design) (p : ℕ) (x : D.Process) (e : WidthError) → slice_get d.processes p ≡ Some x → first_found refused_in p (drop p d.processes) ≡ first_refused d → IsFound (refused_in p x) e → IsWidthError d e
+pub refused_at : (d : D.Design) (p : ℕ) (x : D.Process) (e : WidthError) → slice_get d.processes p ≡ Some x → first_found refused_in p (drop p d.processes) ≡ first_refused d → IsFound (refused_in p x) e → IsFound (first_refused d) e
 refused_at d p x e h i f = go e f where
   rest : Option WidthRefusal
   rest = first_found refused_in (suc p) (drop (p + 1) d.processes)
 
-  whole : (r : WidthRefusal) → refused_in p x ≡ Some r → width_refusal d ≡ Some r
-  whole r k = ap (λ o. otherwise o (too_large d)) (sym i ∙ found_from refused_in d.processes p p x h ∙ ap (λ o. otherwise o rest) k)
+  first : (r : WidthRefusal) → refused_in p x ≡ Some r → first_refused d ≡ Some r
+  first r k = sym i ∙ found_from refused_in d.processes p p x h ∙ ap (λ o. otherwise o rest) k
 
-  go : (e : WidthError) → IsFound (refused_in p x) e → IsWidthError d e
+  go : (e : WidthError) → IsFound (refused_in p x) e → IsFound (first_refused d) e
+  go (TooWide at) k = first (R.TooWide at) k
+  go (W.Division at) k = first (R.Division at) k
+  go (TooLarge size) k = first (R.TooLarge size) k
+  go Memory k = tt
+
+-- what refuses a process refuses the design
+pub whole_refused : (d : D.Design) (e : WidthError) → IsFound (first_refused d) e → IsWidthError d e
+whole_refused d e f = go e f where
+  whole : (r : WidthRefusal) → first_refused d ≡ Some r → width_refusal d ≡ Some r
+  whole r k = ap (λ o. otherwise o (too_large d)) k
+
+  go : (e : WidthError) → IsFound (first_refused d) e → IsWidthError d e
   go (TooWide at) k = whole (R.TooWide at) k
   go (W.Division at) k = whole (R.Division at) k
   go (TooLarge size) k = whole (R.TooLarge size) k

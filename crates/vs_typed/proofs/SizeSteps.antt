@@ -1,7 +1,7 @@
 -- Sums over processes and signals, step by step.
 use Rattle.std.proofs.Common.{◌≡◌, ℕ, zero, suc, ◌+◌, ◌<◌, ◌≤◌, Bool, true, false, not, if◌then◌else◌, List, [], ◌∷◌, ◌++◌, length, take, drop, get_or, Option, Some, refl, sym, ap, ap₂, ◌∙◌, arith, append_assoc}
-use Rattle.std.specs.Prelude.{sum_by, filter, slice_get}
-use Rattle.std.proofs.lemmas.List.{take_more, take_all, append-nil}
+use Rattle.std.specs.Prelude.{sum_by, filter, map, slice_get}
+use Rattle.std.proofs.lemmas.List.{take_more, take_all, append-nil, map-append}
 use Rattle.std.proofs.lemmas.List.Sums.{sum_by-cons}
 use Rattle.std.proofs.lemmas.Option.{slice_get_within, slice_get-get_or, get_or_from_slice_get}
 use Rattle.vs_design.specs.Expressions.{Signal, signal_length}
@@ -16,7 +16,7 @@ use Rattle.vs_design.specs.Sizes.{distinct, statement_weight, process_weight, sl
 use Rattle.vs_design.specs.Sleepers.{is_sleeping}
 use Rattle.vs_reads.specs.Footprint.{footprints_of, waits_at, writes_at}
 use Rattle.vs_reads.specs.Laws.{HasBitsOf, EachIsOfItsProcess, EachHasItsBits}
-use Rattle.vs_typed.specs.Weights.{capped}
+use Rattle.vs_typed.specs.Weights.{capped, told_weight}
 use Rattle.vs_typed.proofs.Distinct.{ascending_count}
 use Rattle.vs_design.specs.Refusals.{WidthRefusal, first_found, otherwise}
 use Rattle.vs_flat.specs.Trees.{signal_at, no_signal}
@@ -44,6 +44,20 @@ sum_step f (y ∷ ys) p start sum after inside e h =
 
 pub sum_all : (f : Process → ℕ) (ps : List Process) (p start sum : ℕ) → length ps ≤ p → sum ≡ capped (start + sum_by f (take p ps)) → sum ≡ capped (start + sum_by f ps)
 sum_all f ps p start sum h e = e ∙ ap (λ qs. capped (start + sum_by f qs)) (take_all p ps h)
+
+-- the weights of processes, one more
+pub weights_step : (ps : List Process) (p : ℕ) (old new : List ℕ) (w : ℕ) → p < length ps → old ≡ map told_weight (take p ps) → new ≡ old ++ w ∷ [] → ((x : Process) → slice_get ps p ≡ Some x → w ≡ capped (0 + process_weight x))
+    → new ≡ map told_weight (take (p + 1) ps)
+weights_step [] p old new w inside e h k = absurd (omega arith)
+weights_step (y ∷ ys) p old new w inside e h k =
+    let ps = y ∷ ys in
+    let x = get_or ps p y in
+    let at : slice_get ps p ≡ Some x = slice_get-get_or ps p y inside in
+    let is : w ≡ told_weight x = omega (arith, k x at) in
+    h ∙ ap₂ (λ ws v. ws ++ v ∷ []) e is ∙ sym (ap (map told_weight) (next_item ps p x at) ∙ map-append told_weight (take p ps) (x ∷ []))
+
+pub weights_all : (ps : List Process) (p : ℕ) (weights : List ℕ) → length ps ≤ p → weights ≡ map told_weight (take p ps) → weights ≡ map told_weight ps
+weights_all ps p weights h e = e ∙ ap (map told_weight) (take_all p ps h)
 
 -- ---- bits of processes and of signals, one more
 

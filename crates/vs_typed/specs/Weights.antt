@@ -4,9 +4,10 @@ use Rattle.vs_four.specs.Selects.{range_length}
 use Rattle.vs_four.specs.declared.Range.{Range}
 use Rattle.vs_design.specs.Expressions.{Signal, signal_length, Expression, items_of, BinaryOp, way, width, is_constant}
 use Rattle.vs_design.specs.Fits.{is_fit}
-use Rattle.vs_design.specs.Sizes.{address_weight, arguments_weight, weight, binary_weight, is_shift, statement_weight}
+use Rattle.vs_design.specs.Sizes.{address_weight, arguments_weight, weight, binary_weight, is_shift, statement_weight, process_weight}
 use Rattle.vs_design.specs.Fits.{fits_statement}
 use Rattle.vs_design.specs.Statements.{Statement, Arms}
+use Rattle.vs_design.specs.Designs.{Process}
 use Rattle.vs_flat.specs.declared.functions.Body.{Body}
 use Rattle.vs_flat.specs.declared.statements.Arm.{Arm}
 use Rattle.vs_flat.specs.Arena.{Arena, body_at}
@@ -17,6 +18,10 @@ use Rattle.vs_shape.specs.Nodes.{tree_of}
 -- as far as a sum is told: 2^64 - 1 and all above it are one
 abbrev pub capped : ℕ → ℕ
 capped n = min n 18446744073709551615
+
+-- what is told of the weight of a process
+abbrev pub told_weight : Process → ℕ
+told_weight p = capped (process_weight p)
 
 -- by itself
 abbrev pub own_weight : Expression → ℕ

@@ -19,7 +19,7 @@ mod weights;
 mod words;
 mod written;
 
-pub use design::type_design;
+pub use design::{process_weights, type_design};
 pub use error::WidthError;
 pub use laws::fits_law;
 use laws::unrefused_law;

@@ -8,7 +8,7 @@ ghost use Rattle.vs_design.specs.Refusals.{least, earlier, first_found};
 ghost use Rattle.vs_flat.specs.DesignOf.{design_of};
 ghost use Rattle.vs_typed.specs.Functions.{ArePlaces};
 ghost use Rattle.vs_typed.specs.Places.{AreLeast, process_places};
-ghost use Rattle.vs_typed.specs.Refused.{IsFound, IsWidthError, first_refused, refused_in};
+ghost use Rattle.vs_typed.specs.Refused.{IsFound, first_refused, refused_in};
 
 use crate::functions::Places;
 use crate::least::{least_assignment, least_statement};
@@ -82,7 +82,7 @@ fn check_next(shapes: &Shapes, places: &Places, p: u32) -> Result<(), WidthError
     requires there { p < length shapes.now.processes }
     requires so_far { first_found refused_in p (drop p (design_of shapes.now).processes) ≡ first_refused (design_of shapes.now) }
     ensures passes { OnOk result (first_found refused_in (p + 1) (drop (p + 1) (design_of shapes.now).processes) ≡ first_refused (design_of shapes.now)) }
-    ensures refused { IfErr result (IsWidthError (design_of shapes.now)) }
+    ensures refused { IfErr result (IsFound (first_refused (design_of shapes.now))) }
 {
     trees_law();
     check_process(shapes, places, p)
@@ -93,7 +93,7 @@ pub(crate) fn check_processes(shapes: &Shapes, places: &Places) -> Result<(), Wi
     requires { ArePlaces shapes.now places.now }
     ensures passes { OnOk result (first_refused (design_of shapes.now) ≡ None) }
     ensures fits { OnOk result (list_all fits_process (design_of shapes.now).processes ≡ true) }
-    ensures refused { IfErr result (IsWidthError (design_of shapes.now)) }
+    ensures refused { IfErr result (IsFound (first_refused (design_of shapes.now))) }
 {
     trees_law();
     unrefused_law();

@@ -12,7 +12,7 @@ ghost use Rattle.vs_design.specs.Sleepers.{is_sleeping};
 ghost use Rattle.vs_flat.specs.Arena.{signal_length};
 ghost use Rattle.vs_flat.specs.DesignOf.{design_of};
 ghost use Rattle.vs_reads.specs.Footprint.{footprints_of, waits_at, writes_at};
-ghost use Rattle.vs_typed.specs.Weights.{AreWeights, capped};
+ghost use Rattle.vs_typed.specs.Weights.{AreWeights, capped, told_weight};
 
 use crate::statements::add_statement;
 use crate::sums::{plus, times};
@@ -72,6 +72,26 @@ fn add_processes(alloc: Global, shapes: &Shapes, table: &[Option<u64>]) -> Resul
         sum = add_process(alloc, shapes, table, p, sum)?;
     }
     Ok(sum)
+}
+
+/// What each process costs, as far as 2^64 - 1. Want of memory is the only error.
+pub(crate) fn each_weight(
+    alloc: Global,
+    shapes: &Shapes,
+    table: &[Option<u64>],
+) -> Result<Vec<u64>, AllocError>
+    requires table { AreWeights shapes.now table.now }
+    requires all { length table.now ≡ length shapes.now.bodies }
+    requires fits { list_all fits_process (design_of shapes.now).processes ≡ true }
+    ensures { IfOk result (λ v. v.items ≡ map told_weight (design_of shapes.now).processes) }
+{
+    trees_law();
+    let mut weights = Vec::new(alloc);
+    for p in 0..shapes.flat().process_count() {
+        let weight = add_process(alloc, shapes, table, p, 0)?;
+        weights.push(weight)?;
+    }
+    Ok(weights)
 }
 
 /// Adds the bits that process p writes if it is a clocked block.

@@ -13,7 +13,7 @@ use Rattle.vs_design.specs.Levels.{is_level_order, has_no_cycle, level_order}
 use Rattle.vs_design.specs.Refusals.{otherwise, first_found, where_true, place_at, ZeroRefusal, TimeZero, zero_refusal_by, zero_refusal}
 use Rattle.vs_design.specs.TimeZero.{Families, families, is_uncertain}
 use Rattle.vs_clock.specs.Clocked.{Clocked, IsClockOf}
-use Rattle.vs_zero.specs.First.{IsFirst, NoneBefore}
+use Rattle.vs_clock.specs.Tests.{IsFirst, NoneBefore}
 use Rattle.vs_reads.proofs.Numbered.{place_is}
 use Rattle.vs_shape.proofs.Names.{and_both}
 use Rattle.vs_sets.proofs.Families.{same_or_other}

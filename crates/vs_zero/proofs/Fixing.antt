@@ -19,7 +19,8 @@ use Rattle.vs_flat.specs.Arena.{Arena}
 use Rattle.vs_flat.specs.Trees as R
 use Rattle.vs_sets.specs.Nodes.{tree_of}
 use Rattle.vs_sets.specs.StatementParts.{BranchBelow, ArmsBelow, arms_of, statement_of}
-use Rattle.vs_zero.specs.Constants.{are_constants, arms_are_constants, taken_arm, IsFixed, updated, branch_effects, IsFixedBranch, EachIsFixed}
+use Rattle.vs_clock.specs.Still.{items_still}
+use Rattle.vs_zero.specs.Constants.{arms_are_constants, taken_arm, IsFixed, updated, branch_effects, IsFixedBranch, EachIsFixed}
 use Rattle.vs_zero.specs.States.{unknown}
 use Rattle.vs_sets.proofs.Fit.{and_left, and_right, and_both}
 use Rattle.vs_zero.proofs.Writing.{write_all-append}
@@ -65,14 +66,14 @@ constant_by (Repeat count a) n h = constant_by a n h
 constant_by (At place e) n h = constant_by e n h
 constant_by (Call header statement arguments) n h = absurd (let z : ⊥ = cc in z)
 
-items_by : (es : Items) → items_call es ≡ false → has_none (items_signals es) ≡ true → are_constants es ≡ true
+items_by : (es : Items) → items_call es ≡ false → has_none (items_signals es) ≡ true → items_still es ≡ true
 items_by NoItem n h = refl
 items_by (Item e es) n h =
-    and_both (is_constant e) (are_constants es) (constant_by e (not_left (calls e) (items_call es) n) (none_left (read_signals e) (items_signals es) h)) (items_by es (not_right (calls e) (items_call es) n) (none_right (read_signals e) (items_signals es) h))
+    and_both (is_constant e) (items_still es) (constant_by e (not_left (calls e) (items_call es) n) (none_left (read_signals e) (items_signals es) h)) (items_by es (not_right (calls e) (items_call es) n) (none_right (read_signals e) (items_signals es) h))
 
 arms_by : (arms : Arms) → arms_call arms ≡ false → has_none (arms_signals arms) ≡ true → arms_are_constants arms ≡ true
 arms_by (Arm items statement rest) n h =
-    and_both (are_constants items) (arms_are_constants rest)
+    and_both (items_still items) (arms_are_constants rest)
     (items_by items (not_left (items_call items) (statement_calls statement) (not_left (items_call items || statement_calls statement) (arms_call rest) n)) (none_left (items_signals items) (statement_signals statement ++ arms_signals rest) h))
     (arms_by rest (not_right (items_call items || statement_calls statement) (arms_call rest) n) (none_right (statement_signals statement) (arms_signals rest) (none_right (items_signals items) (statement_signals statement ++ arms_signals rest) h)))
 arms_by (Default statement) n h = refl

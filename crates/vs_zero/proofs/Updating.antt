@@ -4,10 +4,10 @@ use Rattle.std.specs.Prelude.{All}
 use Rattle.std.specs.List.{filter}
 use Rattle.std.proofs.lemmas.List.Elements.{filter_more}
 use Rattle.vs_four.specs.declared.Bit4.TheVariants.{Zero}
+use Rattle.vs_four.specs.Tables.{same as are_same}
 use Rattle.vs_net.specs.Network.{State, Write, is_written, write_all}
 use Rattle.vs_design.specs.Footprints.{contains}
 use Rattle.vs_zero.specs.States.{unknown}
-use Rattle.vs_zero.specs.Values.{are_same}
 use Rattle.vs_zero.proofs.Valued.{same_self, write_all_covered, write_all_other, within_all}
 
 -- one more of these numbers is looked at

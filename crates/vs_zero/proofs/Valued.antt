@@ -5,6 +5,7 @@ use mathlib.Core.Path.{fun_ext}
 use Rattle.std.proofs.lemmas.Bool.{cond-true, cond-false}
 use Rattle.vs_four.specs.declared.Bit4.{Bit4}
 use Rattle.vs_four.specs.declared.Bit4.TheVariants.{Zero, One, X, Z}
+use Rattle.vs_four.specs.Tables.{same as are_same}
 use Rattle.vs_net.specs.Network.{State, Write, put, is_written, write_all, flatten}
 use Rattle.vs_design.specs.Bodies.{last_of_each}
 use Rattle.vs_design.specs.Fits.{fits_statement}
@@ -17,7 +18,7 @@ use Rattle.vs_design.specs.TreeLaws.{BodyWritesWithin}
 use Rattle.vs_sets.specs.Branches.{replaced}
 use Rattle.vs_sets.specs.StatementParts.{Covers}
 use Rattle.vs_zero.specs.States.{state_of, unknown}
-use Rattle.vs_zero.specs.Values.{are_same, joined, with_updates, IsZero, replaced_by}
+use Rattle.vs_zero.specs.Values.{joined, with_updates, IsZero, replaced_by}
 use Rattle.vs_sets.proofs.BranchSteps.{union_twice}
 use Rattle.vs_sets.proofs.Families.{same_or_other}
 use Rattle.vs_zero.proofs.Writing.{put_state}

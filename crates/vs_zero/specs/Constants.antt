@@ -1,7 +1,7 @@
 -- Statements that read no signal.
 use Rattle.std.specs.Prelude.{◌≡◌, ◌<◌, ℕ, Bool, true, ◌&&◌, List, [], ◌∷◌, length, map, if◌then◌else◌, Option, Some, slice_index}
 use Rattle.vs_four.specs.Logic.{BitList}
-use Rattle.vs_design.specs.Expressions.{Expression, Items, NoItem, Item, items_of, is_constant}
+use Rattle.vs_design.specs.Expressions.{Expression, items_of}
 use Rattle.vs_net.specs.Network.{State, Update, flatten, write_all}
 use Rattle.vs_design.specs.Footprints.{contains, statement_bits, target_bits}
 use Rattle.vs_design.specs.Statements.{CaseKind, Target, Statement, Arms, Arm, Default}
@@ -12,16 +12,13 @@ use Rattle.vs_design.specs.Rules.{mixed_in}
 use Rattle.vs_flat.specs.Arena.{Arena}
 use Rattle.vs_flat.specs.Trees.{branch}
 use Rattle.vs_sets.specs.StatementParts.{BranchBelow, statement_of}
+use Rattle.vs_clock.specs.Still.{items_still}
 use Rattle.vs_flat.specs.declared.statements.Arm as F
 use Rattle.vs_zero.specs.States.{unknown}
 
-abbrev pub are_constants : Items → Bool
-are_constants NoItem = true
-are_constants (Item e es) = is_constant e && are_constants es
-
 -- all items of a case
 abbrev pub arms_are_constants : Arms → Bool
-arms_are_constants (Arm items statement rest) = are_constants items && arms_are_constants rest
+arms_are_constants (Arm items statement rest) = items_still items && arms_are_constants rest
 arms_are_constants (Default statement) = true
 
 -- the statement of the first arm that matches, or else the default

@@ -1,6 +1,5 @@
 pub mod Blocks
 pub mod Constants
-pub mod First
 pub mod Refused
 pub mod Sources
 pub mod States

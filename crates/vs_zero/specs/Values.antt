@@ -1,22 +1,16 @@
 -- Sets of bits with the values that updates give them.
-use Rattle.std.specs.Prelude.{◌≡◌, ◌<◌, ℕ, Bool, true, false, List, length, if◌then◌else◌}
+use Rattle.std.specs.Prelude.{◌≡◌, ◌<◌, ℕ, List, length, if◌then◌else◌}
 use Rattle.vs_four.specs.declared.Bit4.{Bit4}
-use Rattle.vs_four.specs.declared.Bit4.TheVariants.{Zero, One, X, Z}
+use Rattle.vs_four.specs.declared.Bit4.TheVariants.{Zero}
+use Rattle.vs_four.specs.Tables.{same}
 use Rattle.vs_net.specs.Network.{State, Write, is_written, write_all}
 use Rattle.vs_design.specs.Footprints.{contains}
 use Rattle.vs_design.specs.Sets.{Set4, only, union}
 use Rattle.vs_zero.specs.States.{state_of, unknown}
 
-abbrev pub are_same : Bit4 → Bit4 → Bool
-are_same Zero Zero = true
-are_same One One = true
-are_same X X = true
-are_same Z Z = true
-are_same _ _ = false
-
 -- with a value too that both states have
 abbrev pub joined : Bit4 → Bit4 → Set4 → Set4
-joined v w set = if are_same v w then union (only v) set else set
+joined v w set = if same v w then union (only v) set else set
 
 -- the set of a bit with the value that these writes give it last
 abbrev pub with_updates : List Write → ℕ → Set4 → Set4

@@ -10,7 +10,8 @@ ghost use Rattle.vs_flat.specs.Trees.{branch};
 ghost use Rattle.vs_sets.specs.Matches.{are_within, items_at};
 ghost use Rattle.vs_sets.specs.Nodes.{EachBelow, tree_of};
 ghost use Rattle.vs_sets.specs.StatementParts.{ArmsBelow, arms_of};
-ghost use Rattle.vs_zero.specs.Constants.{are_constants, arms_are_constants, taken_arm};
+ghost use Rattle.vs_clock.specs.Still.{items_still};
+ghost use Rattle.vs_zero.specs.Constants.{arms_are_constants, taken_arm};
 ghost use Rattle.vs_zero.specs.States.{unknown};
 
 use vs_base::{CaseKind, Context};
@@ -35,7 +36,7 @@ fn is_match(kind: CaseKind, a: Bits, b: Bits) -> bool
 fn is_taken(shapes: &Shapes, kind: CaseKind, context: Context, subject: Bits, items: &[u32]) -> bool
     requires there { EachBelow (length shapes.now.nodes) items.now }
     requires fit { fit_items (items_of (map (tree_of shapes.now) items.now)) ≡ true }
-    requires constant { are_constants (items_of (map (tree_of shapes.now) items.now)) ≡ true }
+    requires constant { items_still (items_of (map (tree_of shapes.now) items.now)) ≡ true }
     requires within { are_within context.width (map (tree_of shapes.now) items.now) ≡ true }
     requires few { context.width ≤ 64 }
     requires many { length subject ≡ context.width }

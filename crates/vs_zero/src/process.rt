@@ -13,7 +13,7 @@ ghost use Rattle.vs_flat.specs.DesignOf.{design_of};
 ghost use Rattle.vs_reads.specs.Footprint.{footprints_of};
 ghost use Rattle.vs_sets.specs.Tables.{family_of};
 ghost use Rattle.vs_zero.specs.Blocks.{may_wake};
-ghost use Rattle.vs_zero.specs.First.{IsFirst};
+ghost use Rattle.vs_clock.specs.Tests.{IsFirst};
 
 use crate::turns::{is_quiet, turn_early, turn_late};
 use std::alloc::{AllocError, Global};

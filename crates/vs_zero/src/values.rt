@@ -2,6 +2,7 @@
 
 ghost use Rattle.std.specs.Prelude.{◌≡◌, ◌<◌, length, All};
 ghost use Rattle.vs_four.specs.declared.Bit4.TheVariants.{Zero};
+ghost use Rattle.vs_four.specs.Tables.{same as are_same};
 ghost use Rattle.vs_net.specs.Network.{flatten};
 ghost use Rattle.vs_design.specs.Designs.{bit_count};
 ghost use Rattle.vs_flat.specs.DesignOf.{design_of};
@@ -10,7 +11,7 @@ ghost use Rattle.vs_sets.specs.StatementParts.{Covers, statement_of};
 ghost use Rattle.vs_sets.specs.Tables.{family_of};
 ghost use Rattle.vs_zero.specs.Constants.{IsFixed, branch_effects};
 ghost use Rattle.vs_zero.specs.States.{state_of, unknown};
-ghost use Rattle.vs_zero.specs.Values.{IsZero, are_same, joined, replaced_by, with_updates};
+ghost use Rattle.vs_zero.specs.Values.{IsZero, joined, replaced_by, with_updates};
 
 use crate::fixed::run;
 use vs_design::write_law;

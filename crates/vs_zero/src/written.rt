@@ -2,13 +2,14 @@
 
 ghost use Rattle.std.specs.Prelude.{◌≡◌, ◌++◌, ◌<◌, length, All, OnOk};
 ghost use Rattle.std.specs.List.{filter};
+ghost use Rattle.vs_four.specs.Tables.{same as are_same};
 ghost use Rattle.vs_net.specs.Network.{flatten, is_written};
 ghost use Rattle.vs_design.specs.Designs.{bit_count};
 ghost use Rattle.vs_flat.specs.DesignOf.{design_of};
 ghost use Rattle.vs_sets.specs.StatementParts.{Covers, statement_of};
 ghost use Rattle.vs_zero.specs.Constants.{IsFixed, branch_effects};
 ghost use Rattle.vs_zero.specs.States.{state_of, unknown};
-ghost use Rattle.vs_zero.specs.Values.{IsZero, are_same};
+ghost use Rattle.vs_zero.specs.Values.{IsZero};
 
 use crate::fixed::run;
 use crate::values::{are_same, reset_bits};

@@ -7,7 +7,7 @@ use Rattle.vs_scope.specs.Frames.{view_env}
 use Rattle.vs_scope.specs.Views.{entries}
 use Rattle.vs_items.specs.declared.connections.Connection.{Connection}
 use Rattle.vs_items.specs.Connections.{said}
-use Rattle.vs_elab.specs.Wiring.{and_processes}
+use Rattle.vs_build.specs.Items.{and_processes}
 use Rattle.vs_elab.proofs.PortWiring.{wired_nothing, wired_more, wirable_at, room_at}
 use Rattle.vs_elab.proofs.wiring.wire_ports.Goals as goal
 

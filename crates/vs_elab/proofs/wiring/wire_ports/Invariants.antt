@@ -4,7 +4,7 @@ use Rattle.vs_build.specs.Growth.{draft}
 use Rattle.vs_scope.specs.Frames.{view_env}
 use Rattle.vs_scope.specs.Views.{entries}
 use Rattle.vs_items.specs.Connections.{said}
-use Rattle.vs_elab.specs.Wiring.{and_processes}
+use Rattle.vs_build.specs.Items.{and_processes}
 use Rattle.vs_elab.proofs.wiring.wire_ports.Given as goal
 
 -- those before this one are built

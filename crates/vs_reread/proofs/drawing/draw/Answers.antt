@@ -1,4 +1,4 @@
-use Rattle.std.proofs.Common.{◌≡◌, List, Ok, sym, ap, ◌∙◌, subst}
+use Rattle.std.proofs.Common.{◌≡◌, List, Option, Ok, IfSome, sym, ap, ◌∙◌, subst}
 use Rattle.vs_lexer.specs.declared.token.Token.{Token}
 use Rattle.vs_pre.specs.Reads.{ReadsAs}
 use Rattle.vs_grammar.specs.Trees as tree
@@ -6,18 +6,20 @@ use Rattle.vs_grammar.specs.Spelled.{SpelledBy}
 use Rattle.vs_ast.specs.Views as view
 use Rattle.vs_elaborated.specs.Elaborated.{elaborated}
 use Rattle.vs_design.specs.Designs.{Design}
+use Rattle.vs_flat.specs.Arena.{Arena}
 use Rattle.vs_flat.specs.DesignOf.{design_of}
+use Rattle.vs_flat.specs.Lawful.{IsLawful}
 use Rattle.vs_names.specs.Drawn as D
 use Rattle.vs_reread.specs.Drawings.{IsDesignOf}
 use Rattle.vs_reread.proofs.Drawn.{none_of, some_of, same_tokens}
 use Rattle.vs_reread.proofs.drawing.draw.Goals as goal
 
-pub returns-in_default : goal.returns-in_default
-returns-in_default c = λ tokens design d.
+pub returns-in_default-clause-drawing : goal.returns-in_default-clause-drawing
+returns-in_default-clause-drawing c = λ tokens design d.
     none_of ((ts : List Token) → ReadsAs c.args.text.now ts → ⊥) (λ v. ReadsAs c.args.text.now v.items) c.in_ok-tokens.field-0 c.in_default.is c.in_ok-tokens.ensures tokens d.reads
 
-pub returns-in_default-2 : goal.returns-in_default-2
-returns-in_default-2 c = λ tokens design d.
+pub returns-in_default-2-clause-drawing : goal.returns-in_default-2-clause-drawing
+returns-in_default-2-clause-drawing c = λ tokens design d.
     let text = c.args.text.now in
     let ts = c.as_slice.result.now in
     let reads : ReadsAs text ts = subst (λ (xs : List Token). ReadsAs text xs) (sym c.as_slice.ensures.value)
@@ -34,8 +36,8 @@ flat_of-requires c =
     let spelled = some_of ((s : tree.Source) → SpelledBy text ts s → ⊥) (λ v. SpelledBy text ts (view.source v) × ((s : tree.Source) → SpelledBy text ts s → view.source v ≡ s)) c.in_ok-source.field-0 c.in-Some-2.source c.in-Some-2.is c.in_ok-source.ensures in
     c.shaped_law.ensures text ts (view.source c.in-Some-2.source) (c.kept_law.ensures text reads.written ts (c.tokens_law.ensures text reads.written reads.cut) reads.resolved) spelled.0
 
-pub returns-in_default-3 : goal.returns-in_default-3
-returns-in_default-3 c = λ tokens design d.
+pub returns-in_default-3-clause-drawing : goal.returns-in_default-3-clause-drawing
+returns-in_default-3-clause-drawing c = λ tokens design d.
     let text = c.args.text.now in
     let top = c.args.top.now in
     let ts = c.as_slice.result.now in
@@ -44,11 +46,11 @@ returns-in_default-3 c = λ tokens design d.
     (some_of ((ts : List Token) → ReadsAs text ts → ⊥) (λ v. ReadsAs text v.items) c.in_ok-tokens.field-0 c.in-Some.tokens c.in-Some.is c.in_ok-tokens.ensures) in
     let spelled = some_of ((s : tree.Source) → SpelledBy text ts s → ⊥) (λ v. SpelledBy text ts (view.source v) × ((s : tree.Source) → SpelledBy text ts s → view.source v ≡ s)) c.in_ok-source.field-0 c.in-Some-2.source c.in-Some-2.is c.in_ok-source.ensures in
     let same : source ≡ d.source = spelled.1 d.source (subst (λ (xs : List Token). SpelledBy text xs d.source) (same_tokens text tokens ts d.reads reads) d.spelled) in
-    none_of ((e : Design) → elaborated source top ≡ Ok e → ⊥) (λ f. elaborated source top ≡ Ok (design_of f)) c.in_ok-flat.field-0 c.in_default-3.is c.in_ok-flat.ensures
+    none_of ((e : Design) → elaborated source top ≡ Ok e → ⊥) (λ f. elaborated source top ≡ Ok (design_of f)) c.in_ok-flat.field-0 c.in_default-3.is c.in_ok-flat.ensures.design
     design (ap (λ s. elaborated s top) same ∙ d.elaborates)
 
-pub returns : goal.returns
-returns c =
+pub returns-clause-drawing : goal.returns-clause-drawing
+returns-clause-drawing c =
     let text = c.args.text.now in
     let top = c.args.top.now in
     let ts = c.as_slice.result.now in
@@ -57,10 +59,15 @@ returns c =
     let reads : ReadsAs text items =
     some_of ((ts : List Token) → ReadsAs text ts → ⊥) (λ v. ReadsAs text v.items) c.in_ok-tokens.field-0 c.in-Some.tokens c.in-Some.is c.in_ok-tokens.ensures in
     let spelled = some_of ((s : tree.Source) → SpelledBy text ts s → ⊥) (λ v. SpelledBy text ts (view.source v) × ((s : tree.Source) → SpelledBy text ts s → view.source v ≡ s)) c.in_ok-source.field-0 c.in-Some-2.source c.in-Some-2.is c.in_ok-source.ensures in
-    let elaborates = some_of ((e : Design) → elaborated source top ≡ Ok e → ⊥) (λ f. elaborated source top ≡ Ok (design_of f)) c.in_ok-flat.field-0 c.in-Some-3.flat c.in-Some-3.is c.in_ok-flat.ensures in
+    let elaborates = some_of ((e : Design) → elaborated source top ≡ Ok e → ⊥) (λ f. elaborated source top ≡ Ok (design_of f)) c.in_ok-flat.field-0 c.in-Some-3.flat c.in-Some-3.is c.in_ok-flat.ensures.design in
     subst (λ (d : D.Drawn). IsDesignOf text top d.tokens (design_of d.flat)) (sym c.of.ensures) (record {
       source = source;
       reads = reads;
       spelled = subst (λ (xs : List Token). SpelledBy text xs source) c.as_slice.ensures.value spelled.0;
       elaborates = elaborates;
     })
+
+pub returns-clause-lawful : goal.returns-clause-lawful
+returns-clause-lawful c =
+    let lawful = subst (λ (o : Option Arena). IfSome o IsLawful) c.in-Some-3.is c.in_ok-flat.ensures.lawful in
+    subst (λ (d : D.Drawn). IsLawful d.flat) (sym c.of.ensures) lawful

@@ -2,7 +2,7 @@ use Rattle.std.proofs.Common.{◌≡◌}
 use Rattle.vs_design.specs.TimeZero.{is_uncertain}
 use Rattle.vs_flat.specs.DesignOf.{design_of}
 use Rattle.vs_sets.specs.Tables.{family_of}
-use Rattle.vs_zero.specs.First.{NoneBefore}
+use Rattle.vs_clock.specs.Tests.{NoneBefore}
 use Rattle.vs_zero.proofs.Settling.{both}
 use Rattle.vs_zero.proofs.process.first_uncertain.Given as goal
 

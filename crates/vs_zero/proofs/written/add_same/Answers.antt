@@ -3,8 +3,8 @@ use Rattle.std.proofs.lemmas.Grind.{common_steps}
 use Rattle.std.proofs.lemmas.List.{take_all}
 use Rattle.std.specs.List.{filter}
 use Rattle.vs_four.specs.declared.Bit4.TheVariants.{X, Zero}
+use Rattle.vs_four.specs.Tables.{same as are_same}
 use Rattle.vs_zero.specs.States.{state_of}
-use Rattle.vs_zero.specs.Values.{are_same}
 use Rattle.vs_zero.proofs.Valued.{any_bit}
 use Rattle.vs_zero.proofs.Updating.{kept, dropped}
 use Rattle.vs_zero.proofs.written.add_same.Goals as goal

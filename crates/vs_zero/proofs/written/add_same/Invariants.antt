@@ -1,7 +1,7 @@
 use Rattle.std.proofs.Common.{◌≡◌, ◌++◌, take}
 use Rattle.std.specs.List.{filter}
+use Rattle.vs_four.specs.Tables.{same as are_same}
 use Rattle.vs_zero.specs.States.{state_of}
-use Rattle.vs_zero.specs.Values.{are_same}
 use Rattle.vs_zero.proofs.written.add_same.Given as goal
 
 -- those of the first bits

@@ -4,9 +4,10 @@ use Rattle.std.specs.List.{filter}
 use Rattle.vs_net.specs.Network.{State, Write, flatten, is_written}
 use Rattle.vs_design.specs.Resets.{branch_updates}
 use Rattle.vs_four.specs.declared.Bit4.TheVariants.{X, Zero}
+use Rattle.vs_four.specs.Tables.{same as are_same}
 use Rattle.vs_sets.specs.StatementParts.{statement_of}
 use Rattle.vs_zero.specs.States.{state_of}
-use Rattle.vs_zero.specs.Values.{are_same, replaced_by}
+use Rattle.vs_zero.specs.Values.{replaced_by}
 use Rattle.vs_zero.proofs.Fixing.{updates_alone}
 use Rattle.vs_zero.proofs.Valued.{covered, unknown_again, zero_again}
 use Rattle.vs_zero.proofs.Updating.{same_are_written}

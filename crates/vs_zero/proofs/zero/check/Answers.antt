@@ -6,7 +6,7 @@ use Rattle.vs_design.specs.TimeZero.{Families, families, is_uncertain}
 use Rattle.vs_flat.specs.Arena.{Arena}
 use Rattle.vs_flat.specs.DesignOf.{design_of}
 use Rattle.vs_sets.specs.Tables.{family_of}
-use Rattle.vs_zero.specs.First.{IsFirst}
+use Rattle.vs_clock.specs.Tests.{IsFirst}
 use Rattle.vs_reads.proofs.ByKind.{place_at_is}
 use Rattle.vs_zero.proofs.Deciding.{clock_below, one_families, refused, none_refused}
 use Rattle.vs_zero.proofs.Settling.{both}

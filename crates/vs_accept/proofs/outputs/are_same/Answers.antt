@@ -1,6 +1,0 @@
-use Rattle.std.proofs.Common.{◌∙◌}
-use Rattle.vs_accept.proofs.Naming.{same_is}
-use Rattle.vs_accept.proofs.outputs.are_same.Goals as goal
-
-pub returns : goal.returns
-returns c = c.eq.ensures ∙ same_is c.args.a.now c.args.b.now

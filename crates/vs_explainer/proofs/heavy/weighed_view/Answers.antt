@@ -1,0 +1,13 @@
+use Rattle.std.proofs.Common.{List, ℕ, length, None, option_map, ap, subst}
+use Rattle.vs_explainer.specs.Heavy.{AreWeighed}
+use Rattle.vs_explainer.proofs.Sights.{as_long}
+use Rattle.vs_explainer.proofs.heavy.weighed_view.Goals as goal
+
+pub returns-clause-view : goal.returns-clause-view
+returns-clause-view c =
+    let heavy = option_map (λ v. v.items) c.in_ok-heavy.heavy in (
+      heavy,
+      subst (λ (t : List ℕ). AreWeighed c.args.text.items t heavy) c.as_bytes.ensures
+          (subst (λ (t : List ℕ). AreWeighed t c.as_bytes.result.now heavy) c.as_slice.ensures.value c.in_ok-heavy.ensures),
+      as_long _ _ _ None heavy (ap (λ (t : List ℕ). length t) c.as_bytes-2.ensures),
+    )

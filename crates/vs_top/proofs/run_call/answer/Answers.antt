@@ -1,0 +1,17 @@
+use Rattle.std.proofs.Common.{sym, subst, ◌∙◌}
+use Rattle.vs_job.specs.declared.job.Job.{Job}
+use Rattle.vs_top.specs.Refused.{IsRefusedJob}
+use Rattle.vs_top.proofs.Refusals.{some_none, some_same}
+use Rattle.vs_top.proofs.run_call.answer.Goals as goal
+
+pub returns-in-Ok-clause-refused : goal.returns-in-Ok-clause-refused
+returns-in-Ok-clause-refused g c = λ told j called q job_refused faultless.
+    let same = some_same _ j c.in-Ok.job called c.in-Ok.ensures.ok in
+    c.answer_job.ensures.refused told q (subst (λ (j : Job). IsRefusedJob j (g.D.Desk.told c.args.desk.now).contents q) same job_refused) faultless
+
+pub returns-in-Some-clause-checked : goal.returns-in-Some-clause-checked
+returns-in-Some-clause-checked g c = λ told j called mode s is_done.
+    absurd (some_none _ _ (sym c.read_bench.ensures.answer ∙ c.in-Some.is) (c.apart_law.ensures _ j called))
+
+pub returns-in-Some-clause-operations : goal.returns-in-Some-clause-operations
+returns-in-Some-clause-operations g c = λ s is. c.bench.ensures.operations s (sym c.nothing_kept.ensures.outcome ∙ is)
