@@ -1,16 +1,23 @@
 -- What the check of an expression tells: of what the definitions say, all but the expression itself.
-use Rattle.std.specs.Prelude.{◌≡◌, ℕ, min, List, [], Option, Some, None, option_map}
-use Rattle.vs_design.specs.Expressions.{sign}
+use Rattle.std.specs.Prelude.{◌≡◌, ℕ, suc, min, List, [], Option, Some, None, option_map}
+use Rattle.vs_design.specs.Expressions.{sign, Items, NoItem, Item}
 use Rattle.vs_const.specs.Faults.{fault, flaws_of, WrongKind}
 use Rattle.vs_const.specs.declared.faults.Fault.{Fault}
 use Rattle.vs_const.specs.Typed.{Typed, Numbered, Natural}
 use Rattle.vs_const.specs.Selects.{Bounds, Base, Taken}
+use Rattle.vs_const.specs.Expressions.{TypedItems}
+use Rattle.vs_const.specs.declared.calls.Arguments.{Arguments as ArgumentsOf}
 use Rattle.vs_const.specs.declared.found.Checked.{Checked}
 use Rattle.vs_const.specs.declared.ranges.Numbered.{Numbered as NumberedOf}
 use Rattle.vs_const.specs.declared.ranges.Natural.{Natural as NaturalOf}
 use Rattle.vs_const.specs.declared.ranges.Bounds.{Bounds as BoundsOf}
 use Rattle.vs_const.specs.declared.selects.Base.{Base as BaseOf}
 use Rattle.vs_const.specs.declared.selects.Taken.{Taken as TakenOf}
+
+-- how many there are
+abbrev pub item_count : Items → ℕ
+item_count NoItem = 0
+item_count (Item e es) = suc (item_count es)
 
 -- a length, of which no more is told than that it is over 64
 abbrev pub capped : Option ℕ → Option ℕ
@@ -49,6 +56,12 @@ pub record ChecksTaken (c : TakenOf) (t : Taken) : Type 0 where
   pub length : c.length ≡ capped t.length
   pub good : c.good ≡ t.good
   pub flaws : c.flaws ≡ flaws_of t.faults
+
+-- of the arguments of a call: how many there are
+pub record ChecksArguments (c : ArgumentsOf) (t : TypedItems) : Type 0 where
+  pub flaws : c.flaws ≡ flaws_of t.faults
+  pub good : c.good ≡ t.good
+  pub count : c.count ≡ item_count t.items
 
 -- where a part of a concatenation begins that is a literal without a size
 abbrev pub IsUnsizedAt : Option ℕ → List Fault → Type 0

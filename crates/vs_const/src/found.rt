@@ -262,7 +262,7 @@ fn select_form(
     match index {
         None => Ok(None),
         Some(f) => match named {
-            Named::Value { value, range } => {
+            Named::Value { value, range, .. } => {
                 if good {
                     let index = Box::new(alloc, f)?;
                     Ok(Some(Form::Select {
@@ -318,7 +318,7 @@ fn between_form(
     match range {
         None => Ok(None),
         Some(r) => match named {
-            Named::Value { value, range } => {
+            Named::Value { value, range, .. } => {
                 if good {
                     let inner = Form::Literal {
                         bits: of_number(32, r.left.min(r.right) as u64),

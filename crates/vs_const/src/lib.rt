@@ -2,6 +2,7 @@
 //! needed for.
 #![tactic(auto)]
 
+mod calls;
 mod checks;
 mod constants;
 mod error;
@@ -10,6 +11,7 @@ mod forms;
 mod found;
 mod laws;
 mod names;
+mod needs;
 mod operators;
 mod ranges;
 mod rules;
@@ -24,7 +26,7 @@ pub use faults::{
 pub use forms::{Form, own, shape, value};
 pub use found::{Checked, Found};
 pub use laws::{constant_examples, sound_law};
-pub use names::{Constant, Env, Named, SignalShape};
+pub use names::{Constant, Env, FunctionShape, Named, Role, SignalShape};
 pub use ranges::{Bounds, Natural, Numbered, within};
 pub use rules::Rule;
 pub use selects::is_against;

@@ -44,7 +44,7 @@ fn short_length(range: Range) -> u32
 }
 
 /// How many bits a signal has, or each word of a memory, as far as 65.
-fn signal_length(range: Option<Range>) -> u32
+pub(crate) fn signal_length(range: Option<Range>) -> u32
     ensures { result ≡ min 65 (E.range_or_one range) }
 {
     match range {
@@ -72,14 +72,26 @@ fn signal_name(needed: bool, place: u32, s: SignalShape) -> Checked
     }
 }
 
-/// The rule that the name of a memory breaks where no word of it is named: it is no constant, and has no value (4.9.3).
-fn memory_rule(needed: bool) -> Rule
-    ensures { result ≡ spec.memory_rule needed }
+/// The rule that something breaks which is no constant: where a constant is needed that, and elsewhere another.
+pub(crate) fn rule_where(needed: bool, rule: Rule) -> Rule
+    ensures { result ≡ spec.rule_where needed rule }
 {
-    if needed {
-        Rule::NotConstant
-    } else {
-        Rule::WrongKind
+    if needed { Rule::NotConstant } else { rule }
+}
+
+/// The rule that a name breaks where something of another kind has to stand.
+pub(crate) fn wrong_rule(needed: bool, named: &Named) -> Rule
+    ensures { (m : Meaning) → Means named.now m → result ≡ spec.wrong_rule needed m }
+{
+    match named {
+        Named::Signal(_) | Named::Memory(_) => rule_where(needed, Rule::WrongKind),
+        Named::Barred(rule) => rule_where(needed, *rule),
+        Named::Unknown => Rule::UnknownName,
+        Named::Value { .. }
+        | Named::Undefined { .. }
+        | Named::Function(_)
+        | Named::Incomplete
+        | Named::Other => Rule::WrongKind,
     }
 }
 
@@ -88,7 +100,7 @@ pub(crate) fn name_alone(needed: bool, place: u32, named: &Named) -> Checked
     ensures { (m : Meaning) → IsFairMeaning m → Means named.now m → Checks result (spec.name_typed needed place m) }
 {
     match named {
-        Named::Value { value, range: _ } => Checked {
+        Named::Value { value, .. } => Checked {
             flaws: flawless(),
             length: Some(value.bits.len()),
             good: true,
@@ -96,8 +108,9 @@ pub(crate) fn name_alone(needed: bool, place: u32, named: &Named) -> Checked
         },
         Named::Undefined { range: _ } => undefined(),
         Named::Signal(s) => signal_name(needed, place, *s),
-        Named::Memory(_) => faulty(memory_rule(needed), place),
-        Named::Other => faulty(Rule::WrongKind, place),
+        Named::Memory(_) => faulty(rule_where(needed, Rule::WrongKind), place),
+        Named::Function(_) | Named::Incomplete | Named::Other => faulty(Rule::WrongKind, place),
+        Named::Barred(rule) => faulty(rule_where(needed, *rule), place),
         Named::Unknown => faulty(Rule::UnknownName, place),
     }
 }
@@ -143,15 +156,18 @@ pub(crate) fn base_of(needed: bool, place: u32, named: &Named) -> Base
     ensures { (m : Meaning) → Means named.now m → ChecksBase result (spec.base_of needed place m) }
 {
     match named {
-        Named::Value { value: _, range } => Base {
+        Named::Value { range, .. } => Base {
             range: Some(*range),
             good: true,
             flaws: flawless(),
         },
         Named::Undefined { range } => undefined_base(*range),
         Named::Signal(s) => signal_base(needed, place, *s),
-        Named::Memory(_) => faulty_base(memory_rule(needed), place),
-        Named::Other => faulty_base(Rule::WrongKind, place),
+        Named::Memory(_) => faulty_base(rule_where(needed, Rule::WrongKind), place),
+        Named::Function(_) | Named::Incomplete | Named::Other => {
+            faulty_base(Rule::WrongKind, place)
+        }
+        Named::Barred(rule) => faulty_base(rule_where(needed, *rule), place),
         Named::Unknown => faulty_base(Rule::UnknownName, place),
     }
 }

@@ -1,6 +1,6 @@
 use Rattle.vs_statements.proofs.Places.{answer_exit, refused_var, refused_seq, refused_then, refused_missing, read_tok, read_var, read_seq, parsed, ap2}
 use Rattle.vs_statements.proofs.Pairs.{ok_at, err_at}
-use Rattle.vs_parser.proofs.declarations.range.Goals as goal
+use Rattle.vs_statements.proofs.types.range.Goals as goal
 
 pub returns-in_err-open : goal.returns-in_err-open
 returns-in_err-open c = answer_exit _ _ c.from_residual.result c.in_err-open.field-0.0 c.from_residual.ensures.1 (refused_var (refused_seq (refused_missing c.in_err-open.ensures)))

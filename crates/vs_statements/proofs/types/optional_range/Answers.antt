@@ -1,7 +1,7 @@
 use Rattle.std.proofs.Common.{refl, ap}
 use Rattle.std.specs.Prelude.{Some}
 use Rattle.vs_statements.proofs.Places.{answer_exit, refused_former, read_eps, read_former, read_latter, parsed, one_true, one_false}
-use Rattle.vs_parser.proofs.declarations.optional_range.Goals as goal
+use Rattle.vs_statements.proofs.types.optional_range.Goals as goal
 
 pub returns-then-not-stands : goal.returns-then-not-stands
 returns-then-not-stands c = parsed (read_latter (one_false _ c.stands.result c.stands.ensures c.if-not-stands.true) (read_eps c.args.input.now.tokens.now c.args.depth.value c.args.at c.args.depth.limit)) refl
