@@ -3,6 +3,7 @@ pub mod Placed
 pub mod Subjects
 pub mod Located
 pub mod Rows
+pub mod Naming
 pub mod Heavy
 pub mod Refused
 pub mod Ended

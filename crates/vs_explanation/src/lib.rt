@@ -5,6 +5,7 @@ mod ended;
 mod heavy;
 mod located;
 mod missed;
+mod naming;
 mod notes;
 mod placed;
 mod puts;
@@ -19,6 +20,7 @@ pub use ended::{
 };
 pub use heavy::{Heavy, heaviest};
 pub use missed::{Spot, find_spot, put_miss};
+pub use naming::{push_bad_name, push_reset};
 pub use notes::has_numbers;
 pub use refused::{at_of, push_refusal};
 pub use seen::Seen;
