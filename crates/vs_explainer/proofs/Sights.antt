@@ -1,5 +1,5 @@
 -- What is seen of files that were read again.
-use Rattle.std.proofs.Common.{◌≡◌, ℕ, Bool, List, [], ◌++◌, length, drop, Option, Some, None, Result, Ok, Err, IfOk, IsTrue, refl, sym, ap, ◌∙◌, subst, inl, inr}
+use Rattle.std.proofs.Common.{◌≡◌, ℕ, Bool, false, List, [], ◌++◌, length, drop, Option, Some, None, Result, Ok, Err, IfOk, IsTrue, refl, sym, ap, ◌∙◌, subst, inl, inr}
 use Rattle.std.specs.Prelude.{MatchBool}
 use Rattle.std.proofs.lemmas.List.{drop_at}
 use Rattle.vs_desk.specs.Desk.{Told, Rose}
@@ -8,15 +8,17 @@ use Rattle.vs_explanation.specs.declared.heavy.Heavy.{Heavy}
 use Rattle.vs_explanation.specs.Seen.{Seen}
 use Rattle.vs_reread.specs.Again.{IsStart, IsFaultless, OnlyRead}
 use Rattle.vs_reread.specs.Drawings.{IsDrawing}
+use Rattle.vs_setup.specs.Ports.{TellsPorts}
+use Rattle.vs_stim.specs.Header.{PortLists}
 use Rattle.vs_explainer.specs.Heavy.{AreWeighed}
-use Rattle.vs_explainer.specs.Looks.{IsDesignRead, IsDesignWeighed, SeesOf, read_of, unseen}
-use Rattle.vs_explainer.specs.Looks.Look.{design, weighed, stimulus}
+use Rattle.vs_explainer.specs.Looks.{IsDesignRead, IsDesignWeighed, IsPortsRead, SeesOf, read_of, unseen}
+use Rattle.vs_explainer.specs.Looks.Look.{design, weighed, ported, stimulus}
 
 -- ---- the design
 
 design_read : {tells : Bool} (top path head : List ℕ) (draws : Bool) (old new : Told tells) (text : List ℕ) (drawn : Option Drawn) → IsStart tells head (old.contents.files path) text
     → IsFaultless old.register new.register → MatchBool draws (IsDrawing text top drawn) (drawn ≡ None)
-    → IsDesignRead top path head draws old new (record { file = Some (drop (length head) text); head = length head; drawn = drawn; heavy = None })
+    → IsDesignRead top path head draws old new (record { file = Some (drop (length head) text); head = length head; drawn = drawn; heavy = None; ports = None })
 design_read top path head draws old new text drawn s quiet d = record {
   taken = s.taken;
   file_is = ap Some (ap (λ (xs : List ℕ). drop (length head) xs) s.text_is ∙ drop_at head s.taken (length head) refl);
@@ -24,25 +26,49 @@ design_read top path head draws old new text drawn s quiet d = record {
   head_is = refl;
   drawn_is = subst (λ (t : List ℕ). MatchBool draws (IsDrawing t top drawn) (drawn ≡ None)) s.text_is d;
   heavy_is = refl;
+  ports_are = refl;
   faultless = quiet;
 }
 
 pub sees_design : {tells : Bool} (top path head : List ℕ) (draws : Bool) (old new : Told tells) (text : List ℕ) (drawn : Option Drawn) (seen : Seen) → OnlyRead old new
     → IsStart tells head (old.contents.files path) text → IsFaultless old.register new.register → MatchBool draws (IsDrawing text top drawn) (drawn ≡ None)
-    → seen ≡ record { file = Some (drop (length head) text); head = length head; drawn = drawn; heavy = None } → SeesOf top (Some (design path head draws)) old new seen
+    → seen ≡ record { file = Some (drop (length head) text); head = length head; drawn = drawn; heavy = None; ports = None } → SeesOf top (Some (design path head draws)) old new seen
 sees_design top path head draws old new text drawn seen only s quiet d e =
     subst (λ (x : Seen). SeesOf top (Some (design path head draws)) old new x) (sym e) (only, inr (design_read top path head draws old new text drawn s quiet d))
 
 -- a head that is as long
-pub as_long : (head other : ℕ) (text : List ℕ) (drawn : Option Drawn) (heavy : Option (List Heavy)) → head ≡ other
-    → ◌≡◌ {A = Seen} (record { file = Some (drop head text); head = head; drawn = drawn; heavy = heavy }) (record { file = Some (drop other text); head = other; drawn = drawn; heavy = heavy })
-as_long head other text drawn heavy e = rw e refl
+pub as_long : (head other : ℕ) (text : List ℕ) (drawn : Option Drawn) (heavy : Option (List Heavy)) (ports : Option PortLists) → head ≡ other
+    → ◌≡◌ {A = Seen} (record { file = Some (drop head text); head = head; drawn = drawn; heavy = heavy; ports = ports })
+    (record { file = Some (drop other text); head = other; drawn = drawn; heavy = heavy; ports = ports })
+as_long head other text drawn heavy ports e = rw e refl
+
+-- ---- the design, accepted
+
+ports_read : {tells : Bool} (top path head clock : List ℕ) (old new : Told tells) (text : List ℕ) (ports : Option PortLists) → IsStart tells head (old.contents.files path) text
+    → IsFaultless old.register new.register → TellsPorts false text top clock ports
+    → IsPortsRead top path head clock old new (record { file = Some (drop (length head) text); head = length head; drawn = None; heavy = None; ports = ports })
+ports_read top path head clock old new text ports s quiet p = record {
+  taken = s.taken;
+  file_is = ap Some (ap (λ (xs : List ℕ). drop (length head) xs) s.text_is ∙ drop_at head s.taken (length head) refl);
+  taken_is = s.taken_is;
+  head_is = refl;
+  drawn_is = refl;
+  heavy_is = refl;
+  ports_are = subst (λ (t : List ℕ). TellsPorts false t top clock ports) s.text_is p;
+  faultless = quiet;
+}
+
+pub sees_ported : {tells : Bool} (top path head clock : List ℕ) (old new : Told tells) (text : List ℕ) (ports : Option PortLists) (seen : Seen) → OnlyRead old new
+    → IsStart tells head (old.contents.files path) text → IsFaultless old.register new.register → TellsPorts false text top clock ports
+    → seen ≡ record { file = Some (drop (length head) text); head = length head; drawn = None; heavy = None; ports = ports } → SeesOf top (Some (ported path head clock)) old new seen
+sees_ported top path head clock old new text ports seen only s quiet p e =
+    subst (λ (x : Seen). SeesOf top (Some (ported path head clock)) old new x) (sym e) (only, inr (ports_read top path head clock old new text ports s quiet p))
 
 -- ---- the design, weighed
 
 design_weighed : {tells : Bool} (top path head : List ℕ) (old new : Told tells) (text : List ℕ) (heavy : Option (List Heavy)) → IsStart tells head (old.contents.files path) text
     → IsFaultless old.register new.register → AreWeighed text top heavy
-    → IsDesignWeighed top path head old new (record { file = Some (drop (length head) text); head = length head; drawn = None; heavy = heavy })
+    → IsDesignWeighed top path head old new (record { file = Some (drop (length head) text); head = length head; drawn = None; heavy = heavy; ports = None })
 design_weighed top path head old new text heavy s quiet w = record {
   taken = s.taken;
   file_is = ap Some (ap (λ (xs : List ℕ). drop (length head) xs) s.text_is ∙ drop_at head s.taken (length head) refl);
@@ -50,19 +76,20 @@ design_weighed top path head old new text heavy s quiet w = record {
   head_is = refl;
   drawn_is = refl;
   heavy_is = subst (λ (t : List ℕ). AreWeighed t top heavy) s.text_is w;
+  ports_are = refl;
   faultless = quiet;
 }
 
 pub sees_weighed : {tells : Bool} (top path head : List ℕ) (old new : Told tells) (text : List ℕ) (heavy : Option (List Heavy)) (seen : Seen) → OnlyRead old new
     → IsStart tells head (old.contents.files path) text → IsFaultless old.register new.register → AreWeighed text top heavy
-    → seen ≡ record { file = Some (drop (length head) text); head = length head; drawn = None; heavy = heavy } → SeesOf top (Some (weighed path head)) old new seen
+    → seen ≡ record { file = Some (drop (length head) text); head = length head; drawn = None; heavy = heavy; ports = None } → SeesOf top (Some (weighed path head)) old new seen
 sees_weighed top path head old new text heavy seen only s quiet w e =
     subst (λ (x : Seen). SeesOf top (Some (weighed path head)) old new x) (sym e) (only, inr (design_weighed top path head old new text heavy s quiet w))
 
 -- ---- a stimulus
 
 pub sees_stimulus : {tells : Bool} (top path : List ℕ) (lines : Option ℕ) (old new : Told tells) (text : List ℕ) (seen : Seen) → OnlyRead old new
-    → (IsTrue tells → text ≡ read_of lines (old.contents.files path)) → IsFaultless old.register new.register → seen ≡ record { file = Some text; head = 0; drawn = None; heavy = None }
+    → (IsTrue tells → text ≡ read_of lines (old.contents.files path)) → IsFaultless old.register new.register → seen ≡ record { file = Some text; head = 0; drawn = None; heavy = None; ports = None }
     → SeesOf top (Some (stimulus path lines)) old new seen
 sees_stimulus top path lines old new text seen only is quiet e = (only, inr (record { taken = text; seen_is = e; taken_is = is; faultless = quiet }))
 
@@ -88,9 +115,11 @@ then_only old middle new a b = record {
 
 -- ---- what is said
 
-pub same_seen : (file other : Option (List ℕ)) (head : ℕ) (drawn another : Option Drawn) (heavy heavier : Option (List Heavy)) → file ≡ other → drawn ≡ another → heavy ≡ heavier
-    → ◌≡◌ {A = Seen} (record { file = file; head = head; drawn = drawn; heavy = heavy }) (record { file = other; head = head; drawn = another; heavy = heavier })
-same_seen file other head drawn another heavy heavier e k h = rw (e, k, h) refl
+pub same_seen : (file other : Option (List ℕ)) (head : ℕ) (drawn another : Option Drawn) (heavy heavier : Option (List Heavy)) (ports named : Option PortLists)
+    → file ≡ other → drawn ≡ another → heavy ≡ heavier → ports ≡ named
+    → ◌≡◌ {A = Seen} (record { file = file; head = head; drawn = drawn; heavy = heavy; ports = ports })
+    (record { file = other; head = head; drawn = another; heavy = heavier; ports = named })
+same_seen file other head drawn another heavy heavier ports named e k h p = rw (e, k, h, p) refl
 
 -- a text stands on a page that was empty
 pub on_page : (text : Seen → List ℕ) (old new : List ℕ) (lent seen : Seen) → old ≡ [] → new ≡ old ++ text lent → lent ≡ seen → new ≡ text seen

@@ -78,7 +78,7 @@ fn weighed_view(alloc: Global, job: &Job, text: Vec<u8>) -> Result<View, AllocEr
     requires { length text.items ≤ most_bytes }
     ensures head { IfOk result (λ view. view.head ≡ length job.now.head) }
     ensures view { IfOk result (λ view. (heavy : Option (List declared.Heavy)) × AreWeighed text.items job.now.top heavy
-        × (seen_of view ≡ record { file = Some (drop (length job.now.head) text.items); head = length job.now.head; drawn = None; heavy = heavy })) }
+        × (seen_of view ≡ record { file = Some (drop (length job.now.head) text.items); head = length job.now.head; drawn = None; heavy = heavy; ports = None })) }
 {
     let heavy = weigh_text(alloc, text.as_slice(), job.top.as_bytes())?;
     Ok(View {
@@ -86,6 +86,7 @@ fn weighed_view(alloc: Global, job: &Job, text: Vec<u8>) -> Result<View, AllocEr
         head: job.head.as_bytes().len(),
         drawing: None,
         heavy,
+        ports: None,
     })
 }
 

@@ -5,6 +5,7 @@ mod endings;
 mod heavy;
 mod looks;
 mod missed;
+mod ports;
 mod refusals;
 
 pub use endings::{explain_ending, explain_usage};

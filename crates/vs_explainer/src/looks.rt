@@ -4,20 +4,22 @@ ghost use Rattle.std.specs.Prelude.{◌≡◌, ◌≢◌, ◌≤◌, ℕ, false,
 ghost use Rattle.vs_names.specs.Drawn.{Drawn};
 ghost use Rattle.vs_reread.specs.Again.{AreUnread, design_again, stimulus_again, most_bytes, OnlyRead, IsFaultless, IsStart};
 ghost use Rattle.vs_reread.specs.Drawings.{IsDrawing};
-ghost use Rattle.vs_explanation.specs.Rows.{refuses_fields as refuses};
+ghost use Rattle.vs_explanation.specs.Rows.{refuses_fields as refuses, asks_ports as asks};
 ghost use Rattle.vs_explanation.specs.Seen.{Seen};
 ghost use Rattle.vs_desk.specs.Desk.{Rose};
 ghost use Rattle.vs_explainer.specs.Looks as spec;
 ghost use Rattle.vs_explainer.specs.Lent.{seen_of};
 
 use crate::heavy::see_weights;
+use crate::ports::see_named;
 use std::alloc::{AllocError, Global};
 use vs_desk::Desk;
-use vs_explanation::{Heavy, at_of, has_numbers, refuses_fields};
+use vs_explanation::{Heavy, asks_ports, at_of, has_numbers, refuses_fields};
 use vs_job::Job;
 use vs_names::Drawing;
 use vs_refusal::{LaneName, Refusal};
 use vs_reread::{AgainError, DESIGN_AGAIN, STIMULUS_AGAIN, draw, read_again, read_lines};
+use vs_stim::Ports;
 
 /// What is seen of a file.
 #[derive(Drop)]
@@ -30,6 +32,8 @@ pub(crate) struct View {
     pub(crate) drawing: Option<Drawing>,
     /// The heaviest processes of a design that is too large, where they were weighed.
     pub(crate) heavy: Option<Vec<Heavy>>,
+    /// The ports that stimuli name, where they were asked for and the design is accepted.
+    pub(crate) ports: Option<Ports>,
 }
 
 /// Nothing is seen of a file.
@@ -42,6 +46,7 @@ pub(crate) fn unseen(head: usize) -> View
         head,
         drawing: None,
         heavy: None,
+        ports: None,
     }
 }
 
@@ -88,7 +93,7 @@ fn view_of(alloc: Global, job: &Job, draws: bool, text: Vec<u8>) -> Result<View,
     requires { length text.items ≤ most_bytes }
     ensures head { IfOk result (λ view. view.head ≡ length job.now.head) }
     ensures view { IfOk result (λ view. (drawn : Option Drawn) × MatchBool draws (IsDrawing text.items job.now.top drawn) (drawn ≡ None)
-        × (seen_of view ≡ record { file = Some (drop (length job.now.head) text.items); head = length job.now.head; drawn = drawn; heavy = None })) }
+        × (seen_of view ≡ record { file = Some (drop (length job.now.head) text.items); head = length job.now.head; drawn = drawn; heavy = None; ports = None })) }
 {
     let drawing = draw_text(alloc, draws, text.as_slice(), job.top.as_bytes())?;
     Ok(View {
@@ -96,6 +101,7 @@ fn view_of(alloc: Global, job: &Job, draws: bool, text: Vec<u8>) -> Result<View,
         head: job.head.as_bytes().len(),
         drawing,
         heavy: None,
+        ports: None,
     })
 }
 
@@ -177,6 +183,7 @@ fn see_path<D: Desk>(
             head: 0,
             drawing: None,
             heavy: None,
+            ports: None,
         }),
     }
 }
@@ -201,7 +208,7 @@ fn see_stimulus<D: Desk>(
     see_path(alloc, desk, path, lines)
 }
 
-/// What is seen of the design where a vector's fields are held against its ports.
+/// What is seen of the design where fields of a stimulus are held against its ports.
 pub(crate) fn see_ports<D: Desk>(
     alloc: Global,
     desk: &mut D,
@@ -212,14 +219,16 @@ pub(crate) fn see_ports<D: Desk>(
     requires head { length job.now.head ≤ most_bytes }
     ensures only { OnlyRead (D.told desk.old) (D.told desk.new) }
     ensures stimulus { IsNone ((D.told desk.new).register.attached stimulus_again) }
-    ensures design { refuses refusal.now ≡ false → IsNone ((D.told desk.new).register.attached design_again) }
+    ensures design { refuses refusal.now ≡ false → asks refusal.now ≡ false → IsNone ((D.told desk.new).register.attached design_again) }
     ensures sees { IfOk result (λ view. spec.SeesOf job.now.top (spec.ports_look job.now refusal.now) (D.told desk.old) (D.told desk.new) (seen_of view)) }
 {
     if refuses_fields(refusal) {
-        see_design(alloc, desk, job, true)
-    } else {
-        Ok(unseen(0))
+        return see_design(alloc, desk, job, true);
     }
+    if asks_ports(refusal) {
+        return see_named(alloc, desk, job);
+    }
+    Ok(unseen(0))
 }
 
 /// What is seen of the file of which lines are shown for a refusal, if there is one.
@@ -230,7 +239,7 @@ pub(crate) fn see_file<D: Desk>(
     refusal: &Refusal,
 ) -> Result<View, AllocError>
     requires stimulus { IsNone ((D.told desk.old).register.attached stimulus_again) }
-    requires design { refuses refusal.now ≡ false → IsNone ((D.told desk.old).register.attached design_again) }
+    requires design { refuses refusal.now ≡ false → asks refusal.now ≡ false → IsNone ((D.told desk.old).register.attached design_again) }
     requires head { length job.now.head ≤ most_bytes }
     ensures only { OnlyRead (D.told desk.old) (D.told desk.new) }
     ensures sees { IfOk result (λ view. spec.SeesOf job.now.top (spec.look_for job.now refusal.now) (D.told desk.old) (D.told desk.new) (seen_of view)) }

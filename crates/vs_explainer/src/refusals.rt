@@ -17,6 +17,7 @@ use vs_explanation::{Heavy, Seen, push_refusal};
 use vs_job::Job;
 use vs_names::Drawing;
 use vs_refusal::Refusal;
+use vs_stim::Ports;
 
 /// The bytes that are seen of a file.
 fn file_of(view: &View) -> Option<&[u8]>
@@ -48,6 +49,13 @@ fn heavy_of(view: &View) -> Option<&[Heavy]>
     }
 }
 
+/// The ports that stimuli name.
+fn ports_of(view: &View) -> Option<&Ports>
+    ensures { option_map (λ p. p.now) result ≡ view.now.ports }
+{
+    view.ports.as_ref()
+}
+
 /// What is said of a refusal, by what is seen of the design for its ports, and of the file of which lines are shown.
 fn seen_page(
     alloc: Global,
@@ -65,6 +73,7 @@ fn seen_page(
         head: file.head as u32,
         drawing: drawing_of(ports, file),
         heavy: heavy_of(file),
+        ports: ports_of(ports),
     };
     push_refusal(alloc, &mut page, job, &seen, refusal)?;
     Ok(page)
@@ -88,7 +97,7 @@ fn page_of<D: Desk>(
 }
 
 /// Puts at place 0 of a desk what is said of a refusal of a job: where it is told, its sentence, the line with a caret, further places, names for numbers, the field of
-/// a vector that is wrong, the heaviest processes of a design that is too large, and a remedy. For that the design is read again at place 2, and a stimulus at place 3.
+/// a header or a vector that is wrong, the heaviest processes of a design that is too large, and a remedy. For that the design is read again at place 2, and a stimulus at place 3.
 ///
 /// Where memory runs out nothing is put, and where a call at place 0 fails some first bytes are.
 pub fn explain_refusal<D: Desk>(alloc: Global, job: &Job, refusal: &Refusal, desk: &mut D)

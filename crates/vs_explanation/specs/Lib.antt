@@ -2,6 +2,8 @@ pub mod Seen
 pub mod Placed
 pub mod Subjects
 pub mod Located
+pub mod Naming
+pub mod Headers
 pub mod Rows
 pub mod Heavy
 pub mod Refused

@@ -1,18 +1,24 @@
 -- The lines of a refusal of a stimulus.
-use Rattle.std.specs.Prelude.{ℕ, zero, suc, ◌+◌, ◌-◌, Bool, true, false, ◌&&◌, ◌==◌, List, [], ◌∷◌, ◌++◌, length, min, Option, Some, None, is_some, is_none, option_and_then, codes, decimal, if◌then◌else◌}
+use Rattle.std.specs.Prelude.{ℕ, zero, suc, ◌+◌, ◌-◌, Bool, true, false, ◌||◌, ◌==◌, List, [], ◌∷◌, ◌++◌, length, min, Option, Some, None, is_some, is_none, option_and_then, codes, decimal, if◌then◌else◌}
 use Rattle.std.specs.List.{list_any, after_first}
 use Rattle.std.specs.Option.{option_map_or}
 use Rattle.vs_refusal.specs.declared.names.LaneName.TheVariants.{BadHeader, FirstUnknown, NoExpectation}
-use Rattle.vs_refusal.specs.declared.names.LineName.TheVariants.{BadVector}
+use Rattle.vs_refusal.specs.declared.names.LineName.TheVariants.{BadVector, UnknownReset}
 use Rattle.vs_refusal.specs.declared.refusal.Refusal.{Refusal}
 use Rattle.vs_refusal.specs.declared.refusal.Refusal.TheVariants.{Lane, Line}
 use Rattle.vs_excerpt.specs.Positions.{is_newline}
 use Rattle.vs_excerpt.specs.Escapes.{escaped}
 use Rattle.vs_excerpt.specs.Excerpts.{excerpt}
 use Rattle.vs_names.specs.Drawn.{Drawn, port_bits}
+use Rattle.vs_stim.specs.Header.{PortLists}
 use Rattle.vs_rows.specs.Rows.{header_row, row_bytes, first_unknown}
 use Rattle.vs_rows.specs.Fields.{Wrong, is_mark, wrong_field}
+use Rattle.vs_rows.specs.Naming.{BadName}
+use Rattle.vs_rows.specs.Resets.{wrong_reset}
+use Rattle.vs_explanation.specs.Headers.{refuses_header, header_at}
+use Rattle.vs_explanation.specs.Naming.{reset_note, right_note}
 use Rattle.vs_explanation.specs.Placed.{position_text, caret_text}
+use Rattle.vs_explanation.specs.Seen.{Seen}
 
 -- ---- lines by number
 
@@ -44,6 +50,15 @@ abbrev pub refuses_fields : Refusal → Bool
 refuses_fields (Line BadVector lane row) = true
 refuses_fields _ = false
 
+-- and a digit of a reset input is
+abbrev pub refuses_reset : Refusal → Bool
+refuses_reset (Line UnknownReset lane row) = true
+refuses_reset _ = false
+
+-- names of a stimulus are held against the ports of the accepted design
+abbrev pub asks_ports : Refusal → Bool
+asks_ports r = refuses_header r || refuses_reset r
+
 -- the first field that isn't as the stimulus's header wants it, of the line with which this text begins
 abbrev pub wrong_under : Option Drawn → (file line : List ℕ) → Option Wrong
 wrong_under drawn file line = option_and_then (λ (at : ℕ). wrong_field drawn (row_bytes file at) (row_bytes line 0)) (header_row file)
@@ -53,9 +68,21 @@ wrong_seen drawn None line = None
 wrong_seen drawn (Some file) None = None
 wrong_seen drawn (Some file) (Some line) = wrong_under drawn file line
 
--- of a line whose fields are refused, the one that is wrong
-abbrev pub wrong_of : Refusal → Option Drawn → (file line : Option (List ℕ)) → Option Wrong
-wrong_of r drawn file line = if refuses_fields r then wrong_seen drawn file line else None
+-- the first field that leaves a reset unknown, of the line with which this text begins
+abbrev pub reset_under : PortLists → (file line : List ℕ) → Option Wrong
+reset_under ports file line = option_and_then (λ (at : ℕ). wrong_reset ports.inputs (row_bytes file at) (row_bytes line 0)) (header_row file)
+
+abbrev pub reset_seen : Option PortLists → (file line : Option (List ℕ)) → Option Wrong
+reset_seen None file line = None
+reset_seen (Some ports) None line = None
+reset_seen (Some ports) (Some file) None = None
+reset_seen (Some ports) (Some file) (Some line) = reset_under ports file line
+
+-- of a line with a field that is refused, that one
+abbrev pub wrong_of : Refusal → Seen → (line : Option (List ℕ)) → Option Wrong
+wrong_of r seen line =
+    if refuses_fields r then wrong_seen seen.drawn seen.file line
+    else (if refuses_reset r then reset_seen seen.ports seen.file line else None)
 
 -- the byte of the line at which it begins; the first where there is none
 abbrev pub wrong_byte : Option Wrong → ℕ
@@ -98,19 +125,28 @@ abbrev pub matched_text : Option Drawn → List ℕ
 matched_text None = codes "note: the design can't be elaborated again, so digits aren't counted\n"
 matched_text (Some d) = codes "note: the files have changed: no field of the line is wrong\n"
 
+-- what is said of a line in which no field is wrong
+abbrev pub right_text : Refusal → Seen → List ℕ
+right_text r seen = if refuses_fields r then matched_text seen.drawn else (if refuses_reset r then right_note seen.ports else [])
+
+-- and of a field that is
+abbrev pub field_text : Refusal → Seen → Wrong → List ℕ
+field_text r seen w = if refuses_reset r then reset_note w else wrong_text seen.drawn w
+
 -- what is said of the fields of a line
-abbrev pub fields_text : Refusal → Option Drawn → (line : Option (List ℕ)) → Option Wrong → List ℕ
-fields_text r drawn line None = if refuses_fields r && is_some line then matched_text drawn else []
-fields_text r drawn line (Some w) = wrong_text drawn w
+abbrev pub fields_text : Refusal → Seen → (line : Option (List ℕ)) → Option Wrong → List ℕ
+fields_text r seen line None = if is_some line then right_text r seen else []
+fields_text r seen line (Some w) = field_text r seen w
 
 -- ---- lines without a number
 
--- the byte of a stimulus at which a refusal is told that has no number of a line: where the header begins, or the first x or z digit of the first vector
-abbrev pub row_of : Refusal → Option (List ℕ) → Option ℕ
-row_of (Lane BadHeader lane) file = option_and_then header_row file
-row_of (Lane NoExpectation lane) file = option_and_then header_row file
-row_of (Lane FirstUnknown lane) file = option_and_then first_unknown file
-row_of _ file = None
+-- The byte of a stimulus at which a refusal is told that has no number of a line: where in the header what is wrong in it begins, where the header does, or the first x or z
+-- digit of the first vector.
+abbrev pub row_of : Refusal → Option (List ℕ) → Option BadName → Option ℕ
+row_of (Lane BadHeader lane) file bad = header_at file bad
+row_of (Lane NoExpectation lane) file bad = option_and_then header_row file
+row_of (Lane FirstUnknown lane) file bad = option_and_then first_unknown file
+row_of _ file bad = None
 
 abbrev pub row_position : Option (List ℕ) → Option ℕ → List ℕ
 row_position file at = option_map_or (position_text file) at []

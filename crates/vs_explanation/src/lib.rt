@@ -2,9 +2,11 @@
 #![tactic(auto)]
 
 mod ended;
+mod headers;
 mod heavy;
 mod located;
 mod missed;
+mod naming;
 mod notes;
 mod placed;
 mod puts;
@@ -22,4 +24,4 @@ pub use missed::{Spot, find_spot, put_miss};
 pub use notes::has_numbers;
 pub use refused::{at_of, push_refusal};
 pub use seen::Seen;
-pub use stimuli::refuses_fields;
+pub use stimuli::{asks_ports, refuses_fields};

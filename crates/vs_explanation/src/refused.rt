@@ -3,9 +3,10 @@
 ghost use Rattle.std.specs.Prelude.{◌≡◌, ◌++◌, OnOk, option_map};
 ghost use Rattle.vs_explanation.specs.Refused as spec;
 ghost use Rattle.vs_explanation.specs.Seen.{seen_of};
-ghost use Rattle.vs_rows.specs.Lent.{wrong_of as lent};
+ghost use Rattle.vs_rows.specs.Lent.{bad_of as lent_name, wrong_of as lent};
 
 use crate::Seen;
+use crate::headers::{bad_of, push_names};
 use crate::heavy::push_heavy;
 use crate::located::{push_error, push_located};
 use crate::notes::push_remedy;
@@ -19,7 +20,7 @@ use vs_desk::{DESIGN_PLACE, FIRST_STIMULUS};
 use vs_excerpt::Page;
 use vs_job::Job;
 use vs_refusal::Refusal;
-use vs_rows::Wrong;
+use vs_rows::{BadName, Wrong};
 
 /// The byte of the design's file at which a refusal is told. None where it is told of the whole design, of the words, or of a stimulus.
 pub fn at_of(refusal: &Refusal) -> Option<u32>
@@ -67,26 +68,43 @@ fn push_line(
     page.text(": ")?;
     push_error(page, job, seen, refusal)?;
     push_row(page, line, at)?;
-    push_fields(page, refusal, seen.drawing, line, wrong)?;
+    push_fields(page, refusal, seen, line, wrong)?;
     push_remedy(page, refusal)
 }
 
-/// Adds all lines of a refusal that has no number of a line, and is told at this byte of a stimulus, if it is told at one.
-fn push_unlined(
+/// Adds all lines of a refusal that has no number of a line, and is told at this byte of a stimulus, if it is told at one, where this is wrong in the header.
+fn push_unlined_at(
     page: &mut Page,
     job: &Job,
     seen: &Seen<'_>,
     refusal: &Refusal,
     at: Option<usize>,
+    bad: &Option<BadName<'_>>,
 ) -> Result<(), AllocError>
-    ensures { OnOk result (page.new ≡ page.old ++ spec.unlined job.now (seen_of seen.now) refusal.now at) }
+    ensures { OnOk result (page.new ≡ page.old ++ spec.unlined_at job.now (seen_of seen.now) refusal.now at (option_map lent_name bad.now)) }
 {
     push_path(page, job, about(refusal))?;
     push_row_position(page, seen.file, at)?;
     page.text(": ")?;
     push_error(page, job, seen, refusal)?;
     push_row_caret(page, refusal, seen.file, at)?;
+    push_names(page, refusal, seen, at, bad)?;
     push_remedy(page, refusal)
+}
+
+/// Adds all lines of a refusal that has no number of a line.
+fn push_unlined(
+    alloc: Global,
+    page: &mut Page,
+    job: &Job,
+    seen: &Seen<'_>,
+    refusal: &Refusal,
+) -> Result<(), AllocError>
+    ensures { OnOk result (page.new ≡ page.old ++ spec.unlined job.now (seen_of seen.now) refusal.now) }
+{
+    let bad = bad_of(alloc, refusal, seen)?;
+    let at = row_of(refusal, seen.file, &bad);
+    push_unlined_at(page, job, seen, refusal, at, &bad)
 }
 
 /// Adds all lines of a design that is too large.
@@ -105,8 +123,8 @@ fn push_oversized(
     push_remedy(page, refusal)
 }
 
-/// Adds all lines of a refusal of a job: where it is told, by which name and sentence, the line of the text with a caret, further places, the field of a vector that is
-/// wrong, the heaviest processes of a design that is too large, what has changed in the file, and a remedy. The only error is that memory ran out.
+/// Adds all lines of a refusal of a job: where it is told, by which name and sentence, the line of the text with a caret, further places, the field of a header or
+/// of a vector that is wrong, the heaviest processes of a design that is too large, what has changed in the file, and a remedy. The only error is that memory ran out.
 pub fn push_refusal(
     alloc: Global,
     page: &mut Page,
@@ -121,11 +139,11 @@ pub fn push_refusal(
     }
     if let Refusal::Line(_, _, row) = refusal {
         let line = from_line(seen.file, *row);
-        let wrong = wrong_of(alloc, refusal, seen.drawing, seen.file, line)?;
+        let wrong = wrong_of(alloc, refusal, seen, line)?;
         return push_line(page, job, seen, refusal, *row, line, &wrong);
     }
     if let Refusal::TooLarge { .. } = refusal {
         return push_oversized(page, job, seen, refusal);
     }
-    push_unlined(page, job, seen, refusal, row_of(refusal, seen.file))
+    push_unlined(alloc, page, job, seen, refusal)
 }

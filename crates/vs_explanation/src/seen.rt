@@ -2,6 +2,7 @@
 
 use crate::Heavy;
 use vs_names::Drawing;
+use vs_stim::Ports;
 
 /// What was seen again of the file that an answer is about.
 #[derive(Drop)]
@@ -14,4 +15,6 @@ pub struct Seen<'a> {
     pub drawing: Option<&'a Drawing>,
     /// The heaviest processes of a design that is too large, or None where none was weighed.
     pub heavy: Option<&'a [Heavy]>,
+    /// The ports that stimuli name, of the design that a stimulus is for; None where they aren't asked for, or the design is refused.
+    pub ports: Option<&'a Ports>,
 }

@@ -2,15 +2,22 @@
 
 ghost use Rattle.std.specs.Prelude.{◌≡◌, ◌++◌, ◌<◌, ◌^◌, OnOk, IfOk, option_map};
 ghost use Rattle.vs_explanation.specs.Rows as spec;
-ghost use Rattle.vs_rows.specs.Lent.{wrong_of as lent};
+ghost use Rattle.vs_explanation.specs.Seen.{seen_of};
+ghost use Rattle.vs_rows.specs.Lent.{bad_of as lent_name, wrong_of as lent};
 ghost use Rattle.vs_names.specs.Drawn.{port_bits as bits};
 
+use crate::Seen;
+use crate::headers::{header_at, refuses_header};
+use crate::naming::{push_reset, push_right};
 use crate::placed::{push_caret, push_position};
 use std::alloc::{AllocError, Global};
 use vs_excerpt::{Page, push_excerpt};
 use vs_names::Drawing;
 use vs_refusal::{LaneName, LineName, Refusal};
-use vs_rows::{Wrong, first_unknown, header_row, is_mark, row_bytes, wrong_field};
+use vs_rows::{
+    BadName, Wrong, first_unknown, header_row, is_mark, row_bytes, wrong_field, wrong_reset,
+};
+use vs_stim::Ports;
 
 /// What stands behind the first newline, where there is one.
 fn behind_newline(text: &[u8]) -> Option<&[u8]>
@@ -66,6 +73,20 @@ pub fn refuses_fields(refusal: &Refusal) -> bool
     matches!(refusal, Refusal::Line(LineName::BadVector, _, _))
 }
 
+/// Whether a line is refused for an unknown digit of a reset input.
+fn refuses_reset(refusal: &Refusal) -> bool
+    ensures { result ≡ spec.refuses_reset refusal.now }
+{
+    matches!(refusal, Refusal::Line(LineName::UnknownReset, _, _))
+}
+
+/// Whether names of a stimulus are held against the ports of the accepted design, for what is wrong in its header or leaves a reset unknown.
+pub fn asks_ports(refusal: &Refusal) -> bool
+    ensures { result ≡ spec.asks_ports refusal.now }
+{
+    refuses_header(refusal) || refuses_reset(refusal)
+}
+
 /// The first field that isn't as the stimulus's header wants it, of the line with which a text begins.
 fn wrong_under<'a>(
     alloc: Global,
@@ -96,21 +117,57 @@ fn wrong_seen<'a>(
     }
 }
 
-/// Of a line whose fields are refused, the one that is wrong.
-pub(crate) fn wrong_of<'a>(
+/// The first field that leaves a reset unknown, of the line with which a text begins.
+fn reset_under<'a>(
     alloc: Global,
-    refusal: &Refusal,
-    drawing: Option<&Drawing>,
+    ports: &Ports,
+    file: &'a [u8],
+    line: &[u8],
+) -> Result<Option<Wrong<'a>>, AllocError>
+    ensures { IfOk result (λ wrong. option_map lent wrong ≡ spec.reset_under ports.now file.now line.now) }
+{
+    match header_row(file) {
+        None => Ok(None),
+        Some(at) => wrong_reset(
+            alloc,
+            ports.inputs(),
+            row_bytes(file, at),
+            row_bytes(line, 0),
+        ),
+    }
+}
+
+/// The same of ports, a line and a file that may have been seen.
+fn reset_seen<'a>(
+    alloc: Global,
+    ports: Option<&Ports>,
     file: Option<&'a [u8]>,
     line: Option<&[u8]>,
 ) -> Result<Option<Wrong<'a>>, AllocError>
-    ensures { IfOk result (λ wrong. option_map lent wrong ≡ spec.wrong_of refusal.now (option_map (λ d. d.now) drawing.entry) (option_map (λ t. t.now) file.entry) (option_map (λ t. t.now) line.entry)) }
+    ensures { IfOk result (λ wrong. option_map lent wrong ≡ spec.reset_seen (option_map (λ p. p.now) ports.entry) (option_map (λ t. t.now) file.entry) (option_map (λ t. t.now) line.entry)) }
+{
+    match (ports, file, line) {
+        (Some(ports), Some(file), Some(line)) => reset_under(alloc, ports, file, line),
+        _ => Ok(None),
+    }
+}
+
+/// Of a line with a field that is refused, that one.
+pub(crate) fn wrong_of<'a>(
+    alloc: Global,
+    refusal: &Refusal,
+    seen: &Seen<'a>,
+    line: Option<&[u8]>,
+) -> Result<Option<Wrong<'a>>, AllocError>
+    ensures { IfOk result (λ wrong. option_map lent wrong ≡ spec.wrong_of refusal.now (seen_of seen.now) (option_map (λ t. t.now) line.entry)) }
 {
     if refuses_fields(refusal) {
-        wrong_seen(alloc, drawing, file, line)
-    } else {
-        Ok(None)
+        return wrong_seen(alloc, seen.drawing, seen.file, line);
     }
+    if refuses_reset(refusal) {
+        return reset_seen(alloc, seen.ports, seen.file, line);
+    }
+    Ok(None)
 }
 
 /// The byte of the line at which a wrong field begins; the first where there is none.
@@ -243,21 +300,50 @@ fn push_matched(page: &mut Page, drawing: Option<&Drawing>) -> Result<(), AllocE
     }
 }
 
+/// Adds what is said of a line in which no field is wrong.
+fn push_no_field(page: &mut Page, refusal: &Refusal, seen: &Seen<'_>) -> Result<(), AllocError>
+    ensures { OnOk result (page.new ≡ page.old ++ spec.right_text refusal.now (seen_of seen.now)) }
+{
+    if refuses_fields(refusal) {
+        return push_matched(page, seen.drawing);
+    }
+    if refuses_reset(refusal) {
+        return push_right(page, seen.ports);
+    }
+    Ok(())
+}
+
+/// Adds what is said of a field that is wrong.
+fn push_field_note(
+    page: &mut Page,
+    refusal: &Refusal,
+    seen: &Seen<'_>,
+    wrong: &Wrong<'_>,
+) -> Result<(), AllocError>
+    ensures { OnOk result (page.new ≡ page.old ++ spec.field_text refusal.now (seen_of seen.now) (lent wrong.now)) }
+{
+    if refuses_reset(refusal) {
+        push_reset(page, wrong)
+    } else {
+        push_wrong(page, seen.drawing, wrong)
+    }
+}
+
 /// Adds what is said of the fields of a line.
 pub(crate) fn push_fields(
     page: &mut Page,
     refusal: &Refusal,
-    drawing: Option<&Drawing>,
+    seen: &Seen<'_>,
     line: Option<&[u8]>,
     wrong: &Option<Wrong<'_>>,
 ) -> Result<(), AllocError>
-    ensures { OnOk result (page.new ≡ page.old ++ spec.fields_text refusal.now (option_map (λ d. d.now) drawing.entry) (option_map (λ t. t.now) line.entry) (option_map lent wrong.now)) }
+    ensures { OnOk result (page.new ≡ page.old ++ spec.fields_text refusal.now (seen_of seen.now) (option_map (λ t. t.now) line.entry) (option_map lent wrong.now)) }
 {
     match wrong {
-        Some(wrong) => push_wrong(page, drawing, wrong),
+        Some(wrong) => push_field_note(page, refusal, seen, wrong),
         None => {
-            if refuses_fields(refusal) && line.is_some() {
-                push_matched(page, drawing)
+            if line.is_some() {
+                push_no_field(page, refusal, seen)
             } else {
                 Ok(())
             }
@@ -265,12 +351,17 @@ pub(crate) fn push_fields(
     }
 }
 
-/// The byte of a stimulus at which a refusal is told that has no number of a line.
-pub(crate) fn row_of(refusal: &Refusal, file: Option<&[u8]>) -> Option<usize>
-    ensures { result ≡ spec.row_of refusal.now (option_map (λ t. t.now) file.entry) }
+/// The byte of a stimulus at which a refusal is told that has no number of a line, where this is wrong in the header.
+pub(crate) fn row_of(
+    refusal: &Refusal,
+    file: Option<&[u8]>,
+    bad: &Option<BadName<'_>>,
+) -> Option<usize>
+    ensures { result ≡ spec.row_of refusal.now (option_map (λ t. t.now) file.entry) (option_map lent_name bad.now) }
 {
     match refusal {
-        Refusal::Lane(LaneName::BadHeader | LaneName::NoExpectation, _) => header_row(file?),
+        Refusal::Lane(LaneName::BadHeader, _) => header_at(file, bad),
+        Refusal::Lane(LaneName::NoExpectation, _) => header_row(file?),
         Refusal::Lane(LaneName::FirstUnknown, _) => first_unknown(file?),
         _ => None,
     }

@@ -9,14 +9,14 @@ use crate::rows::{header_row, row_bytes};
 use std::alloc::{AllocError, Global};
 
 /// Whether the field that begins at a byte of a line is `->`.
-fn arrow_at(line: &[u8], at: usize) -> bool
+pub(crate) fn arrow_at(line: &[u8], at: usize) -> bool
     ensures { result ≡ spec.arrow_at line.now at }
 {
     is_arrow(field_at(line, at))
 }
 
 /// The fields of a line behind the first `->` of these.
-fn behind_arrow<'a>(line: &[u8], fields: &'a [usize]) -> &'a [usize]
+pub(crate) fn behind_arrow<'a>(line: &[u8], fields: &'a [usize]) -> &'a [usize]
     ensures { result.now ≡ after_first (spec.arrow_at line.now) fields.now }
 {
     let mut end = 0;

@@ -132,7 +132,7 @@ pub fn row_bytes(text: &[u8], at: usize) -> &[u8]
 }
 
 /// A digit of no known bit: x or z.
-fn is_unknown(b: u8) -> bool
+pub(crate) fn is_unknown(b: u8) -> bool
     ensures { result ≡ spec.is_unknown b }
 {
     matches!(b, b'x' | b'X' | b'z' | b'Z')

@@ -23,7 +23,7 @@ pub struct Wrong<'a> {
 }
 
 /// The field at a byte, where the header has this in its place.
-fn wrong_at<'a>(line: &[u8], place: usize, name: &'a [u8], at: usize) -> Wrong<'a>
+pub(crate) fn wrong_at<'a>(line: &[u8], place: usize, name: &'a [u8], at: usize) -> Wrong<'a>
     ensures { wrong_of result ≡ spec.wrong_at line.now place name.now at }
 {
     Wrong {

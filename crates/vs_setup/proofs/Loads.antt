@@ -8,12 +8,13 @@ use Rattle.vs_flat.specs.DesignOf.{design_of}
 use Rattle.vs_clock.specs.Clocked.{Clocked, IsClockOf}
 use Rattle.vs_program.specs.Compiled.{IsProgramOf}
 use Rattle.vs_engine.specs.Lanes.{Running, state}
-use Rattle.vs_stim.specs.Header.{PortLists, IsInput, IsOutput, ArePorts}
+use Rattle.vs_stim.specs.Header.{PortLists, IsInput, IsOutput}
 use Rattle.vs_accept.specs.Lent.{Acceptance, IsAcceptance}
 use Rattle.vs_grammar.specs.Trees.{Source}
 use Rattle.vs_accept.specs.Accepted.{IsAcceptedText}
 use Rattle.vs_accept.specs.Outputs.{top_outputs, HaveOutputs, OneReading}
 use Rattle.vs_rounds.specs.Inputs.{inputs_among, data_inputs, outputs_among, outputs, InputBitsFit}
+use Rattle.vs_setup.specs.Ports.{ports_with}
 use Rattle.vs_setup.specs.Loaded.{IsLoaded}
 use Rattle.vs_setup.proofs.Signals.{are_inputs, are_outputs}
 
@@ -35,6 +36,27 @@ outputs_named : OneReading → {text top clock : List ℕ} {d : Design} (accepte
 outputs_named one {text = text} {top = top} accepted a h =
     h.outputs_are ∙ ap (λ (s : Source). top_outputs s top) (one text h.tokens accepted.tokens h.source accepted.source h.read accepted.read)
 
+-- the ports of an accepted text
+pub ports_named : (demanded : Bool) (text top clock : List ℕ) (a : Acceptance) (ports : PortLists) → OneReading → (accepted : IsAcceptedText text top clock (design_of a.flat))
+    → HaveOutputs text top a → IsAcceptance clock a → ports.inputs ≡ inputs_among a.clocks.reset_inputs a.clocks.bit (design_of a.flat).signals
+    → ports.outputs ≡ outputs_among a.outputs (design_of a.flat).signals → ports.demanded ≡ demanded → ports ≡ ports_with demanded accepted
+ports_named demanded text top clock a ports one accepted have lent inputs_are outputs_are demanded_is = λ i. record { inputs = named i; outputs = outputs_is i; demanded = demanded_is i }
+  where
+    d : Design
+    d = design_of a.flat
+
+    bit : ℕ
+    bit = a.clocks.bit
+
+    named : ports.inputs ≡ data_inputs d accepted.accepted.clock.first
+    named =
+        inputs_are
+        ∙ ap (λ (bits : List ℕ). inputs_among bits bit d.signals) lent.resets_are.inputs
+        ∙ ap (data_inputs d) (sym (clock_first d clock a.clocks accepted.accepted lent.clock_is))
+
+    outputs_is : ports.outputs ≡ outputs d (top_outputs accepted.source top)
+    outputs_is = outputs_are ∙ ap (λ (names : List (List ℕ)). outputs_among names d.signals) (outputs_named one accepted a have)
+
 pub loaded : {W : Type 0} (lane : W → ℕ → Bool) (lanes : ℕ) (demanded : Bool) (text top clock : List ℕ) (a : Acceptance) (ports : PortLists) (engine : Running W)
     → InputBitsFit → OneReading → IsAcceptedText text top clock (design_of a.flat) → HaveOutputs text top a → IsAcceptance clock a → IsMade lane lanes (design_of a.flat) a.clocks.bit engine
     → ports.inputs ≡ inputs_among a.clocks.reset_inputs a.clocks.bit (design_of a.flat).signals → ports.outputs ≡ outputs_among a.outputs (design_of a.flat).signals
@@ -44,7 +66,7 @@ loaded lane lanes demanded text top clock a ports engine fit one accepted have l
   program = ends;
   idle = λ i h. made.idle i h ∙ ap (λ n. (network_of d n).idle) (sym first);
   begun = made.begun;
-  ports_are = λ i. record { inputs = named i; outputs = outputs_is i; demanded = demanded_is i };
+  ports_are = ports_is;
   names_are = outputs_named one accepted a have;
   are_ports = record { inputs = each; outputs = each_output };
   bits = fit d clock accepted.accepted ports.inputs (record { each = each; inputs_are = named }) ∙ ap length (sym ends.inputs);
@@ -62,11 +84,11 @@ loaded lane lanes demanded text top clock a ports engine fit one accepted have l
     ends : IsProgramOf d accepted.accepted.clock.first engine.program
     ends = subst (λ n. IsProgramOf d n engine.program) (sym first) made.program
 
-    named : ports.inputs ≡ data_inputs d accepted.accepted.clock.first
-    named = inputs_are ∙ ap (λ (bits : List ℕ). inputs_among bits bit d.signals) lent.resets_are.inputs ∙ ap (data_inputs d) (sym first)
+    ports_is : ports ≡ ports_with demanded accepted
+    ports_is = ports_named demanded text top clock a ports one accepted have lent inputs_are outputs_are demanded_is
 
-    outputs_is : ports.outputs ≡ outputs d (top_outputs accepted.source top)
-    outputs_is = outputs_are ∙ ap (λ (names : List (List ℕ)). outputs_among names d.signals) (outputs_named one accepted a have)
+    named : ports.inputs ≡ data_inputs d accepted.accepted.clock.first
+    named = ap (λ (p : PortLists). p.inputs) ports_is
 
     each : All IsInput ports.inputs
     each = subst (All IsInput) (sym inputs_are) (are_inputs a.clocks.reset_inputs a.flat bit lent.lawful)

@@ -1,5 +1,5 @@
 -- A run whose parts were put together.
-use Rattle.std.proofs.Common.{◌≡◌, ℕ, ◌<◌, ◌≤◌, Bool, List, length, map, arith, IsTrue, All, sym, subst, ap, ◌∙◌}
+use Rattle.std.proofs.Common.{◌≡◌, ℕ, ◌<◌, ◌≤◌, Bool, List, length, map, arith, IsTrue, All, sym, subst, ◌∙◌}
 use Rattle.vs_desk.specs.Desk.{Contents}
 use Rattle.vs_design.specs.Expressions.{signal_length}
 use Rattle.vs_design.specs.Designs.{Design}

@@ -22,8 +22,6 @@ use Rattle.vs_flat.specs.Lawful.{IsLawful}
 use Rattle.vs_program.specs.declared.compiled.Span.{Span}
 use Rattle.vs_program.specs.Program.{spans}
 use Rattle.vs_program.specs.Compiled.{span_of}
-use Rattle.vs_stim.specs.declared.input.Input.{Input}
-use Rattle.vs_stim.specs.declared.input.Output.{Output}
 use Rattle.vs_stim.specs.Header.{IsInput, IsOutput}
 use Rattle.vs_rounds.specs.Inputs.{is_data_input, input_of, inputs_among, is_output, output_of, outputs_among}
 

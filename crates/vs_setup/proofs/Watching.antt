@@ -1,10 +1,8 @@
 -- A check whose parts were put together.
-use Rattle.std.proofs.Common.{◌≡◌, ℕ, ◌<◌, Bool, List, ◌++◌, length, map, IsTrue, None, All, sym, subst, ap, ◌∙◌}
-use Rattle.std.specs.List.{filter, list_all}
+use Rattle.std.proofs.Common.{◌≡◌, ℕ, Bool, List, ◌++◌, map, IsTrue, None, All, sym, subst, ap, ◌∙◌}
+use Rattle.std.specs.List.{filter}
 use Rattle.vs_desk.specs.Desk.{Contents}
 use Rattle.vs_flat.specs.DesignOf.{design_of}
-use Rattle.vs_program.specs.declared.compiled.Span.{Span}
-use Rattle.vs_program.specs.Program.{spans}
 use Rattle.vs_program.specs.Compiled.{span_of}
 use Rattle.vs_engine.specs.Lanes.{Running}
 use Rattle.vs_accept.specs.Lent.{Acceptance}

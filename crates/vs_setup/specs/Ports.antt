@@ -1,7 +1,8 @@
 -- The ports that stimuli name.
-use Rattle.std.specs.Prelude.{ℕ, Bool, true, false, List}
+use Rattle.std.specs.Prelude.{◌≡◌, ℕ, Bool, true, false, List, Option, Some, None}
 use Rattle.vs_design.specs.Designs.{Design}
-use Rattle.vs_accept.specs.Accepted.{IsAcceptedText}
+use Rattle.vs_refusal.specs.declared.refusal.Refusal.{Refusal}
+use Rattle.vs_accept.specs.Accepted.{IsAcceptedText, IsRefusedText}
 use Rattle.vs_accept.specs.Outputs.{top_outputs}
 use Rattle.vs_stim.specs.Header.{PortLists}
 use Rattle.vs_job.specs.declared.job.Mode.{Mode}
@@ -20,3 +21,18 @@ ports_with demanded {top = top} {d = d} a = record { inputs = data_inputs d a.ac
 -- in a job of this mode
 abbrev pub ports_of : Mode → {text top clock : List ℕ} {d : Design} → IsAcceptedText text top clock d → PortLists
 ports_of mode a = ports_with (demands mode) a
+
+-- the text is accepted, and these are the ports that stimuli of its design name
+pub record ArePortsOf (demanded : Bool) (text top clock : List ℕ) (ports : PortLists) : Type 0 where
+  pub design : Design
+  pub accepted : IsAcceptedText text top clock design
+  pub ports_are : ports ≡ ports_with demanded accepted
+
+-- the text is refused
+abbrev pub IsRefusedSomehow : (text top clock : List ℕ) → Type 0
+IsRefusedSomehow text top clock = (r : Refusal) × IsRefusedText text top clock r
+
+-- the ports of a text that is accepted, and none of one that is refused
+abbrev pub TellsPorts : (demanded : Bool) → (text top clock : List ℕ) → Option PortLists → Type 0
+TellsPorts demanded text top clock None = IsRefusedSomehow text top clock
+TellsPorts demanded text top clock (Some ports) = ArePortsOf demanded text top clock ports

@@ -1,5 +1,5 @@
 -- A run that can begin, and a check that can.
-use Rattle.std.specs.Prelude.{◌≡◌, ℕ, Bool, false, IsTrue, List, [], ◌++◌, All, length, map}
+use Rattle.std.specs.Prelude.{◌≡◌, ℕ, Bool, false, IsTrue, List, [], ◌++◌, length, map}
 use Rattle.vs_desk.specs.Desk.{Contents, Told}
 use Rattle.vs_desk.specs.Places.{design_place}
 use Rattle.vs_design.specs.Designs.{Design}

@@ -10,5 +10,5 @@ mod setup;
 
 pub use checking::{PreparedCheck, prepare_check};
 pub use error::SetupError;
-pub use loading::{Loaded, load};
+pub use loading::{Loaded, load, read_ports};
 pub use setup::{Prepared, prepare};

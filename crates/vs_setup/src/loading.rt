@@ -13,6 +13,7 @@ ghost use Rattle.vs_rounds.specs.Inputs.{inputs_among, outputs_among};
 ghost use Rattle.vs_accept.specs.Accepted.{most_bytes};
 ghost use Rattle.vs_accept.specs.Answers.{IsRefusalOf};
 ghost use Rattle.vs_setup.specs.Loaded.{IsLoaded};
+ghost use Rattle.vs_setup.specs.Ports.{TellsPorts};
 
 use crate::inputs::{data_inputs, outputs_of};
 use std::alloc::{AllocError, Global};
@@ -91,6 +92,27 @@ fn ports_of(alloc: Global, accepted: &Accepted, demanded: bool) -> Result<Ports,
     let inputs = data_inputs(alloc, flat, clocks.bit(), clocks.reset_inputs())?;
     let outputs = outputs_of(alloc, flat, accepted.outputs())?;
     Ok(Ports::of(inputs, outputs, demanded))
+}
+
+/// The data inputs and the outputs of the design of a text of at most 4,194,304 bytes whose top module and whose clock input have these names, as stimuli name them: with
+/// the text accepted, and nothing compiled. Where outputs are demanded, the header of a stimulus has to name one at least. None where the text is refused. The only
+/// error is that memory ran out.
+pub fn read_ports(
+    alloc: Global,
+    text: &[u8],
+    top: &[u8],
+    clock: &[u8],
+    demanded: bool,
+) -> Result<Option<Ports>, AllocError>
+    requires { length text.now ≤ most_bytes }
+    ensures { IfOk result (TellsPorts demanded text.now top.now clock.now) }
+{
+    answer_law();
+    match accept(alloc, text, top, clock) {
+        Ok(accepted) => Ok(Some(ports_of(alloc, &accepted, demanded)?)),
+        Err(AcceptError::Refused(_)) => Ok(None),
+        Err(AcceptError::Memory) => Err(AllocError),
+    }
 }
 
 impl<W: Word> Loaded<W> {

@@ -9,5 +9,5 @@ returns-clause-view c =
       heavy,
       subst (λ (t : List ℕ). AreWeighed c.args.text.items t heavy) c.as_bytes.ensures
           (subst (λ (t : List ℕ). AreWeighed t c.as_bytes.result.now heavy) c.as_slice.ensures.value c.in_ok-heavy.ensures),
-      as_long _ _ _ None heavy (ap (λ (t : List ℕ). length t) c.as_bytes-2.ensures),
+      as_long _ _ _ None heavy None (ap (λ (t : List ℕ). length t) c.as_bytes-2.ensures),
     )

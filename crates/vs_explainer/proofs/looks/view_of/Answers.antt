@@ -11,5 +11,5 @@ returns-clause-view c =
       drawn,
       subst (λ (t : List ℕ). MatchBool draws (IsDrawing c.args.text.items t drawn) (drawn ≡ None)) c.as_bytes.ensures
           (subst (λ (t : List ℕ). MatchBool draws (IsDrawing t c.as_bytes.result.now drawn) (drawn ≡ None)) c.as_slice.ensures.value c.in_ok-drawing.ensures),
-      as_long _ _ _ drawn None (ap (λ (t : List ℕ). length t) c.as_bytes-2.ensures),
+      as_long _ _ _ drawn None None (ap (λ (t : List ℕ). length t) c.as_bytes-2.ensures),
     )

@@ -1,4 +1,4 @@
-use Rattle.std.proofs.Common.{List, ℕ, drop, sym, ap, ◌∙◌, arith}
+use Rattle.std.proofs.Common.{drop, sym, ap, ◌∙◌, arith}
 use Rattle.std.proofs.lemmas.List.{take_rest}
 use Rattle.std.proofs.lemmas.List.Sums.{prefix_len_is}
 use Rattle.vs_rows.specs.Rows as spec

@@ -1,4 +1,4 @@
-use Rattle.std.proofs.Common.{◌≡◌, ◌≤◌, ℕ, false, length, get_or, sym, ◌∙◌, arith, below_more}
+use Rattle.std.proofs.Common.{◌≡◌, ℕ, false, length, get_or, sym, ◌∙◌, arith, below_more}
 use Rattle.vs_rows.specs.Rows as spec
 use Rattle.vs_rows.proofs.Found.{found_from, found_nowhere}
 use Rattle.vs_rows.proofs.rows.unknown_in.Goals as goal

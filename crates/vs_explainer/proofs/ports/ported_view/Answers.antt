@@ -1,0 +1,14 @@
+use Rattle.std.proofs.Common.{List, ℕ, length, false, None, ap, subst}
+use Rattle.vs_setup.specs.Ports.{TellsPorts}
+use Rattle.vs_explainer.proofs.Sights.{as_long}
+use Rattle.vs_explainer.proofs.ports.ported_view.Goals as goal
+
+pub returns-clause-view : goal.returns-clause-view
+returns-clause-view c =
+    let ports = c.in_ok-ports.ports in (
+      ports,
+      subst (λ (t : List ℕ). TellsPorts false c.args.text.items t c.args.job.now.clock ports) c.as_bytes.ensures
+          (subst (λ (t : List ℕ). TellsPorts false c.args.text.items c.as_bytes.result.now t ports) c.as_bytes-2.ensures
+          (subst (λ (t : List ℕ). TellsPorts false t c.as_bytes.result.now c.as_bytes-2.result.now ports) c.as_slice.ensures.value c.in_ok-ports.ensures)),
+      as_long _ _ _ None None ports (ap (λ (t : List ℕ). length t) c.as_bytes-3.ensures),
+    )
