@@ -1,16 +1,19 @@
 -- An input's pairs, and the planes that they are packed from.
-use Rattle.std.proofs.Common.{◌≡◌, ◌≢◌, ℕ, zero, suc, ◌+◌, ◌-◌, ◌*◌, ◌/◌, ◌%◌, ◌^◌, ◌<◌, ◌≤◌, Bool, true, false, List, [], ◌∷◌, ◌++◌, length, get_or, set, take, drop, map, replicate, sum, refl, sym, ap, ap₂, ◌∙◌, subst, inl, inr, arith}
+use Rattle.std.proofs.Common.{◌≡◌, ◌≢◌, ℕ, zero, suc, ◌+◌, ◌-◌, ◌*◌, ◌/◌, ◌%◌, ◌^◌, ◌<◌, ◌≤◌, ◌==◌, Bool, true, false, List, [], ◌∷◌, ◌++◌, length, get_or, set, take, drop, map, replicate, sum, refl, sym, ap, ap₂, ◌∙◌, subst, inl, inr, arith}
 use Rattle.std.proofs.lemmas.Bool.{cases_eq, cases_lt}
 use Rattle.std.proofs.lemmas.List.{length-replicate, get_or_past, get_or_read, get_or-set_same, get_or-set_other, take-map, map-append, append_assoc, length-append, length-drop, length-take-le, get_or-take, get_or-drop, ext_get_or}
 use Rattle.std.proofs.Math.Seq.{take-add, take-append_seam}
 use Rattle.std.proofs.lemmas.Nat.{pow_pos}
+use Rattle.std.proofs.lemmas.Nat.Bits.{bit_at_lowest, shr_and_one}
 use Rattle.std.proofs.Math.Nat.{pow-suc}
+use Rattle.std.specs.Prelude.{bit_and}
+use Rattle.std.specs.Int.{bit_at}
 use Rattle.vs_four.specs.declared.Bit4.{Bit4}
 use Rattle.vs_four.specs.declared.Bit4.TheVariants.{X}
 use Rattle.vs_four.specs.Planes.{bits_of_planes}
 use Rattle.vs_four.specs.Planes as Planes
 use Rattle.vs_plane.specs.declared.pairs.Pair.{Pair}
-use Rattle.vs_plane.specs.Lanes.{pair_lane}
+use Rattle.vs_plane.specs.Lanes.{decode, pair_lane}
 use Rattle.vs_stim.specs.Known.{Known}
 use Rattle.vs_stim.specs.Row.{sizes}
 use Rattle.vs_feed.specs.Lanes.{ended, lane_at, AreLanes}
@@ -72,22 +75,72 @@ pub record ArePacked {W : Type 0} (lane : W → ℕ → Bool) (lanes done : ℕ)
   pub long : length pairs ≡ count
   pub each : (i : ℕ) → i < lanes → i < done → map (λ p. pair_lane lane p i) pairs ≡ driven_value count (lane_at ks i) number
 
-pub group_more : {W : Type 0} (lane : W → ℕ → Bool) (lanes k : ℕ) (ks : List Known) (number count : ℕ) (value unknown : List ℕ) (pairs news : List (Pair W))
-    → IsWide number count ks → count ≤ 64 → AreRead ks number k 64 value unknown → length news ≡ length pairs
-    → ((i : ℕ) → i < 64 → map (λ p. pair_lane lane p (64 * k + i)) news ≡ bits_of_planes (length pairs) (get_or value i 0) (get_or unknown i 0))
+pub group_more : {W : Type 0} (lane : W → ℕ → Bool) (lanes k : ℕ) (ks : List Known) (number count : ℕ) (pairs news : List (Pair W))
+    → length news ≡ length pairs
+    → ((i : ℕ) → i < 64 → map (λ p. pair_lane lane p (64 * k + i)) news ≡ driven_value (length pairs) (lane_at ks (64 * k + i)) number)
     → ((n : ℕ) → n < lanes → n / 64 ≢ k → map (λ p. pair_lane lane p n) news ≡ map (λ p. pair_lane lane p n) pairs)
     → ArePacked lane lanes (64 * k) ks number count pairs → ArePacked lane lanes (64 * (k + 1)) ks number count news
-group_more lane lanes k ks number count value unknown pairs news wide most read long packed others so_far = record {
+group_more lane lanes k ks number count pairs news long packed others so_far = record {
   long = long ∙ so_far.long;
   each = λ i h below. elim (cases_eq (i / 64) k) as (λ _. map (λ p. pair_lane lane p i) news ≡ driven_value count (lane_at ks i) number) [
     | inl e ↦
         let place : 64 * k + i % 64 ≡ i = omega arith in
         let low : i % 64 < 64 = omega arith in
         subst (λ (n : ℕ). map (λ p. pair_lane lane p n) news ≡ driven_value count (lane_at ks n) number) place
-        (packed (i % 64) low ∙ ap (λ n. bits_of_planes n (get_or value (i % 64) 0) (get_or unknown (i % 64) 0)) so_far.long ∙ read.each count (i % 64) wide most low)
+        (packed (i % 64) low ∙ ap (λ n. driven_value n (lane_at ks (64 * k + i % 64)) number) so_far.long)
     | inr ne ↦ others i h ne ∙ so_far.each i h (omega arith)
   ];
 }
+
+-- ---- an input of one bit
+
+pub lowest_bit : (w : ℕ) → bit_and w 1 ≡ w % 2
+lowest_bit w = ap (λ n. bit_and n 1) (let e : w ≡ w / 2 ^ 0 = omega arith in e) ∙ shr_and_one w 0 ∙ bit_at_lowest w
+
+-- the same bit by digits and by truth
+decode_is : (p q : ℕ) → p < 2 → q < 2 → Planes.decode p q ≡ decode (p == 1) (q == 1)
+decode_is zero zero h l = refl
+decode_is zero (suc zero) h l = refl
+decode_is (suc zero) zero h l = refl
+decode_is (suc zero) (suc zero) h l = refl
+decode_is (suc (suc p)) q h l = absurd (let e : ⊥ = omega arith in e)
+decode_is p (suc (suc q)) h l = absurd (let e : ⊥ = omega arith in e)
+
+one_plane : (v u : ℕ) → bits_of_planes 1 v u ≡ decode (v % 2 == 1) (u % 2 == 1) ∷ []
+unfolding bits_of_planes
+one_plane v u = ap (λ (b : Bit4). b ∷ []) (decode_is (v % 2) (u % 2) (omega arith) (omega arith))
+
+-- the bits of the first lanes of a group, and no others
+pub record AreBits (ks : List Known) (number k done value unknown : ℕ) : Type 0 where
+  pub each : (i : ℕ) → IsWide number 1 ks → i < done → decode (bit_at value i == 1) (bit_at unknown i == 1) ∷ [] ≡ driven_value 1 (lane_at ks (64 * k + i)) number
+  pub value_high : (i : ℕ) → done ≤ i → bit_at value i ≡ 0
+  pub unknown_high : (i : ℕ) → done ≤ i → bit_at unknown i ≡ 0
+
+pub bits_more : (ks : List Known) (number k done value unknown v u new_value new_unknown : ℕ)
+    → ((count : ℕ) → IsWide number count ks → count ≤ 64 → bits_of_planes count v u ≡ driven_value count (lane_at ks (64 * k + done)) number)
+    → bit_at new_value done ≡ v % 2 → ((i : ℕ) → i ≢ done → bit_at new_value i ≡ bit_at value i)
+    → bit_at new_unknown done ≡ u % 2 → ((i : ℕ) → i ≢ done → bit_at new_unknown i ≡ bit_at unknown i)
+    → AreBits ks number k done value unknown → AreBits ks number k (done + 1) new_value new_unknown
+bits_more ks number k done value unknown v u new_value new_unknown here value_here value_others unknown_here unknown_others so_far = record {
+  each = λ i wide h. elim (cases_eq i done) as (λ _. decode (bit_at new_value i == 1) (bit_at new_unknown i == 1) ∷ [] ≡ driven_value 1 (lane_at ks (64 * k + i)) number) [
+    | inl e ↦ subst (λ (n : ℕ). decode (bit_at new_value n == 1) (bit_at new_unknown n == 1) ∷ [] ≡ driven_value 1 (lane_at ks (64 * k + n)) number) (sym e)
+        (ap₂ (λ (m n : ℕ). decode (m == 1) (n == 1) ∷ []) value_here unknown_here ∙ sym (one_plane v u) ∙ here 1 wide (omega arith))
+    | inr ne ↦ ap₂ (λ (m n : ℕ). decode (m == 1) (n == 1) ∷ []) (value_others i ne) (unknown_others i ne) ∙ so_far.each i wide (omega arith)
+  ];
+  value_high = λ i past. value_others i (λ e. let never : ⊥ = omega arith in never) ∙ so_far.value_high i (omega arith);
+  unknown_high = λ i past. unknown_others i (λ e. let never : ⊥ = omega arith in never) ∙ so_far.unknown_high i (omega arith);
+}
+
+-- the only pair, in one lane
+pub only_set : {W : Type 0} (lane : W → ℕ → Bool) (pairs : List (Pair W)) (new : Pair W) (i : ℕ) → length pairs ≡ 1 → map (λ p. pair_lane lane p i) (set pairs 0 new) ≡ pair_lane lane new i ∷ []
+only_set lane [] new i h = absurd (let e : ⊥ = omega arith in e)
+only_set lane (p ∷ []) new i h = refl
+only_set lane (p ∷ (q ∷ pairs)) new i h = absurd (let e : ⊥ = omega arith in e)
+
+pub only_is : {W : Type 0} (lane : W → ℕ → Bool) (pairs : List (Pair W)) (old : Pair W) (i : ℕ) → length pairs ≡ 1 → get_or pairs 0 old ≡ old → pair_lane lane old i ∷ [] ≡ map (λ p. pair_lane lane p i) pairs
+only_is lane [] old i h e = absurd (let f : ⊥ = omega arith in f)
+only_is lane (p ∷ []) old i h e = ap (λ (x : Pair _). pair_lane lane x i ∷ []) (sym e)
+only_is lane (p ∷ (q ∷ pairs)) old i h e = absurd (let f : ⊥ = omega arith in f)
 
 -- ---- the pairs of an input among those of all inputs
 

@@ -1,9 +1,10 @@
 //! The bits of all lanes, packed into pairs of planes.
 
-ghost use Rattle.std.specs.Prelude.{◌≡◌, ℕ, ◌+◌, ◌*◌, ◌<◌, ◌≤◌, [], length, map, slice_index, slice_index_or};
+ghost use Rattle.std.specs.Prelude.{◌≡◌, ◌≢◌, ℕ, ◌+◌, ◌*◌, ◌/◌, ◌%◌, ◌<◌, ◌≤◌, [], ◌∷◌, length, map, slice_index, slice_index_or, ◌==◌};
+ghost use Rattle.std.specs.Int.{bit_at};
 ghost use Rattle.vs_desk.specs.Places.{most_lanes};
 ghost use Rattle.vs_four.specs.Planes.{bits_of_planes};
-ghost use Rattle.vs_plane.specs.Lanes.{pair_lane};
+ghost use Rattle.vs_plane.specs.Lanes.{decode, pair_lane};
 ghost use Rattle.vs_feed.specs.Lanes.{lane_at, AreLanes};
 ghost use Rattle.vs_feed.specs.Fed.{driven, driven_value, HaveBits, IsWide, AreFed};
 
@@ -47,6 +48,55 @@ fn columns_of(stimuli: &[Stimulus], input: usize, k: u32) -> Columns
     Columns { value, unknown }
 }
 
+/// The word with the lowest bit of another one at place i, where it has 0.
+#[inline]
+fn with_lowest(bits: u64, word: u64, i: u32) -> u64
+    requires place { i < 64 }
+    requires clear { bit_at bits i ≡ 0 }
+    ensures changed { bit_at result i ≡ word % 2 }
+    ensures others { (n : ℕ) → n ≢ i → bit_at result n ≡ bit_at bits n }
+{
+    if word & 1 == 1 { bits | (1 << i) } else { bits }
+}
+
+/// The planes of an input of one bit in the 64 lanes from `64 * k` on: bit i of each is that of the i-th lane.
+fn bits_of(stimuli: &[Stimulus], input: usize, k: u32) -> (u64, u64)
+    requires { (i : ℕ) → i < length stimuli.now → input < length (lane_at stimuli.now i).vector }
+    ensures { (i : ℕ) → IsWide input 1 stimuli.now → i < 64
+        → decode (bit_at result.0 i == 1) (bit_at result.1 i == 1) ∷ [] ≡ driven_value 1 (lane_at stimuli.now (64 * k + i)) input }
+{
+    let mut value = 0;
+    let mut unknown = 0;
+    for i in 0..64 {
+        let planes = planes_of(stimuli, input, 64 * k as usize + i as usize);
+        value = with_lowest(value, planes.0, i);
+        unknown = with_lowest(unknown, planes.1, i);
+    }
+    (value, unknown)
+}
+
+/// Packs an input into its pairs in the 64 lanes from `64 * k` on. The other lanes stay as they are.
+fn feed_group<W: Lanes>(stimuli: &[Stimulus], input: usize, k: u32, pairs: &mut [Pair<W>])
+    requires input { IsWide input (length pairs.old) stimuli.now }
+    requires most { length pairs.old ≤ 64 }
+    requires lanes { 64 * k + 64 ≤ W.LANES }
+    ensures count { length pairs.new ≡ length pairs.old }
+    ensures packed { (i : ℕ) → i < 64 → map (λ p. pair_lane W.lane p (64 * k + i)) pairs.new
+        ≡ driven_value (length pairs.old) (lane_at stimuli.now (64 * k + i)) input }
+    ensures others { (n : ℕ) → n < W.LANES → n / 64 ≢ k → map (λ p. pair_lane W.lane p n) pairs.new ≡ map (λ p. pair_lane W.lane p n) pairs.old }
+{
+    if pairs.len() == 1 {
+        let (value, unknown) = bits_of(stimuli, input, k);
+        let pair = pairs[0];
+        pairs[0] = Pair {
+            value: pair.value.with_sixty_four(k, value),
+            unknown: pair.unknown.with_sixty_four(k, unknown),
+        };
+    } else {
+        Pair::pack(pairs, k, &columns_of(stimuli, input, k));
+    }
+}
+
 /// Packs an input into its pairs, one for each bit, 64 lanes at a time.
 fn feed_input<W: Lanes>(stimuli: &[Stimulus], input: usize, pairs: &mut [Pair<W>])
     requires input { IsWide input (length pairs.old) stimuli.now }
@@ -55,7 +105,7 @@ fn feed_input<W: Lanes>(stimuli: &[Stimulus], input: usize, pairs: &mut [Pair<W>
     ensures packed { (i : ℕ) → i < W.LANES → map (λ p. pair_lane W.lane p i) pairs.new ≡ driven_value (length pairs.old) (lane_at stimuli.now i) input }
 {
     for k in 0..W::LANES / 64 {
-        Pair::pack(pairs, k, &columns_of(stimuli, input, k));
+        feed_group(stimuli, input, k, pairs);
     }
 }
 

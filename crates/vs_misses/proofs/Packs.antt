@@ -4,7 +4,7 @@ use Rattle.std.proofs.lemmas.Bool.{cases_eq, cases_lt}
 use Rattle.std.proofs.lemmas.List.{length-replicate, get_or_past, get_or-set_same, get_or-set_other}
 use Rattle.std.proofs.lemmas.Option.{none-some, same_Some}
 use Rattle.std.proofs.lemmas.Nat.{pow_pos}
-use Rattle.std.proofs.lemmas.Nat.Bits.{bit_at-zero}
+use Rattle.std.proofs.lemmas.Nat.Bits.{bit_at-zero, bit_at-lt}
 use Rattle.std.proofs.Math.Nat.{pow-suc}
 use Rattle.std.specs.Int.{bit_at}
 use Rattle.vs_four.specs.declared.Bit4.{Bit4}
@@ -98,6 +98,41 @@ gather_more ks places k done value unknown any v u a value_room unknown_room any
       ];
 }
 
+-- the bits of the first lanes of a group, where the output has one bit, and no others
+pub record AreBits (ks : List Known) (places : List (Option ℕ)) (k done value unknown any : ℕ) : Type 0 where
+  pub each : (i : ℕ) → HaveDigits 1 places ks → i < done
+      → marked (bits_of_planes 1 (bit_at value i) (bit_at unknown i)) (bit_at any i) ≡ wanted_in 1 places (lane_at ks (64 * k + i)) (64 * k + i)
+  pub value_high : (i : ℕ) → done ≤ i → bit_at value i ≡ 0
+  pub unknown_high : (i : ℕ) → done ≤ i → bit_at unknown i ≡ 0
+  pub any_high : (i : ℕ) → done ≤ i → bit_at any i ≡ 0
+
+-- one digit has one bit of each plane
+one_digit : (v u a : ℕ) → marked (bits_of_planes 1 (v % 2) (u % 2)) (a % 2) ≡ marked (bits_of_planes 1 v u) a
+unfolding marked bits_of_planes
+one_digit v u a =
+    let value : v % 2 % 2 ≡ v % 2 = omega arith in
+    let unknown : u % 2 % 2 ≡ u % 2 = omega arith in
+    let any : a % 2 % 2 ≡ a % 2 = omega arith in
+    ap₂ (λ (b : Bit4) (m : ℕ). (elim (nat_eq m 0) as (λ _. Digit) [ true ↦ Exactly b | false ↦ Any ]) ∷ []) (ap₂ Planes.decode value unknown) any
+
+pub bits_more : (ks : List Known) (places : List (Option ℕ)) (k done value unknown any v u a new_value new_unknown new_any : ℕ)
+    → ((count : ℕ) → count ≤ 64 → HaveDigits count places ks → marked (bits_of_planes count v u) a ≡ wanted_in count places (lane_at ks (64 * k + done)) (64 * k + done))
+    → bit_at new_value done ≡ v % 2 → ((i : ℕ) → i ≢ done → bit_at new_value i ≡ bit_at value i)
+    → bit_at new_unknown done ≡ u % 2 → ((i : ℕ) → i ≢ done → bit_at new_unknown i ≡ bit_at unknown i)
+    → bit_at new_any done ≡ a % 2 → ((i : ℕ) → i ≢ done → bit_at new_any i ≡ bit_at any i)
+    → AreBits ks places k done value unknown any → AreBits ks places k (done + 1) new_value new_unknown new_any
+bits_more ks places k done value unknown any v u a new_value new_unknown new_any here value_here value_others unknown_here unknown_others any_here any_others so_far = record {
+  each = λ i have h.
+      let P : ℕ → Type 0 = λ n. marked (bits_of_planes 1 (bit_at new_value n) (bit_at new_unknown n)) (bit_at new_any n) ≡ wanted_in 1 places (lane_at ks (64 * k + n)) (64 * k + n) in
+      elim (cases_eq i done) as (λ _. P i) [
+        | inl e ↦ subst P (sym e) (ap₂ marked (ap₂ (bits_of_planes 1) value_here unknown_here) any_here ∙ one_digit v u a ∙ here 1 (omega arith) have)
+        | inr ne ↦ ap₂ marked (ap₂ (bits_of_planes 1) (value_others i ne) (unknown_others i ne)) (any_others i ne) ∙ so_far.each i have (omega arith)
+      ];
+  value_high = λ i past. value_others i (λ e. let never : ⊥ = omega arith in never) ∙ so_far.value_high i (omega arith);
+  unknown_high = λ i past. unknown_others i (λ e. let never : ⊥ = omega arith in never) ∙ so_far.unknown_high i (omega arith);
+  any_high = λ i past. any_others i (λ e. let never : ⊥ = omega arith in never) ∙ so_far.any_high i (omega arith);
+}
+
 -- ---- pairs
 
 -- the same bit by digits and by truth
@@ -109,13 +144,15 @@ decode_is (suc zero) (suc zero) h l = refl
 decode_is (suc (suc p)) q h l = absurd (let e : ⊥ = omega arith in e)
 decode_is p (suc (suc q)) h l = absurd (let e : ⊥ = omega arith in e)
 
--- a pair that was filled with the lowest bits of vectors of one bit
-pub one_filled : (n i v u lv lu : ℕ) → n ≡ 1 → bit_at lv i ≡ v % 2 → bit_at lu i ≡ u % 2 → replicate n (decode (bit_at lv i == 1) (bit_at lu i == 1)) ≡ bits_of_planes n v u
+-- a pair that was filled with a bit of each of two words
+pub one_filled : (n i v u : ℕ) → n ≡ 1 → replicate n (decode (bit_at v i == 1) (bit_at u i == 1)) ≡ bits_of_planes n (bit_at v i) (bit_at u i)
 unfolding bits_of_planes
-one_filled n i v u lv lu one e f =
-    ap (λ m. replicate m (decode (bit_at lv i == 1) (bit_at lu i == 1))) one
-    ∙ ap (λ b. b ∷ []) (ap₂ (λ p q. decode (p == 1) (q == 1)) e f ∙ sym (decode_is (v % 2) (u % 2) (omega arith) (omega arith)))
-    ∙ ap (λ m. bits_of_planes m v u) (sym one)
+one_filled n i v u one =
+    let value : bit_at v i ≡ bit_at v i % 2 = omega (arith, bit_at-lt v i) in
+    let unknown : bit_at u i ≡ bit_at u i % 2 = omega (arith, bit_at-lt u i) in
+    ap (λ m. replicate m (decode (bit_at v i == 1) (bit_at u i == 1))) one
+    ∙ ap (λ b. b ∷ []) (sym (decode_is (bit_at v i) (bit_at u i) (bit_at-lt v i) (bit_at-lt u i)) ∙ ap₂ Planes.decode value unknown)
+    ∙ ap (λ m. bits_of_planes m (bit_at v i) (bit_at u i)) (sym one)
 
 zero_planes : (n : ℕ) → bits_of_planes n 0 0 ≡ replicate n Zero
 unfolding bits_of_planes
@@ -164,14 +201,12 @@ pub record ArePacked {W : Type 0} (lane : W → ℕ → Bool) (lanes done : ℕ)
   pub free_long : length free ≡ count
   pub each : (i : ℕ) → i < lanes → i < done → digits_in lane wanted free i ≡ wanted_in count places (lane_at ks i) i
 
-pub packed_more : {W : Type 0} (lane : W → ℕ → Bool) (lanes k : ℕ) (ks : List Known) (places : List (Option ℕ)) (count : ℕ) (value unknown any : List ℕ) (wanted free wanteds frees : List (Pair W))
-    → HaveDigits count places ks → count ≤ 64 → AreGathered ks places k 64 value unknown any → length wanteds ≡ length wanted → length frees ≡ length free
-    → ((i : ℕ) → i < 64 → map (λ p. pair_lane lane p (64 * k + i)) wanteds ≡ bits_of_planes (length wanted) (get_or value i 0) (get_or unknown i 0))
-    → ((i : ℕ) → i < 64 → map (λ p. pair_lane lane p (64 * k + i)) frees ≡ bits_of_planes (length free) (get_or any i 0) 0)
-    → ((n : ℕ) → n < lanes → n / 64 ≢ k → map (λ p. pair_lane lane p n) wanteds ≡ map (λ p. pair_lane lane p n) wanted)
-    → ((n : ℕ) → n < lanes → n / 64 ≢ k → map (λ p. pair_lane lane p n) frees ≡ map (λ p. pair_lane lane p n) free)
+pub packed_more : {W : Type 0} (lane : W → ℕ → Bool) (lanes k : ℕ) (ks : List Known) (places : List (Option ℕ)) (count : ℕ) (wanted free wanteds frees : List (Pair W))
+    → length wanteds ≡ length wanted → length frees ≡ length free
+    → ((i : ℕ) → i < 64 → digits_in lane wanteds frees (64 * k + i) ≡ wanted_in (length wanted) places (lane_at ks (64 * k + i)) (64 * k + i))
+    → ((n : ℕ) → n < lanes → n / 64 ≢ k → digits_in lane wanteds frees n ≡ digits_in lane wanted free n)
     → ArePacked lane lanes (64 * k) ks places count wanted free → ArePacked lane lanes (64 * (k + 1)) ks places count wanteds frees
-packed_more lane lanes k ks places count value unknown any wanted free wanteds frees have most all wanted_stays free_stays wanted_packed free_packed wanted_others free_others so_far = record {
+packed_more lane lanes k ks places count wanted free wanteds frees wanted_stays free_stays packed others so_far = record {
   wanted_long = wanted_stays ∙ so_far.wanted_long;
   free_long = free_stays ∙ so_far.free_long;
   each = λ i h below.
@@ -180,12 +215,8 @@ packed_more lane lanes k ks places count value unknown any wanted free wanteds f
         | inl e ↦
             let place : 64 * k + i % 64 ≡ i = omega arith in
             let low : i % 64 < 64 = omega arith in
-            subst P place
-            (digits_packed lane wanteds frees (64 * k + i % 64) count (get_or value (i % 64) 0) (get_or unknown (i % 64) 0) (get_or any (i % 64) 0)
-            (wanted_packed (i % 64) low ∙ ap (λ n. bits_of_planes n (get_or value (i % 64) 0) (get_or unknown (i % 64) 0)) so_far.wanted_long)
-            (free_packed (i % 64) low ∙ ap (λ n. bits_of_planes n (get_or any (i % 64) 0) 0) so_far.free_long)
-            ∙ all.each count (i % 64) most have low)
-        | inr ne ↦ ap₂ (map2 digit_of) (wanted_others i h ne) (free_others i h ne) ∙ so_far.each i h (omega arith)
+            subst P place (packed (i % 64) low ∙ ap (λ n. wanted_in n places (lane_at ks (64 * k + i % 64)) (64 * k + i % 64)) so_far.wanted_long)
+        | inr ne ↦ others i h ne ∙ so_far.each i h (omega arith)
       ];
 }
 

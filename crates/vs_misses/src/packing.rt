@@ -75,6 +75,27 @@ fn with_lowest(bits: u64, word: u64, i: u32) -> u64
     if word & 1 == 1 { bits | (1 << i) } else { bits }
 }
 
+/// What an output of one bit is wanted to be in the 64 lanes from `64 * k` on: bit i of each word is that of the i-th lane, and of the third word it is 1
+/// where the digit stands for any bit.
+fn bits_of(drive: &Drive, places: &[Option<u32>], k: u32) -> (u64, u64, u64)
+    requires long { length places.now ≡ length drive.now }
+    requires within { (i c : ℕ) → i < length drive.now → place_in places.now i ≡ Some c → c < length (lane_at drive.now i).wanted }
+    requires few { k < most_lanes }
+    ensures { (i : ℕ) → HaveDigits 1 places.now drive.now → i < 64
+        → marked (bits_of_planes 1 (bit_at result.0 i) (bit_at result.1 i)) (bit_at result.2 i) ≡ wanted_in 1 places.now (lane_at drive.now (64 * k + i)) (64 * k + i) }
+{
+    let mut value = 0;
+    let mut unknown = 0;
+    let mut any = 0;
+    for i in 0..64 {
+        let planes = planes_in(drive, places, 64 * k + i);
+        value = with_lowest(value, planes.0, i);
+        unknown = with_lowest(unknown, planes.1, i);
+        any = with_lowest(any, planes.2, i);
+    }
+    (value, unknown, any)
+}
+
 /// The word of the lowest bits: bit i is that of word i.
 fn lowest(words: &[u64; 64]) -> u64
     ensures { (i : ℕ) → i < 64 → bit_at result i ≡ slice_index words.now i % 2 }
@@ -104,22 +125,6 @@ fn are_uniform(words: &[u64; 64]) -> bool
         }
     }
     true
-}
-
-/// Gives the pairs the bits of these vectors, in the 64 lanes from `64 * k` on. The other lanes stay as they are.
-fn pack<W: Lanes>(pairs: &mut [Pair<W>], k: u32, vectors: &Columns)
-    requires most { length pairs.old ≤ 64 }
-    requires lanes { 64 * k + 64 ≤ W.LANES }
-    ensures count { length pairs.new ≡ length pairs.old }
-    ensures packed { (i : ℕ) → i < 64 → map (λ p. pair_lane W.lane p (64 * k + i)) pairs.new
-        ≡ bits_of_planes (length pairs.old) (slice_index vectors.now.value i) (slice_index vectors.now.unknown i) }
-    ensures others { (n : ℕ) → n < W.LANES → n / 64 ≢ k → map (λ p. pair_lane W.lane p n) pairs.new ≡ map (λ p. pair_lane W.lane p n) pairs.old }
-{
-    if pairs.len() == 1 {
-        fill(pairs, k, lowest(&vectors.value), lowest(&vectors.unknown));
-    } else {
-        Pair::pack(pairs, k, vectors);
-    }
 }
 
 /// Gives each pair these planes in the 64 lanes from `64 * k` on. The other lanes stay as they are.
@@ -154,7 +159,39 @@ fn pack_any<W: Lanes>(free: &mut [Pair<W>], k: u32, any: &[u64; 64])
             value: *any,
             unknown: [0; 64],
         };
-        pack(free, k, &vectors);
+        Pair::pack(free, k, &vectors);
+    }
+}
+
+/// Packs what an output is wanted to be in the 64 lanes from `64 * k` on: a pair for each bit, and one with 1 where its digit stands for any. The other
+/// lanes stay as they are.
+fn pack_group<W: Lanes>(
+    drive: &Drive,
+    places: &[Option<u32>],
+    k: u32,
+    wanted: &mut [Pair<W>],
+    free: &mut [Pair<W>],
+)
+    requires few { k < most_lanes }
+    requires lanes { 64 * k + 64 ≤ W.LANES }
+    requires long { length places.now ≡ length drive.now }
+    requires digits { HaveDigits (length wanted.old) places.now drive.now }
+    requires both { length free.old ≡ length wanted.old }
+    requires most { length wanted.old ≤ 64 }
+    ensures wanted { length wanted.new ≡ length wanted.old }
+    ensures free { length free.new ≡ length free.old }
+    ensures packed { (i : ℕ) → i < 64 → digits_in W.lane wanted.new free.new (64 * k + i)
+        ≡ wanted_in (length wanted.old) places.now (lane_at drive.now (64 * k + i)) (64 * k + i) }
+    ensures others { (n : ℕ) → n < W.LANES → n / 64 ≢ k → digits_in W.lane wanted.new free.new n ≡ digits_in W.lane wanted.old free.old n }
+{
+    if wanted.len() == 1 {
+        let (value, unknown, any) = bits_of(drive, places, k);
+        fill(wanted, k, value, unknown);
+        fill(free, k, any, 0);
+    } else {
+        let group = group_of(drive, places, k);
+        Pair::pack(wanted, k, &group.digits);
+        pack_any(free, k, &group.any);
     }
 }
 
@@ -175,8 +212,6 @@ pub(crate) fn pack_wanted<W: Lanes>(
     ensures packed { (i : ℕ) → i < W.LANES → digits_in W.lane wanted.new free.new i ≡ wanted_in (length wanted.old) places.now (lane_at drive.now i) i }
 {
     for k in 0..W::LANES / 64 {
-        let group = group_of(drive, places, k);
-        pack(wanted, k, &group.digits);
-        pack_any(free, k, &group.any);
+        pack_group(drive, places, k, wanted, free);
     }
 }

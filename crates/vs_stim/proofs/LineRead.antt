@@ -8,6 +8,7 @@ use Rattle.std.proofs.Math.ListN.{drop_of_length-le}
 use Rattle.std.specs.Prelude.{Option, Some, None, take, slice_set, slice_index, IsTrue}
 use Rattle.vs_desk.specs.Desk.{Told}
 use Rattle.vs_four.specs.declared.Bit4.{Bit4}
+use Rattle.vs_four.specs.Planes.{bits_of_planes}
 use Rattle.vs_stim.specs.declared.input.Column.{Column}
 use Rattle.vs_stim.specs.declared.input.Expected.{Expected}
 use Rattle.vs_stim.specs.declared.wanted.Digit.{Digit}
@@ -41,6 +42,16 @@ no_blanks = record { space = refl; tab = refl }
 
 no_ends : NoEnds digit
 no_ends = record { lf = refl; cr = refl }
+
+-- a field of one digit
+pub one_field : (bytes : List ℕ) (digit_read : ℕ) → 1 < length bytes → digit_read ≤ 1 → (digit_read ≡ 0 → get_or bytes 0 0 ≡ 48) → (digit_read ≡ 1 → get_or bytes 0 0 ≡ 49)
+    → IsField bytes 1 (get_or bytes 1 0) (bits_of_planes 1 digit_read 0)
+unfolding bits_of_planes
+one_field [] m h few p q = absurd (let e : ⊥ = omega arith in e)
+one_field (a ∷ []) m h few p q = absurd (let e : ⊥ = omega arith in e)
+one_field (a ∷ (b ∷ bytes)) zero h few p q = record { digits = a ∷ []; bytes_are = refl; many = refl; are = ap (λ (x : ℕ). bits_of (x ∷ [])) (p refl) }
+one_field (a ∷ (b ∷ bytes)) (suc zero) h few p q = record { digits = a ∷ []; bytes_are = refl; many = refl; are = ap (λ (x : ℕ). bits_of (x ∷ [])) (q refl) }
+one_field (a ∷ (b ∷ bytes)) (suc (suc m)) h few p q = absurd (let e : ⊥ = omega arith in e)
 
 -- a field with a space behind it
 first_field : (text rest : List ℕ) (bits : List Bit4) → bits_of text ≡ Some bits → 1 ≤ length text → fields (text ++ 32 ∷ rest) ≡ text ∷ fields rest

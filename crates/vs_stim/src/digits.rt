@@ -132,7 +132,7 @@ pub(crate) fn bit_of(byte: u8) -> Option<Bit4>
 
 /// The value of a digit `0` or `1`, and more than 1 for every other byte.
 #[inline]
-fn plain_digit(byte: u8) -> u64
+pub(crate) fn plain_digit(byte: u8) -> u64
     ensures zero { result ≡ 0 → byte ≡ 48 }
     ensures one { result ≡ 1 → byte ≡ 49 }
 {

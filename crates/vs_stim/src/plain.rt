@@ -7,14 +7,47 @@ ghost use Rattle.vs_stim.specs.Wants.{IsExpected, expected_lengths};
 ghost use Rattle.vs_stim.specs.Row.{sizes, IsColumn};
 ghost use Rattle.vs_stim.specs.Plain.{IsField, IsArrow, ReadsInputs, ReadsExpected, EndsInputs, EndsExpected, IsLine};
 
-use crate::digits::Digits;
+use crate::digits::{Digits, plain_digit};
 use crate::wanted::Wanted;
 use crate::{Column, Expected};
 use vs_four::Bits;
 
+/// The bit of a field of one digit `0` or `1`, where the bytes begin with it and this byte stands behind it.
+#[inline]
+#[tactic(auto, using(crate::proofs::LineRead::one_field))]
+fn bit_field(bytes: &[u8], end: u8) -> Option<Bits>
+    ensures field { IfSome result (λ bits. IsField bytes.now 1 end bits) }
+    ensures size { IfSome result (λ bits. length bits ≡ 1) }
+    ensures within { IfSome result (λ bits. 1 < length bytes.now) }
+{
+    if bytes.len() < 2 || bytes[1] != end {
+        return None;
+    }
+    let digit = plain_digit(bytes[0]);
+    if digit > 1 {
+        return None;
+    }
+    Some(Bits::of_planes(1, digit, 0))
+}
+
 /// The bits of a field of this many digits `0` and `1`, where the bytes begin with it and this byte stands behind it.
 #[inline]
 fn field(bytes: &[u8], size: u32, end: u8) -> Option<Bits>
+    requires some { 1 ≤ size }
+    requires at_most_64 { size ≤ 64 }
+    ensures field { IfSome result (λ bits. IsField bytes.now size end bits) }
+    ensures size { IfSome result (λ bits. length bits ≡ size) }
+    ensures within { IfSome result (λ bits. size < length bytes.now) }
+{
+    if size == 1 {
+        bit_field(bytes, end)
+    } else {
+        run_field(bytes, size, end)
+    }
+}
+
+/// And the same of a field of any number of digits, read one by one.
+fn run_field(bytes: &[u8], size: u32, end: u8) -> Option<Bits>
     requires some { 1 ≤ size }
     requires at_most_64 { size ≤ 64 }
     ensures field { IfSome result (λ bits. IsField bytes.now size end bits) }
