@@ -53,4 +53,4 @@ unlocated job seen r = unlined job seen r (row_of r seen.file)
 
 -- all lines of a refusal of a job
 abbrev pub refusal_text : Job → Seen → Refusal → List ℕ
-refusal_text job seen r = option_map_or (located job.design seen r (subject job seen.drawn r)) (at_of r) (unlocated job seen r)
+refusal_text job seen r = option_map_or (located job.design job.clock seen r (subject job seen.drawn r)) (at_of r) (unlocated job seen r)

@@ -21,7 +21,7 @@ abbrev pub job_of : Command → Job
 job_of c = record {
   mode = c.mode;
   top = c.top.now;
-  clock = c.clock.now;
+  clock = option_map (λ s. s.now) c.clock;
   half = c.half;
   head = head_of (map (λ s. s.now) c.defines.now);
   design = c.design.now;

@@ -64,7 +64,7 @@ pub(crate) struct Line<'a> {
 pub(crate) struct Command<'b, 'a> {
     mode: Mode,
     top: &'a str,
-    clock: &'a str,
+    clock: Option<&'a str>,
     half: u32,
     defines: &'b [&'a str],
     design: &'a str,
@@ -243,7 +243,7 @@ impl<'a> Line<'a> {
         ensures { option_map job_of result ≡ spec.called self.now.mode (said_of (line_of self.now)) }
     {
         let top = self.top?;
-        let clock = self.clock?;
+        let clock = self.clock;
         let half = half_given(self.half)?;
         let defines = self.defines.as_slice();
         if !are_defines(defines) {
@@ -317,6 +317,16 @@ fn copy(alloc: Global, word: &str) -> Result<Text, AllocError>
     Ok(Text::of(String::from_str(alloc, word)?))
 }
 
+/// Copies a word, where one is given.
+fn copy_given(alloc: Global, word: Option<&str>) -> Result<Option<Text>, AllocError>
+    ensures { IfOk result (λ text. text ≡ option_map (λ s. s.now) word.entry) }
+{
+    match word {
+        Some(word) => Ok(Some(copy(alloc, word)?)),
+        None => Ok(None),
+    }
+}
+
 /// Copies words.
 fn copies(alloc: Global, words: &[&str]) -> Result<Texts, AllocError>
     ensures { IfOk result (λ texts. texts ≡ map (λ s. s.now) words.now) }
@@ -336,7 +346,7 @@ impl Command<'_, '_> {
         Ok(Job {
             mode: self.mode,
             top: copy(alloc, self.top)?,
-            clock: copy(alloc, self.clock)?,
+            clock: copy_given(alloc, self.clock)?,
             half: self.half,
             head: head_of(alloc, self.defines)?,
             design: copy(alloc, self.design)?,

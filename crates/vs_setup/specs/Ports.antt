@@ -1,5 +1,5 @@
 -- The ports that stimuli name.
-use Rattle.std.specs.Prelude.{ℕ, Bool, true, false, List}
+use Rattle.std.specs.Prelude.{ℕ, Bool, true, false, List, Option}
 use Rattle.vs_design.specs.Designs.{Design}
 use Rattle.vs_accept.specs.Accepted.{IsAcceptedText}
 use Rattle.vs_accept.specs.Outputs.{top_outputs}
@@ -14,9 +14,9 @@ demands Run = false
 demands Check = true
 
 -- the data inputs and the outputs of the design as which a text is accepted, where this says whether a header has to name outputs
-abbrev pub ports_with : Bool → {text top clock : List ℕ} {d : Design} → IsAcceptedText text top clock d → PortLists
+abbrev pub ports_with : Bool → {text top : List ℕ} {clock : Option (List ℕ)} {d : Design} → IsAcceptedText text top clock d → PortLists
 ports_with demanded {top = top} {d = d} a = record { inputs = data_inputs d a.accepted.clock.first; outputs = outputs d (top_outputs a.source top); demanded = demanded }
 
 -- in a job of this mode
-abbrev pub ports_of : Mode → {text top clock : List ℕ} {d : Design} → IsAcceptedText text top clock d → PortLists
+abbrev pub ports_of : Mode → {text top : List ℕ} {clock : Option (List ℕ)} {d : Design} → IsAcceptedText text top clock d → PortLists
 ports_of mode a = ports_with (demands mode) a
