@@ -1,6 +1,7 @@
 //! Straight programs: lists of kernel calls, and their execution in every lane at once.
 #![tactic(auto)]
 
+mod bits;
 mod kernels;
 mod laws;
 mod ops;

@@ -7,6 +7,7 @@ ghost use Rattle.vs_code.specs.Kernels.{operator_of, takes};
 ghost use Rattle.vs_code.specs.Calls.{IsCall, call_cost, call_slots};
 ghost use Rattle.vs_code.specs.Placed.{IsLonger, IsWithin, call_at, cost_at, lengths_at, lengths_in};
 
+use crate::bits;
 use crate::kernels::{AnyKernel, cost, run_one, run_three, run_two};
 use crate::ops::Op;
 use std::alloc::{AllocError, Global};
@@ -136,6 +137,34 @@ impl Placed {
 
     /// Runs the kernel in a file that has the call's slots.
     pub(crate) fn run<W: Word, L: Ledger>(
+        &self,
+        arena: &[u32],
+        file: &mut PlaneFile<W>,
+        steps: &mut Steps<L>,
+    )
+        requires within { IsWithin arena.now self.now }
+        requires call { IsCall (call_at arena.now self.now) }
+        requires below { All (λ slot. slot < length file.old) (call_slots (call_at arena.now self.now)) }
+        ensures computes { let call = call_at arena.now self.now in
+            Computes W.lane W.LANES (operator_of call.kernel (length call.to)) call.args call.to call.scratch file.old file.new }
+        ensures ticked { steps.new ≡ steps.old + call_cost (call_at arena.now self.now) }
+    {
+        match (self.kernel, self.args) {
+            (AnyKernel::Logic(kernel), Lengths::One(1)) => {
+                let (_, slots) = arena.split_at(self.first);
+                bits::run_one(kernel, file, slots[0], slots[1], steps)
+            }
+            (AnyKernel::Logic(kernel), Lengths::Two(1, 1)) => {
+                let (_, slots) = arena.split_at(self.first);
+                bits::run_two(kernel, file, slots[0], slots[1], slots[2], steps)
+            }
+            _ => self.run_lists(arena, file, steps),
+        }
+    }
+
+    /// Runs the kernel with its lists of slots, whatever their lengths. It stands apart, so that calls of one bit need none of its registers.
+    #[inline(never)]
+    fn run_lists<W: Word, L: Ledger>(
         &self,
         arena: &[u32],
         file: &mut PlaneFile<W>,

@@ -48,9 +48,9 @@ fn columns_of(stimuli: &[Stimulus], input: usize, k: u32) -> Columns
     Columns { value, unknown }
 }
 
-/// The word with the lowest bit of another one at place i, where it has 0.
+/// `bits` with the lowest bit of `word` at place `i`, counted from the least significant one. `bits` has 0 there.
 #[inline]
-fn with_lowest(bits: u64, word: u64, i: u32) -> u64
+pub fn with_lowest(bits: u64, word: u64, i: u32) -> u64
     requires place { i < 64 }
     requires clear { bit_at bits i ≡ 0 }
     ensures changed { bit_at result i ≡ word % 2 }

@@ -6,5 +6,6 @@ mod drive;
 mod opening;
 mod reading;
 
+pub use column::with_lowest;
 pub use drive::{Drive, open};
 pub use reading::Stopped;

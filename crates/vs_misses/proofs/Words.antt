@@ -1,10 +1,9 @@
 -- Words of bits.
-use Rattle.std.proofs.Common.{◌≡◌, ◌≢◌, ℕ, zero, suc, ◌+◌, ◌*◌, ◌/◌, ◌%◌, ◌^◌, ◌<◌, ◌≤◌, Bool, true, false, nat_eq, List, [], ◌∷◌, ◌++◌, length, get_or, set, take, map, replicate, slice_get, Some, refl, sym, ap, ap₂, ◌∙◌, inl, inr, arith}
+use Rattle.std.proofs.Common.{◌≡◌, ◌≢◌, ℕ, zero, suc, ◌+◌, ◌*◌, ◌/◌, ◌%◌, ◌<◌, ◌≤◌, Bool, true, false, nat_eq, List, [], ◌∷◌, ◌++◌, length, get_or, set, take, map, replicate, slice_get, Some, refl, sym, ap, ap₂, ◌∙◌, inl, inr, arith}
 use Rattle.std.proofs.lemmas.Bool.{cases_eq}
 use Rattle.std.proofs.lemmas.List.{length-map, length-set, map-set, set-get_or, get_or-map, take_more_set, take_all, replicate_more}
 use Rattle.std.proofs.lemmas.Option.{none-some, same_Some}
-use Rattle.std.proofs.lemmas.Nat.Bits.{bit_at_lowest, bit_at-suc, bit_at-lt, shr_and_one}
-use Rattle.std.specs.Prelude.{bit_and}
+use Rattle.std.proofs.lemmas.Nat.Bits.{bit_at_lowest, bit_at-suc, bit_at-lt}
 use Rattle.std.specs.Int.{bit_at}
 use Rattle.vs_four.specs.declared.Bit4.{Bit4}
 use Rattle.vs_plane.specs.declared.pairs.Pair.{Pair}
@@ -12,9 +11,6 @@ use Rattle.vs_plane.specs.Lanes.{pair_lane}
 use Rattle.vs_stim.specs.declared.wanted.Digit.{Digit}
 use Rattle.vs_stim.specs.declared.wanted.Digit.TheVariants.{Exactly, Any}
 use Rattle.vs_stim.specs.Wanted.{marked}
-
-pub lowest_bit : (w : ℕ) → bit_and w 1 ≡ w % 2
-lowest_bit w = ap (λ n. bit_and n 1) (let e : w ≡ w / 2 ^ 0 = omega arith in e) ∙ shr_and_one w 0 ∙ bit_at_lowest w
 
 -- the first bits are the lowest of the words, and the others are 0
 pub record AreLowest (words : List ℕ) (count bits : ℕ) : Type 0 where

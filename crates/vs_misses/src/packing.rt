@@ -10,7 +10,7 @@ ghost use Rattle.vs_feed.specs.Lanes.{lane_at};
 ghost use Rattle.vs_misses.specs.Watch.{place_in};
 ghost use Rattle.vs_misses.specs.Rows.{wanted_in, digits_in, HaveDigits, IsUniform};
 
-use vs_feed::Drive;
+use vs_feed::{Drive, with_lowest};
 use vs_plane::{Columns, Lanes, Pair};
 
 /// What an output of at most 64 bits is wanted to be in each of 64 lanes, least significant bit first.
@@ -62,17 +62,6 @@ fn group_of(drive: &Drive, places: &[Option<u32>], k: u32) -> Group
         digits: Columns { value, unknown },
         any,
     }
-}
-
-/// The word with the lowest bit of another one at place i, where it has 0.
-#[inline]
-fn with_lowest(bits: u64, word: u64, i: u32) -> u64
-    requires place { i < 64 }
-    requires clear { bit_at bits i ≡ 0 }
-    ensures changed { bit_at result i ≡ word % 2 }
-    ensures others { (n : ℕ) → n ≢ i → bit_at result n ≡ bit_at bits n }
-{
-    if word & 1 == 1 { bits | (1 << i) } else { bits }
 }
 
 /// What an output of one bit is wanted to be in the 64 lanes from `64 * k` on: bit i of each word is that of the i-th lane, and of the third word it is 1
