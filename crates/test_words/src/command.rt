@@ -46,10 +46,16 @@ fn job<'a>(alloc: Global, name: &'a str, about: &'a str) -> Result<Command<'a>, 
 
 /// The words behind `run`.
 pub fn run<'a>(alloc: Global, name: &'a str) -> Result<Command<'a>, AllocError> {
-    job(
+    let command = job(
         alloc,
         name,
         "Runs a design under stimuli, and writes a waveform beside each",
+    )?;
+    command.arg(
+        Arg::new(alloc, "share")
+            .long("share")
+            .help("One identifier code in a waveform for all signals that ports join")
+            .action(ArgAction::SetTrue),
     )
 }
 

@@ -19,6 +19,7 @@ Options:
       --clock <C>             The name of the top's clock input
       --half <H>              Half a clock period, from 1 to 1000000 [default: 5]
       --define <NAME[=TEXT]>  A macro that is defined before the design's text, up to 64 of them
+      --share                 One identifier code in a waveform for all signals that ports join
 ";
 
 /// The help of the words behind `check`.

@@ -17,6 +17,9 @@ x run --top t --clock c -- d -s --half
 x run --top t=u --clock==c d s
 x run --top t --clock c --define A d s
 x run --define=A=1 --top t --define B_2= --clock c d --define A=$b=c+`D s
+x run --share --top t --clock c d s
+x run d --top t --share s --clock=c s1
+x run --top t --clock c -- d --share
 x check --top t --clock c d s
 x check d s0 --half=7 s1 --clock c --define A --top=t
 x check --top t --clock c -- d --half run
@@ -42,6 +45,9 @@ x run --top t --clock c --other d s
 x run --top t --clock c d s --half
 x run --top t --clock c d s --define
 x run --top t --clock c d --define s
+x run --share --top t --clock c d s --share
+x run --share=x --top t --clock c d s
+x run --top t --clock c --shared d s
 x run --help
 x --help
 x help
@@ -49,6 +55,8 @@ x check
 x check --top t --clock c d
 x checks --top t --clock c d s
 x check --top t --clock c --half 0 d s
+x check --share --top t --clock c d s
+x bench --share 1
 x bench
 x bench 0
 x bench 1001
@@ -107,7 +115,7 @@ fn is_head(head: &str, values: &[&str]) -> bool {
     rest.is_empty()
 }
 
-/// Whether these are the words of the job.
+/// Whether these are the words of the job, but for `--share`.
 fn is_job(matches: &ArgMatches<'_>, job: &Job) -> bool {
     matches.get_str("top") == Some(job.top.as_str())
         && matches.get_str("clock") == Some(job.clock.as_str())
@@ -126,9 +134,11 @@ fn is_bench(matches: &ArgMatches<'_>, bench: Bench) -> bool {
 /// Whether these are the words of the job or of the bench.
 fn are_alike(matches: &ArgMatches<'_>, job: Option<&Job>, bench: Option<Bench>) -> bool {
     match (matches.subcommand(), job, bench) {
-        (Some(("run", run)), Some(job), None) => job.mode == Mode::Run && is_job(run, job),
+        (Some(("run", run)), Some(job), None) => {
+            job.mode == Mode::Run && run.get_flag("share") == job.share && is_job(run, job)
+        }
         (Some(("check", check)), Some(job), None) => {
-            job.mode == Mode::Check && is_job(check, job)
+            job.mode == Mode::Check && !job.share && is_job(check, job)
         }
         (Some(("bench", sizes)), None, Some(bench)) => is_bench(sizes, bench),
         _ => false,

@@ -27,7 +27,7 @@ const HALF: u32 = 5;
 /// How many bytes of a file a `take` moves at most.
 const PIECE: usize = 65_536;
 
-/// The job of a bench, which is run: the top `top` with the clock `clk`, half a clock period of 5 units of time, no macros, the design at `bench.v`,
+/// The job of a bench, which is run: the top `top` with the clock `clk`, half a clock period of 5 units of time, no macros, a code for each signal, the design at `bench.v`,
 /// and one stimulus for each of so many lanes, from 0 to 256, at the lane's number in decimal.
 ///
 /// The only error is that memory ran out.
@@ -40,6 +40,7 @@ pub fn bench_job(alloc: Global, lanes: u32) -> Result<Job, AllocError>
         top: text(alloc, TOP)?,
         clock: text(alloc, CLOCK)?,
         half: HALF,
+        share: false,
         head: text(alloc, "")?,
         design: text(alloc, DESIGN_PATH)?,
         stimuli: lane_paths(alloc, lanes)?,

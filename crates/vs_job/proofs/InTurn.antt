@@ -1,5 +1,5 @@
 -- What is read one word after the other is what the words say.
-use Rattle.std.proofs.Common.{◌≡◌, ◌+◌, ◌<◌, nat_le, Bool, true, false, cond, not, ◌&&◌, List, [], ◌∷◌, ◌++◌, length, codes, Option, Some, None, is_some, option_map, option_and_then, refl, sym, ap, ◌∙◌, arith, append_assoc}
+use Rattle.std.proofs.Common.{◌≡◌, ℕ, suc, ◌+◌, ◌<◌, nat_le, Bool, true, false, cond, not, ◌&&◌, List, [], ◌∷◌, ◌++◌, length, codes, Option, Some, None, is_some, option_map, option_and_then, refl, sym, ap, ◌∙◌, arith, append_assoc}
 use Rattle.std.specs.List.{before_first}
 use Rattle.std.specs.Str.{bytes_eq}
 use Rattle.std.proofs.lemmas.Bool.{and_parts, cond-false, false_from_ne_true, leb-true}
@@ -8,16 +8,17 @@ use Rattle.std.proofs.lemmas.List.{length-append, append-nil}
 use Rattle.vs_desk.specs.Places.{most_lanes}
 use Rattle.vs_job.specs.declared.job.Job.{Job}
 use Rattle.vs_job.specs.declared.job.Mode.{Mode}
+use Rattle.vs_job.specs.declared.job.Mode.TheVariants.{Run, Check}
 use Rattle.vs_job.specs.declared.words.Flag.{Flag}
 use Rattle.vs_job.specs.declared.words.Flag.TheVariants.{Top, Clock, Half, Define}
 use Rattle.vs_job.specs.declared.words.Next.{Next}
 use Rattle.vs_job.specs.declared.words.Next.TheVariants.{Any, Value, Path}
-use Rattle.vs_job.specs.Job.{Text, mode_and_words, Said, only_paths, path_and, value_and, is_plain, plain_value_and, flag_named, is_equals, attached, option_and, said, once, half_given, most_defines, are_defines, head_given, design_and_stimuli, called, job}
-use Rattle.vs_job.specs.Lines.{Line, start, with_path, is_given, given, with_value, with_flag, with_any, with_word, is_complete, read, line, values, said_of}
+use Rattle.vs_job.specs.Job.{Text, mode_and_words, Said, only_paths, path_and, share_and, value_and, is_plain, plain_value_and, flag_named, is_equals, attached, option_and, said, once, half_given, most_defines, are_defines, head_given, design_and_stimuli, share_given, called, job}
+use Rattle.vs_job.specs.Lines.{Line, start, with_path, is_given, with_share, given, with_value, with_flag, with_any, with_word, is_complete, read, line, values, shares, said_of}
 
 -- what a line and the words behind it say
 abbrev behind : Line → Said → Said
-behind l s = record { tops = values l.top ++ s.tops; clocks = values l.clock ++ s.clocks; halves = values l.half ++ s.halves; defines = l.defines ++ s.defines; paths = l.paths ++ s.paths }
+behind l s = record { tops = values l.top ++ s.tops; clocks = values l.clock ++ s.clocks; halves = values l.half ++ s.halves; defines = l.defines ++ s.defines; shares = shares l.share + s.shares; paths = l.paths ++ s.paths }
 
 -- what words say where the first one may be this
 abbrev said_at : Next → List Text → Option Said
@@ -56,6 +57,14 @@ called-defines mode s e = no_more (once s.tops) _ (λ top. no_more (once s.clock
 called-paths : (mode : Mode) (s : Said) → design_and_stimuli s.paths ≡ None → called mode s ≡ None
 called-paths mode s e = no_more (once s.tops) _ (λ top. no_more (once s.clocks) _ (λ clock. no_more (half_given s.halves) _ (λ half. no_more (head_given s.defines) _ (λ head. rw e))))
 
+called-shares : (mode : Mode) (s : Said) → share_given mode s.shares ≡ None → called mode s ≡ None
+called-shares mode s e = no_more (once s.tops) _ (λ top. no_more (once s.clocks) _ (λ clock. no_more (half_given s.halves) _ (λ half. no_more (head_given s.defines) _ (λ head. no_more (design_and_stimuli s.paths) _ (λ paths. rw e)))))
+
+-- `--share` stands twice
+twice_shared : (mode : Mode) (n : ℕ) → share_given mode (suc (suc n)) ≡ None
+twice_shared Run n = refl
+twice_shared Check n = refl
+
 too_many_defines : (values : List Text) → most_defines < length values → head_given values ≡ None
 too_many_defines values more =
     cond-false (nat_le (length values) most_defines && are_defines values) _ _ (false_from_ne_true _ (λ is.
@@ -74,7 +83,7 @@ too_many (design ∷ stimuli) more =
 path_moved : (path : Text) (l : Line) (o : Option Said) → job_with (record l { paths = l.paths ++ path ∷ [] }) o ≡ job_with l (option_map (path_and path) o)
 path_moved path l None = refl
 path_moved path l (Some s) =
-    ap (λ (paths : List Text). called l.mode (record { tops = values l.top ++ s.tops; clocks = values l.clock ++ s.clocks; halves = values l.half ++ s.halves; defines = l.defines ++ s.defines; paths = paths }))
+    ap (λ (paths : List Text). called l.mode (record { tops = values l.top ++ s.tops; clocks = values l.clock ++ s.clocks; halves = values l.half ++ s.halves; defines = l.defines ++ s.defines; shares = shares l.share + s.shares; paths = paths }))
     (append_assoc l.paths (path ∷ []) s.paths)
 
 path_full : (path : Text) (l : Line) (o : Option Said) → nat_le (length l.paths) most_lanes ≡ false → job_with l (option_map (path_and path) o) ≡ None
@@ -93,6 +102,35 @@ path_step path words l next at reads = go (nat_le (length l.paths) most_lanes) r
         reads (record l { paths = l.paths ++ path ∷ [] }) ∙ ap (λ (n : Next). job_with (record l { paths = l.paths ++ path ∷ [] }) (said_at n words)) at
         ∙ path_moved path l (said_at next words)
     go false full = sym (path_full path l (said_at next words) full)
+
+-- ---- `--share`
+
+share_moved : (l : Line) (o : Option Said) → l.share ≡ false → job_with (record l { share = true }) o ≡ job_with l (option_map share_and o)
+share_moved l None e = refl
+share_moved l (Some s) e =
+    let count : 1 + s.shares ≡ shares l.share + suc s.shares = one_more s.shares ∙ sym (ap (λ (b : Bool). shares b + suc s.shares) e) in
+    ap (λ (n : ℕ). called l.mode (record { tops = values l.top ++ s.tops; clocks = values l.clock ++ s.clocks; halves = values l.half ++ s.halves; defines = l.defines ++ s.defines; shares = n; paths = l.paths ++ s.paths })) count
+  where
+    one_more : (n : ℕ) → 1 + n ≡ 0 + suc n
+    one_more n = omega arith
+
+share_twice : (l : Line) (o : Option Said) → l.share ≡ true → job_with l (option_map share_and o) ≡ None
+share_twice l None e = refl
+share_twice l (Some s) e =
+    let count : shares l.share + suc s.shares ≡ suc (suc s.shares) = ap (λ (b : Bool). shares b + suc s.shares) e ∙ two_more s.shares in
+    called-shares l.mode (behind l (share_and s)) (ap (share_given l.mode) count ∙ twice_shared l.mode s.shares)
+  where
+    two_more : (n : ℕ) → 1 + suc n ≡ suc (suc n)
+    two_more n = omega arith
+
+share_step : (words : List Text) (l : Line) → l.next ≡ Any → Reads words → job_read (option_and_then (λ m. read m words) (with_share l)) ≡ job_with l (option_map share_and (said None words))
+share_step words l at reads = go l.share refl
+  where
+    go : (t : Bool) → l.share ≡ t → job_read (option_and_then (λ m. read m words) (cond t None (Some (record l { share = true })))) ≡ job_with l (option_map share_and (said None words))
+    go false none =
+        reads (record l { share = true }) ∙ ap (λ (n : Next). job_with (record l { share = true }) (said_at n words)) at
+        ∙ share_moved l (said None words) none
+    go true given_before = sym (share_twice l (said None words) given_before)
 
 -- ---- one more value
 
@@ -113,7 +151,7 @@ value_moved Top value l (Some s) e = let none = is_none l.top e in rw none
 value_moved Clock value l (Some s) e = let none = is_none l.clock e in rw none
 value_moved Half value l (Some s) e = let none = is_none l.half e in rw none
 value_moved Define value l (Some s) e =
-    ap (λ (defines : List Text). called l.mode (record { tops = values l.top ++ s.tops; clocks = values l.clock ++ s.clocks; halves = values l.half ++ s.halves; defines = defines; paths = l.paths ++ s.paths }))
+    ap (λ (defines : List Text). called l.mode (record { tops = values l.top ++ s.tops; clocks = values l.clock ++ s.clocks; halves = values l.half ++ s.halves; defines = defines; shares = shares l.share + s.shares; paths = l.paths ++ s.paths }))
     (append_assoc l.defines (value ∷ []) s.defines)
 
 value_twice : (flag : Flag) (value : Text) (l : Line) (o : Option Said) → is_given flag l ≡ true → job_with l (option_map (value_and flag value) o) ≡ None
@@ -161,15 +199,18 @@ either false words l a b x y first second = second
 any_step : (word : Text) (words : List Text) (l : Line) → l.next ≡ Any → Reads words → job_read (option_and_then (λ m. read m words) (with_any word l)) ≡ job_with l (said None (word ∷ words))
 any_step word words l at reads =
     either (bytes_eq word (codes "--")) words l _ _ _ _ (reads (record l { next = Path }))
-    (either (is_plain word) words l _ _ _ _ (path_step word words l Any at reads) (option_step (flag_named (before_first is_equals word)) (attached word) words l reads))
+    (either (is_plain word) words l _ _ _ _ (path_step word words l Any at reads) (either (bytes_eq word (codes "--share")) words l _ _ _ _ (share_step words l at reads) (option_step (flag_named (before_first is_equals word)) (attached word) words l reads)))
 
 step : (next : Next) (word : Text) (words : List Text) (l : Line) → l.next ≡ next → Reads words → job_read (option_and_then (λ m. read m words) (with_word next word l)) ≡ job_with l (said_at next (word ∷ words))
 step Any word words l at reads = any_step word words l at reads
 step (Value flag) word words l at reads = value_step flag word words l reads
 step Path word words l at reads = path_step word words l Path at reads
 
+add-zero : (n : ℕ) → n + 0 ≡ n
+add-zero n = omega arith
+
 end : (l : Line) → called l.mode (said_of l) ≡ called l.mode (behind l (only_paths []))
-end l = rw (append-nil (values l.top), append-nil (values l.clock), append-nil (values l.half), append-nil l.defines, append-nil l.paths)
+end l = rw (append-nil (values l.top), append-nil (values l.clock), append-nil (values l.half), append-nil l.defines, add-zero (shares l.share), append-nil l.paths)
 
 ends : (next : Next) (l : Line) → job_read (cond (is_complete next) (Some l) None) ≡ job_with l (said_at next [])
 ends Any l = end l
@@ -180,9 +221,17 @@ reads_all : (words : List Text) → Reads words
 reads_all [] l = ends l.next l
 reads_all (word ∷ words) l = step l.next word words l refl (reads_all words)
 
+-- what stands behind nothing
+from_start : (mode : Mode) (o : Option Said) → job_with (start mode) o ≡ option_and_then (called mode) o
+from_start mode None = refl
+from_start mode (Some s) = ap (λ (n : ℕ). called mode (record s { shares = n })) (none_before s.shares)
+  where
+    none_before : (n : ℕ) → 0 + n ≡ n
+    none_before n = omega arith
+
 from_command : (o : Option (Mode × List Text)) → job_read (option_and_then (λ command. read (start command.0) command.1) o) ≡ option_and_then (λ command. option_and_then (called command.0) (said None command.1)) o
 from_command None = refl
-from_command (Some (mode, words)) = reads_all words (start mode)
+from_command (Some (mode, words)) = reads_all words (start mode) ∙ from_start mode (said None words)
 
 -- the job of words whose line is known
 pub job-line : (words : List Text) (l : Option Line) → l ≡ line words → job_read l ≡ job words

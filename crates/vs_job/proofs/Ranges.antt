@@ -7,7 +7,7 @@ use Rattle.std.proofs.lemmas.Bool.{and_parts, leb-true}
 use Rattle.std.proofs.lemmas.Option.{cond_some, option_and_then_some, same_Some}
 use Rattle.vs_desk.specs.Places.{most_lanes}
 use Rattle.vs_job.specs.declared.job.Job.{Job}
-use Rattle.vs_job.specs.Job.{Text, mode_and_words, said, is_count, count_value, once, half_given, most_defines, most_head, are_defines, is_define, head_of, head_given, Paths, design_and_stimuli, job, IsJob, most_half}
+use Rattle.vs_job.specs.Job.{Text, mode_and_words, said, is_count, count_value, once, half_given, most_defines, most_head, are_defines, is_define, head_of, head_given, Paths, design_and_stimuli, share_given, job, IsJob, most_half}
 
 pub record IsCount (most n : ℕ) : Type 0 where
   pub from : 1 ≤ n
@@ -61,7 +61,8 @@ IsJob-job words j e =
     option_and_then_some _ (half_given s.halves) j e4 (λ half is_half e5.
     option_and_then_some _ (head_given s.defines) j e5 (λ head is_head e6.
     option_and_then_some _ (design_and_stimuli s.paths) j e6 (λ paths are_paths e7.
+    option_and_then_some _ (share_given command.0 s.shares) j e7 (λ share _ e8.
     let range = half_given-range s.halves half is_half in
     let few = design_and_stimuli-range s.paths paths are_paths in
     let P : Job → Type 0 = λ x. IsJob x in
-    subst P (same_Some _ j e7) (record { half_from = range.from; half_to = range.to; short = head_given-short s.defines head is_head; some = few.some; few = few.few }))))))))
+    subst P (same_Some _ j e8) (record { half_from = range.from; half_to = range.to; short = head_given-short s.defines head is_head; some = few.some; few = few.few })))))))))

@@ -14,6 +14,7 @@ line_of l = record {
   clock = option_map (λ s. s.now) l.clock;
   half = option_map (λ s. s.now) l.half;
   defines = map (λ s. s.now) l.defines.items;
+  share = l.share;
   paths = map (λ s. s.now) l.paths.items;
 }
 
@@ -23,6 +24,7 @@ job_of c = record {
   top = c.top.now;
   clock = c.clock.now;
   half = c.half;
+  share = c.share;
   head = head_of (map (λ s. s.now) c.defines.now);
   design = c.design.now;
   stimuli = map (λ s. s.now) c.stimuli.now;

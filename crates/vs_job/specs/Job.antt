@@ -1,5 +1,5 @@
 -- The words of the command line, and the job that they call for.
-use Rattle.std.specs.Prelude.{ℕ, ◌≤◌, Bool, true, false, not, ◌&&◌, ◌||◌, ◌==◌, nat_le, List, [], ◌∷◌, ◌++◌, length, slice_index, Option, Some, None, option_map, option_and_then, codes, bytes_eq, if◌then◌else◌}
+use Rattle.std.specs.Prelude.{ℕ, zero, suc, ◌≤◌, Bool, true, false, not, ◌&&◌, ◌||◌, ◌==◌, nat_le, List, [], ◌∷◌, ◌++◌, length, slice_index, Option, Some, None, option_map, option_and_then, codes, bytes_eq, if◌then◌else◌}
 use Rattle.std.specs.List.{list_all, list_any, before_first, after_first, flat_map}
 use Rattle.std.specs.Str.{all_ascii_digits}
 use Rattle.std.specs.Str.Parse.{digits_value}
@@ -26,20 +26,25 @@ abbrev pub mode_and_words : List Text → Option (Mode × List Text)
 mode_and_words (program ∷ command ∷ words) = option_map (λ mode. (mode, words)) (mode_named command)
 mode_and_words _ = None
 
--- what words say: the values of each option, and the paths, in order
+-- what words say: the values of each option, how often `--share` is among them, and the paths, in order
 pub record Said : Type 0 where
   pub tops : List Text
   pub clocks : List Text
   pub halves : List Text
   pub defines : List Text
+  pub shares : ℕ
   pub paths : List Text
 
 abbrev pub only_paths : List Text → Said
-only_paths paths = record { tops = []; clocks = []; halves = []; defines = []; paths = paths }
+only_paths paths = record { tops = []; clocks = []; halves = []; defines = []; shares = 0; paths = paths }
 
 -- a path, and what the words behind it say
 abbrev pub path_and : Text → Said → Said
 path_and path rest = record rest { paths = path ∷ rest.paths }
+
+-- `--share`, and what the words behind it say
+abbrev pub share_and : Said → Said
+share_and rest = record rest { shares = suc rest.shares }
 
 -- a value of the option, and what the words behind it say
 abbrev pub value_and : Flag → Text → Said → Said
@@ -78,7 +83,7 @@ option_and (Some flag) (Some value) rest next = plain_value_and flag value rest
 option_and (Some flag) None rest next = next flag
 
 -- what the words behind the command say. The first one is the value of the option, where one is given; else it is `--`, a
--- path, or an option.
+-- path, `--share`, or an option with a value.
 abbrev pub said : Option Flag → List Text → Option Said
 said None [] = Some (only_paths [])
 said (Some flag) [] = None
@@ -86,7 +91,8 @@ said (Some flag) (word ∷ words) = plain_value_and flag word (said None words)
 said None (word ∷ words) =
     if bytes_eq word (codes "--") then Some (only_paths words)
     else (if is_plain word then option_map (path_and word) (said None words)
-    else option_and (flag_named (before_first is_equals word)) (attached word) (said None words) (λ flag. said (Some flag) words))
+    else (if bytes_eq word (codes "--share") then option_map share_and (said None words)
+    else option_and (flag_named (before_first is_equals word)) (attached word) (said None words) (λ flag. said (Some flag) words)))
 
 -- decimal digits without a sign or a leading zero, with a value from 1 to this one
 abbrev pub is_count : ℕ → List ℕ → Bool
@@ -112,6 +118,12 @@ abbrev pub half_given : List Text → Option ℕ
 half_given [] = Some 5
 half_given (digits ∷ []) = half_value digits
 half_given _ = None
+
+-- whether `--share` is given: once at most, and in a run alone
+abbrev pub share_given : Mode → ℕ → Option Bool
+share_given mode zero = Some false
+share_given Run (suc zero) = Some true
+share_given _ _ = None
 
 -- a letter or `_`
 abbrev pub is_letter : ℕ → Bool
@@ -198,7 +210,8 @@ called mode s = do
   half ← half_given s.halves
   head ← head_given s.defines
   paths ← design_and_stimuli s.paths
-  Some (record { mode = mode; top = top; clock = clock; half = half; head = head; design = paths.design; stimuli = paths.stimuli })
+  share ← share_given mode s.shares
+  Some (record { mode = mode; top = top; clock = clock; half = half; share = share; head = head; design = paths.design; stimuli = paths.stimuli })
 
 -- the job that the words call for, the program's own name first; none where they call for none
 unfoldable pub job : List Text → Option Job

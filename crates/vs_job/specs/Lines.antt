@@ -1,5 +1,5 @@
 -- The words, read one after the other.
-use Rattle.std.specs.Prelude.{Bool, true, false, not, ◌&&◌, nat_le, List, [], ◌∷◌, ◌++◌, length, Option, Some, None, is_some, codes, bytes_eq, if◌then◌else◌}
+use Rattle.std.specs.Prelude.{ℕ, Bool, true, false, not, ◌&&◌, nat_le, List, [], ◌∷◌, ◌++◌, length, Option, Some, None, is_some, codes, bytes_eq, if◌then◌else◌}
 use Rattle.std.specs.List.{before_first}
 use Rattle.vs_desk.specs.Places.{most_lanes}
 use Rattle.vs_job.specs.declared.job.Mode.{Mode}
@@ -17,15 +17,20 @@ pub record Line : Type 0 where
   pub clock : Option Text
   pub half : Option Text
   pub defines : List Text
+  pub share : Bool
   pub paths : List Text
 
 -- before the first word behind the command
 abbrev pub start : Mode → Line
-start mode = record { mode = mode; next = Any; top = None; clock = None; half = None; defines = []; paths = [] }
+start mode = record { mode = mode; next = Any; top = None; clock = None; half = None; defines = []; share = false; paths = [] }
 
 -- one more path: the design and 256 stimuli at most
 abbrev pub with_path : Text → Line → Option Line
 with_path path l = if nat_le (length l.paths) most_lanes then Some (record l { paths = l.paths ++ path ∷ [] }) else None
+
+-- `--share`, which is given once at most
+abbrev pub with_share : Line → Option Line
+with_share l = if l.share then None else Some (record l { share = true })
 
 -- the option has its value, or as many as it may have
 abbrev pub is_given : Flag → Line → Bool
@@ -55,11 +60,11 @@ with_option word l = do
   flag ← flag_named (before_first is_equals word)
   with_flag flag (attached word) l
 
--- `--`, a path or an option
+-- `--`, a path, `--share`, or an option with a value
 abbrev pub with_any : Text → Line → Option Line
 with_any word l =
     if bytes_eq word (codes "--") then Some (record l { next = Path })
-    else (if is_plain word then with_path word l else with_option word l)
+    else (if is_plain word then with_path word l else (if bytes_eq word (codes "--share") then with_share l else with_option word l))
 
 -- one more word
 abbrev pub with_word : Next → Text → Line → Option Line
@@ -90,5 +95,10 @@ abbrev pub values : Option Text → List Text
 values None = []
 values (Some value) = value ∷ []
 
+-- how often `--share` is given so far
+abbrev pub shares : Bool → ℕ
+shares true = 1
+shares false = 0
+
 abbrev pub said_of : Line → Said
-said_of l = record { tops = values l.top; clocks = values l.clock; halves = values l.half; defines = l.defines; paths = l.paths }
+said_of l = record { tops = values l.top; clocks = values l.clock; halves = values l.half; defines = l.defines; shares = shares l.share; paths = l.paths }

@@ -1,5 +1,5 @@
 -- Lines of words, each cut at its spaces, with the jobs and the benches that they call for.
-use Rattle.std.specs.Prelude.{ℕ, ◌==◌, List, [], ◌∷◌, ◌++◌, map, Option, Some, None, codes}
+use Rattle.std.specs.Prelude.{ℕ, true, false, ◌==◌, List, [], ◌∷◌, ◌++◌, map, Option, Some, None, codes}
 use Rattle.std.specs.List.{slice_split}
 use Rattle.vs_job.specs.declared.bench.Bench.{Bench}
 use Rattle.vs_job.specs.declared.job.Job.{Job}
@@ -26,7 +26,7 @@ of_none line = record { line = line; job = None; bench = None }
 
 -- the job of top t, clock c and design d
 abbrev a_job : ℕ → List Text → Job
-a_job half stimuli = record { mode = Run; top = codes "t"; clock = codes "c"; half = half; head = []; design = codes "d"; stimuli = stimuli }
+a_job half stimuli = record { mode = Run; top = codes "t"; clock = codes "c"; half = half; share = false; head = []; design = codes "d"; stimuli = stimuli }
 
 -- the same with macros, and one stimulus
 abbrev defined : Text → Job
@@ -36,17 +36,24 @@ defined head = record (a_job 5 (codes "s" ∷ [])) { head = head }
 abbrev checked : Job → Job
 checked j = record j { mode = Check }
 
+-- the same job, with one code for each class of signals that ports join
+abbrev shared : Job → Job
+shared j = record j { share = true }
+
 -- options in any order, among the paths too, with their values as words of their own or behind `=`
 abbrev jobs : List Row
 jobs =
     of_job (codes "x run --top t --clock c d s") (a_job 5 (codes "s" ∷ []))
     ∷ of_job (codes "x run d --clock=c s --half 9 --top=t u") (a_job 9 (codes "s" ∷ codes "u" ∷ []))
     ∷ of_job (codes "x run --top=t --half=1000000 --clock c -- d -s -- --top=u") (a_job 1000000 (codes "-s" ∷ codes "--" ∷ codes "--top=u" ∷ []))
-    ∷ of_job (codes "x run --top t=u= --clock= d s") (record { mode = Run; top = codes "t=u="; clock = []; half = 5; head = []; design = codes "d"; stimuli = codes "s" ∷ [] })
-    ∷ of_job (codes "x run --top=t=u --clock  d ") (record { mode = Run; top = codes "t=u"; clock = []; half = 5; head = []; design = codes "d"; stimuli = [] ∷ [] })
+    ∷ of_job (codes "x run --top t=u= --clock= d s") (record { mode = Run; top = codes "t=u="; clock = []; half = 5; share = false; head = []; design = codes "d"; stimuli = codes "s" ∷ [] })
+    ∷ of_job (codes "x run --top=t=u --clock  d ") (record { mode = Run; top = codes "t=u"; clock = []; half = 5; share = false; head = []; design = codes "d"; stimuli = [] ∷ [] })
     ∷ of_job (codes "x run --define A --top t --clock c d s") (defined (codes "`define A\n"))
     ∷ of_job (codes "x run --top t --clock c d s --define=W=4 --define _w$2=a=b//`A") (defined (codes "`define W 4\n`define _w$2 a=b//`A\n"))
     ∷ of_job (codes "x run --define=W=1 --top t --define Z9= d --clock c --define W s") (defined (codes "`define W 1\n`define Z9 \n`define W\n"))
+    ∷ of_job (codes "x run --share --top t --clock c d s") (shared (a_job 5 (codes "s" ∷ [])))
+    ∷ of_job (codes "x run --top t d --half=9 --share s --clock c") (shared (a_job 9 (codes "s" ∷ [])))
+    ∷ of_job (codes "x run --top t --clock c d --share -- --share s") (shared (a_job 5 (codes "--share" ∷ codes "s" ∷ [])))
     ∷ of_job (codes "x check --top t --clock c d s") (checked (a_job 5 (codes "s" ∷ [])))
     ∷ of_job (codes "x check d --clock=c run --half 9 --define A --top=t check") (checked (record (a_job 9 (codes "run" ∷ codes "check" ∷ [])) { head = codes "`define A\n" }))
     ∷ []
@@ -106,6 +113,15 @@ broken =
     ∷ codes "x run --top t --clock c d s --define w=4/*"
     ∷ codes "x run --top t --clock c d s --define w=//*/"
     ∷ codes "x run --top t --clock c d s --defines w"
+    ∷ codes "x run --share --top t --clock c d s --share"
+    ∷ codes "x run --share=1 --top t --clock c d s"
+    ∷ codes "x run --share= --top t --clock c d s"
+    ∷ codes "x run --shar --top t --clock c d s"
+    ∷ codes "x run --top --share --clock c d s"
+    ∷ codes "x --share run --top t --clock c d s"
+    ∷ codes "x check --share --top t --clock c d s"
+    ∷ codes "x check --top t --clock c d s --share"
+    ∷ codes "x bench --share 1"
     ∷ codes "x bench"
     ∷ codes "x bench 0"
     ∷ codes "x bench 1001"

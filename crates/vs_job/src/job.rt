@@ -30,6 +30,9 @@ pub struct Job {
     pub clock: Text,
     /// Half a clock period in units of time, from 1 to 1,000,000.
     pub half: u32,
+    /// Whether all signals that ports join have one identifier code in a waveform, or each signal one
+    /// of its own.
+    pub share: bool,
     /// What stands before the design's text: a line for each macro that the words define, 65,536 bytes
     /// at most.
     pub head: Text,
@@ -59,11 +62,11 @@ impl From<AllocError> for JobError {
 }
 
 /// Reads the words of the command line, the program's own name first:
-/// `cyclesim run --top T --clock C [--half H] [--define NAME[=TEXT]].. DESIGN STIM..`, or the same
-/// with `check` in the place of `run`.
+/// `cyclesim run --top T --clock C [--half H] [--define NAME[=TEXT]].. [--share] DESIGN STIM..`, or the
+/// same with `check` in the place of `run` and without `--share`.
 ///
-/// The options stand anywhere behind the command, each once but for `--define`, with the value in the
-/// next word or, as in `--top=T`, behind the first `=`. `--` ends them: each word behind it is a path.
+/// The options stand anywhere behind the command, each once but for `--define`, all but `--share` with
+/// the value in the next word or, as in `--top=T`, behind the first `=`. `--` ends them: each word behind it is a path.
 /// Before it no value and no path begins with `-`. H is a decimal number from 1 to 1,000,000 without a
 /// sign or a leading zero, and 5 where it isn't given. The first path is the design, and 1 to 256
 /// stimuli follow.

@@ -56,6 +56,7 @@ pub(crate) struct Line<'a> {
     clock: Option<&'a str>,
     half: Option<&'a str>,
     defines: ArrayVec<&'a str, MOST_DEFINES>,
+    share: bool,
     paths: ArrayVec<&'a str, MOST_PATHS>,
 }
 
@@ -66,6 +67,7 @@ pub(crate) struct Command<'b, 'a> {
     top: &'a str,
     clock: &'a str,
     half: u32,
+    share: bool,
     defines: &'b [&'a str],
     design: &'a str,
     stimuli: &'b [&'a str],
@@ -144,6 +146,7 @@ impl<'a> Line<'a> {
             clock: None,
             half: None,
             defines: ArrayVec::new(),
+            share: false,
             paths: ArrayVec::new(),
         }
     }
@@ -156,6 +159,17 @@ impl<'a> Line<'a> {
             return None;
         }
         self.paths.push(path);
+        Some(())
+    }
+
+    /// `--share`, which is given once at most.
+    fn read_share(&mut self) -> Option<()>
+        ensures { option_map (λ _. line_of self.new) result ≡ lines.with_share (line_of self.old) }
+    {
+        if self.share {
+            return None;
+        }
+        self.share = true;
         Some(())
     }
 
@@ -203,7 +217,7 @@ impl<'a> Line<'a> {
         }
     }
 
-    /// `--`, a path or an option.
+    /// `--`, a path, `--share`, or an option with a value.
     fn read_any(&mut self, word: &'a str) -> Option<()>
         ensures { option_map (λ _. line_of self.new) result ≡ lines.with_any word.now (line_of self.old) }
     {
@@ -212,6 +226,8 @@ impl<'a> Line<'a> {
             Some(())
         } else if is_plain(word) {
             self.read_path(word)
+        } else if word == "--share" {
+            self.read_share()
         } else {
             self.read_option(word)
         }
@@ -253,11 +269,13 @@ impl<'a> Line<'a> {
         if stimuli.is_empty() {
             return None;
         }
+        let share = share_given(self.mode, self.share)?;
         Some(Command {
             mode: self.mode,
             top,
             clock,
             half,
+            share,
             defines,
             design: *design,
             stimuli,
@@ -310,6 +328,16 @@ fn half_given(digits: Option<&str>) -> Option<u32>
     }
 }
 
+/// Whether signals share codes: in a run alone.
+fn share_given(mode: Mode, share: bool) -> Option<bool>
+    ensures { result ≡ spec.share_given mode (lines.shares share) }
+{
+    match (mode, share) {
+        (Mode::Check, true) => None,
+        (_, share) => Some(share),
+    }
+}
+
 /// Copies a word.
 fn copy(alloc: Global, word: &str) -> Result<Text, AllocError>
     ensures { IfOk result (λ text. text ≡ word.now) }
@@ -338,6 +366,7 @@ impl Command<'_, '_> {
             top: copy(alloc, self.top)?,
             clock: copy(alloc, self.clock)?,
             half: self.half,
+            share: self.share,
             head: head_of(alloc, self.defines)?,
             design: copy(alloc, self.design)?,
             stimuli: copies(alloc, self.stimuli)?,

@@ -14,7 +14,7 @@ use Rattle.vs_waves.specs.Puts.{wave_place}
 use Rattle.vs_rounds.specs.Lanes.{Run, reading_of, network, Simulation, wave_at, closed, IsRead, IsUnread, IsWaveAt, HaveNext, HaveVectors, AreOpened, AreBegun}
 use Rattle.vs_rounds.specs.Ready.{AreParts, IsReady}
 use Rattle.vs_rounds.proofs.Beginning.{begins_idle}
-use Rattle.vs_rounds.proofs.Settled.{in_time}
+use Rattle.vs_rounds.proofs.Settled.{in_time, new_lengths}
 use Rattle.vs_rounds.proofs.Waves.{not_ended}
 use Rattle.vs_rounds.proofs.Rounded.{remaining_left, given_left, still_taken}
 
@@ -28,11 +28,12 @@ alive b is_true is_false = cc
 pub opened_next : {W : Type 0} (lane : W → ℕ → Bool) (run : Run) (m : Simulation W) (c : Contents) → AreOpened lane run m c → HaveNext run 0 m.stimuli c
 opened_next lane run m c h = record { each = λ i lt. unread (reading_of run i) (lane_at m.stimuli i).live (remaining (lane_at m.stimuli i) c) (h.live i lt) (h.reading i lt); read = λ i lt _. h.read i lt; taken = record { each = λ i lt dead. absurd (alive (lane_at m.stimuli i).live (h.live i lt) dead) } }
 
-new_wave : (run : Run) (r : Reading) (w : Wave) (now : State) (text : List ℕ) → IsNewWave run.design run.half w → now ≡ (network run).idle → text ≡ [] → IsWaveAt run r 0 w now text
+new_wave : (run : Run) (r : Reading) (w : Wave) (now : State) (text : List ℕ) → IsNewWave run.share run.design run.half w → now ≡ (network run).idle → text ≡ [] → IsWaveAt run r 0 w now text
 new_wave run r w now text h idle empty = record {
   given = record { ends = []; solution = tt; text_is = empty };
   head_is = h.head_is;
   numbers_are = h.numbers_are;
+  places_are = h.places_are;
   half_is = h.half_is;
   handed_out = h.left_is;
   is_open = h.opened ∙ sym (ap not (not_ended r 0 (omega arith)));
@@ -54,7 +55,7 @@ opened_begun lane run m new before after h long waves engine read = record {
       each = λ i lt.
           let within : i < length m.stimuli = omega (arith, long) in
           new_wave run (reading_of run i) (wave_at new.waves i) (state lane new.engine i) (c.put (wave_place i))
-          (subst (λ (ws : List Wave). IsNewWave run.design run.half (wave_at ws i)) (sym waves) (h.waves i within))
+          (subst (λ (ws : List Wave). IsNewWave run.share run.design run.half (wave_at ws i)) (sym waves) (h.waves i within))
           (ap (λ (e : Running _). state lane e i) engine ∙ h.idle i within)
           (empty i lt);
     };
@@ -62,12 +63,12 @@ opened_begun lane run m new before after h long waves engine read = record {
 }
 
 -- the first round can be run
-pub parts_ready : {W : Type 0} (d : Design) (clock half : ℕ) (stimuli : List Known) (waves : List Wave) (engine : Running W) → AreParts d clock half stimuli waves engine.program
+pub parts_ready : {W : Type 0} (share : Bool) (d : Design) (clock half : ℕ) (stimuli : List Known) (waves : List Wave) (engine : Running W) → AreParts share d clock half stimuli waves engine.program
     → IsReady {W = W} 0 (record { stimuli = stimuli; waves = waves; engine = engine })
-parts_ready d clock half stimuli waves engine h = record {
+parts_ready share d clock half stimuli waves engine h = record {
   alike = record { lanes = h.lanes; waves = h.count; bits = h.bits };
   waves = λ i lt.
       let w = h.new i closed (omega (arith, h.count)) in
       let small : (wave_at waves i).dump.half ≤ 1000000 = omega (arith, w.half_is, h.small) in
-      record { half = small; in_time = in_time 0 (wave_at waves i).dump.half (omega arith) small; lengths = w.lengths ∙ sym (lengths_of_spans d clock engine.program h.program); handed_out = w.left_is };
+      record { half = small; in_time = in_time 0 (wave_at waves i).dump.half (omega arith) small; lengths = new_lengths share d half engine.program (wave_at waves i) (sym (lengths_of_spans d clock engine.program h.program)) w; handed_out = w.left_is };
 }

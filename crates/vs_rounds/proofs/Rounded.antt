@@ -32,7 +32,7 @@ use Rattle.vs_rounds.specs.Stops.{IsWriteStop}
 use Rattle.vs_rounds.proofs.Readings.{read_on}
 use Rattle.vs_rounds.proofs.Waves.{wave_goes_on, noted_ends}
 use Rattle.vs_rounds.proofs.Rereads.{unrefused_read}
-use Rattle.vs_rounds.proofs.Settled.{at-map, values_are, in_time, lengths_of_values}
+use Rattle.vs_rounds.proofs.Settled.{at-map, values_are, in_time, picked_lengths, picked_within}
 use Rattle.vs_rounds.proofs.Limited.{has_vector}
 
 -- the values of the signals of a compiled design
@@ -145,15 +145,16 @@ put_ready lane k m live few h lives i l w is_live is_wave =
     let wave_is : wave_at m.waves i ≡ w = get_or_from_slice_get m.waves i w closed is_wave in
     let noted : IsWaveNoted m.engine.program l w = subst (λ (v : Wave). IsWaveNoted m.engine.program l v) wave_is (subst (λ (b : Bool). IsWaveNoted m.engine.program b (wave_at m.waves i)) live_is (h.waves i within)) in
     record {
-      lengths = lengths_of_values (state lane m.engine i) m.engine.program.signals ∙ sym noted.lengths;
+      within = picked_within m.engine.program (state lane m.engine i) w noted.lengths;
+      lengths = picked_lengths m.engine.program (state lane m.engine i) w ∙ sym noted.lengths.lengths;
       handed_out = λ e _. noted.handed_out e;
       in_time = in_time k w.dump.half (omega (arith, few)) noted.half;
     }
 
 -- a wave that was put is ready for the next round
 wave_ready : (k : ℕ) (p : Program) (live : Bool) (s : State) (w : Wave) → k ≤ 16777217 → IsWaveNoted p live w → IsWaveReady k p (after_put live (signal_values p s) w)
-wave_ready k p true s w few h = record { half = h.half; in_time = in_time k w.dump.half few h.half; lengths = lengths_of_values s p.signals; handed_out = refl }
-wave_ready k p false s w few h = record { half = h.half; in_time = in_time k w.dump.half few h.half; lengths = lengths_of_values s p.signals; handed_out = refl }
+wave_ready k p true s w few h = record { half = h.half; in_time = in_time k w.dump.half few h.half; lengths = record { within = h.lengths.within; lengths = picked_lengths p s w }; handed_out = refl }
+wave_ready k p false s w few h = record { half = h.half; in_time = in_time k w.dump.half few h.half; lengths = record { within = h.lengths.within; lengths = picked_lengths p s w }; handed_out = refl }
 
 pub ready_put : {W : Type 0} (lane : W → ℕ → Bool) (k : ℕ) (m : Simulation W) (live : List Bool) (waves : List Wave) → k ≤ 16777217 → IsNoted m → live ≡ map (λ s. s.live) m.stimuli
     → EachGoesOn (λ i l w. after_put l (lane_values lane m.engine i) w) live m.waves waves
@@ -198,6 +199,6 @@ write_stop lane run k old m c new live l h lives is_lane puts =
       behind = record {
         each = λ i gt lt.
             let kept = puts.others (wave_place i) (λ j le e. absurd (omega arith)) in
-            subst (IsGiven run.design run.clock run.half (reading_of run i) k) (sym kept) (h.began.waves.each i lt).given;
+            subst (IsGiven run.share run.design run.clock run.half (reading_of run i) k) (sym kept) (h.began.waves.each i lt).given;
       };
     }

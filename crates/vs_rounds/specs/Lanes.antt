@@ -16,12 +16,14 @@ use Rattle.vs_feed.specs.Lanes.{lane_at}
 use Rattle.vs_feed.specs.Reading.{AreTaken}
 use Rattle.vs_vcd.specs.Scopes.{head_text}
 use Rattle.vs_vcd.specs.Texts.{shown_numbers, values_of}
+use Rattle.vs_vcd.specs.Shared.{coded, led, led_places}
 use Rattle.vs_waves.specs.Wave.{Wave, IsNewWave}
 use Rattle.vs_waves.specs.Puts.{wave_place}
 use Rattle.vs_rounds.specs.Given.{has_ended, IsGiven}
 
--- What is run: a design with the bit of its clock, the clock's half-period, the data inputs and the outputs, and the text of each lane's stimulus.
+-- What is run: a design with the bit of its clock, the clock's half-period, the data inputs and the outputs, and the text of each lane's stimulus; and whether the waveforms have one code for each class of signals that ports join.
 pub record Run : Type 0 where
+  pub share : Bool
   pub design : Design
   pub clock : ℕ
   pub half : ℕ
@@ -48,7 +50,7 @@ pub record Simulation (W : Type 0) : Type 0 where
 
 -- a wave of which nothing is left to put
 abbrev pub closed : Wave
-closed = record { dump = record { head = []; numbers = []; half = 0; last = []; left = [] }; is_open = false }
+closed = record { dump = record { head = []; numbers = []; half = 0; last = []; left = [] }; places = []; is_open = false }
 
 -- the wave of lane i; past the last lane, a closed one
 abbrev pub wave_at : List Wave → ℕ → Wave
@@ -75,14 +77,15 @@ pub record IsUnread (r : Reading) (k : ℕ) (live : Bool) (rest : Reading) : Typ
 -- Before the puts of round k: what the lane has got, and what is kept of its wave to go on. The engine's values in a lane that has
 -- ended no longer matter.
 pub record IsWaveAt (run : Run) (r : Reading) (k : ℕ) (w : Wave) (now : State) (text : List ℕ) : Type 0 where
-  pub given : IsGiven run.design run.clock run.half r k text
-  pub head_is : w.dump.head ≡ head_text run.design
-  pub numbers_are : w.dump.numbers ≡ shown_numbers run.design
+  pub given : IsGiven run.share run.design run.clock run.half r k text
+  pub head_is : w.dump.head ≡ head_text (coded run.share run.design)
+  pub numbers_are : w.dump.numbers ≡ shown_numbers (led run.share run.design)
+  pub places_are : w.places ≡ led_places run.share run.design
   pub half_is : w.dump.half ≡ run.half
   pub handed_out : w.dump.left ≡ []
   pub is_open : w.is_open ≡ not (has_ended r k)
   pub now_is : k ≤ length r.vectors → now ≡ last_or (beginning (network run)) given.ends
-  pub last_is : 0 < k → k ≤ length r.vectors → w.dump.last ≡ values_of run.design now
+  pub last_is : 0 < k → k ≤ length r.vectors → w.dump.last ≡ values_of (led run.share run.design) now
 
 -- The stimulus of lane i has given this many vectors, and its text was read up to there.
 pub record HasGiven (run : Run) (i count : ℕ) (s : Known) (c : Contents) : Type 0 where
@@ -124,7 +127,7 @@ pub record AreOpened {W : Type 0} (lane : W → ℕ → Bool) (run : Run) (m : S
   pub live : (i : ℕ) → i < length m.stimuli → (lane_at m.stimuli i).live ≡ true
   pub reading : (i : ℕ) → i < length m.stimuli → reading_of run i ≡ remaining (lane_at m.stimuli i) c
   pub read : (i : ℕ) → i < length m.stimuli → HasGiven run i 0 (lane_at m.stimuli i) c
-  pub waves : (i : ℕ) → i < length m.stimuli → IsNewWave run.design run.half (wave_at m.waves i)
+  pub waves : (i : ℕ) → i < length m.stimuli → IsNewWave run.share run.design run.half (wave_at m.waves i)
   pub idle : (i : ℕ) → i < length m.stimuli → state lane m.engine i ≡ (network run).idle
 
 -- Once nothing more was taken, and nothing was put at the places of the waves, all lanes stand in round 0.

@@ -1,6 +1,6 @@
 //! What a run needs in its rounds, and the phases of a round.
 
-ghost use Rattle.std.specs.Prelude.{◌≡◌, ℕ, ◌<◌, ◌≤◌, length, suc, true, IsTrue, IfOk, IfErr, OnOk};
+ghost use Rattle.std.specs.Prelude.{◌≡◌, ℕ, ◌<◌, ◌≤◌, Bool, length, suc, true, IsTrue, IfOk, IfErr, OnOk};
 ghost use Rattle.std.specs.List.{count_by};
 ghost use Rattle.vs_desk.specs.Places.{most_lanes};
 ghost use Rattle.vs_design.specs.Designs.{Design};
@@ -47,7 +47,7 @@ impl<W: Lanes> Machine<W> {
         engine: Engine<W>,
     ) -> Result<Machine<W>, AllocError>
         ensures parts { IfOk result (λ m. m ≡ record { stimuli = drive; waves = waves; engine = engine }) }
-        ensures ready { (d : Design) (clock half : ℕ) → AreParts d clock half drive waves engine.program → IfOk result (IsReady 0) }
+        ensures ready { (share : Bool) (d : Design) (clock half : ℕ) → AreParts share d clock half drive waves engine.program → IfOk result (IsReady 0) }
     {
         let driven = Driven::new(alloc, drive, engine)?;
         Ok(Machine { driven, waves })

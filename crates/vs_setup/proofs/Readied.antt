@@ -1,5 +1,5 @@
 -- A run whose parts were put together.
-use Rattle.std.proofs.Common.{◌≡◌, ℕ, ◌<◌, ◌≤◌, Bool, List, length, map, arith, IsTrue, All, sym, subst, ◌∙◌}
+use Rattle.std.proofs.Common.{◌≡◌, ℕ, ◌<◌, ◌≤◌, Bool, List, length, map, arith, IsTrue, All, sym, subst}
 use Rattle.vs_desk.specs.Desk.{Contents}
 use Rattle.vs_design.specs.Expressions.{signal_length}
 use Rattle.vs_design.specs.Designs.{Design}
@@ -13,17 +13,18 @@ use Rattle.vs_waves.specs.Wave.{Wave, IsNewWave}
 use Rattle.vs_rounds.specs.Lanes.{Simulation, AreOpened, wave_at, closed}
 use Rattle.vs_rounds.specs.Ready.{IsReady, IsWaveReady, signal_lengths}
 use Rattle.vs_job.specs.declared.job.Job.{Job}
+use Rattle.vs_rounds.proofs.Settled.{new_lengths}
 use Rattle.vs_setup.proofs.Lanes.{HasLanes, runs, program_is, bits_are, reading_is, has_given, idle_is}
 
 -- a wave is new
-new_wave : (d : Design) (half : ℕ) (waves : List Wave) → All (IsNewWave d half) waves → (i : ℕ) → i < length waves → IsNewWave d half (wave_at waves i)
-new_wave d half waves all i h = all i closed h
+new_wave : (share : Bool) (d : Design) (half : ℕ) (waves : List Wave) → All (IsNewWave share d half) waves → (i : ℕ) → i < length waves → IsNewWave share d half (wave_at waves i)
+new_wave share d half waves all i h = all i closed h
 
 -- the parts of a run
 pub record HasParts {W : Type 0} (lane : W → ℕ → Bool) (lanes : ℕ) (tells : Bool) (job : Job) (old mid new : Contents) (a : Acceptance) (ports : PortLists) (engine : Running W) (m : Simulation W) : Type 0 where
   pub lanes_are : HasLanes lane lanes tells job old mid new a ports engine m.engine m.stimuli
   pub waves : length m.waves ≡ length m.stimuli
-  pub new_waves : All (IsNewWave (design_of a.flat) job.half) m.waves
+  pub new_waves : All (IsNewWave job.share (design_of a.flat) job.half) m.waves
   pub half : job.half ≤ 1000000
 
 pub ready : {W : Type 0} (lane : W → ℕ → Bool) (lanes : ℕ) (tells : Bool) (job : Job) (old mid new : Contents) (a : Acceptance) (ports : PortLists) (engine : Running W) (m : Simulation W)
@@ -34,20 +35,20 @@ ready lane lanes tells job old mid new a ports engine m p = record {
     waves = p.waves;
     bits = bits_are lane lanes tells job old mid new a ports engine m.engine m.stimuli p.lanes_are;
   };
-  waves = λ i h. each i (new_wave (design_of a.flat) job.half m.waves p.new_waves i (subst (λ n. i < n) (sym p.waves) h));
+  waves = λ i h. each i (new_wave job.share (design_of a.flat) job.half m.waves p.new_waves i (subst (λ n. i < n) (sym p.waves) h));
 }
   where
     signals : map signal_length (shown_signals (design_of a.flat)) ≡ signal_lengths m.engine.program
     signals = sym (lengths_of_spans (design_of a.flat) _ m.engine.program (program_is lane lanes tells job old mid new a ports engine m.engine m.stimuli p.lanes_are))
 
-    small : {w : Wave} → IsNewWave (design_of a.flat) job.half w → w.dump.half ≤ 1000000
+    small : {w : Wave} → IsNewWave job.share (design_of a.flat) job.half w → w.dump.half ≤ 1000000
     small w = subst (λ n. n ≤ 1000000) (sym w.half_is) p.half
 
-    each : (i : ℕ) → IsNewWave (design_of a.flat) job.half (wave_at m.waves i) → IsWaveReady 0 m.engine.program (wave_at m.waves i)
+    each : (i : ℕ) → IsNewWave job.share (design_of a.flat) job.half (wave_at m.waves i) → IsWaveReady 0 m.engine.program (wave_at m.waves i)
     each i w = record {
       half = small w;
       in_time = omega (arith, small w);
-      lengths = w.lengths ∙ signals;
+      lengths = new_lengths job.share (design_of a.flat) job.half m.engine.program (wave_at m.waves i) signals w;
       handed_out = w.left_is;
     }
 
@@ -59,6 +60,6 @@ begins lane lanes tells job old mid new a ports engine m p t = record {
   live = λ i h. (p.lanes_are.opened.each i h).live;
   reading = reading_is lane lanes tells job old mid new a ports engine m.engine m.stimuli p.lanes_are t;
   read = has_given lane lanes tells job old mid new a ports engine m.engine m.stimuli p.lanes_are t;
-  waves = λ i h. new_wave (design_of a.flat) job.half m.waves p.new_waves i (subst (λ n. i < n) (sym p.waves) h);
+  waves = λ i h. new_wave job.share (design_of a.flat) job.half m.waves p.new_waves i (subst (λ n. i < n) (sym p.waves) h);
   idle = idle_is lane lanes tells job old mid new a ports engine m.engine m.stimuli p.lanes_are;
 }

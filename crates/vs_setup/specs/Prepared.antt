@@ -21,9 +21,9 @@ use Rattle.vs_setup.specs.Loaded.{IsLoaded}
 use Rattle.vs_setup.specs.Ports.{demands, ports_of}
 use Rattle.vs_setup.specs.Places.{with_texts}
 
--- What a job runs where the files have these bytes: its design, with the bit of its clock and the ports that stimuli name, and a text for each lane.
+-- What a job runs where the files have these bytes: how its waveforms have codes, its design, with the bit of its clock and the ports that stimuli name, and a text for each lane.
 abbrev pub run_of : Job → (List ℕ → List ℕ) → Design → ℕ → PortLists → Run
-run_of job files d clock ports = record { design = d; clock = clock; half = job.half; ports = ports; texts = λ i. files (path_at job.stimuli i) }
+run_of job files d clock ports = record { share = job.share; design = d; clock = clock; half = job.half; ports = ports; texts = λ i. files (path_at job.stimuli i) }
 
 -- nothing changed of the files and of what was put
 pub record AreTextsKept (old new : Contents) : Type 0 where

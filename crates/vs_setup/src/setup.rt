@@ -190,14 +190,14 @@ fn assemble<W: Lanes>(
     ensures stimuli { IfOk result (λ p. p.machine.stimuli ≡ opened.drive) }
     ensures engine { IfOk result (λ p. p.machine.engine ≡ opened.loaded.engine) }
     ensures lanes { IfOk result (λ p. length p.machine.waves ≡ length opened.drive) }
-    ensures waves { IfOk result (λ p. All (IsNewWave (design_of opened.loaded.accepted.flat) job.now.half) p.machine.waves) }
+    ensures waves { IfOk result (λ p. All (IsNewWave job.now.share (design_of opened.loaded.accepted.flat) job.now.half) p.machine.waves) }
     ensures size { IfOk result (λ p. p.size ≡ size_of (design_of opened.loaded.accepted.flat)) }
     ensures paths { IfOk result (λ p. map string_bytes p.wave_paths.items ≡ map vcd_path job.now.stimuli) }
 {
     let typed = opened.loaded.accepted.typed();
     let size = typed.size();
     let half = job.half as u64;
-    let waves = Waves::new(alloc, typed.flat(), half, opened.drive.lanes())?;
+    let waves = Waves::new(alloc, typed.flat(), half, opened.drive.lanes(), job.share)?;
     let Opened { loaded, drive } = opened;
     let machine = Machine::new(alloc, drive, waves, loaded.into_engine())?;
     let wave_paths = vcd_paths(alloc, job)?;

@@ -12,7 +12,7 @@ use Rattle.vs_stim.specs.Reading.{reading, stimulus}
 use Rattle.vs_stim.specs.Laws.{WholeHasVector}
 use Rattle.vs_feed.specs.Opened.{HaveHeaders}
 use Rattle.vs_misses.specs.Missed.{Found}
-use Rattle.vs_vcd.specs.Texts.{vcd}
+use Rattle.vs_vcd.specs.Shared.{text_of}
 use Rattle.vs_rounds.specs.Drives.{Vector, vector_state}
 use Rattle.vs_rounds.specs.Given.{IsGiven}
 use Rattle.vs_rounds.specs.Inputs.{AreDataInputs}
@@ -63,15 +63,15 @@ plain : (ports : PortLists) → ports.demanded ≡ false → ports ≡ record { 
 plain ports e = λ i. record { inputs = ports.inputs; outputs = ports.outputs; demanded = e i }
 
 -- a lane that has got all is written
-pub lane_written : TextOfEveryRun → SomeRun → WholeHasVector → (d : Design) (name : List ℕ) (a : IsAcceptedDesign d name) (half : ℕ) (ports : PortLists) → ports.demanded ≡ false → AreDataInputs d a.clock.first ports.inputs
-    → (text put : List ℕ) → (reading ports text).refusal ≡ None → IsGiven d a.clock.first half (reading ports text) (suc (length (reading ports text).vectors)) put → IsLaneWritten d a.clock.first half ports text put
-lane_written every_run some_run has_vector d name a half ports free driven text put whole given = go (reading ports text).vectors refl
+pub lane_written : TextOfEveryRun → SomeRun → WholeHasVector → (share : Bool) (d : Design) (name : List ℕ) (a : IsAcceptedDesign d name) (half : ℕ) (ports : PortLists) → ports.demanded ≡ false → AreDataInputs d a.clock.first ports.inputs
+    → (text put : List ℕ) → (reading ports text).refusal ≡ None → IsGiven share d a.clock.first half (reading ports text) (suc (length (reading ports text).vectors)) put → IsLaneWritten share d a.clock.first half ports text put
+lane_written every_run some_run has_vector share d name a half ports free driven text put whole given = go (reading ports text).vectors refl
   where
     valid : (vs : List Vector) → (reading ports text).vectors ≡ vs → stimulus text ports.inputs ports.outputs vs (reading ports text).wanted
     valid vs e =
         subst (λ (is : PortLists). reading is text ≡ record { vectors = vs; wanted = (reading ports text).wanted; refusal = None }) (plain ports free) (gives ports text whole vs e)
 
-    go : (vs : List Vector) → (reading ports text).vectors ≡ vs → IsLaneWritten d a.clock.first half ports text put
+    go : (vs : List Vector) → (reading ports text).vectors ≡ vs → IsLaneWritten share d a.clock.first half ports text put
     go [] e = absurd (no_vectors has_vector ports text whole e)
     go (v ∷ vs) e = record {
       vectors = v ∷ vs;
@@ -81,8 +81,8 @@ lane_written every_run some_run has_vector d name a half ports free driven text 
           let same : (reading ports text).vectors ≡ run.first ∷ run.later = e ∙ run.vectors_are in
           let long : length (reading ports text).vectors ≡ length (run.first ∷ run.later) = ap length same in
           let below : length (run.first ∷ run.later) < suc (length (reading ports text).vectors) = omega (arith, long) in
-          every_run d name half ports text run.first run.later (lawful d name a ports driven text whole run.first run.later same) (suc (length (reading ports text).vectors)) put below given run.idle run.is_first run.choices run.completed
-          ∙ ap (vcd d half) (sym run.values_are);
+          every_run share d name half ports text run.first run.later (lawful d name a ports driven text whole run.first run.later same) (suc (length (reading ports text).vectors)) put below given run.idle run.is_first run.choices run.completed
+          ∙ ap (text_of share d half) (sym run.values_are);
       some = run_on some_run d name ports text v vs (lawful d name a ports driven text whole v vs e);
     }
 

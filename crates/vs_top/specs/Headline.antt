@@ -1,5 +1,5 @@
 -- What a run that is done has written, in the words of the event queue (IEEE 1364-2005, 11.3 and 11.4).
-use Rattle.std.specs.Prelude.{◌≡◌, ℕ, ◌+◌, ◌*◌, ◌<◌, List, [], ◌∷◌, length, map, None}
+use Rattle.std.specs.Prelude.{◌≡◌, ℕ, ◌+◌, ◌*◌, ◌<◌, Bool, List, [], ◌∷◌, length, map, None}
 use Rattle.vs_net.specs.Network.{State}
 use Rattle.vs_net.specs.Queue.{Choice, IsFirst, IsCompleted, start, ends}
 use Rattle.vs_design.specs.Designs.{Design}
@@ -14,7 +14,7 @@ use Rattle.vs_stim.specs.declared.wanted.Digit.{Digit}
 use Rattle.vs_stim.specs.Header.{PortLists}
 use Rattle.vs_stim.specs.Reading.{stimulus}
 use Rattle.vs_feed.specs.Opened.{path_at}
-use Rattle.vs_vcd.specs.Texts.{vcd}
+use Rattle.vs_vcd.specs.Shared.{text_of}
 use Rattle.vs_waves.specs.Puts.{wave_place}
 use Rattle.vs_rounds.specs.Drives.{Vector, vector_state}
 use Rattle.vs_rounds.specs.Counts.{AreCounted}
@@ -38,13 +38,13 @@ pub record IsRunOn (d : Design) (clock : ℕ) (vectors : List Vector) (values : 
   pub completed : IsCompleted (network_of d clock) (start (network_of d clock) idle (vector_state d clock first) (map (vector_state d clock) later)) choices
   pub values_are : values ≡ ends (network_of d clock) (start (network_of d clock) idle (vector_state d clock first) (map (vector_state d clock) later)) choices
 
--- The stimulus of a lane is valid, and what was put is the VCD of the slot-end values that every completed run of the event queue on that
+-- The stimulus of a lane is valid, and what was put is the VCD, with one code for each class of signals that ports join or else for each signal, of the slot-end values that every completed run of the event queue on that
 -- stimulus alone has; and there is such a run.
-pub record IsLaneWritten (d : Design) (clock half : ℕ) (ports : PortLists) (text put : List ℕ) : Type 0 where
+pub record IsLaneWritten (share : Bool) (d : Design) (clock half : ℕ) (ports : PortLists) (text put : List ℕ) : Type 0 where
   pub vectors : List Vector
   pub wanted : List (List (List Digit))
   pub valid : stimulus text ports.inputs ports.outputs vectors wanted
-  pub every : (values : List State) → IsRunOn d clock vectors values → put ≡ vcd d half values
+  pub every : (values : List State) → IsRunOn d clock vectors values → put ≡ text_of share d half values
   pub some : (values : List State) × IsRunOn d clock vectors values
 
 -- The operations are the stores of a program of the design, for all lanes together: those of its first fall, of so many later falls, and of a rise
@@ -62,7 +62,7 @@ pub record IsWritten (job : Job) (old new : Contents) (s : Summary) : Type 0 whe
   pub design : Design
   pub accepted : IsAcceptedText (design_text job old) job.top job.clock design
   pub lanes : (i : ℕ) → i < length job.stimuli
-      → IsLaneWritten design accepted.accepted.clock.first job.half (ports_of job.mode accepted) (old.files (path_at job.stimuli i)) (new.put (wave_place i))
+      → IsLaneWritten job.share design accepted.accepted.clock.first job.half (ports_of job.mode accepted) (old.files (path_at job.stimuli i)) (new.put (wave_place i))
   pub design_taken : new.left design_place ≡ []
   pub stimuli_taken : (i : ℕ) → i < length job.stimuli → new.left (stimulus_place i) ≡ []
   pub lanes_are : s.lanes ≡ length job.stimuli

@@ -1,16 +1,20 @@
 -- Scopes and signals of a flat design as those of the plain one.
-use Rattle.std.proofs.Common.{◌≡◌, false, ℕ, zero, suc, ◌+◌, List, [], ◌∷◌, length, refl, ap, ◌∙◌, arith}
+use Rattle.std.proofs.Common.{◌≡◌, false, ℕ, zero, suc, ◌+◌, List, [], ◌∷◌, length, map, refl, sym, ap, ◌∙◌, subst, arith}
 use Rattle.std.specs.Prelude.{slice_get, Option, None, Some, is_some, option_map}
 use Rattle.std.proofs.lemmas.List.{length-map}
 use Rattle.std.proofs.lemmas.Option.{slice_get-map}
 use Rattle.vs_four.specs.declared.Range.{Range}
 use Rattle.vs_design.specs.Expressions as E
+use Rattle.vs_design.specs.Designs.{Design}
 use Rattle.vs_design.specs.Footprints.{is_memory}
 use Rattle.vs_flat.specs.Arena.{Arena}
 use Rattle.vs_flat.specs.DesignOf.{design_of, scope_of}
 use Rattle.vs_flat.specs.Trees.{signal_of, signals_from}
 use Rattle.vs_flat.specs.declared.processes.Scope.{Scope}
 use Rattle.vs_flat.specs.declared.processes.Signal.{Signal}
+use Rattle.vs_vcd.specs.Groups.{AreLinked}
+use Rattle.vs_vcd.specs.Shared.{coded_by}
+use Rattle.vs_vcd.specs.Steps.{signal_key, signal_keys}
 
 pub scope-at : (a : Arena) (n : ℕ) (s : Scope) → slice_get a.scopes n ≡ Some s → slice_get (design_of a).scopes n ≡ Some (scope_of s)
 scope-at a n s h = slice_get-map scope_of a.scopes n ∙ ap (option_map scope_of) h
@@ -40,3 +44,24 @@ plain_length s plain = of s.words plain
     of : (words : Option Range) → is_some words ≡ false → E.words_length words (E.range_or_one s.range) ≡ E.range_or_one s.range
     of None e = refl
     of (Some r) e = cc
+
+-- ---- with codes for numbers
+
+pub coded-at : (a : Arena) (code : ℕ → ℕ) (n : ℕ) (s : Signal) → slice_get a.signals n ≡ Some s → slice_get (coded_by code (design_of a)).signals n ≡ Some (signal_of (code n) s)
+coded-at a code n s h =
+    slice_get-map (λ (t : E.Signal). record t { number = code t.number }) (design_of a).signals n
+    ∙ ap (option_map (λ (t : E.Signal). record t { number = code t.number })) (signal-at a n s h)
+
+pub coded-keys : (code : ℕ → ℕ) (d : Design) → signal_keys (coded_by code d).signals ≡ signal_keys d.signals
+unfolding signal_keys
+coded-keys code d = keys d.signals
+  where
+    keys : (ss : List E.Signal) → map signal_key (map (λ (t : E.Signal). record t { number = code t.number }) ss) ≡ map signal_key ss
+    keys [] = refl
+    keys (s ∷ ss) = ap (λ (rest : List (Option ℕ)). signal_key s ∷ rest) (keys ss)
+
+pub length-coded : (a : Arena) (code : ℕ → ℕ) → length (coded_by code (design_of a)).signals ≡ length a.signals
+length-coded a code = length-map (design_of a).signals (λ (t : E.Signal). record t { number = code t.number }) ∙ length-signals a
+
+pub linked_coded : (code : ℕ → ℕ) (d : Design) (groups : ℕ) (first next : List (Option ℕ)) → AreLinked groups (signal_keys d.signals) first next → AreLinked groups (signal_keys (coded_by code d).signals) first next
+linked_coded code d groups first next h = subst (λ (keys : List (Option ℕ)). AreLinked groups keys first next) (sym (coded-keys code d)) h

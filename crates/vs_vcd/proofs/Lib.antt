@@ -1,10 +1,15 @@
 pub mod Appending
 pub mod Arenas
 pub mod Bytes
+pub mod Classes
 pub mod Digits
 pub mod Grouping
+pub mod Joining
 pub mod Known
+pub mod Leading
 pub mod LineLemmas
+pub mod Linking
+pub mod Naming
 pub mod NumeralLemmas
 pub mod Outline
 pub mod Shown

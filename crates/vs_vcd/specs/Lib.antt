@@ -6,4 +6,8 @@ pub mod Dump
 pub mod Groups
 pub mod Steps
 pub mod ExampleTexts
+pub mod Shared
+pub mod ExampleShared
+pub mod Joins
+pub mod Links
 pub mod Laws

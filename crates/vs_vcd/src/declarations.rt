@@ -5,9 +5,11 @@ ghost use Rattle.vs_design.specs.Footprints.{is_memory};
 ghost use Rattle.vs_flat.specs.DesignOf.{design_of, scope_of};
 ghost use Rattle.vs_flat.specs.Trees.{signal_of};
 ghost use Rattle.vs_vcd.specs.Groups.{AreLinked};
+ghost use Rattle.vs_vcd.specs.Shared.{code_at, coded_by};
 ghost use Rattle.vs_vcd.specs.Scopes.{variable_kind, range_text, variable_start, variable_line, variables, scope_kind, scope_line, scopes_in, shown_signals, head_text};
 ghost use Rattle.vs_vcd.specs.Steps.{scope_key, scope_keys, signal_key, signal_keys, step_text, steps_text, link_steps, IsStep, AreSteps};
 
+use crate::codes::Codes;
 use crate::groups::Groups;
 use crate::line::Line;
 use std::alloc::{AllocError, Global};
@@ -23,26 +25,32 @@ enum Step {
     Close,
 }
 
-/// The head of a design's text: its declarations (IEEE 1364-2005, 18.2.3). The only error is that there is no memory.
-pub fn head(alloc: Global, flat: &Flat) -> Result<Vec<u8>, AllocError>
-    ensures { IfOk result (λ text. text.items ≡ head_text (design_of flat.now)) }
+/// The head of a design's text: its declarations, with these identifier codes (IEEE 1364-2005, 18.2.3). The only error is that there is
+/// no memory.
+pub fn head(alloc: Global, flat: &Flat, codes: &Codes) -> Result<Vec<u8>, AllocError>
+    ensures { IfOk result (λ text. text.items ≡ head_text (coded_by (code_at codes.now) (design_of flat.now))) }
 {
     let mut text = Vec::from_slice(alloc, b"$version cyclesim $end\n$timescale 1ns $end\n")?;
-    push_scopes(alloc, &mut text, flat)?;
+    push_scopes(alloc, &mut text, flat, codes)?;
     text.extend_from_slice(b"$enddefinitions $end\n")?;
     Ok(text)
 }
 
 /// Adds all scopes, each with its variables and the scopes in it. A memory has no line.
-fn push_scopes(alloc: Global, text: &mut Vec<u8>, flat: &Flat) -> Result<(), AllocError>
-    ensures { OnOk result (text.new.items ≡ text.old.items ++ scopes_in (shown_signals (design_of flat.now)) None 0 (design_of flat.now).scopes) }
+fn push_scopes(
+    alloc: Global,
+    text: &mut Vec<u8>,
+    flat: &Flat,
+    codes: &Codes,
+) -> Result<(), AllocError>
+    ensures { OnOk result (text.new.items ≡ text.old.items ++ scopes_in (shown_signals (coded_by (code_at codes.now) (design_of flat.now))) None 0 (design_of flat.now).scopes) }
 {
     let scopes = scope_groups(alloc, flat)?;
     let variables = variable_groups(alloc, flat)?;
     let mut steps = Vec::new(alloc);
     push_link(&mut steps, scopes.first(0))?;
     while let Some(step) = steps.pop() {
-        take_step(text, &mut steps, flat, &scopes, &variables, step)?;
+        take_step(text, &mut steps, flat, codes, &scopes, &variables, step)?;
     }
     Ok(())
 }
@@ -105,23 +113,25 @@ fn take_step(
     text: &mut Vec<u8>,
     steps: &mut Vec<Step>,
     flat: &Flat,
+    codes: &Codes,
     scopes: &Groups,
     variables: &Groups,
     step: Step,
 ) -> Result<(), AllocError>
     requires scopes { AreLinked (length flat.now.scopes + 1) (scope_keys 0 (design_of flat.now).scopes) scopes.now.first.items scopes.now.next.items }
     requires variables { AreLinked (length flat.now.scopes) (signal_keys (design_of flat.now).signals) variables.now.first.items variables.now.next.items }
-    requires step { IsStep (design_of flat.now) step }
-    requires steps { AreSteps (design_of flat.now) steps.old.items }
-    ensures text { OnOk result (text.new.items ++ steps_text (design_of flat.now) steps.new.items ≡ text.old.items ++ (step_text (design_of flat.now) step ++ steps_text (design_of flat.now) steps.old.items)) }
-    ensures steps { OnOk result (AreSteps (design_of flat.now) steps.new.items) }
+    requires step { IsStep (coded_by (code_at codes.now) (design_of flat.now)) step }
+    requires steps { AreSteps (coded_by (code_at codes.now) (design_of flat.now)) steps.old.items }
+    ensures text { let d = coded_by (code_at codes.now) (design_of flat.now) in
+        OnOk result (text.new.items ++ steps_text d steps.new.items ≡ text.old.items ++ (step_text d step ++ steps_text d steps.old.items)) }
+    ensures steps { OnOk result (AreSteps (coded_by (code_at codes.now) (design_of flat.now)) steps.new.items) }
     ensures more { OnOk result (vec_len text.old < vec_len text.new) }
 {
     match step {
         Step::Close => text.extend_from_slice(b"$upscope $end\n")?,
         Step::Scopes(scope) => {
             push_scope_line(text, flat.scope(scope))?;
-            push_variables(text, flat, variables, scope)?;
+            push_variables(text, flat, codes, variables, scope)?;
             push_link(steps, scopes.next(scope))?;
             steps.push(Step::Close)?;
             push_link(steps, scopes.first(scope as usize + 1))?;
@@ -156,27 +166,28 @@ fn scope_kind(instance: bool) -> &'static [u8]
 fn push_variables(
     text: &mut Vec<u8>,
     flat: &Flat,
+    codes: &Codes,
     groups: &Groups,
     scope: u32,
 ) -> Result<(), AllocError>
     requires scope { scope < length flat.now.scopes }
     requires linked { AreLinked (length flat.now.scopes) (signal_keys (design_of flat.now).signals) groups.now.first.items groups.now.next.items }
-    ensures { OnOk result (text.new.items ≡ text.old.items ++ variables (shown_signals (design_of flat.now)) scope) }
+    ensures { OnOk result (text.new.items ≡ text.old.items ++ variables (shown_signals (coded_by (code_at codes.now) (design_of flat.now))) scope) }
 {
     let mut link = groups.first(scope as usize);
     while let Some(number) = link {
-        push_variable(text, number, flat.signal(number))?;
+        push_variable(text, codes.code(number), flat.signal(number))?;
         link = groups.next(number);
     }
     Ok(())
 }
 
-/// Adds `$var`, of a signal that is no memory.
-fn push_variable(text: &mut Vec<u8>, number: u32, signal: &Signal) -> Result<(), AllocError>
-    requires { is_memory (signal_of number signal.now) ≡ false }
-    ensures { OnOk result (text.new.items ≡ text.old.items ++ variable_line (signal_of number signal.now)) }
+/// Adds `$var` with this code, of a signal that is no memory.
+fn push_variable(text: &mut Vec<u8>, code: u32, signal: &Signal) -> Result<(), AllocError>
+    requires { is_memory (signal_of code signal.now) ≡ false }
+    ensures { OnOk result (text.new.items ≡ text.old.items ++ variable_line (signal_of code signal.now)) }
 {
-    text.extend_from_slice(variable_start(number, signal).as_slice())?;
+    text.extend_from_slice(variable_start(code, signal).as_slice())?;
     text.extend_from_slice(signal.name.as_slice())?;
     push_range(text, signal.range)?;
     text.extend_from_slice(b" $end\n")?;
@@ -184,9 +195,9 @@ fn push_variable(text: &mut Vec<u8>, number: u32, signal: &Signal) -> Result<(),
 }
 
 /// What comes before the name of a variable: its kind, its length and its identifier code.
-fn variable_start(number: u32, signal: &Signal) -> Line
-    requires { is_memory (signal_of number signal.now) ≡ false }
-    ensures { result ≡ variable_start (signal_of number signal.now) }
+fn variable_start(code: u32, signal: &Signal) -> Line
+    requires { is_memory (signal_of code signal.now) ≡ false }
+    ensures { result ≡ variable_start (signal_of code signal.now) }
 {
     let mut line = Line::new();
     line.push_text(b"$var ");
@@ -194,7 +205,7 @@ fn variable_start(number: u32, signal: &Signal) -> Line
     line.push(b' ');
     line.push_decimal(range_bits(signal.range));
     line.push(b' ');
-    line.push_identifier(number);
+    line.push_identifier(code);
     line.push(b' ');
     line
 }

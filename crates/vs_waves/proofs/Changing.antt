@@ -1,5 +1,5 @@
 -- The signals that change, one after the other.
-use Rattle.std.proofs.Common.{◌≡◌, ℕ, zero, suc, ◌+◌, ◌<◌, Bool, true, false, not, ◌||◌, if◌then◌else◌, List, [], ◌∷◌, ◌++◌, append-nil, length, map, take, get_or, refl, sym, ap, ap₂, ◌∙◌, arith}
+use Rattle.std.proofs.Common.{◌≡◌, ℕ, zero, suc, ◌+◌, ◌<◌, ◌≤◌, Bool, true, false, not, ◌||◌, if◌then◌else◌, List, [], ◌∷◌, ◌++◌, append-nil, length, map, take, take_all, get_or, refl, sym, ap, ap₂, ◌∙◌, arith}
 use Rattle.std.proofs.lemmas.Grind.{flat_map-append}
 use Rattle.vs_four.specs.declared.Bit4.{Bit4}
 use Rattle.vs_four.specs.declared.Bit4.TheVariants.{One}
@@ -102,3 +102,8 @@ lines_more numbers all t n before now h k e =
     ap (value_lines numbers now) (places_more all t n before now h k e)
     ∙ flat_map-append (λ (j : ℕ). value_line (get_or numbers j 0) (get_or now j [])) (places all before now n) (only t n)
     ∙ ap (λ ls. value_lines numbers now (places all before now n) ++ ls) (line_only numbers now t n)
+
+-- at the end
+pub places_end : (all : Bool) (before now : List BitList) (n count : ℕ) → n ≡ count → length before ≤ n → length now ≤ n → places all before now n ≡ (if all then count_from 0 count else changed_from 0 before now)
+places_end true before now n count e h k = ap (count_from 0) e
+places_end false before now n count e h k = ap₂ (changed_from 0) (take_all n before h) (take_all n now k)

@@ -10,9 +10,10 @@ use Rattle.std.proofs.lemmas.List.Elements.{All-replicate, All-from_get_or}
 use Rattle.vs_four.specs.Logic.{BitList}
 use Rattle.vs_net.specs.Network.{State}
 use Rattle.vs_design.specs.Expressions.{signal_length}
-use Rattle.vs_design.specs.Values.{count_from}
+use Rattle.vs_design.specs.Values.{count_from, read}
 use Rattle.vs_design.specs.Designs.{Design}
 use Rattle.vs_vcd.specs.Scopes.{shown_signals, head_text}
+use Rattle.vs_vcd.specs.Shared.{at_places, coded, led, led_places}
 use Rattle.vs_vcd.specs.Texts.{shown_numbers, time_line, first_text, slot_text}
 use Rattle.vs_program.specs.declared.compiled.Span.{Span}
 use Rattle.vs_program.specs.Compiled.{span_bits}
@@ -27,6 +28,7 @@ use Rattle.vs_waves.specs.Rounds.{CanBegin, CanPut, EachGoesOn, values_in, lane_
 use Rattle.vs_waves.specs.Last.{LastPlanes, last_values}
 use Rattle.vs_waves.specs.Slots.{AreTails, IsSlot, slot_lines, lane_text}
 use Rattle.vs_waves.specs.Kept.{wave_of, waves_from, waves_of, IsKept}
+use Rattle.vs_waves.proofs.Picking.{value_lengths, within_as}
 use Rattle.vs_waves.proofs.Lists.{element, All-at, same_element}
 
 -- ---- waves by lane
@@ -99,10 +101,18 @@ lengths-values_in bits (s ∷ signals) =
     ap (λ (n : ℕ). n ∷ map length (values_in bits signals)) (length-map (span_bits s) bits ∙ length-count_from s.first s.length)
     ∙ ap (λ (ns : List ℕ). s.length ∷ ns) (lengths-values_in bits signals)
 
--- the engine's signals have the lengths of those of the last slot, where their values have them
-same_lengths : {W : Type 0} (lane : W → ℕ → Bool) (engine : Running W) (last : LastPlanes W) (i : ℕ) → map length (lane_values lane engine i) ≡ map length (last_values lane last i)
-    → map (λ (s : Span). s.length) engine.program.signals ≡ map (λ (s : Span). s.length) last.spans
-same_lengths lane engine last i e = sym (lengths-values_in (state lane engine i) engine.program.signals) ∙ e ∙ lengths-values_in (λ b. slot_lane lane last.planes b i) last.spans
+-- the engine's signals that are written have the lengths of those of the last slot, where their values have them
+same_lengths : {W : Type 0} (lane : W → ℕ → Bool) (engine : Running W) (last : LastPlanes W) (i : ℕ) → map length (at_places [] last.places (lane_values lane engine i)) ≡ map length (last_values lane last i)
+    → at_places 0 last.places (map (λ (s : Span). s.length) engine.program.signals) ≡ map (λ (s : Span). s.length) last.spans
+same_lengths lane engine last i e =
+    sym (ap (at_places 0 last.places) (lengths-values_in (state lane engine i) engine.program.signals))
+    ∙ sym (value_lengths last.places (lane_values lane engine i))
+    ∙ e
+    ∙ lengths-values_in (λ b. slot_lane lane last.planes b i) last.spans
+
+-- and the places of those that are written are among them
+same_within : {W : Type 0} (lane : W → ℕ → Bool) (engine : Running W) (places : List ℕ) (i : ℕ) → All (λ k. k < length (lane_values lane engine i)) places → All (λ k. k < length engine.program.signals) places
+same_within lane engine places i h = within_as places _ _ (length-map engine.program.signals (λ (s : Span). read (state lane engine i) (span_bits s))) h
 
 -- the times of a round fit, and are those of its fall and its rise
 pub record HasTimes (round half : ℕ) : Type 0 where
@@ -145,7 +155,8 @@ first_lane lane lanes w live waves none e flags test is =
 -- the round can follow: its times fit, and the engine's signals have the lengths of those of the last slot
 pub record CanFollow {W : Type 0} (engine : Running W) (round : ℕ) (w : Inside W) : Type 0 where
   pub times : HasTimes round w.half
-  pub lengths : map (λ (s : Span). s.length) engine.program.signals ≡ map (λ (s : Span). s.length) w.last.spans
+  pub within : All (λ k. k < length engine.program.signals) w.last.places
+  pub lengths : at_places 0 w.last.places (map (λ (s : Span). s.length) engine.program.signals) ≡ map (λ (s : Span). s.length) w.last.spans
 
 -- where some wave can be begun, and where some can be put
 pub begin_follows : {W : Type 0} (lane : W → ℕ → Bool) (lanes : ℕ) (engine : Running W) (round : ℕ) (w : Inside W) (live : List Bool) (waves : List Wave) (none : Bool)
@@ -154,7 +165,7 @@ pub begin_follows : {W : Type 0} (lane : W → ℕ → Bool) (lanes : ℕ) (engi
 begin_follows lane lanes engine round w live waves none e flags test is ready =
     let first = first_lane lane lanes w live waves none e flags test is in
     let can = ready 0 (wave_of lane lanes w 0 first.stands) first.here in
-    record { times = has_times round w.half can.in_time; lengths = same_lengths lane engine w.last 0 can.lengths }
+    record { times = has_times round w.half can.in_time; within = same_within lane engine w.last.places 0 can.within; lengths = same_lengths lane engine w.last 0 can.lengths }
 
 pub put_follows : {W : Type 0} (lane : W → ℕ → Bool) (lanes : ℕ) (engine : Running W) (round : ℕ) (w : Inside W) (live : List Bool) (waves : List Wave) (none : Bool)
     → waves_of lane lanes w ≡ waves → length live ≡ length waves → none ≡ (length live == 0) → none ≡ false
@@ -162,15 +173,15 @@ pub put_follows : {W : Type 0} (lane : W → ℕ → Bool) (lanes : ℕ) (engine
 put_follows lane lanes engine round w live waves none e flags test is ready =
     let first = first_lane lane lanes w live waves none e flags test is in
     let can = ready 0 first.flag (wave_of lane lanes w 0 first.stands) first.flagged first.here in
-    record { times = has_times round w.half can.in_time; lengths = same_lengths lane engine w.last 0 can.lengths }
+    record { times = has_times round w.half can.in_time; within = same_within lane engine w.last.places 0 can.within; lengths = same_lengths lane engine w.last 0 can.lengths }
 
 -- ---- what a round makes of a lane
 
-abbrev wave_with : List ℕ → List ℕ → ℕ → List BitList → List ℕ → Bool → Wave
-wave_with head numbers half last left is_open = record { dump = record { head = head; numbers = numbers; half = half; last = last; left = left }; is_open = is_open }
+abbrev wave_with : List ℕ → List ℕ → List ℕ → ℕ → List BitList → List ℕ → Bool → Wave
+wave_with head numbers places half last left is_open = record { dump = record { head = head; numbers = numbers; half = half; last = last; left = left }; places = places; is_open = is_open }
 
-same_wave : (h head m numbers : List ℕ) (k half : ℕ) (v last : List BitList) (t left : List ℕ) (is_open : Bool) → h ≡ head → m ≡ numbers → k ≡ half → v ≡ last → t ≡ left → wave_with h m k v t is_open ≡ wave_with head numbers half last left is_open
-same_wave h head m numbers k half v last t left is_open p n q r s = cc
+same_wave : (h head m numbers o places : List ℕ) (k half : ℕ) (v last : List BitList) (t left : List ℕ) (is_open : Bool) → h ≡ head → m ≡ numbers → o ≡ places → k ≡ half → v ≡ last → t ≡ left → wave_with h m o k v t is_open ≡ wave_with head numbers places half last left is_open
+same_wave h head m numbers o places k half v last t left is_open p n u q r s = cc
 
 -- how a lane stands once its fall was noted, or not
 abbrev pub noted : Bool → LaneWave → LaneWave
@@ -185,19 +196,20 @@ pub record HasFallen {W : Type 0} (lane : W → ℕ → Bool) (lanes : ℕ) (eng
   pub half : v.half ≡ w.half
   pub head : v.round.head.items ≡ w.round.head.items
   pub numbers : v.last.numbers ≡ w.last.numbers
-  pub values : (i : ℕ) → i < lanes → last_values lane v.last i ≡ lane_values lane engine i
+  pub places : v.last.places ≡ w.last.places
+  pub values : (i : ℕ) → i < lanes → last_values lane v.last i ≡ at_places [] w.last.places (lane_values lane engine i)
   pub text : (i : ℕ) (l : LaneWave) → i < lanes
-      → (if v.round.fall.is_first then v.round.head.items else []) ++ slot_lines lane lanes v.round.fall i ≡ fall_text round (lane_values lane engine i) (wave_of lane lanes w i l).dump
+      → (if v.round.fall.is_first then v.round.head.items else []) ++ slot_lines lane lanes v.round.fall i ≡ fall_text round (at_places [] w.last.places (lane_values lane engine i)) (wave_of lane lanes w i l).dump
 
 pub fallen_wave : {W : Type 0} (lane : W → ℕ → Bool) (lanes : ℕ) (engine : Running W) (round : ℕ) (w v : Inside W) → HasFallen lane lanes engine round w v
     → (i : ℕ) (b : Bool) (l : LaneWave) → i < lanes → wave_of lane lanes v i (noted b l) ≡ begun round b (lane_values lane engine i) (wave_of lane lanes w i l)
 fallen_wave lane lanes engine round w v fallen i true l h =
-    same_wave v.round.head.items w.round.head.items v.last.numbers w.last.numbers v.half w.half (last_values lane v.last i) (lane_values lane engine i)
+    same_wave v.round.head.items w.round.head.items v.last.numbers w.last.numbers v.last.places w.last.places v.half w.half (last_values lane v.last i) (at_places [] w.last.places (lane_values lane engine i))
     ((if v.round.fall.is_first then v.round.head.items else []) ++ slot_lines lane lanes v.round.fall i)
-    (fall_text round (lane_values lane engine i) (wave_of lane lanes w i l).dump)
-    l.is_open fallen.head fallen.numbers fallen.half (fallen.values i h) (fallen.text i l h)
+    (fall_text round (at_places [] w.last.places (lane_values lane engine i)) (wave_of lane lanes w i l).dump)
+    l.is_open fallen.head fallen.numbers fallen.places fallen.half (fallen.values i h) (fallen.text i l h)
 fallen_wave lane lanes engine round w v fallen i false l h =
-    same_wave v.round.head.items w.round.head.items v.last.numbers w.last.numbers v.half w.half (last_values lane v.last i) (lane_values lane engine i) [] [] l.is_open fallen.head fallen.numbers fallen.half (fallen.values i h) refl
+    same_wave v.round.head.items w.round.head.items v.last.numbers w.last.numbers v.last.places w.last.places v.half w.half (last_values lane v.last i) (at_places [] w.last.places (lane_values lane engine i)) [] [] l.is_open fallen.head fallen.numbers fallen.places fallen.half (fallen.values i h) refl
 
 -- the text of the fall, in round 0 and later
 pub first_fall : (round : ℕ) (is_first : Bool) (head numbers lines : List ℕ) (now last : List BitList) (half : ℕ) → round ≡ 0 → is_first ≡ true → lines ≡ first_text numbers now
@@ -220,8 +232,9 @@ pub record HasRisen {W : Type 0} (lane : W → ℕ → Bool) (lanes : ℕ) (engi
   pub head : v.round.head.items ≡ w.round.head.items
   pub fall : v.round.fall ≡ w.round.fall
   pub numbers : v.last.numbers ≡ w.last.numbers
-  pub values : (i : ℕ) → i < lanes → last_values lane v.last i ≡ lane_values lane engine i
-  pub text : (i : ℕ) → i < lanes → slot_lines lane lanes v.round.rise i ≡ slot_text w.last.numbers (rise_time round w.half) (last_values lane w.last i) (lane_values lane engine i)
+  pub places : v.last.places ≡ w.last.places
+  pub values : (i : ℕ) → i < lanes → last_values lane v.last i ≡ at_places [] w.last.places (lane_values lane engine i)
+  pub text : (i : ℕ) → i < lanes → slot_lines lane lanes v.round.rise i ≡ slot_text w.last.numbers (rise_time round w.half) (last_values lane w.last i) (at_places [] w.last.places (lane_values lane engine i))
 
 -- what is put of a lane
 pub risen_text : {W : Type 0} (lane : W → ℕ → Bool) (lanes : ℕ) (engine : Running W) (round time : ℕ) (w v : Inside W) → HasRisen lane lanes engine round w v → time ≡ fall_time round w.half
@@ -238,23 +251,24 @@ risen_text lane lanes engine round time w v risen time_is i false l h = ended l.
 pub risen_wave : {W : Type 0} (lane : W → ℕ → Bool) (lanes : ℕ) (engine : Running W) (round : ℕ) (w v : Inside W) → HasRisen lane lanes engine round w v
     → (i : ℕ) (b : Bool) (l : LaneWave) → i < lanes → wave_of lane lanes v i (closed b l) ≡ after_put b (lane_values lane engine i) (wave_of lane lanes w i l)
 risen_wave lane lanes engine round w v risen i true l h =
-    same_wave v.round.head.items w.round.head.items v.last.numbers w.last.numbers v.half w.half (last_values lane v.last i) (lane_values lane engine i) [] [] l.is_open risen.head risen.numbers risen.half (risen.values i h) refl
+    same_wave v.round.head.items w.round.head.items v.last.numbers w.last.numbers v.last.places w.last.places v.half w.half (last_values lane v.last i) (at_places [] w.last.places (lane_values lane engine i)) [] [] l.is_open risen.head risen.numbers risen.places risen.half (risen.values i h) refl
 risen_wave lane lanes engine round w v risen i false l h =
-    same_wave v.round.head.items w.round.head.items v.last.numbers w.last.numbers v.half w.half (last_values lane v.last i) (lane_values lane engine i) [] [] false risen.head risen.numbers risen.half (risen.values i h) refl
+    same_wave v.round.head.items w.round.head.items v.last.numbers w.last.numbers v.last.places w.last.places v.half w.half (last_values lane v.last i) (at_places [] w.last.places (lane_values lane engine i)) [] [] false risen.head risen.numbers risen.places risen.half (risen.values i h) refl
 
 -- A round has risen where its slot is this one, which has the text, and the planes have the engine's values.
 pub has_risen : {W : Type 0} (lane : W → ℕ → Bool) (lanes : ℕ) (engine : Running W) (round time : ℕ) (w v : Inside W) (last : LastPlanes W) (rise : Slot W)
     → v.half ≡ w.half → v.last ≡ last → v.round ≡ record w.round { rise = rise } → time ≡ rise_time round w.half
-    → last.numbers ≡ w.last.numbers → ((i : ℕ) → i < lanes → last_values lane last i ≡ lane_values lane engine i)
-    → ((i : ℕ) → i < lanes → slot_lines lane lanes rise i ≡ slot_text w.last.numbers time (last_values lane w.last i) (lane_values lane engine i))
+    → last.numbers ≡ w.last.numbers → last.places ≡ w.last.places → ((i : ℕ) → i < lanes → last_values lane last i ≡ at_places [] w.last.places (lane_values lane engine i))
+    → ((i : ℕ) → i < lanes → slot_lines lane lanes rise i ≡ slot_text w.last.numbers time (last_values lane w.last i) (at_places [] w.last.places (lane_values lane engine i)))
     → HasRisen lane lanes engine round w v
-has_risen lane lanes engine round time w v last rise half last_is round_is time_is numbers values text = record {
+has_risen lane lanes engine round time w v last rise half last_is round_is time_is numbers places values text = record {
   half = half;
   head = ap (λ (r : Round _). r.head.items) round_is;
   fall = ap (λ (r : Round _). r.fall) round_is;
   numbers = ap (λ (l : LastPlanes _). l.numbers) last_is ∙ numbers;
+  places = ap (λ (l : LastPlanes _). l.places) last_is ∙ places;
   values = λ i h. ap (λ (l : LastPlanes _). last_values lane l i) last_is ∙ values i h;
-  text = λ i h. ap (λ (r : Round _). slot_lines lane lanes r.rise i) round_is ∙ text i h ∙ ap (λ (k : ℕ). slot_text w.last.numbers k (last_values lane w.last i) (lane_values lane engine i)) time_is;
+  text = λ i h. ap (λ (r : Round _). slot_lines lane lanes r.rise i) round_is ∙ text i h ∙ ap (λ (k : ℕ). slot_text w.last.numbers k (last_values lane w.last i) (at_places [] w.last.places (lane_values lane engine i))) time_is;
 }
 
 -- and is kept
@@ -273,22 +287,23 @@ kept_risen lanes w v last rise kept count last_is round_is signals slot block =
 abbrev pub unopened : LaneWave
 unopened = record { is_open = true; is_noted = false }
 
-pub new_waves : {W : Type 0} (lane : W → ℕ → Bool) (lanes : ℕ) (d : Design) (w : Inside W) (count : ℕ) → w.lanes.items ≡ replicate count unopened → w.round.head.items ≡ head_text d
-    → map (λ (s : Span). s.length) w.last.spans ≡ map signal_length (shown_signals d) → w.last.numbers ≡ shown_numbers d → All (IsNewWave d w.half) (waves_of lane lanes w)
-new_waves lane lanes d w count same head lengths numbers = All-from_get_or (IsNewWave d w.half) (waves_of lane lanes w) none (λ i h.
+pub new_waves : {W : Type 0} (lane : W → ℕ → Bool) (lanes : ℕ) (share : Bool) (d : Design) (w : Inside W) (count : ℕ) → w.lanes.items ≡ replicate count unopened → w.round.head.items ≡ head_text (coded share d)
+    → map (λ (s : Span). s.length) w.last.spans ≡ map signal_length (shown_signals (led share d)) → w.last.numbers ≡ shown_numbers (led share d) → w.last.places ≡ led_places share d → All (IsNewWave share d w.half) (waves_of lane lanes w)
+new_waves lane lanes share d w count same head lengths numbers places = All-from_get_or (IsNewWave share d w.half) (waves_of lane lanes w) none (λ i h.
     let found = element w.lanes.items i (omega (arith, length-waves_of lane lanes w)) in
     let stands : found.0 ≡ unopened = All-at (λ (l : LaneWave). l ≡ unopened) w.lanes.items i found.0 found.1 each in
     let here = get_or_from_slice_get (waves_of lane lanes w) i (wave_of lane lanes w i found.0) none (wave_at lane lanes w i found.0 found.1) in
-    subst (IsNewWave d w.half) (sym (here ∙ ap (wave_of lane lanes w i) stands)) record {
+    subst (IsNewWave share d w.half) (sym (here ∙ ap (wave_of lane lanes w i) stands)) record {
       opened = refl;
       head_is = head;
       numbers_are = numbers;
+      places_are = places;
       half_is = refl;
       lengths = lengths-values_in (λ b. slot_lane lane w.last.planes b i) w.last.spans ∙ lengths;
       left_is = refl;
     }) where
       none : Wave
-      none = wave_with [] [] 0 [] [] true
+      none = wave_with [] [] [] 0 [] [] true
 
       each : All (λ (l : LaneWave). l ≡ unopened) w.lanes.items
       each = subst (All (λ (l : LaneWave). l ≡ unopened)) (sym same) (All-replicate (λ (l : LaneWave). l ≡ unopened) count unopened refl)

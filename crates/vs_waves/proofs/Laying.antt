@@ -1,13 +1,16 @@
 -- Signals' bits laid one signal behind the other.
-use Rattle.std.proofs.Common.{◌≡◌, Bool, true, false, ℕ, ◌+◌, ◌<◌, ◌≤◌, ◌^◌, List, [], ◌∷◌, ◌++◌, length, map, take, slice_get, Some, refl, sym, ap, ap₂, ◌∙◌, subst, arith, inl, inr, append-nil, length-append}
+use Rattle.std.proofs.Common.{◌≡◌, Bool, true, false, ℕ, suc, ◌+◌, ◌<◌, ◌≤◌, ◌^◌, List, [], ◌∷◌, ◌++◌, length, map, take, slice_get, Some, refl, sym, ap, ap₂, ◌∙◌, subst, arith, inl, inr, append-nil, length-append}
 use Rattle.std.proofs.lemmas.Bool.{cases_lt}
 use Rattle.std.proofs.lemmas.Option.{slice_get_within, get_or_from_slice_get}
 use Rattle.std.proofs.lemmas.List.{map-append, take_more}
 use Rattle.std.proofs.lemmas.List.Elements.{filter-append}
-use Rattle.std.specs.Prelude.{not, cond, filter, Option, None, is_some}
+use Rattle.std.specs.Prelude.{not, cond, filter, Option, None, is_some, if◌then◌else◌}
 use Rattle.vs_four.specs.declared.Range.{Range}
 use Rattle.vs_design.specs.Expressions.{Signal, range_or_one, words_length, signal_length}
-use Rattle.vs_design.specs.Footprints.{is_memory}
+use Rattle.vs_design.specs.Designs.{Design}
+use Rattle.vs_design.specs.Footprints.{is_memory, shown_signals}
+use Rattle.vs_vcd.specs.Shared.{leads, leading_from, led_by}
+use Rattle.vs_vcd.proofs.Leading.{filters_swap}
 use Rattle.vs_program.specs.declared.compiled.Span.{Span}
 use Rattle.vs_waves.specs.Last.{AreApart}
 use Rattle.vs_waves.proofs.Listing.{slice_get-before, slice_get-last}
@@ -75,3 +78,52 @@ shown_still signals n s e memory =
 pub more_of : {A : Type 0} (f : Signal → A) (xs more : List A) (old new : List Signal) (s : Signal) (y : A) → more ≡ xs ++ y ∷ [] → y ≡ f s → new ≡ old ++ s ∷ [] → xs ≡ map f old → more ≡ map f new
 more_of f xs more old new s y m is n so_far =
     m ∙ ap₂ (λ ys z. ys ++ z ∷ []) so_far is ∙ sym (map-append f old (s ∷ [])) ∙ ap (map f) (sym n)
+
+-- ---- signals that are written
+
+-- those of these signals that lead
+abbrev pub written : (ℕ → ℕ) → List Signal → List Signal
+written code signals = filter (leads code) signals
+
+-- those of a design that are written
+pub written_all : (code : ℕ → ℕ) (d : Design) → written code (shown d.signals) ≡ shown_signals (led_by code d)
+written_all code d = filters_swap (leads code) (λ (s : Signal). not (is_memory s)) d.signals
+
+written_append : (code : ℕ → ℕ) (signals more : List Signal) (s : Signal) → more ≡ signals ++ s ∷ [] → written code more ≡ written code signals ++ written code (s ∷ [])
+written_append code signals more s e = ap (written code) e ∙ filter-append (leads code) signals (s ∷ [])
+
+-- one signal more, which leads or doesn't
+pub written_more : (code : ℕ → ℕ) (signals more : List Signal) (s : Signal) → more ≡ signals ++ s ∷ [] → leads code s ≡ true → written code more ≡ written code signals ++ s ∷ []
+written_more code signals more s e leading =
+    let one : written code (s ∷ []) ≡ s ∷ [] = ap (λ (b : Bool). cond b (s ∷ []) []) leading in
+    written_append code signals more s e ∙ ap (λ (xs : List Signal). written code signals ++ xs) one
+
+pub written_still : (code : ℕ → ℕ) (signals more : List Signal) (s : Signal) → more ≡ signals ++ s ∷ [] → leads code s ≡ false → written code more ≡ written code signals
+written_still code signals more s e leading =
+    let none : written code (s ∷ []) ≡ [] = ap (λ (b : Bool). cond b (s ∷ []) []) leading in
+    written_append code signals more s e ∙ ap (λ (xs : List Signal). written code signals ++ xs) none ∙ append-nil (written code signals)
+
+leading_append : (code : ℕ → ℕ) (k : ℕ) (signals : List Signal) (s : Signal) → leading_from code k (signals ++ s ∷ []) ≡ leading_from code k signals ++ (if leads code s then (k + length signals) ∷ [] else [])
+leading_append code k [] s = ap (λ (n : ℕ). if leads code s then n ∷ [] else []) (let e : k ≡ k + 0 = omega arith in e)
+leading_append code k (x ∷ signals) s =
+    let last : ℕ → List ℕ = λ n. if leads code s then n ∷ [] else [] in
+    let next : leading_from code (suc k) (signals ++ s ∷ []) ≡ leading_from code (suc k) signals ++ last (k + suc (length signals)) =
+    leading_append code (suc k) signals s ∙ ap (λ (n : ℕ). leading_from code (suc k) signals ++ last n) (let e : suc k + length signals ≡ k + suc (length signals) = omega arith in e) in
+    of (leads code x) (last (k + suc (length signals))) (leading_from code (suc k) (signals ++ s ∷ [])) (leading_from code (suc k) signals) next
+  where
+    of : (b : Bool) (end new old : List ℕ) → new ≡ old ++ end → (if b then (k ∷ new) else new) ≡ (if b then (k ∷ old) else old) ++ end
+    of true end new old e = ap (λ (ns : List ℕ). k ∷ ns) e
+    of false end new old e = e
+
+-- the place of one signal more
+pub leading_more : (code : ℕ → ℕ) (signals more : List Signal) (s : Signal) (place : ℕ) → more ≡ signals ++ s ∷ [] → leads code s ≡ true → place ≡ length signals → leading_from code 0 more ≡ leading_from code 0 signals ++ place ∷ []
+leading_more code signals more s place e leading is =
+    ap (leading_from code 0) e ∙ leading_append code 0 signals s
+    ∙ ap (λ (b : Bool). leading_from code 0 signals ++ (if b then (0 + length signals) ∷ [] else [])) leading
+    ∙ ap (λ (n : ℕ). leading_from code 0 signals ++ n ∷ []) (let q : 0 + length signals ≡ place = omega arith in q)
+
+pub leading_still : (code : ℕ → ℕ) (signals more : List Signal) (s : Signal) → more ≡ signals ++ s ∷ [] → leads code s ≡ false → leading_from code 0 more ≡ leading_from code 0 signals
+leading_still code signals more s e leading =
+    ap (leading_from code 0) e ∙ leading_append code 0 signals s
+    ∙ ap (λ (b : Bool). leading_from code 0 signals ++ (if b then (0 + length signals) ∷ [] else [])) leading
+    ∙ append-nil (leading_from code 0 signals)

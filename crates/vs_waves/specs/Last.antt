@@ -6,10 +6,11 @@ use Rattle.vs_plane.specs.Lanes.{slot_lane}
 use Rattle.vs_program.specs.declared.compiled.Span.{Span}
 use Rattle.vs_waves.specs.Rounds.{values_in}
 
--- the planes of bits, and which of them each signal has that has lines, its number, and how many signals there are in all
+-- the planes of bits, and which of them each signal has whose values are written, its number, its place among all that have lines, and how many signals there are in all
 pub record LastPlanes (W : Type 0) : Type 0 where
   pub spans : List Span
   pub numbers : List ℕ
+  pub places : List ℕ
   pub signals : ℕ
   pub planes : List (Pair W)
 
@@ -25,8 +26,9 @@ pub record AreNumbered (spans signals : ℕ) (numbers : List ℕ) : Type 0 where
   pub few : spans ≤ signals
   pub below : All (λ n. n < signals) numbers
 
-pub record AreLaid (spans : List Span) (numbers : List ℕ) (signals bits : ℕ) : Type 0 where
+pub record AreLaid (spans : List Span) (numbers places : List ℕ) (signals bits : ℕ) : Type 0 where
   pub apart : AreApart spans bits
+  pub placed : length places ≡ length spans
   pub numbered : AreNumbered (length spans) signals numbers
 
 -- the values in lane i, by signal, where `lane` reads a lane of a word

@@ -4,6 +4,7 @@ ghost use Rattle.std.specs.Prelude.{◌≡◌, ◌<◌, ◌≤◌, [], if◌then
 ghost use Rattle.vs_desk.specs.Desk.{IsWritable, PutsAll};
 ghost use Rattle.vs_flat.specs.DesignOf.{design_of};
 ghost use Rattle.vs_vcd.specs.Scopes.{head_text};
+ghost use Rattle.vs_vcd.specs.Shared.{code_at, coded_by};
 ghost use Rattle.vs_waves.specs.Puts.{Moves};
 ghost use Rattle.vs_waves.specs.Slots.{IsRound, lane_text, noted_text};
 
@@ -13,7 +14,7 @@ use std::alloc::{AllocError, Global};
 use vs_desk::{Desk, Failed, put_all, put_law};
 use vs_flat::{Flat, trees_law};
 use vs_plane::{Lanes, Word};
-use vs_vcd::{LINE_ROOM, Tail, head, put_time};
+use vs_vcd::{Codes, LINE_ROOM, Tail, head, put_time};
 
 /// How a lane's wave stands: open until its last line is put, and whether the fall of a round was noted and isn't put yet.
 #[derive(Clone, Copy)]
@@ -32,9 +33,9 @@ pub(crate) struct Round<W: Word> {
 }
 
 impl<W: Lanes> Round<W> {
-    /// A round in which nothing changes.
-    pub(crate) fn new(alloc: Global, flat: &Flat) -> Result<Round<W>, AllocError>
-        ensures head { IfOk result (λ r. r.head.items ≡ head_text (design_of flat.now)) }
+    /// A round in which nothing changes, with a head that has these codes.
+    pub(crate) fn new(alloc: Global, flat: &Flat, codes: &Codes) -> Result<Round<W>, AllocError>
+        ensures head { IfOk result (λ r. r.head.items ≡ head_text (coded_by (code_at codes.now) (design_of flat.now))) }
         ensures tails { IfOk result (λ r. length r.tails.items ≡ length (design_of flat.now).signals) }
         ensures round { IfOk result (IsRound W.LANES) }
     {
@@ -45,7 +46,7 @@ impl<W: Lanes> Round<W> {
             tails.push_reserved(Tail::of(n));
         }
         Ok(Round {
-            head: head(alloc, flat)?,
+            head: head(alloc, flat, codes)?,
             tails,
             fall: Slot::new(alloc, count as usize)?,
             rise: Slot::new(alloc, count as usize)?,

@@ -1,8 +1,9 @@
 //! A slot's text, lane by lane.
 
-ghost use Rattle.std.specs.Prelude.{◌≡◌, ℕ, ◌<◌, ◌≤◌, ◌++◌, length, map, take, false, IsTrue, IfOk, OnOk, OnErr};
+ghost use Rattle.std.specs.Prelude.{◌≡◌, ℕ, ◌<◌, ◌≤◌, ◌++◌, All, [], length, map, take, false, IsTrue, IfOk, OnOk, OnErr};
 ghost use Rattle.vs_desk.specs.Desk.{Fails, IsWritable, PutsPart};
 ghost use Rattle.vs_program.specs.declared.compiled.Span.{Span};
+ghost use Rattle.vs_vcd.specs.Shared.{at_places};
 ghost use Rattle.vs_vcd.specs.Texts.{first_text, slot_text};
 ghost use Rattle.vs_waves.specs.Changes.{AreOf, changes_text, line_at};
 ghost use Rattle.vs_waves.specs.Last.{last_values};
@@ -50,13 +51,15 @@ impl<W: Lanes> Slot<W> {
 
     /// Makes it the first slot: all values that the engine holds, which are the last ones then.
     pub(crate) fn begin(&mut self, engine: &Engine<W>, last: &mut Last<W>)
-        requires lengths { map (λ (s : Span). s.length) engine.now.program.signals ≡ map (λ (s : Span). s.length) last.old.spans }
+        requires within { All (λ k. k < length engine.now.program.signals) last.old.places }
+        requires lengths { at_places 0 last.old.places (map (λ (s : Span). s.length) engine.now.program.signals) ≡ map (λ (s : Span). s.length) last.old.spans }
         requires slot { IsSlot W.LANES last.old.signals self.old }
-        ensures text { (i : ℕ) → i < W.LANES → slot_lines W.lane W.LANES self.new i ≡ first_text last.old.numbers (lane_values W.lane engine.now i) }
+        ensures text { (i : ℕ) → i < W.LANES → slot_lines W.lane W.LANES self.new i ≡ first_text last.old.numbers (at_places [] last.old.places (lane_values W.lane engine.now i)) }
         ensures first { IsTrue self.new.is_first }
         ensures numbers { last.new.numbers ≡ last.old.numbers }
+        ensures places { last.new.places ≡ last.old.places }
         ensures signals { last.new.signals ≡ last.old.signals }
-        ensures values { (i : ℕ) → i < W.LANES → last_values W.lane last.new i ≡ lane_values W.lane engine.now i }
+        ensures values { (i : ℕ) → i < W.LANES → last_values W.lane last.new i ≡ at_places [] last.old.places (lane_values W.lane engine.now i) }
         ensures slot { IsSlot W.LANES last.old.signals self.new }
     {
         let time = put_time(&mut self.opening, 0, 0);
@@ -69,13 +72,16 @@ impl<W: Lanes> Slot<W> {
 
     /// Makes it a later slot, at this time: the values that the engine holds where they aren't the last ones, which they are then.
     pub(crate) fn go_on(&mut self, time: u64, engine: &Engine<W>, last: &mut Last<W>)
-        requires lengths { map (λ (s : Span). s.length) engine.now.program.signals ≡ map (λ (s : Span). s.length) last.old.spans }
+        requires within { All (λ k. k < length engine.now.program.signals) last.old.places }
+        requires lengths { at_places 0 last.old.places (map (λ (s : Span). s.length) engine.now.program.signals) ≡ map (λ (s : Span). s.length) last.old.spans }
         requires slot { IsSlot W.LANES last.old.signals self.old }
-        ensures text { (i : ℕ) → i < W.LANES → slot_lines W.lane W.LANES self.new i ≡ slot_text last.old.numbers time (last_values W.lane last.old i) (lane_values W.lane engine.now i) }
+        ensures text { (i : ℕ) → i < W.LANES → slot_lines W.lane W.LANES self.new i ≡ slot_text last.old.numbers time (last_values W.lane last.old i)
+            (at_places [] last.old.places (lane_values W.lane engine.now i)) }
         ensures first { self.new.is_first ≡ false }
         ensures numbers { last.new.numbers ≡ last.old.numbers }
+        ensures places { last.new.places ≡ last.old.places }
         ensures signals { last.new.signals ≡ last.old.signals }
-        ensures values { (i : ℕ) → i < W.LANES → last_values W.lane last.new i ≡ lane_values W.lane engine.now i }
+        ensures values { (i : ℕ) → i < W.LANES → last_values W.lane last.new i ≡ at_places [] last.old.places (lane_values W.lane engine.now i) }
         ensures slot { IsSlot W.LANES last.old.signals self.new }
     {
         self.opened = put_time(&mut self.opening, 0, time);

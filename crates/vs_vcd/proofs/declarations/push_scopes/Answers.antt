@@ -2,13 +2,14 @@ use Rattle.std.proofs.Common.{◌≡◌, ℕ, ◌+◌, List, [], ◌∷◌, ◌+
 use Rattle.std.proofs.lemmas.Grind.{common_steps}
 use Rattle.vs_flat.specs.DesignOf.{design_of}
 use Rattle.vs_vcd.specs.declared.declarations.Step.{Step}
+use Rattle.vs_vcd.specs.Shared.{code_at, coded_by}
 use Rattle.vs_vcd.specs.Steps.{step_text, steps_text, link_steps, AreSteps}
 use Rattle.vs_vcd.proofs.Outline.{top_scopes, steps_text-more, AreSteps-front, AreSteps-last, no_steps}
 use Rattle.vs_vcd.proofs.declarations.push_scopes.Goals as goal
 
 pub loop-step-init : goal.loop-step-init
 loop-step-init c =
-    let d = design_of c.args.flat.now in
+    let d = coded_by (code_at c.args.codes.now) (design_of c.args.flat.now) in
     let top = top_scopes d (length c.args.flat.now.scopes + 1) _ _ c.first.result c.in_ok-scopes.ensures (omega arith) c.first.ensures in
     let steps : c.push_link.new.steps.items ≡ link_steps c.first.result = c.in_ok-push_link.ensures ∙ ap (λ (xs : List Step). xs ++ link_steps c.first.result) c.new-steps.ensures.items in
     record {
@@ -18,17 +19,17 @@ loop-step-init c =
 
 pub take_step-requires-clause-step : goal.take_step-requires-clause-step
 take_step-requires-clause-step c =
-    let d = design_of c.args.flat.now in
+    let d = coded_by (code_at c.args.codes.now) (design_of c.args.flat.now) in
     AreSteps-last d c.pop.new.self.items c.in-Some.step (subst (AreSteps d) c.in-Some.ensures.items c.loop-step.invariant.steps)
 
 pub take_step-requires-clause-steps : goal.take_step-requires-clause-steps
 take_step-requires-clause-steps c =
-    let d = design_of c.args.flat.now in
+    let d = coded_by (code_at c.args.codes.now) (design_of c.args.flat.now) in
     AreSteps-front d c.pop.new.self.items (c.in-Some.step ∷ []) (subst (AreSteps d) c.in-Some.ensures.items c.loop-step.invariant.steps)
 
 pub loop-step-smaller : goal.loop-step-smaller
 loop-step-smaller c =
-    let d = design_of c.args.flat.now in
+    let d = coded_by (code_at c.args.codes.now) (design_of c.args.flat.now) in
     let before = ap (steps_text d) c.in-Some.ensures.items ∙ steps_text-more d c.pop.new.self.items c.in-Some.step in
     omega (
       arith,
@@ -41,7 +42,7 @@ loop-step-smaller c =
 
 pub loop-step-preserved : goal.loop-step-preserved
 loop-step-preserved c =
-    let d = design_of c.args.flat.now in
+    let d = coded_by (code_at c.args.codes.now) (design_of c.args.flat.now) in
     let before = ap (steps_text d) c.in-Some.ensures.items ∙ steps_text-more d c.pop.new.self.items c.in-Some.step in
     record {
       text = c.in_ok-take_step.ensures.text ∙ ap (λ (t : List ℕ). c.loop-step.text.items ++ t) (sym before) ∙ c.loop-step.invariant.text;
@@ -50,6 +51,6 @@ loop-step-preserved c =
 
 pub returns : goal.returns
 returns c =
-    let d = design_of c.args.flat.now in
+    let d = coded_by (code_at c.args.codes.now) (design_of c.args.flat.now) in
     let none : c.loop-step.steps.items ≡ [] = grind (arith, common_steps) in
     sym (append-nil c.loop-step.text.items) ∙ ap (λ (t : List ℕ). c.loop-step.text.items ++ t) (sym (ap (steps_text d) none ∙ (no_steps d).0)) ∙ c.loop-step.invariant.text

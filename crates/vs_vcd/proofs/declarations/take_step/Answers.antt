@@ -3,6 +3,7 @@ use Rattle.std.specs.Prelude.{None}
 use Rattle.vs_flat.specs.DesignOf.{design_of, scope_of}
 use Rattle.vs_vcd.specs.declared.declarations.Step.{Step}
 use Rattle.vs_vcd.specs.Scopes.{upscope_line}
+use Rattle.vs_vcd.specs.Shared.{code_at, coded_by}
 use Rattle.vs_vcd.specs.Steps.{step_text, steps_text, IsStep}
 use Rattle.vs_vcd.proofs.Arenas.{scope-at, length-scopes}
 use Rattle.vs_vcd.proofs.Outline.{inner_scopes, later_scopes, step-within, close_text, opened_step, opened_steps, length-scope_keys}
@@ -10,27 +11,27 @@ use Rattle.vs_vcd.proofs.declarations.take_step.Goals as goal
 
 pub scope-requires : goal.scope-requires
 scope-requires c =
-    let d = design_of c.args.flat.now in
+    let d = coded_by (code_at c.args.codes.now) (design_of c.args.flat.now) in
     omega (arith, step-within d c.in-Scopes.scope (subst (IsStep d) c.in-Scopes.is c.requires.step), length-scopes c.args.flat.now)
 
 pub push_variables-requires-clause-scope : goal.push_variables-requires-clause-scope
 push_variables-requires-clause-scope c =
-    let d = design_of c.args.flat.now in
+    let d = coded_by (code_at c.args.codes.now) (design_of c.args.flat.now) in
     omega (arith, step-within d c.in-Scopes.scope (subst (IsStep d) c.in-Scopes.is c.requires.step), length-scopes c.args.flat.now)
 
 pub next-requires : goal.next-requires
 next-requires c =
-    let d = design_of c.args.flat.now in
+    let d = coded_by (code_at c.args.codes.now) (design_of c.args.flat.now) in
     omega (arith, step-within d c.in-Scopes.scope (subst (IsStep d) c.in-Scopes.is c.requires.step), c.requires.scopes.numbers_long, length-scope_keys 0 d.scopes)
 
 pub first-requires : goal.first-requires
 first-requires c =
-    let d = design_of c.args.flat.now in
+    let d = coded_by (code_at c.args.codes.now) (design_of c.args.flat.now) in
     omega (arith, step-within d c.in-Scopes.scope (subst (IsStep d) c.in-Scopes.is c.requires.step), c.requires.scopes.groups_long, length-scopes c.args.flat.now)
 
 pub returns-in_ok-extend_from_slice-in-Close-clause-text : goal.returns-in_ok-extend_from_slice-in-Close-clause-text
 returns-in_ok-extend_from_slice-in-Close-clause-text c =
-    let d = design_of c.args.flat.now in
+    let d = coded_by (code_at c.args.codes.now) (design_of c.args.flat.now) in
     let rest = steps_text d c.args.steps.now.items in
     ap (λ (t : List ℕ). t ++ rest) c.in_ok-extend_from_slice-in-Close.ensures.items
     ∙ append_assoc c.args.text.now.items upscope_line rest
@@ -39,7 +40,7 @@ returns-in_ok-extend_from_slice-in-Close-clause-text c =
 pub returns-in_ok-push_link-in-Scopes-2-clause-text : goal.returns-in_ok-push_link-in-Scopes-2-clause-text
 returns-in_ok-push_link-in-Scopes-2-clause-text c =
     let a = c.args.flat.now in
-    let d = design_of a in
+    let d = coded_by (code_at c.args.codes.now) (design_of a) in
     let n = c.in-Scopes.scope in
     let s = scope_of c.scope.result.now in
     let step = subst (IsStep d) c.in-Scopes.is c.requires.step in
@@ -55,7 +56,7 @@ returns-in_ok-push_link-in-Scopes-2-clause-text c =
 pub returns-in_ok-push_link-in-Scopes-2-clause-steps : goal.returns-in_ok-push_link-in-Scopes-2-clause-steps
 returns-in_ok-push_link-in-Scopes-2-clause-steps c =
     let a = c.args.flat.now in
-    let d = design_of a in
+    let d = coded_by (code_at c.args.codes.now) (design_of a) in
     let n = c.in-Scopes.scope in
     let s = scope_of c.scope.result.now in
     let step = subst (IsStep d) c.in-Scopes.is c.requires.step in
