@@ -1,14 +1,16 @@
 #!/usr/bin/env bash
 # Prints how long runs take, with N vectors (1000, or the first argument) in each lane, the waveforms written to files:
 #   bench   the design and the stimuli of `cyclesim bench` (crates/vs_bench), in 64 and in 256 lanes;
+#   rounds  a word of 64 bits through 16 modules one behind the other, each with 16 modules that look four bits up, in 64 lanes;
 #   gates   300 gates of one bit that all change in every clock period, in 64 lanes;
 #   still   3,000 signals of one bit of which 1 in 100 changes, in 64 lanes;
 #   gate    one gate of one bit that changes in every clock period, with 100 times as many vectors, in 64 lanes;
 #   memory  a memory of 1,024 words of 64 bits with one port to write and four to read, in 64 lanes.
+# The first two are run with `--share` too.
 # Of the processor time it shows what goes to accept and to compile the design, to settle it, to find what changed in each slot (scan), to read
 # the stimuli (those of a run whose design has the inputs alone) and to put the text into files (the time of the system); the rest is to write the
-# text. Where Icarus Verilog or Verilator is installed (Debian's packages iverilog and verilator), it runs the first design and the last on the same
-# stimuli by them, one lane after the other. At the end it prints what `tools/bench_check.sh` does, of checks. It is no part of the gate. It proves
+# text. Where Icarus Verilog or Verilator is installed (Debian's packages iverilog and verilator), it runs the first two designs and the last on the
+# same stimuli by them, one lane after the other. At the end it prints what `tools/bench_check.sh` does, of checks. It is no part of the gate. It proves
 # and builds what it runs first, from what `rt check` kept here.
 set -eu
 vectors=${1:-1000}
@@ -20,7 +22,7 @@ cat > crates/bench_phases/src/main.rt <<'MAIN'
 //! word on up to the third.
 #![tactic(auto)]
 
-ghost use Rattle.std.specs.Prelude.{◌≡◌, ◌+◌, ◌*◌, ◌<◌, ◌≤◌, ◌^◌, length, map, All, IfOk, OnOk};
+ghost use Rattle.std.specs.Prelude.{◌≡◌, ◌+◌, ◌*◌, ◌<◌, ◌≤◌, ◌^◌, length, map, false, All, IfOk, OnOk};
 ghost use Rattle.vs_desk.specs.Desk.{no_register};
 ghost use Rattle.vs_desk.specs.MemoryDesk as memory;
 ghost use Rattle.vs_design.specs.Expressions.{signal_length};
@@ -190,7 +192,7 @@ fn run_rounds<L: Ledger>(
 fn new_waves(alloc: Global, flat: &Flat, desk: &mut MemoryDesk) -> Result<Waves<Words<1>>>
     requires { memory.register desk.old ≡ no_register }
     ensures count { IfOk result (λ waves. length waves ≡ 64) }
-    ensures new { IfOk result (λ waves. All (IsNewWave (design_of flat.now) 5) waves) }
+    ensures new { IfOk result (λ waves. All (IsNewWave false (design_of flat.now) 5) waves) }
     ensures writable { OnOk result (AreWritable (memory.register desk.new) 64) }
 {
     attach_law();
@@ -199,7 +201,7 @@ fn new_waves(alloc: Global, flat: &Flat, desk: &mut MemoryDesk) -> Result<Waves<
         paths.push(format!(in alloc; "{lane}")?)?;
     }
     attach(desk, paths)?;
-    Ok(Waves::new(alloc, flat, 5, 64)?)
+    Ok(Waves::new(alloc, flat, 5, 64, false)?)
 }
 
 /// The processor time, in microseconds, of so many rounds with these waves.
@@ -408,7 +410,7 @@ returns-clause-writable c = λ i h _.
 PROOF
 cat > crates/bench_phases/proofs/time_waves/Answers.antt <<'PROOF'
 use Rattle.std.proofs.Common.{◌≡◌, ◌∙◌, ℕ, List, length, map, sym, ap, subst}
-use Rattle.std.specs.Prelude.{slice_get, Some, All}
+use Rattle.std.specs.Prelude.{slice_get, Some, All, false}
 use Rattle.std.proofs.lemmas.List.Elements.{All-get_or}
 use Rattle.std.proofs.lemmas.Option.{slice_get_within, get_or_from_slice_get}
 use Rattle.vs_design.specs.Expressions.{signal_length}
@@ -424,8 +426,8 @@ pub measure-requires-clause-waves : goal.measure-requires-clause-waves
 measure-requires-clause-waves g c =
     let signals = c.requires.lengths ∙ ap (λ (f : Arena). map signal_length (shown_signals (design_of f))) (sym (c.flat.ensures.same ∙ c.typed.ensures)) in
     record {
-      each = λ i w q. c.rounds_law.ensures.first (design_of c.flat.result.now) 5 c.args.loaded.now.engine.program.signals w signals
-          (All-at (IsNewWave (design_of c.flat.result.now) 5) c.in_ok-waves.waves i w q c.in_ok-waves.ensures.new);
+      each = λ i w q. c.rounds_law.ensures.first false (design_of c.flat.result.now) 5 c.args.loaded.now.engine.program.signals w signals
+          (All-at (IsNewWave false (design_of c.flat.result.now) 5) c.in_ok-waves.waves i w q c.in_ok-waves.ensures.new);
     }
 PROOF
 cat > crates/bench_phases/proofs/settle/Invariants.antt <<'PROOF'
@@ -464,6 +466,8 @@ for lane in range(256):
         lines.append("%d %s" % (k == 0, format(state >> 32, "032b")))
     write("bench%d" % lane, "\n".join(["inputs rst a"] + lines) + "\n")
     write("bench%d.bits" % lane, "\n".join(line.replace(" ", "_") for line in lines) + "\n")
+    write("rounds%d" % lane, "\n".join(["inputs a"] + [line.split()[1] * 2 for line in lines]) + "\n")
+    write("rounds%d.bits" % lane, "\n".join(line.split()[1] * 2 for line in lines) + "\n")
     flips = [str((k + lane) % 2) for k in range(vectors)]
     write("gates%d" % lane, "\n".join(["inputs a"] + flips) + "\n")
     write("gate%d" % lane, "\n".join(["inputs a"] + flips * 100) + "\n")
@@ -477,6 +481,22 @@ for lane in range(256):
 write("gate.v", "module top(input clk, input a, output y);\nassign y = ~a;\nendmodule\n")
 write("gates.v", "module top(input clk, input a);\n" + "".join("wire g%d = ~a;\n" % n for n in range(300)) + "endmodule\n")
 write("still.v", "module top(input clk, input a, input b);\n" + "".join("wire s%d = ~%s;\n" % (n, "a" if n % 100 == 0 else "b") for n in range(3000)) + "endmodule\n")
+rows = " ".join("%d: y = %d;" % row for row in enumerate([12, 5, 6, 11, 9, 0, 10, 13, 3, 14, 15, 8, 4, 7, 1, 2]))
+write("rounds.v", """module look(input [3:0] a, output reg [3:0] y);
+always @* case (a) %s default: y = 4'bx; endcase
+endmodule
+module round(input clk, input [63:0] a, output reg [63:0] y);
+wire [63:0] s;
+genvar i;
+generate for (i = 0; i < 16; i = i + 1) begin : part look l(a[4 * i +: 4], s[4 * i +: 4]); end endgenerate
+always @(posedge clk) y <= {s[16:0], s[63:17]} ^ {s[46:0], s[63:47]};
+endmodule
+module top(input clk, input [63:0] a, output [63:0] y);
+wire [63:0] %s;
+%sassign y = w16;
+endmodule
+""" % (rows, ", ".join("w%d" % n for n in range(17)),
+       "assign w0 = a;\n" + "".join("round r%d(clk, w%d, w%d);\n" % (n, n, n + 1) for n in range(16))))
 write("memory.v", """module top(input clk, input w, input [9:0] to, input [63:0] d, input [9:0] a, b, c, e, output [63:0] p, q, r, s);
 reg [63:0] m [0:1023];
 always @(posedge clk) if (w) m[to] <= d;
@@ -504,13 +524,14 @@ endmodule
        ", ".join(names + [port for port, _ in outputs]), sum(n for _, n in inputs) - 1, vectors - 1, vectors - 1, ", ".join(names)))
 
 testbench("bench", [("rst", 1), ("a", 32)], [("y", 32)])
+testbench("rounds", [("a", 64)], [("y", 64)])
 testbench("memory", [("w", 1), ("to", 10), ("d", 64), ("a", 10), ("b", 10), ("c", 10), ("e", 10)], [("p", 64), ("q", 64), ("r", 64), ("s", 64)])
 FILES
 echo 'proving and building ..' >&2
 (cd crates/bench_phases && rt run -- 1 0 1 < ../../files/bench.v) > log 2>&1 || { tail -20 log >&2; exit 1; }
 (cd crates/cyclesim && cp data/* . && rt run -- run --top top --clock clk and.v s1) > log 2>&1 || { tail -20 log >&2; exit 1; }
 cd files
-for design in bench memory; do
+for design in bench rounds memory; do
     if command -v iverilog > log; then iverilog -pRECURSIVE_MOD_LIMIT=20 -o $design.icarus ${design}_tb.v $design.v; fi
     if command -v verilator > log; then
         verilator --binary --timing --trace -O3 --x-assign fast -Wno-fatal --top-module ${design}_tb --Mdir $design.verilated -o verilator ${design}_tb.v $design.v > log 2>&1 || tail -5 log >&2
@@ -536,10 +557,10 @@ def written():
     return count
 
 # The inputs of each design, and which of their bits change.
-inputs = {"memory": ("input w, input [9:0] to, input [63:0] d, input [9:0] a, b, c, e", 0, 115), "bench": ("input rst, input [31:0] a", 1, 33), "gates": ("input a", 0, 1), "gate": ("input a", 0, 1), "still": ("input a, input b", 0, 1)}
+inputs = {"rounds": ("input [63:0] a", 0, 64), "memory": ("input w, input [9:0] to, input [63:0] d, input [9:0] a, b, c, e", 0, 115), "bench": ("input rst, input [31:0] a", 1, 33), "gates": ("input a", 0, 1), "gate": ("input a", 0, 1), "still": ("input a, input b", 0, 1)}
 
-def simulated(design, name, lanes):
-    words = [crates + "/cyclesim/out/cyclesim", "run", "--top", "top", "--clock", "clk", design]
+def simulated(design, name, lanes, options=()):
+    words = [crates + "/cyclesim/out/cyclesim", "run", "--top", "top", "--clock", "clk", *options, design]
     return spent(words + ["%s%d" % (name, lane) for lane in range(lanes)])
 
 def run(name, lanes, vectors=vectors):
@@ -562,8 +583,17 @@ def run(name, lanes, vectors=vectors):
     print("  accept %.3f, compile %.3f, settle %.3f, scan %.3f, stimuli %.3f, text %.3f, files %.3f" % parts)
     return own + system, memory, scan
 
+def shared(name, lanes):
+    """The same with `--share`, as a part of what it took without."""
+    report, own, system, _ = simulated(name + ".v", name, lanes, ["--share"])
+    size = written() / 1e6
+    print("%s with --share, %d lanes: %.3f s, %.1f MB of VCD: %.2f of the time without" % (name, lanes, own + system, size, (own + system) / times[name]))
+
 times = {"bench": run("bench", 64)[0]}
+shared("bench", 64)
 run("bench", 256)
+times["rounds"] = run("rounds", 64)[0]
+shared("rounds", 64)
 run("gates", 64)
 run("gate", 64, 100 * vectors)
 _, less, scan = run("still", 64)
