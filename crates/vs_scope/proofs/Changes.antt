@@ -5,7 +5,7 @@ use Rattle.vs_elaborated.specs.Environments as environment
 use Rattle.vs_elaborated.specs.Declarations.{Named}
 use Rattle.vs_scope.specs.declared.names.Declaration.{Declaration}
 use Rattle.vs_scope.specs.declared.names.Entry.{Entry}
-use Rattle.vs_scope.specs.Maps.{Pair, value_at, with_value, IsNew, AreDistinct}
+use Rattle.vs_maps.specs.Maps.{Pair, value_at, with_value, IsNew, AreDistinct}
 use Rattle.vs_elaborated.specs.Parameters.{valued}
 use Rattle.vs_scope.specs.Views.{declared, pair_entry, is_later}
 use Rattle.vs_scope.specs.Declares.{entry_named, named_of}

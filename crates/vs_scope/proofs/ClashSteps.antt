@@ -15,8 +15,8 @@ use Rattle.vs_scope.specs.declared.made.Made.{Made}
 use Rattle.vs_scope.specs.declared.names.Entry.{Entry}
 use Rattle.vs_scope.specs.Clashes.{NameAt, block_text, blocks_of, has_name_at, clash_faults, AreNew}
 use Rattle.vs_scope.specs.Made.{block_names}
-use Rattle.vs_scope.specs.Maps.{Pair, value_at, with_value}
-use Rattle.vs_scope.specs.Sets.{IsFirstSoFar}
+use Rattle.vs_maps.specs.Maps.{Pair, value_at, with_value}
+use Rattle.vs_scope.specs.SoFar.{IsFirstSoFar}
 use Rattle.vs_scope.specs.Surveys.{MeanTheSame}
 use Rattle.vs_scope.specs.Views.{entry_of, pair_entry}
 use Rattle.vs_scope.proofs.Entries.{same_is, find_value}

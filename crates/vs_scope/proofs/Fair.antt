@@ -4,8 +4,8 @@ use Rattle.vs_four.specs.declared.Range.{Range}
 use Rattle.vs_design.specs.Clocks.{same_name}
 use Rattle.vs_const.specs.Meanings.{ConstantValue, SignalMeaning, Unknown, IsFairValue, IsFairMeaning, IsFair}
 use Rattle.vs_elaborated.specs.Environments.{Declared, Later, OfSignal, OfParameter, OfGenvar, OfScope, Entry, Env, no_env, find_entry, find_name, is_late, turn_meaning, turn_of, parameter_meaning, with_words, declared_meaning, entry_meaning, named}
-use Rattle.vs_scope.specs.Maps.{Pair}
-use Rattle.vs_scope.specs.MapViews.{pairs}
+use Rattle.vs_maps.specs.Maps.{Pair}
+use Rattle.vs_maps.specs.MapViews.{pairs}
 use Rattle.vs_scope.specs.declared.names.Declared.{Declared as DeclaredOf}
 use Rattle.vs_scope.specs.declared.names.Declared.TheVariants as states
 use Rattle.vs_scope.specs.declared.names.Evaluated.{Evaluated}

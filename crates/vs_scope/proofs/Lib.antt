@@ -1,4 +1,3 @@
-pub mod NameMaps
 pub mod Scopes
 pub mod Entries
 pub mod Fair
@@ -18,7 +17,6 @@ pub mod SoFar
 pub mod HeaderLoops
 pub mod SurveyParts
 pub mod Digits
-pub mod NameSets
 pub mod TurnSteps
 pub mod GenvarNumbers
 pub mod CaseLabels

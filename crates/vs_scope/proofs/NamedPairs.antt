@@ -9,7 +9,7 @@ use Rattle.vs_elaborated.specs.Declarations.{are_sorts_of_one, Named}
 use Rattle.vs_elaborated.specs.Parameters.{first_declared}
 use Rattle.vs_scope.specs.declared.names.Declaration.{Declaration}
 use Rattle.vs_scope.specs.declared.names.Entry.{Entry}
-use Rattle.vs_scope.specs.Maps.{Pair, value_at, with_value}
+use Rattle.vs_maps.specs.Maps.{Pair, value_at, with_value}
 use Rattle.vs_scope.specs.Views.{sort, declaration, declared, pair_entry}
 use Rattle.vs_scope.specs.Declares.{entry_named, named_of, first_entry, ArePairsFirst, with_second, is_open, IsOpenAt, with_named, is_one_too_many}
 

@@ -15,7 +15,7 @@ use Rattle.vs_elaborated.specs.Signals.{Start, SaidSignal, said_signals, after}
 use Rattle.vs_scope.specs.declared.names.Entry.{Entry}
 use Rattle.vs_scope.specs.declared.names.Signal.{Signal}
 use Rattle.vs_scope.specs.declared.signals.SaidSignal.{SaidSignal as SignalFound}
-use Rattle.vs_scope.specs.Maps.{Pair, values_of}
+use Rattle.vs_maps.specs.Maps.{Pair, values_of}
 use Rattle.vs_scope.specs.Views.{declaration}
 use Rattle.vs_scope.specs.Declares.{entry_named, named_of}
 use Rattle.vs_scope.specs.Shaped.{IsShaped, AreShapedNames}

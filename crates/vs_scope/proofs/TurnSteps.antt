@@ -12,7 +12,7 @@ use Rattle.vs_elaborated.specs.Limits.{the_limits}
 use Rattle.vs_elaborated.specs.Environments.{Env, with_turn, named}
 use Rattle.vs_elaborated.specs.Loops.{holds, step, Turns, no_turn, and_turn, turns_from}
 use Rattle.vs_scope.specs.declared.turns.Turned.{Turned as TurnedOf}
-use Rattle.vs_scope.specs.Sets.{IsFirstSoFar}
+use Rattle.vs_scope.specs.SoFar.{IsFirstSoFar}
 use Rattle.vs_scope.specs.Turns.{Turned, ended, taken_turn, turned, IsTurned}
 use Rattle.vs_scope.proofs.Steps.{append_none}
 use Rattle.vs_scope.proofs.SoFar.{so_far_start, so_far_more, so_far_end}

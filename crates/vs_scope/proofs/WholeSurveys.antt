@@ -20,7 +20,7 @@ use Rattle.vs_elaborated.proofs.ShapedBlocks.{construct_shaped}
 use Rattle.vs_scope.specs.declared.contents.Contents.{Contents}
 use Rattle.vs_scope.specs.declared.contents.Contents.TheVariants.{Module, Block}
 use Rattle.vs_scope.specs.declared.frames.Frame.{Frame}
-use Rattle.vs_scope.specs.declared.maps.NameMap.{NameMap}
+use Rattle.vs_maps.specs.declared.maps.NameMap.{NameMap}
 use Rattle.vs_scope.specs.declared.parameters.Override.{Override}
 use Rattle.vs_scope.specs.declared.names.Signal.{Signal as SignalOf}
 use Rattle.vs_scope.specs.declared.made.Made.{Made}
@@ -34,8 +34,8 @@ use Rattle.vs_scope.specs.Made as code
 use Rattle.vs_scope.specs.Shaped.{AreShaped}
 use Rattle.vs_elaborated.specs.Parameters as parameters
 use Rattle.vs_scope.specs.declared.scope.SaidScope.{SaidScope}
-use Rattle.vs_scope.specs.Maps.{Pair}
-use Rattle.vs_scope.specs.MapViews.{pairs}
+use Rattle.vs_maps.specs.Maps.{Pair}
+use Rattle.vs_maps.specs.MapViews.{pairs}
 use Rattle.vs_scope.specs.Overrides.{AreOverrides, EachOverride, override_typed, overrides_of}
 use Rattle.vs_scope.specs.Scopes.{said_entries, said_signals_of, said_faults}
 use Rattle.vs_scope.specs.Wholes.{IsDeclared}

@@ -1,5 +1,3 @@
-pub mod Maps
-pub mod MapViews
 pub mod Views
 pub mod Frames
 pub mod Laws
@@ -12,7 +10,7 @@ pub mod Signalled
 pub mod Scopes
 pub mod Made
 pub mod Surveys
-pub mod Sets
+pub mod SoFar
 pub mod Headers
 pub mod Turns
 pub mod Blocks

@@ -11,11 +11,11 @@ use Rattle.vs_elaborated.specs.Environments.{named}
 use Rattle.vs_elaborated.specs.Declarations.{ParameterSort}
 use Rattle.vs_elaborated.specs.Parameters as spec
 use Rattle.vs_scope.specs.declared.frames.Frame.{Frame}
-use Rattle.vs_scope.specs.declared.maps.NameMap.{NameMap}
+use Rattle.vs_maps.specs.declared.maps.NameMap.{NameMap}
 use Rattle.vs_scope.specs.declared.parameters.Override.{Override}
 use Rattle.vs_scope.specs.declared.parameters.SaidParameter.{SaidParameter}
-use Rattle.vs_scope.specs.Maps.{Pair}
-use Rattle.vs_scope.specs.MapViews.{pairs}
+use Rattle.vs_maps.specs.Maps.{Pair}
+use Rattle.vs_maps.specs.MapViews.{pairs}
 use Rattle.vs_scope.specs.Frames.{env_at, envs}
 use Rattle.vs_scope.specs.Views.{evaluated}
 

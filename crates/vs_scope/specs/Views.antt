@@ -15,8 +15,8 @@ use Rattle.vs_scope.specs.declared.names.Declared.{Declared}
 use Rattle.vs_scope.specs.declared.names.Declared.TheVariants as states
 use Rattle.vs_scope.specs.declared.names.Entry.{Entry}
 use Rattle.vs_scope.specs.declared.names.Names.{Names}
-use Rattle.vs_scope.specs.Maps.{Pair}
-use Rattle.vs_scope.specs.MapViews.{pairs}
+use Rattle.vs_maps.specs.Maps.{Pair}
+use Rattle.vs_maps.specs.MapViews.{pairs}
 
 -- what a declaration declares
 abbrev pub sort : Sort → declarations.Sort

@@ -7,13 +7,13 @@ ghost use Rattle.vs_elaborated.specs.Environments.{find_entry};
 ghost use Rattle.vs_elaborated.specs.Surveys as spec;
 ghost use Rattle.vs_scope.specs.Clashes.{AreNew, block_of, block_text, blocks_of, clash_faults, label_entry};
 ghost use Rattle.vs_scope.specs.Made as code;
-ghost use Rattle.vs_scope.specs.Sets.{has};
+ghost use Rattle.vs_maps.specs.Sets.{has};
 ghost use Rattle.vs_scope.specs.Surveys.{MeanTheSame};
 ghost use Rattle.vs_scope.specs.Views.{entries};
 
 use crate::made::{BlockName, Made};
 use crate::names::{Declaration, Declared, Entry, Names, Sort};
-use crate::sets::NameSet;
+use vs_maps::NameSet;
 use crate::texts::name_text;
 use std::alloc::{AllocError, Global};
 use vs_ast::Name;

@@ -6,12 +6,12 @@ ghost use Rattle.vs_const.specs.Faults.{least, fault_if};
 ghost use Rattle.vs_const.specs.declared.rules.Rule.TheVariants.{DuplicateName};
 ghost use Rattle.vs_elaborated.specs.Declarations as spec;
 ghost use Rattle.vs_elaborated.specs.Parameters.{first_entries, first_declared};
-ghost use Rattle.vs_scope.specs.Maps.{value_at};
-ghost use Rattle.vs_scope.specs.MapViews.{pairs};
+ghost use Rattle.vs_maps.specs.Maps.{value_at};
+ghost use Rattle.vs_maps.specs.MapViews.{pairs};
 ghost use Rattle.vs_scope.specs.Views as scope;
 ghost use Rattle.vs_scope.specs.Declares.{named_list, AreFirst, IsOpenAt, with_named, is_one_too_many};
 
-use crate::maps::NameMap;
+use vs_maps::NameMap;
 use crate::names::{Declaration, Declared, Entry, Names, Sort};
 use std::alloc::{AllocError, Global};
 use vs_ast::SignalKind;

@@ -6,7 +6,7 @@ ghost use Rattle.vs_four.specs.Selects.{range_length};
 ghost use Rattle.vs_const.specs.Meanings.{IsFairValue};
 ghost use Rattle.vs_elaborated.specs.Environments.{find_entry};
 
-use crate::maps::NameMap;
+use vs_maps::NameMap;
 use vs_ast::{Expr, Name, Parameters, Signals};
 use vs_const::Constant;
 use vs_four::Range;

@@ -22,7 +22,7 @@ ghost use Rattle.vs_scope.specs.Overrides.{AreOverrides, IsSaidParameter, overri
 ghost use Rattle.vs_scope.specs.Views as scope;
 
 use crate::frames::{Around, Frame, View};
-use crate::maps::NameMap;
+use vs_maps::NameMap;
 use crate::names::{Declaration, Evaluated, Names, Parameter, Sort};
 use crate::numbers::{SaidRange, constant, said_range};
 use std::alloc::{AllocError, Global};

@@ -19,7 +19,7 @@ use crate::collect::collect;
 use crate::contents::Contents;
 use crate::declare::{DeclaredNames, declared_names};
 use crate::frames::{Around, View};
-use crate::maps::NameMap;
+use vs_maps::NameMap;
 use crate::names::{Declaration, Names, Signal, Sort};
 use crate::numbers::{said_addresses, said_range};
 use crate::parameters::{Override, evaluate};

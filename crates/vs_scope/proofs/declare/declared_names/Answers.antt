@@ -2,7 +2,7 @@ use Rattle.std.proofs.Common.{List, map, ap, ◌∙◌}
 use Rattle.std.proofs.lemmas.List.{take_all}
 use Rattle.vs_elaborated.specs.Declarations as spec
 use Rattle.vs_scope.specs.declared.names.Declaration.{Declaration}
-use Rattle.vs_scope.specs.MapViews.{pairs}
+use Rattle.vs_maps.specs.MapViews.{pairs}
 use Rattle.vs_scope.specs.Views.{declaration}
 use Rattle.vs_scope.specs.Declares.{first_entry}
 use Rattle.vs_scope.proofs.NamedPairs.{entries_first}

@@ -4,7 +4,7 @@ use Rattle.vs_const.specs.Expressions.{constant}
 use Rattle.vs_const.specs.Found.{Says}
 use Rattle.vs_const.specs.Typed.{Typed}
 use Rattle.vs_elaborated.specs.Environments.{Env, named}
-use Rattle.vs_scope.specs.MapViews.{pairs}
+use Rattle.vs_maps.specs.MapViews.{pairs}
 use Rattle.vs_scope.proofs.Evaluations.{found_override, none_chosen, some_chosen}
 use Rattle.vs_scope.proofs.parameters.chosen.Goals as goal
 

@@ -1,8 +1,8 @@
 use Rattle.std.proofs.Common.{◌≡◌, Bool, true, false, Some, None, refl, sym, ap, ◌∙◌, subst}
 use Rattle.vs_const.specs.Faults.{least, fault_if}
 use Rattle.vs_const.specs.declared.rules.Rule.TheVariants.{DuplicateName}
-use Rattle.vs_scope.specs.Maps.{value_at}
-use Rattle.vs_scope.specs.MapViews.{pairs}
+use Rattle.vs_maps.specs.Maps.{value_at}
+use Rattle.vs_maps.specs.MapViews.{pairs}
 use Rattle.vs_scope.specs.Views.{declaration}
 use Rattle.vs_scope.specs.Declares.{IsOpenAt}
 use Rattle.vs_scope.proofs.NamedPairs.{is_many, many_at, named_kept, open_is, not_true, not_false}

@@ -6,8 +6,8 @@ use Rattle.vs_scope.specs.declared.names.Entry.{Entry}
 use Rattle.vs_scope.specs.declared.names.Sort.TheVariants as sorts
 use Rattle.vs_scope.specs.declared.names.Declared.TheVariants as states
 use Rattle.vs_scope.specs.Clashes.{label_entry}
-use Rattle.vs_scope.specs.Maps.{value_at}
-use Rattle.vs_scope.specs.MapViews.{pairs}
+use Rattle.vs_maps.specs.Maps.{value_at}
+use Rattle.vs_maps.specs.MapViews.{pairs}
 use Rattle.vs_scope.specs.Views.{entries, entry_of}
 use Rattle.vs_scope.proofs.ClashSteps.{value_found, same_there, copied_some, copied_none, entry_last}
 use Rattle.vs_scope.proofs.names.Names.declare_block.Goals as goal

@@ -1,8 +1,8 @@
 use Rattle.std.proofs.Common.{◌≡◌, Some, None, map, refl, sym, ap, ◌∙◌, subst}
 use Rattle.vs_elaborated.specs.Environments as environment
 use Rattle.vs_scope.specs.declared.names.Entry.{Entry}
-use Rattle.vs_scope.specs.Maps.{with_value}
-use Rattle.vs_scope.specs.MapViews.{pairs}
+use Rattle.vs_maps.specs.Maps.{with_value}
+use Rattle.vs_maps.specs.MapViews.{pairs}
 use Rattle.vs_scope.specs.Views.{declaration}
 use Rattle.vs_scope.specs.Declares.{named_of, ArePairsFirst}
 use Rattle.vs_scope.proofs.NamedPairs.{named_with, first_with}

@@ -1,7 +1,7 @@
 use Rattle.std.proofs.Common.{◌≡◌, Bool, Option, Some, None, map, sym, ap, ◌∙◌, subst}
 use Rattle.vs_scope.specs.declared.names.Entry.{Entry}
-use Rattle.vs_scope.specs.Maps.{value_at, with_value}
-use Rattle.vs_scope.specs.MapViews.{pairs}
+use Rattle.vs_maps.specs.Maps.{value_at, with_value}
+use Rattle.vs_maps.specs.MapViews.{pairs}
 use Rattle.vs_scope.specs.Views.{declaration}
 use Rattle.vs_scope.specs.Declares.{named_of, ArePairsFirst, with_second, is_open}
 use Rattle.vs_scope.proofs.NamedPairs.{named_entry, named_with, first_with}

@@ -2,8 +2,8 @@ use Rattle.std.proofs.Common.{◌≡◌, map, refl, sym, ap, ◌∙◌, subst}
 use Rattle.vs_elaborated.specs.Environments.{OfSignal}
 use Rattle.vs_scope.specs.declared.names.Entry.{Entry}
 use Rattle.vs_scope.specs.declared.names.Declared.TheVariants as states
-use Rattle.vs_scope.specs.Maps.{with_value, AreDistinct}
-use Rattle.vs_scope.specs.MapViews.{pairs}
+use Rattle.vs_maps.specs.Maps.{with_value, AreDistinct}
+use Rattle.vs_maps.specs.MapViews.{pairs}
 use Rattle.vs_scope.specs.Views.{signal_meaning, pair_entry}
 use Rattle.vs_scope.specs.Declares.{named_of}
 use Rattle.vs_scope.proofs.Changes.{changed_none, changed_some, named_changed}

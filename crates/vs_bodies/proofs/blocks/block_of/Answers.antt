@@ -1,0 +1,10 @@
+use Rattle.vs_bodies.proofs.Declaring.{none_declared, variables_declared, all_declared}
+use Rattle.vs_bodies.proofs.blocks.block_of.Goals as goal
+
+pub loop-v-init : goal.loop-v-init
+loop-v-init c = none_declared c.args.in_function c.deref-v-items.result.now c.new-map.result c.new-map.ensures
+
+pub loop-v-preserved : goal.loop-v-preserved
+loop-v-preserved c =
+    variables_declared c.args.in_function c.deref-v-items.result.now c.loop-v.map c.add_variables.new.map c.loop-v.v-index c.v-item.result c.loop-v.repeated c.in_ok-found.found c.first_of-repeated.result c.loop-v.untaken c.untaken_variable.result c.first_of-untaken.result
+    c.loop-v-test.true c.v-item.is c.in_ok-found.ensures.locals c.in_ok-found.ensures.fault c.first_of-repeated.ensures c.untaken_variable.ensures c.first_of-untaken.ensures c.loop-v.invariant
