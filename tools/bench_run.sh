@@ -28,6 +28,7 @@ ghost use Rattle.vs_desk.specs.MemoryDesk as memory;
 ghost use Rattle.vs_design.specs.Expressions.{signal_length};
 ghost use Rattle.vs_design.specs.Footprints.{shown_signals};
 ghost use Rattle.vs_flat.specs.DesignOf.{design_of};
+ghost use Rattle.vs_flat.specs.Lawful.{IsLawful};
 ghost use Rattle.vs_program.specs.declared.compiled.Span.{Span};
 ghost use Rattle.vs_waves.specs.Laws.{AreBefore};
 ghost use Rattle.vs_waves.specs.Puts.{AreWritable};
@@ -190,7 +191,8 @@ fn run_rounds<L: Ledger>(
 
 /// Waves of 64 lanes at their places, of which nothing was put.
 fn new_waves(alloc: Global, flat: &Flat, desk: &mut MemoryDesk) -> Result<Waves<Words<1>>>
-    requires { memory.register desk.old ≡ no_register }
+    requires lawful { IsLawful flat.now }
+    requires free { memory.register desk.old ≡ no_register }
     ensures count { IfOk result (λ waves. length waves ≡ 64) }
     ensures new { IfOk result (λ waves. All (IsNewWave false (design_of flat.now) 5) waves) }
     ensures writable { OnOk result (AreWritable (memory.register desk.new) 64) }
