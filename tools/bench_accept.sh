@@ -52,7 +52,7 @@ fn main(rt: HostRuntime) -> anyhow::Result<()> {
     let start = rt.thread_cpu_time()?;
     let count = processes(alloc, &text);
     let flat = rt.thread_cpu_time()?;
-    let answer = match accept(alloc, &text, b"top", b"clk") {
+    let answer = match accept(alloc, &text, b"top", Some(b"clk")) {
         Ok(_) => "accepted",
         Err(_) => "refused",
     };

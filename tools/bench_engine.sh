@@ -86,7 +86,7 @@ fn times<W: Lanes>(
 ) -> Result<()>
     requires { length text.now ≤ 4194304 }
 {
-    if let Ok(mut loaded) = load::<W>(rt.alloc(), text, b"top", b"clk", false) {
+    if let Ok(mut loaded) = load::<W>(rt.alloc(), text, b"top", Some(b"clk"), false) {
         time::<W, Brand>(rt, &mut loaded.engine, Blank::new(1))?;
     }
     Ok(())
@@ -101,7 +101,7 @@ fn main(rt: HostRuntime) -> Result<()> {
         return Ok(());
     }
     let start = rt.thread_cpu_time()?;
-    let size = match accept(alloc, &text, b"top", b"clk") {
+    let size = match accept(alloc, &text, b"top", Some(b"clk")) {
         Ok(accepted) => accepted.typed().size(),
         Err(_) => 0,
     };
@@ -110,7 +110,7 @@ fn main(rt: HostRuntime) -> Result<()> {
     if words > 1 {
         return Ok(());
     }
-    let _ = load::<Words<1>>(alloc, &text, b"top", b"clk", false);
+    let _ = load::<Words<1>>(alloc, &text, b"top", Some(b"clk"), false);
     let loaded = rt.thread_cpu_time()?;
     println!(rt; "load={}", loaded.saturating_sub(accepted).as_millis())?;
     times::<Words<1>>(&rt, &text)?;

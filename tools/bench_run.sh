@@ -100,7 +100,7 @@ fn times<W: Lanes>(
     requires { length text.now ≤ 4194304 }
 {
     let start = rt.thread_cpu_time()?;
-    if let Ok(mut loaded) = load::<W>(rt.alloc(), text, b"top", b"clk", false) {
+    if let Ok(mut loaded) = load::<W>(rt.alloc(), text, b"top", Some(b"clk"), false) {
         let load = rt.thread_cpu_time()?.saturating_sub(start).as_micros();
         let settle = time::<W, Brand>(rt, &mut loaded.engine, rounds, Blank::new(1))?;
         println!(rt; "lanes={} load={load} settle={settle}", W::LANES)?;
@@ -131,7 +131,7 @@ fn loaded(alloc: Global, text: &[u8]) -> Result<Loaded<Words<1>>, AcceptError>
     requires { length text.now ≤ 4194304 }
     ensures { IfOk result (λ l. map (λ (s : Span). s.length) l.engine.program.signals ≡ map signal_length (shown_signals (design_of l.accepted.flat))) }
 {
-    load(alloc, text, b"top", b"clk", false)
+    load(alloc, text, b"top", Some(b"clk"), false)
 }
 
 /// One round of all lanes.
@@ -282,7 +282,7 @@ fn main(rt: HostRuntime) -> Result<()> {
         return Ok(());
     }
     let start = rt.thread_cpu_time()?;
-    let _ = accept(alloc, &text, b"top", b"clk");
+    let _ = accept(alloc, &text, b"top", Some(b"clk"));
     let accepted = rt.thread_cpu_time()?;
     println!(rt; "accept={}", accepted.saturating_sub(start).as_micros())?;
     times::<Words<1>>(&rt, &text, rounds)?;
@@ -416,13 +416,18 @@ use Rattle.std.specs.Prelude.{slice_get, Some, All, false}
 use Rattle.std.proofs.lemmas.List.Elements.{All-get_or}
 use Rattle.std.proofs.lemmas.Option.{slice_get_within, get_or_from_slice_get}
 use Rattle.vs_design.specs.Expressions.{signal_length}
+use Rattle.vs_design.specs.Footprints.{shown_signals}
 use Rattle.vs_flat.specs.Arena.{Arena}
 use Rattle.vs_flat.specs.DesignOf.{design_of}
+use Rattle.vs_flat.specs.Lawful.{IsLawful}
 use Rattle.vs_waves.specs.Wave.{IsNewWave}
 use Rattle.bench_phases.proofs.time_waves.Goals as goal
 
 All-at : {X : Type 0} (P : X → Type 0) (xs : List X) (i : ℕ) (x : X) → slice_get xs i ≡ Some x → All P xs → P x
 All-at P xs i x e all = subst P (get_or_from_slice_get xs i x x e) (All-get_or P xs i x (slice_get_within xs i x e) all)
+
+pub new_waves-requires-clause-lawful : goal.new_waves-requires-clause-lawful
+new_waves-requires-clause-lawful c = subst IsLawful (sym c.flat.ensures.same) c.flat.ensures.lawful
 
 pub measure-requires-clause-waves : goal.measure-requires-clause-waves
 measure-requires-clause-waves g c =

@@ -27,10 +27,10 @@ class Signal:
 
 
 class Scope:
-    """A scope of a file: the signals in it and within it, by their names below it."""
+    """A scope of a file: the signals in it and within it, by their names below it, and the last time in the file."""
 
-    def __init__(self, file, path, signals):
-        self.file, self.path, self.signals = file, path, signals
+    def __init__(self, file, path, signals, end):
+        self.file, self.path, self.signals, self.end = file, path, signals, end
 
     def signal(self, name):
         own = ", ".join(n for n in self.signals if "." not in n)
@@ -41,6 +41,12 @@ class Scope:
         clock = self.signal(name)
         pairs = zip(clock.values, clock.values[1:], clock.times[1:])
         return [time for last, value, time in pairs if (last, value) == ("0", "1")] or fail(f"{self.file}: {name} never rises")
+
+    def moments(self, asked):
+        """The times just before which the inputs of a line are seen: each rise of the clock that was asked for, or each multiple of the step."""
+        if asked.clock is not None:
+            return self.rises(asked.clock)
+        return list(range(asked.step, self.end + 1, asked.step)) or fail(f"{self.file}: it ends at {self.end}, before the first step")
 
 
 class Wave:
@@ -53,7 +59,7 @@ class Wave:
         """The scope of this path, as `tb.dut`; without one the first that is declared."""
         path = path or self.signals[0].path.split(".")[0]
         found = {s.path[len(path) + 1:]: s for s in self.signals if s.path.startswith(path + ".")}
-        return Scope(self.file, path, found) if found else fail(f"{self.file}: no scope {path}; the first signal is {self.signals[0].path}")
+        return Scope(self.file, path, found, self.times[-1]) if found else fail(f"{self.file}: no scope {path}; the first signal is {self.signals[0].path}")
 
 
 def fail(message):
@@ -70,6 +76,20 @@ def fill(digits, width):
 def words_of(description):
     """The command line of a script that begins with this description."""
     return argparse.ArgumentParser(description=description, formatter_class=argparse.RawDescriptionHelpFormatter)
+
+
+def add_moments(words):
+    """The words that say when a line is seen: at the rises of a clock, or in steps of time where there is none."""
+    when = words.add_mutually_exclusive_group(required=True)
+    when.add_argument("--clock", metavar="C", help="the name of the clock")
+    when.add_argument("--step", type=step_of, metavar="T", help="without a clock: how long a line stands")
+
+
+def step_of(text):
+    """A length of time, one unit at least."""
+    if not text.isascii() or not text.isdigit() or int(text) < 1:
+        raise argparse.ArgumentTypeError(f"{text} is no length of time")
+    return int(text)
 
 
 def load(path):

@@ -22,7 +22,12 @@ fn job<'a>(alloc: Global, name: &'a str, about: &'a str) -> Result<Command<'a>, 
         .disable_help_flag(true)
         .about(about)
         .arg(named(alloc, "top", "T", "The name of the top module").required(true))?
-        .arg(named(alloc, "clock", "C", "The name of the top's clock input").required(true))?
+        .arg(named(
+            alloc,
+            "clock",
+            "C",
+            "The name of the top's clock input, if it has one",
+        ))?
         .arg(
             named(alloc, "half", "H", "Half a clock period, from 1 to 1000000")
                 .value_parser(value_parser!(u32).range(1..=1_000_000))

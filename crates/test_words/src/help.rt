@@ -8,7 +8,7 @@ use std::test::Fail;
 const RUN: &str = "\
 Runs a design under stimuli, and writes a waveform beside each
 
-Usage: cyclesim run [OPTIONS] --top <T> --clock <C> <DESIGN> <STIM>...
+Usage: cyclesim run [OPTIONS] --top <T> <DESIGN> <STIM>...
 
 Arguments:
   <DESIGN>   The path of the design
@@ -16,7 +16,7 @@ Arguments:
 
 Options:
       --top <T>               The name of the top module
-      --clock <C>             The name of the top's clock input
+      --clock <C>             The name of the top's clock input, if it has one
       --half <H>              Half a clock period, from 1 to 1000000 [default: 5]
       --define <NAME[=TEXT]>  A macro that is defined before the design's text, up to 64 of them
       --share                 One identifier code in a waveform for all signals that ports join
@@ -26,7 +26,7 @@ Options:
 const CHECK: &str = "\
 Compares a design's outputs with what stimuli want of them, and writes no file
 
-Usage: cyclesim check [OPTIONS] --top <T> --clock <C> <DESIGN> <STIM>...
+Usage: cyclesim check [OPTIONS] --top <T> <DESIGN> <STIM>...
 
 Arguments:
   <DESIGN>   The path of the design
@@ -34,7 +34,7 @@ Arguments:
 
 Options:
       --top <T>               The name of the top module
-      --clock <C>             The name of the top's clock input
+      --clock <C>             The name of the top's clock input, if it has one
       --half <H>              Half a clock period, from 1 to 1000000 [default: 5]
       --define <NAME[=TEXT]>  A macro that is defined before the design's text, up to 64 of them
 ";

@@ -16,6 +16,8 @@ x run d --top t s --clock c s1
 x run --top t --clock c -- d -s --half
 x run --top t=u --clock==c d s
 x run --top t --clock c --define A d s
+x run --top t d s
+x check d s --half 7 --top=t
 x run --define=A=1 --top t --define B_2= --clock c d --define A=$b=c+`D s
 x run --share --top t --clock c d s
 x run d --top t --share s --clock=c s1
@@ -33,7 +35,7 @@ const NOT_TAKEN: &str = "\
 x
 x run
 x runs --top t --clock c d s
-x run --top t d s
+x run --top t --clock c --clock d d s
 x run --clock c d s
 x run --top t --clock c
 x run --top t --clock c d
@@ -118,7 +120,7 @@ fn is_head(head: &str, values: &[&str]) -> bool {
 /// Whether these are the words of the job, but for `--share`.
 fn is_job(matches: &ArgMatches<'_>, job: &Job) -> bool {
     matches.get_str("top") == Some(job.top.as_str())
-        && matches.get_str("clock") == Some(job.clock.as_str())
+        && matches.get_str("clock") == job.clock.as_ref().map(|clock| clock.as_str())
         && matches.get_one::<u32>("half") == Some(job.half)
         && is_head(job.head.as_str(), matches.get_strs("define").unwrap_or(&[]))
         && matches.get_str("design") == Some(job.design.as_str())

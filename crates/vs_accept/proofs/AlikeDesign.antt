@@ -19,7 +19,7 @@ pub data AreAlikeRefusals (x y : DesignRefusal) : Type 0 where
   Same : x ≡ y → AreAlikeRefusals x y
   Cycles : (ps qs : List ℕ) (at by : ℕ) → x ≡ Cycle ps at → y ≡ Cycle qs by → AreAlikeRefusals x y
 
-pub alike_of_design : ((d : Design) → IsDecided d) → (d : Design) (clock : List ℕ) (x y : DesignRefusal) → IsRefusedBy d clock x → IsRefusedBy d clock y → AreAlikeRefusals x y
+pub alike_of_design : ((d : Design) → IsDecided d) → (d : Design) (clock : Option (List ℕ)) (x y : DesignRefusal) → IsRefusedBy d clock x → IsRefusedBy d clock y → AreAlikeRefusals x y
 alike_of_design decided d clock x y h k = go x y h k
   where
     cyclic : {B : Type 0} (ps : List ℕ) → has_no_cycle d ≡ true → IsCycle d ps → B

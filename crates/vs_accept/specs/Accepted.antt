@@ -1,5 +1,5 @@
 -- What a text is, by the names of its top and of its clock: an accepted design, or refused by the first rule that it breaks.
-use Rattle.std.specs.Prelude.{◌≡◌, ◌≤◌, ℕ, Bool, true, false, ◌&&◌, List, ◌⊎◌, Ok, Err, Some, length}
+use Rattle.std.specs.Prelude.{◌≡◌, ◌≤◌, ℕ, Bool, true, false, ◌&&◌, List, ◌⊎◌, Ok, Err, Some, length, Option}
 use Rattle.vs_lexer.specs.declared.token.Token.{Token}
 use Rattle.vs_lexer.specs.declared.token.LexError.{LexError}
 use Rattle.vs_lexer.specs.Cuts.{cut_text}
@@ -29,7 +29,7 @@ abbrev pub most_bytes : ℕ
 most_bytes = 4194304
 
 -- the text is read, its tree elaborates from the top to this design (clause 12), and that breaks no rule
-pub record IsAcceptedText (text top clock : List ℕ) (d : Design) : Type 0 where
+pub record IsAcceptedText (text top : List ℕ) (clock : Option (List ℕ)) (d : Design) : Type 0 where
   pub short : length text ≤ most_bytes
   pub tokens : List Token
   pub source : Source
@@ -39,7 +39,7 @@ pub record IsAcceptedText (text top clock : List ℕ) (d : Design) : Type 0 wher
 
 -- Why a text is refused. Each stage is tried only where none before it refuses. What is left open: which of several cycles is told, and whether
 -- that it is too deep at one token or that no list of tokens goes on with another one.
-pub data IsRefusedText (text top clock : List ℕ) (r : Refusal) : Type 0 where
+pub data IsRefusedText (text top : List ℕ) (clock : Option (List ℕ)) (r : Refusal) : Type 0 where
   -- it isn't cut into tokens
   ByTokens : (e : LexError) → cut_text text ≡ Err e → token_refusal e ≡ Some r → IsRefusedText text top clock r
   -- its macros or conditional parts aren't resolved
@@ -57,11 +57,11 @@ pub data IsRefusedText (text top clock : List ℕ) (r : Refusal) : Type 0 where
 
 -- it is accepted as one design at most
 abbrev pub OneDesign : Type 0
-OneDesign = (text top clock : List ℕ) (d e : Design) → IsAcceptedText text top clock d → IsAcceptedText text top clock e → d ≡ e
+OneDesign = (text top : List ℕ) (clock : Option (List ℕ)) (d e : Design) → IsAcceptedText text top clock d → IsAcceptedText text top clock e → d ≡ e
 
 -- a text that is accepted is not refused
 abbrev pub NotBoth : Type 0
-NotBoth = (text top clock : List ℕ) (d : Design) (r : Refusal) → IsAcceptedText text top clock d → IsRefusedText text top clock r → ⊥
+NotBoth = (text top : List ℕ) (clock : Option (List ℕ)) (d : Design) (r : Refusal) → IsAcceptedText text top clock d → IsRefusedText text top clock r → ⊥
 
 -- whether it tells that the tokens spell no tree
 abbrev pub tells_tree : AtName → Bool
@@ -81,4 +81,4 @@ AreAlike r q = (r ≡ q) ⊎ (is_open r q ≡ true)
 
 -- all refusals of one text are alike
 abbrev pub OneRefusal : Type 0
-OneRefusal = (text top clock : List ℕ) (r q : Refusal) → IsRefusedText text top clock r → IsRefusedText text top clock q → AreAlike r q
+OneRefusal = (text top : List ℕ) (clock : Option (List ℕ)) (r q : Refusal) → IsRefusedText text top clock r → IsRefusedText text top clock q → AreAlike r q

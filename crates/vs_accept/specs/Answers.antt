@@ -18,7 +18,7 @@ refusal_in (Refused r) = Some r
 refusal_in Memory = None
 
 -- the text is refused so
-abbrev pub IsRefusalOf : (text top clock : List ℕ) → AcceptError → Type 0
+abbrev pub IsRefusalOf : (text top : List ℕ) (clock : Option (List ℕ)) → AcceptError → Type 0
 IsRefusalOf text top clock (Refused r) = IsRefusedText text top clock r
 IsRefusalOf text top clock Memory = Unit {0}
 
@@ -36,12 +36,12 @@ IsElabError elaborated e = Tells e (λ (f : Fault). elaborated ≡ Err f)
 -- ---- the elaborated design
 
 -- the design breaks a rule, and this tells it with the bytes of its places
-pub record IsToldBy (byte : ℕ → ℕ) (d : Design) (clock : List ℕ) (r : Refusal) : Type 0 where
+pub record IsToldBy (byte : ℕ → ℕ) (d : Design) (clock : Option (List ℕ)) (r : Refusal) : Type 0 where
   pub breaks : DesignRefusal
   pub refused : IsRefusedBy d clock breaks
   pub told : design_refusal byte breaks ≡ r
 
-abbrev pub IsVerdict : (byte : ℕ → ℕ) → Design → List ℕ → AcceptError → Type 0
+abbrev pub IsVerdict : (byte : ℕ → ℕ) → Design → Option (List ℕ) → AcceptError → Type 0
 IsVerdict byte d clock (Refused r) = IsToldBy byte d clock r
 IsVerdict byte d clock Memory = Unit {0}
 
@@ -52,5 +52,5 @@ KeepsBlocks d = (width_refusal d ≡ None) × (block_refusal d ≡ None)
 abbrev pub KeepsDrivers : Design → Type 0
 KeepsDrivers d = (width_refusal d ≡ None) × (block_refusal d ≡ None) × (driver_refusal d ≡ None)
 
-abbrev pub KeepsClock : Design → List ℕ → Type 0
+abbrev pub KeepsClock : Design → Option (List ℕ) → Type 0
 KeepsClock d clock = (width_refusal d ≡ None) × (block_refusal d ≡ None) × (driver_refusal d ≡ None) × (clock_refusal d clock ≡ None)

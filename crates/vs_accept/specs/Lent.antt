@@ -1,5 +1,5 @@
 -- What is lent of the design of an accepted text.
-use Rattle.std.specs.Prelude.{◌≡◌, ℕ, true, List}
+use Rattle.std.specs.Prelude.{◌≡◌, ℕ, true, List, Option}
 use Rattle.vs_design.specs.Levels.{is_level_order}
 use Rattle.vs_flat.specs.Arena.{Arena}
 use Rattle.vs_flat.specs.DesignOf.{design_of}
@@ -17,7 +17,7 @@ pub record Acceptance : Type 0 where
   pub outputs : List (List ℕ)
 
 -- the flat design is lawful, and the rest is told of it, by this name of its clock
-pub record IsAcceptance (clock : List ℕ) (a : Acceptance) : Type 0 where
+pub record IsAcceptance (clock : Option (List ℕ)) (a : Acceptance) : Type 0 where
   pub lawful : IsLawful a.flat
   pub footprints_are : a.footprints ≡ footprints_of (design_of a.flat)
   pub clock_is : IsClockOf (design_of a.flat) clock a.clocks

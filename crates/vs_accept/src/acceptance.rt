@@ -1,6 +1,6 @@
 //! The acceptance of a text.
 
-ghost use Rattle.std.specs.Prelude.{◌≡◌, ◌≤◌, ℕ, List, Ok, IfOk, IfErr, IsErrAnd, MatchResult, length};
+ghost use Rattle.std.specs.Prelude.{◌≡◌, ◌≤◌, ℕ, List, Ok, IfOk, IfErr, IsErrAnd, MatchResult, length, option_map, Option};
 ghost use Rattle.vs_pre.specs.Reads.{ReadsAs};
 ghost use Rattle.vs_ast.specs.Views as view;
 ghost use Rattle.vs_elaborated.specs.Elaborated.{elaborated};
@@ -31,7 +31,7 @@ use vs_pre::{kept_law, preprocess};
 fn tokens_of(alloc: Global, text: &[u8]) -> Result<Vec<Token>, AcceptError>
     requires { length text.now ≤ MAX_BYTES }
     ensures read { IfOk result (λ v. ReadsAs text.now v.items) }
-    ensures refused { (top clock : List ℕ) → IfErr result (IsRefusalOf text.now top clock) }
+    ensures refused { (top : List ℕ) (clock : Option (List ℕ)) → IfErr result (IsRefusalOf text.now top clock) }
 {
     tokens_law();
     let written = lex(alloc, text)?;
@@ -43,7 +43,7 @@ fn tokens_of(alloc: Global, text: &[u8]) -> Result<Vec<Token>, AcceptError>
 fn tree_of(alloc: Global, places: &Places<'_>) -> Result<Source, AcceptError>
     requires { ReadsAs places.now.text.now places.now.tokens.now }
     ensures read { IfOk result (λ s. IsRead places.now.text.now places.now.tokens.now (view.source s)) }
-    ensures refused { (top clock : List ℕ) → IfErr result (IsRefusalOf places.now.text.now top clock) }
+    ensures refused { (top : List ℕ) (clock : Option (List ℕ)) → IfErr result (IsRefusalOf places.now.text.now top clock) }
 {
     tokens_law();
     kept_law();
@@ -63,7 +63,7 @@ fn flat_of(
     requires { IsRead places.now.text.now places.now.tokens.now (view.source source.now) }
     ensures elaborates { IfOk result (λ f. elaborated (view.source source.now) top.now ≡ Ok (design_of f)) }
     ensures lawful { IfOk result IsLawful }
-    ensures refused { (clock : List ℕ) → IfErr result (IsRefusalOf places.now.text.now top.now clock) }
+    ensures refused { (clock : Option (List ℕ)) → IfErr result (IsRefusalOf places.now.text.now top.now clock) }
 {
     tokens_law();
     kept_law();
@@ -75,12 +75,17 @@ fn flat_of(
 }
 
 /// The answer to a text: its stages one after the other, up to the first that refuses.
-fn answer(alloc: Global, text: &[u8], top: &[u8], clock: &[u8]) -> Result<Accepted, AcceptError>
+fn answer(
+    alloc: Global,
+    text: &[u8],
+    top: &[u8],
+    clock: Option<&[u8]>,
+) -> Result<Accepted, AcceptError>
     requires { length text.now ≤ MAX_BYTES }
-    ensures accepted { IfOk result (λ a. IsAcceptedText text.now top.now clock.now (design_of a.flat)) }
-    ensures lent { IfOk result (IsAcceptance clock.now) }
+    ensures accepted { IfOk result (λ a. IsAcceptedText text.now top.now (option_map (λ c. c.now) clock.entry) (design_of a.flat)) }
+    ensures lent { IfOk result (IsAcceptance (option_map (λ c. c.now) clock.entry)) }
     ensures outputs { IfOk result (HaveOutputs text.now top.now) }
-    ensures refused { IfErr result (IsRefusalOf text.now top.now clock.now) }
+    ensures refused { IfErr result (IsRefusalOf text.now top.now (option_map (λ c. c.now) clock.entry)) }
 {
     let tokens = tokens_of(alloc, text)?;
     let places = Places {
@@ -93,22 +98,27 @@ fn answer(alloc: Global, text: &[u8], top: &[u8], clock: &[u8]) -> Result<Accept
     judge(alloc, &places, flat, outputs, clock)
 }
 
-/// Accepts a text of at most `MAX_BYTES` bytes as a design whose top module and whose clock input have these names, or refuses it by the
+/// Accepts a text of at most `MAX_BYTES` bytes as a design whose top module and whose clock input have these names, or that has no clock where none is named, or refuses it by the
 /// first rule that it breaks (IEEE 1364-2005, clauses 3, 12 and 19, annex A, and the rules of an accepted design).
 ///
 /// The stages are tokens, macros, tree, elaboration, lengths and size, blocks, drivers, the clock, the level order and time zero; each is tried only
 /// where none before it refuses. `Memory` may be the answer to any text.
-pub fn accept(alloc: Global, text: &[u8], top: &[u8], clock: &[u8]) -> Result<Accepted, AcceptError>
+pub fn accept(
+    alloc: Global,
+    text: &[u8],
+    top: &[u8],
+    clock: Option<&[u8]>,
+) -> Result<Accepted, AcceptError>
     requires { length text.now ≤ MAX_BYTES }
     // what is accepted is a design of the text, and all that is lent belongs to it
-    ensures accepted { IfOk result (λ a. IsAcceptedText text.now top.now clock.now (design_of a.flat)) }
-    ensures lent { IfOk result (IsAcceptance clock.now) }
+    ensures accepted { IfOk result (λ a. IsAcceptedText text.now top.now (option_map (λ c. c.now) clock.entry) (design_of a.flat)) }
+    ensures lent { IfOk result (IsAcceptance (option_map (λ c. c.now) clock.entry)) }
     ensures outputs { IfOk result (HaveOutputs text.now top.now) }
     // a refusal is one of the text
-    ensures refused { IfErr result (IsRefusalOf text.now top.now clock.now) }
+    ensures refused { IfErr result (IsRefusalOf text.now top.now (option_map (λ c. c.now) clock.entry)) }
     // a text that is accepted as a design is answered by it, and one that is refused by its refusal, but for what is left open
-    ensures kept { (d : Design) → IsAcceptedText text.now top.now clock.now d → MatchResult result (λ a. design_of a.flat ≡ d) (λ e. e ≡ Memory) }
-    ensures refusal { (q : Refusal) → IsRefusedText text.now top.now clock.now q → IsErrAnd result (TellsLike q) }
+    ensures kept { (d : Design) → IsAcceptedText text.now top.now (option_map (λ c. c.now) clock.entry) d → MatchResult result (λ a. design_of a.flat ≡ d) (λ e. e ≡ Memory) }
+    ensures refusal { (q : Refusal) → IsRefusedText text.now top.now (option_map (λ c. c.now) clock.entry) q → IsErrAnd result (TellsLike q) }
 {
     answer_law();
     answer(alloc, text, top, clock)

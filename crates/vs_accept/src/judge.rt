@@ -1,6 +1,6 @@
 //! The rules on an elaborated design.
 
-ghost use Rattle.std.specs.Prelude.{◌≡◌, IfOk, IfErr, OnOk, ℕ, List};
+ghost use Rattle.std.specs.Prelude.{◌≡◌, IfOk, IfErr, OnOk, ℕ, List, option_map, Option};
 ghost use Rattle.vs_design.specs.Accepted.{IsAcceptedDesign};
 ghost use Rattle.vs_flat.specs.DesignOf.{design_of};
 ghost use Rattle.vs_flat.specs.Lawful.{IsLawful};
@@ -37,7 +37,7 @@ fn check_writers(
 ) -> Result<(), AcceptError>
     requires { footprints.now ≡ footprints_of (design_of typed.now) }
     ensures kept { OnOk result (KeepsDrivers (design_of typed.now)) }
-    ensures refused { (clock : List ℕ) → IfErr result (IsVerdict (byte_of places.now.text.now places.now.tokens.now) (design_of typed.now) clock) }
+    ensures refused { (clock : Option (List ℕ)) → IfErr result (IsVerdict (byte_of places.now.text.now places.now.tokens.now) (design_of typed.now) clock) }
 {
     let _flat = typed.flat();
     if let Err(error) = block_forms(alloc, typed, footprints) {
@@ -55,13 +55,13 @@ fn judge_typed(
     places: &Places<'_>,
     typed: Typed,
     outputs: Vec<Text>,
-    clock: &[u8],
+    clock: Option<&[u8]>,
 ) -> Result<Accepted, AcceptError>
     ensures same { IfOk result (λ a. a.flat ≡ typed) }
     ensures outputs { IfOk result (λ a. a.outputs ≡ outputs.items) }
-    ensures accepted { IfOk result (λ a. IsAcceptedDesign (design_of typed) clock.now) }
-    ensures lent { IfOk result (IsAcceptance clock.now) }
-    ensures refused { IfErr result (IsVerdict (byte_of places.now.text.now places.now.tokens.now) (design_of typed) clock.now) }
+    ensures accepted { IfOk result (λ a. IsAcceptedDesign (design_of typed) (option_map (λ c. c.now) clock.entry)) }
+    ensures lent { IfOk result (IsAcceptance (option_map (λ c. c.now) clock.entry)) }
+    ensures refused { IfErr result (IsVerdict (byte_of places.now.text.now places.now.tokens.now) (design_of typed) (option_map (λ c. c.now) clock.entry)) }
 {
     accepted_law();
     let _flat = typed.flat();
@@ -81,21 +81,21 @@ fn judge_typed(
     }
 }
 
-/// Judges an elaborated design by all rules, in their order: the first one that it breaks is told. `clock` is the name of the clock input, and its top's
+/// Judges an elaborated design by all rules, in their order: the first one that it breaks is told. `clock` is the name of the clock input, if there is one, and its top's
 /// outputs have these names, which go with it.
 pub(crate) fn judge(
     alloc: Global,
     places: &Places<'_>,
     flat: Flat,
     outputs: Vec<Text>,
-    clock: &[u8],
+    clock: Option<&[u8]>,
 ) -> Result<Accepted, AcceptError>
     requires { IsLawful flat }
     ensures same { IfOk result (λ a. a.flat ≡ flat) }
     ensures outputs { IfOk result (λ a. a.outputs ≡ outputs.items) }
-    ensures accepted { IfOk result (λ a. IsAcceptedDesign (design_of flat) clock.now) }
-    ensures lent { IfOk result (IsAcceptance clock.now) }
-    ensures refused { IfErr result (IsVerdict (byte_of places.now.text.now places.now.tokens.now) (design_of flat) clock.now) }
+    ensures accepted { IfOk result (λ a. IsAcceptedDesign (design_of flat) (option_map (λ c. c.now) clock.entry)) }
+    ensures lent { IfOk result (IsAcceptance (option_map (λ c. c.now) clock.entry)) }
+    ensures refused { IfErr result (IsVerdict (byte_of places.now.text.now places.now.tokens.now) (design_of flat) (option_map (λ c. c.now) clock.entry)) }
 {
     match type_design(alloc, flat) {
         Ok(typed) => judge_typed(alloc, places, typed, outputs, clock),

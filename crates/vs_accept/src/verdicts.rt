@@ -1,6 +1,6 @@
 //! The refusals of stages.
 
-ghost use Rattle.std.specs.Prelude.{◌≡◌, ℕ, true, List, Ok, None};
+ghost use Rattle.std.specs.Prelude.{◌≡◌, ℕ, true, List, Ok, None, Option};
 ghost use Rattle.vs_pre.specs.Reads.{ReadsAs};
 ghost use Rattle.vs_grammar.specs.Trees.{Source};
 ghost use Rattle.vs_elaborated.specs.Elaborated.{elaborated};
@@ -61,7 +61,7 @@ fn rule_name(rule: Rule) -> Option<AtName>
 impl Places<'_> {
     /// The tokens spell no tree.
     pub(crate) fn tree_error(&self, error: ParseError) -> AcceptError
-        ensures { (top clock : List ℕ) → ReadsAs self.now.text.now self.now.tokens.now → TreeFault self.now.tokens.now error → IsRefusalOf self.now.text.now top clock result }
+        ensures { (top : List ℕ) (clock : Option (List ℕ)) → ReadsAs self.now.text.now self.now.tokens.now → TreeFault self.now.tokens.now error → IsRefusalOf self.now.text.now top clock result }
     {
         match error {
             ParseError::LeftOut(token) => self.refused_at(AtName::LeftOut, token),
@@ -73,7 +73,7 @@ impl Places<'_> {
 
     /// The tree doesn't elaborate.
     pub(crate) fn elab_error(&self, error: ElabError) -> AcceptError
-        ensures { (source : Source) (top clock : List ℕ) → IsRead self.now.text.now self.now.tokens.now source → IsElabError (elaborated source top) error → IsRefusalOf self.now.text.now top clock result }
+        ensures { (source : Source) (top : List ℕ) (clock : Option (List ℕ)) → IsRead self.now.text.now self.now.tokens.now source → IsElabError (elaborated source top) error → IsRefusalOf self.now.text.now top clock result }
     {
         match error {
             ElabError::Broken(fault) => self.fault_error(fault),
@@ -93,7 +93,7 @@ impl Places<'_> {
 
     /// A length or a division is refused, or the size.
     pub(crate) fn width_error(&self, error: WidthError) -> AcceptError
-        ensures { (d : Design) (clock : List ℕ) → IsWidthError d error → IsVerdict (byte_of self.now.text.now self.now.tokens.now) d clock result }
+        ensures { (d : Design) (clock : Option (List ℕ)) → IsWidthError d error → IsVerdict (byte_of self.now.text.now self.now.tokens.now) d clock result }
     {
         match error {
             WidthError::TooWide { at } => self.refused_at(AtName::TooWide, at),
@@ -105,7 +105,7 @@ impl Places<'_> {
 
     /// A function or a block is refused.
     pub(crate) fn block_error(&self, error: BlockError) -> AcceptError
-        ensures { (d : Design) (clock : List ℕ) → width_refusal d ≡ None → IsBlockError d error → IsVerdict (byte_of self.now.text.now self.now.tokens.now) d clock result }
+        ensures { (d : Design) (clock : Option (List ℕ)) → width_refusal d ≡ None → IsBlockError d error → IsVerdict (byte_of self.now.text.now self.now.tokens.now) d clock result }
     {
         match error {
             BlockError::FunctionLatch { at } => self.refused_at(AtName::FunctionLatch, at),
@@ -130,7 +130,7 @@ impl Places<'_> {
 
     /// A bit has two drivers.
     pub(crate) fn driver_error(&self, error: DriverError) -> AcceptError
-        ensures { (d : Design) (clock : List ℕ) → KeepsBlocks d → IsDriverError d error → IsVerdict (byte_of self.now.text.now self.now.tokens.now) d clock result }
+        ensures { (d : Design) (clock : Option (List ℕ)) → KeepsBlocks d → IsDriverError d error → IsVerdict (byte_of self.now.text.now self.now.tokens.now) d clock result }
     {
         match error {
             DriverError::TwoDrivers {
@@ -150,7 +150,7 @@ impl Places<'_> {
 
     /// The clock is refused, or a reset.
     pub(crate) fn clock_error(&self, error: ClockError) -> AcceptError
-        ensures { (d : Design) (clock : List ℕ) → KeepsDrivers d → IsClockError d clock error → IsVerdict (byte_of self.now.text.now self.now.tokens.now) d clock result }
+        ensures { (d : Design) (clock : Option (List ℕ)) → KeepsDrivers d → IsClockError d clock error → IsVerdict (byte_of self.now.text.now self.now.tokens.now) d clock result }
     {
         match error {
             ClockError::NoClock => AcceptError::Refused(Refusal::Bare(BareName::NoClock)),
@@ -169,7 +169,7 @@ impl Places<'_> {
 
     /// Processes feed one another in a circle.
     pub(crate) fn level_error(&self, error: LevelError) -> AcceptError
-        ensures { (d : Design) (clock : List ℕ) → KeepsClock d clock → IsLevelError d error → IsVerdict (byte_of self.now.text.now self.now.tokens.now) d clock result }
+        ensures { (d : Design) (clock : Option (List ℕ)) → KeepsClock d clock → IsLevelError d error → IsVerdict (byte_of self.now.text.now self.now.tokens.now) d clock result }
     {
         match error {
             LevelError::Cycle { processes, at } => AcceptError::Refused(Refusal::Cycle {
@@ -182,7 +182,7 @@ impl Places<'_> {
 
     /// A block is refused at time zero.
     pub(crate) fn zero_error(&self, error: ZeroError) -> AcceptError
-        ensures { (d : Design) (clock : List ℕ) → KeepsClock d clock → has_no_cycle d ≡ true → IsZeroError d clock error → IsVerdict (byte_of self.now.text.now self.now.tokens.now) d clock result }
+        ensures { (d : Design) (clock : Option (List ℕ)) → KeepsClock d clock → has_no_cycle d ≡ true → IsZeroError d clock error → IsVerdict (byte_of self.now.text.now self.now.tokens.now) d clock result }
     {
         match error {
             ZeroError::TimeZero { process, at } => {

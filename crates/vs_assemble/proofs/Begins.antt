@@ -16,7 +16,7 @@ use Rattle.vs_design.specs.Elaborated.{have_bits_from}
 use Rattle.vs_design.specs.Sizes.{distinct, register_bits}
 use Rattle.vs_design.specs.Networks.{idle_value}
 use Rattle.vs_program.specs.Lowered.{home, HasConstants}
-use Rattle.vs_program.specs.Program.{values}
+use Rattle.vs_program.specs.Program.{beyond, values}
 use Rattle.vs_program.specs.Layouts.{place_of, sleepers, mask_of}
 use Rattle.vs_assemble.specs.Plans.{begin_bits, idle_bits}
 use Rattle.vs_assemble.proofs.Lists.{by_test, contains-append}
@@ -125,11 +125,11 @@ module _ (d : Design) (numbered : have_bits_from 0 d.signals ≡ true) (n : ℕ)
   pub constants_are : HasConstants (λ slot. get_or padded slot X)
   constants_are = record { zero = refl; one = refl; x = refl; z = refl }
 
-  inside : (b : ℕ) → nat_lt b (bit_count d) ≡ true → values (bit_count d) (λ slot. get_or padded slot X) b ≡ idle_value d b
-  inside b h =
+  inside : (clock b : ℕ) → nat_lt b (bit_count d) ≡ true → values (bit_count d) clock X (λ slot. get_or padded slot X) b ≡ idle_value d b
+  inside clock b h =
       let lt : b < bit_count d = grind arith in
       let idle = idle_length d.signals in
-      ap (λ (c : Bool). if c then get_or padded (home b) X else X) h
+      ap (λ (c : Bool). if c then get_or padded (home b) X else beyond clock X b) h
       ∙ get_or-append-add (Zero ∷ One ∷ X ∷ Z ∷ []) (idle_bits d.signals ++ replicate n Zero) b X
       ∙ get_or_append_left (idle_bits d.signals) (replicate n Zero) X b (omega (arith, idle, lt))
       ∙ idle_at 0 d.signals b numbered lt
@@ -138,14 +138,19 @@ module _ (d : Design) (numbered : have_bits_from 0 d.signals ≡ true) (n : ℕ)
       same : (b : ℕ) → 0 + b ≡ b
       same b = omega arith
 
-  outside : (b : ℕ) → nat_lt b (bit_count d) ≡ false → values (bit_count d) (λ slot. get_or padded slot X) b ≡ idle_value d b
-  outside b h =
+  outside : (clock b : ℕ) → nat_lt b (bit_count d) ≡ false → values (bit_count d) clock X (λ slot. get_or padded slot X) b ≡ idle_value d b
+  outside clock b h =
       let ge : bit_count d ≤ b = grind arith in
-      ap (λ (c : Bool). if c then get_or padded (home b) X else X) h
+      ap (λ (c : Bool). if c then get_or padded (home b) X else beyond clock X b) h
+      ∙ either (b == clock)
       ∙ sym (ap (λ (c : Bool). if c then Z else X) (high 0 d.signals b numbered (omega (arith, ge))))
+    where
+      either : (c : Bool) → (if c then X else X) ≡ X
+      either true = refl
+      either false = refl
 
-  pub idle_is : values (bit_count d) (λ slot. get_or padded slot X) ≡ idle_value d
-  idle_is = fun_ext (λ b. by_test (nat_lt b (bit_count d)) (inside b) (outside b))
+  pub idle_is : (clock : ℕ) → values (bit_count d) clock X (λ slot. get_or padded slot X) ≡ idle_value d
+  idle_is clock = fun_ext (λ b. by_test (nat_lt b (bit_count d)) (inside clock b) (outside clock b))
 
   below : (bs : List ℕ) (b : ℕ) → contains bs b ≡ true → place_of bs b < length bs
   below [] b h = cc

@@ -71,11 +71,11 @@ finished : ProgramsAreMade → ProgramsAreInRange → (d : Design) (clock : ℕ)
     → (l : Layout) → IsTightLayout d l → (settling blocks registers falling : List ℕ) → IsPlanOf d clock order settling blocks registers falling
     → (lowered : Lowered) → IsLoweredDesign d clock l settling blocks registers lowered → (phases : Phases) → ArePhasesOf d clock l order lowered phases
     → (count : ℕ) → l.first_temp ≤ count → AreIn count lowered.program → count ≤ slots_of_design d
-    → (begin : List Bit4) (p : Program) → IsFrameOf d clock p.bits p.inputs p.clocks begin p.signals → p.initial ≡ begin ++ replicate (count - length begin) Zero
+    → (begin : List Bit4) (p : Program) → p.clock ≡ clock → IsFrameOf d clock p.bits p.inputs p.clocks begin p.signals → p.initial ≡ begin ++ replicate (count - length begin) Zero
     → p.first ≡ calls_of_runs lowered.program phases.first.items → p.fall ≡ calls_of_runs lowered.program phases.fall.items
     → p.next ≡ calls_of_runs lowered.program phases.next.items → p.rise ≡ calls_of_runs lowered.program phases.rise.items
     → IsInRange p × IsProgramOf d clock p
-finished makes ranges d clock at order ordered l tight settling blocks registers falling plan lowered low phases phased count temps slots few begin p frame initial first fall next rise =
+finished makes ranges d clock at order ordered l tight settling blocks registers falling plan lowered low phases phased count temps slots few begin p clock_is frame initial first fall next rise =
     subst (λ c. IsMadeOf d c order registers l p → IsInRange p × IsProgramOf d c p) at.clock_is
     (λ made. (ranges d at.name at.accepted order ordered l tight.layout registers p made, makes d at.name at.accepted order ordered l tight.layout registers p made))
     made_of
@@ -100,14 +100,15 @@ finished makes ranges d clock at order ordered l tight settling blocks registers
     made_of : IsMadeOf d clock order registers l p
     made_of = record {
       bits = frame.bits_are;
+      clock_is = clock_is;
       inputs = frame.inputs_are;
       clocks = frame.clocks_are;
       registers = plan.registers_are;
       signals = frame.signals_are;
       constants = subst HasConstants (sym slots_are) (constants_are d at.accepted.lawful.bits_numbered (count - length (begin_bits d)));
-      idle = ap (values p.bits) slots_are
-          ∙ ap (λ n. values n (λ slot. get_or (begin_bits d ++ replicate (count - length (begin_bits d)) Zero) slot X)) frame.bits_are
-          ∙ idle_is d at.accepted.lawful.bits_numbered (count - length (begin_bits d));
+      idle = ap (values p.bits clock X) slots_are
+          ∙ ap (λ n. values n clock X (λ slot. get_or (begin_bits d ++ replicate (count - length (begin_bits d)) Zero) slot X)) frame.bits_are
+          ∙ idle_is d at.accepted.lawful.bits_numbered (count - length (begin_bits d)) clock;
       masks = λ q h.
           ap (λ (bs : List Bit4). get_or bs (mask_of d q) X) begins
           ∙ masks_are d at.accepted.lawful.bits_numbered (count - length (begin_bits d)) (let at_first = begin_length d in omega (arith, at_first, temps, tight.first)) q h;
@@ -139,13 +140,13 @@ pub finished_by : ProgramsAreMade → ProgramsAreInRange → (d : Design) (clock
     → (lowered : Lowered) → IsLoweredDesign d clock l settling blocks registers lowered → (phases : Phases) → ArePhasesOf d clock l order lowered phases
     → (count named first : ℕ) → count ≡ max named first → first ≡ l.first_temp → All (λ slot. slot < named) (slots_of lowered.program)
     → (named ≢ 0 → Any (λ slot. slot + 1 ≡ named) (slots_of lowered.program))
-    → (begin : List Bit4) (p : Program) → IsFrameOf d clock p.bits p.inputs p.clocks begin p.signals → p.initial ≡ begin ++ replicate (count - length begin) Zero
+    → (begin : List Bit4) (p : Program) → p.clock ≡ clock → IsFrameOf d clock p.bits p.inputs p.clocks begin p.signals → p.initial ≡ begin ++ replicate (count - length begin) Zero
     → p.first ≡ calls_of_runs lowered.program phases.first.items → p.fall ≡ calls_of_runs lowered.program phases.fall.items
     → p.next ≡ calls_of_runs lowered.program phases.next.items → p.rise ≡ calls_of_runs lowered.program phases.rise.items
     → IsInRange p × IsProgramOf d clock p
-finished_by makes ranges d clock at order ordered l tight settling blocks registers falling plan lowered low phases phased count named first is temps enough least begin p frame initial f a n r =
+finished_by makes ranges d clock at order ordered l tight settling blocks registers falling plan lowered low phases phased count named first is temps enough least begin p clock_is frame initial f a n r =
     finished makes ranges d clock at order ordered l tight settling blocks registers falling plan lowered low phases phased count
     (omega (arith, is, temps))
     (All-weaker (λ slot. slot < named) (λ slot. slot < count) (λ slot k. omega (arith, k, is)) (slots_of lowered.program) enough)
     (let within = count_within d l tight lowered.program named low.slots least in omega (arith, within, is, temps))
-    begin p frame initial f a n r
+    begin p clock_is frame initial f a n r

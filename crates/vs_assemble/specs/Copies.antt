@@ -1,5 +1,5 @@
 -- The copy of next values is a call.
-use Rattle.std.specs.Prelude.{ℕ, ◌≤◌, ◌^◌, List, All}
+use Rattle.std.specs.Prelude.{ℕ, ◌≤◌, ◌^◌, List, All, Option}
 use Rattle.vs_design.specs.Designs.{Design}
 use Rattle.vs_design.specs.Accepted.{IsAcceptedDesign}
 use Rattle.vs_code.specs.Calls.{IsCall}
@@ -10,5 +10,5 @@ use Rattle.vs_program.specs.Made.{copy_shadows}
 -- where all slots can be numbered
 abbrev pub CopyIsCall : Type 0
 CopyIsCall =
-    (d : Design) (name : List ℕ) → IsAcceptedDesign d name → (l : Layout) → IsLayoutOf d l → l.first_temp ≤ 2 ^ 32
+    (d : Design) (name : Option (List ℕ)) → IsAcceptedDesign d name → (l : Layout) → IsLayoutOf d l → l.first_temp ≤ 2 ^ 32
     → (regs : List ℕ) → AreRegisters d regs → All IsCall (copy_shadows l regs)

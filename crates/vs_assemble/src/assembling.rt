@@ -35,7 +35,7 @@ pub struct Frame {
     pub bits: u32,
     /// The bits of the data inputs, in bit order.
     pub inputs: Vec<u32>,
-    /// The clock's bit, and those of the nets that copy it.
+    /// The clock's bit, and those of the nets that copy it. There is none without a clock.
     pub clocks: Vec<u32>,
     /// What the slots of the constants and of the bits begin with.
     pub initial: Vec<Bit4>,
@@ -60,7 +60,7 @@ pub(crate) struct Lowered {
 
 /// A design compiled: each process lowered once, and the calls put together for each kind of time slot. The only error is that there is no memory.
 ///
-/// The clock is the lowering's, the order a level order of the design.
+/// The clock is the lowering's, the number of the design's bits where it has none; the order a level order of the design.
 pub fn assemble<T: Lowering>(
     alloc: Global,
     lowering: &T,
@@ -120,6 +120,7 @@ fn finish<T: Lowering>(
     let initial = padded(initial, count)?;
     Ok(Compiled::of(Parts {
         bits,
+        clock,
         inputs,
         clocks,
         initial,

@@ -1,5 +1,5 @@
 -- How long the texts of a bench are.
-use Rattle.std.proofs.Common.{◌≡◌, ℕ, zero, suc, ◌+◌, ◌*◌, ◌^◌, ◌/◌, ◌%◌, nat_eq, ◌∷◌, ◌++◌, [], length, refl, ap, ◌∙◌, add-one, length-append, arith}
+use Rattle.std.proofs.Common.{◌≡◌, ℕ, zero, suc, ◌+◌, ◌*◌, ◌^◌, ◌/◌, ◌%◌, ◌∷◌, [], length, refl, ap, ◌∙◌, add-one, length-append, arith}
 use Rattle.vs_bench.specs.Texts.{state, binary, header, line, lines, stimulus}
 
 length-binary : (w n : ℕ) → length (binary w n) ≡ w

@@ -1,7 +1,7 @@
 -- The texts of a bench, one step after the other.
 use Rattle.std.proofs.Common.{◌≡◌, ℕ, suc, ◌<◌, ◌≤◌, ◌+◌, ◌-◌, ◌*◌, ◌^◌, ◌/◌, ◌%◌, nat_eq, List, [], ◌∷◌, ◌++◌, sym, ap, ◌∙◌, append_assoc, add-one, arith}
 use Rattle.std.proofs.Math.Nat.{mod-add-mod, div-div-eq-div-mul, pow-suc}
-use Rattle.vs_bench.specs.Texts.{Text, after, state, binary, vector_line, header, line, lines, stimulus}
+use Rattle.vs_bench.specs.Texts.{after, state, binary, vector_line, header, line, lines, stimulus}
 
 -- a product and a sum that both wrap come to the next state
 pub after_wraps : (s : ℕ) → (s * 6364136223846793005 % 2 ^ 64 + 1442695040888963407) % 2 ^ 64 ≡ after s

@@ -1,5 +1,5 @@
 -- The files of a bench, and the job over them.
-use Rattle.std.specs.Prelude.{false, ℕ, zero, suc, List, [], ◌∷◌, ◌++◌, codes, decimal}
+use Rattle.std.specs.Prelude.{false, ℕ, zero, suc, List, [], ◌∷◌, ◌++◌, codes, decimal, Some}
 use Rattle.vs_desk.specs.Desk.{Contents, no_contents}
 use Rattle.vs_desk.specs.MemoryDesk.{with_file}
 use Rattle.vs_job.specs.declared.job.Job.{Job}
@@ -26,4 +26,4 @@ files vectors (suc lane) = with_file (files vectors lane) (lane_path lane) (stim
 
 -- the job of a bench of so many lanes
 abbrev pub job : ℕ → Job
-job lanes = record { mode = Run; top = codes "top"; clock = codes "clk"; half = 5; share = false; head = []; design = design_path; stimuli = lane_paths lanes }
+job lanes = record { mode = Run; top = codes "top"; clock = Some (codes "clk"); half = 5; share = false; head = []; design = design_path; stimuli = lane_paths lanes }

@@ -1,5 +1,5 @@
 -- Worked texts and paths of a bench.
-use Rattle.std.specs.Prelude.{◌≡◌, [], ◌∷◌, ◌++◌, length, codes}
+use Rattle.std.specs.Prelude.{◌≡◌, [], ◌∷◌, length, codes}
 use Rattle.vs_bench.specs.Texts.{design, state, line, stimulus}
 use Rattle.vs_bench.specs.Bench.{lane_path, lane_paths, files}
 

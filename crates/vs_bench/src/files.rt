@@ -38,7 +38,7 @@ pub fn bench_job(alloc: Global, lanes: u32) -> Result<Job, AllocError>
     Ok(Job {
         mode: Mode::Run,
         top: text(alloc, TOP)?,
-        clock: text(alloc, CLOCK)?,
+        clock: Some(text(alloc, CLOCK)?),
         half: HALF,
         share: false,
         head: text(alloc, "")?,

@@ -10,3 +10,4 @@ pub mod Branches
 pub mod Refusing
 pub mod Resetting
 pub mod StillSteps
+pub mod Spared

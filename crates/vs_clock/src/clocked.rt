@@ -1,6 +1,6 @@
 //! The rules on the clock of a design, and on its resets.
 
-ghost use Rattle.std.specs.Prelude.{◌≡◌, ◌<◌, None, IfOk, IfErr, OnOk};
+ghost use Rattle.std.specs.Prelude.{◌≡◌, None, IfOk, IfErr, OnOk, option_map};
 ghost use Rattle.vs_design.specs.Refusals.{clock_refusal};
 ghost use Rattle.vs_flat.specs.DesignOf.{design_of};
 ghost use Rattle.vs_reads.specs.Footprint.{footprints_of};
@@ -10,7 +10,7 @@ ghost use Rattle.vs_clock.specs.Refused.{IsClockError};
 use crate::clocks::Clocks;
 use crate::error::ClockError;
 use crate::first::{first_other, first_reading};
-use crate::inputs::find_clock;
+use crate::inputs::clock_of;
 use crate::marks::inputs_of;
 use crate::nets::Nets;
 use crate::resets::{Forms, resets_of};
@@ -19,27 +19,27 @@ use vs_flat::trees_law;
 use vs_reads::Footprints;
 use vs_typed::Typed;
 
-/// The clock of a design by the name of its input. The rules are tried in the order of `ClockError`, and each answers its first process.
+/// The clock of a design by the name of its input, or a design without a clock where none is named: then all inputs are data inputs, and each clocked block is
+/// `NotTheClock`. The rules are tried in the order of `ClockError`, and each answers its first process.
 pub fn check(
     alloc: Global,
     typed: &Typed,
     footprints: &Footprints,
-    clock: &[u8],
+    clock: Option<&[u8]>,
 ) -> Result<Clocks, ClockError>
     requires { footprints.now ≡ footprints_of (design_of typed.now) }
-    ensures clock { IfOk result (IsClockOf (design_of typed.now) clock.now) }
+    ensures clock { IfOk result (IsClockOf (design_of typed.now) (option_map (λ c. c.now) clock.entry)) }
     ensures resets { IfOk result (AreResets typed.now) }
-    ensures lawful { OnOk result (clock_refusal (design_of typed.now) clock.now ≡ None) }
-    ensures refused { IfErr result (IsClockError (design_of typed.now) clock.now) }
+    ensures lawful { OnOk result (clock_refusal (design_of typed.now) (option_map (λ c. c.now) clock.entry) ≡ None) }
+    ensures refused { IfErr result (IsClockError (design_of typed.now) (option_map (λ c. c.now) clock.entry)) }
 {
     trees_law();
     let flat = typed.flat();
-    let input = match find_clock(flat, clock) {
-        Some(input) => input,
+    let found = match clock_of(flat, clock) {
+        Some(found) => found,
         None => return Err(ClockError::NoClock),
     };
-    let bit = flat.signal(input).first_bit;
-    let nets = Nets::of(alloc, flat, bit)?;
+    let nets = Nets::of(alloc, flat, found.bit)?;
     match first_reading(flat, footprints, &nets) {
         Some(process) => {
             let at = flat.process(process).at;
@@ -62,5 +62,5 @@ pub fn check(
         }
     };
     let inputs = inputs_of(alloc, flat, &nets, resets.as_slice())?;
-    Ok(Clocks::of(input, bit, nets, resets, inputs))
+    Ok(Clocks::of(found.number, found.bit, nets, resets, inputs))
 }

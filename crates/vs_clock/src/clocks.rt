@@ -6,10 +6,10 @@ use crate::nets::Nets;
 use crate::resets::Reset;
 use std::marker::Model;
 
-/// The clock of a design: its input, the nets that copy it and that copy other inputs, and the resets of its blocks.
+/// The clock of a design: its input, where it has one, the nets that copy it and that copy other inputs, and the resets of its blocks.
 #[derive(Drop)]
 pub struct Clocks {
-    input: u32,
+    input: Option<u32>,
     bit: u32,
     nets: Nets,
     resets: Vec<Option<Reset>>,
@@ -30,7 +30,7 @@ impl Clocks {
 
     /// The clock with this input, its bit, these nets and resets.
     pub(crate) fn of(
-        input: u32,
+        input: Option<u32>,
         bit: u32,
         nets: Nets,
         resets: Vec<Option<Reset>>,
@@ -47,21 +47,21 @@ impl Clocks {
         }
     }
 
-    /// The number of the clock input.
-    pub fn input(&self) -> u32
+    /// The number of the clock input. None: no clock is named, and each input is a data input.
+    pub fn input(&self) -> Option<u32>
         ensures { result ≡ self.now.input }
     {
         self.input
     }
 
-    /// The bit of the clock input.
+    /// The bit of the clock input. Without one it is the number of the design's bits, which is none of them.
     pub fn bit(&self) -> u32
         ensures { result ≡ self.now.bit }
     {
         self.bit
     }
 
-    /// Whether this bit is a clock net's.
+    /// Whether this bit is a clock net's. Without a clock input no bit of the design is.
     pub fn is_clock(&self, bit: u32) -> bool
         ensures { result ≡ is_clock_bit self.now.nets bit }
     {

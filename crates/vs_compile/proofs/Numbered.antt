@@ -1,11 +1,11 @@
 -- The numbers of a range that pass a test.
-use Rattle.std.proofs.Common.{◌≡◌, ℕ, zero, suc, ◌+◌, subst, Bool, List, [], ◌∷◌, ◌++◌, if◌then◌else◌, true, false, sym, ap, ◌∙◌, arith, append-nil}
+use Rattle.std.proofs.Common.{◌≡◌, ℕ, zero, suc, ◌+◌, subst, Bool, List, [], ◌∷◌, ◌++◌, if◌then◌else◌, true, false, sym, ap, ◌∙◌, arith, append-nil, refl, ◌<◌, inl, inr}
 use Rattle.std.specs.List.{filter}
 use Rattle.std.proofs.lemmas.List.Elements.{filter-append}
 use Rattle.vs_design.specs.Values.{count_from}
 use Rattle.vs_design.specs.Designs.{Design, bit_count}
 use Rattle.vs_design.specs.Footprints.{ascending, contains}
-use Rattle.vs_design.specs.Clocks.{clock_nets}
+use Rattle.vs_design.specs.Clocks.{clock_nets, own_nets}
 use Rattle.vs_cone.specs.Lists.{AscendingIsOnce, FewAreApart, HasEachOnce}
 use Rattle.vs_cone.specs.Sources.{SourcesAre, SourcesOfDesign}
 use Rattle.vs_clock.specs.Nets.{AreNets, Labelled, is_clock_bit}
@@ -34,13 +34,36 @@ pub nets_same : (d : Design) (clock : ℕ) (nets : Labelled) (n : ℕ) → AreNe
 nets_same d clock nets n are e =
     ascending_next (clock_nets d clock) n ∙ ap (λ (c : Bool). ascending n (clock_nets d clock) ++ (if c then (n ∷ []) else [])) (sym (are.clock n) ∙ e) ∙ append-nil (ascending n (clock_nets d clock))
 
--- the ascending list of them is the clock nets, and no longer
+-- lists with the same numbers of a range have one ascending list of it
+filter_same : (first n : ℕ) (xs ys : List ℕ) → ((b : ℕ) → b < first + n → contains xs b ≡ contains ys b) → filter (contains xs) (count_from first n) ≡ filter (contains ys) (count_from first n)
+filter_same first zero xs ys h = refl
+filter_same first (suc n) xs ys h =
+    let rest = filter_same (suc first) n xs ys (λ b l. h b (omega (arith, l))) in
+    ap (λ (bs : List ℕ). if contains xs first then (first ∷ bs) else bs) rest
+    ∙ ap (λ (c : Bool). if c then (first ∷ filter (contains ys) (count_from (suc first) n)) else filter (contains ys) (count_from (suc first) n)) (h first (omega arith))
+
+-- among the design's bits the clock nets are its own
+own_below : (d : Design) (clock : ℕ) → SourcesAre d clock → (b : ℕ) → b < bit_count d → contains (clock_nets d clock) b ≡ contains (own_nets d clock) b
+own_below d clock from b l = by_net (contains (clock_nets d clock) b) (contains (own_nets d clock) b) (from.nets_own b)
+    (λ h. elim (from.nets_are b h) [
+      | inl own ↦ own
+      | inr q ↦ let at = q.0 in let past = q.1 in absurd (omega (arith, l, at, past))
+    ])
+  where
+    by_net : (u v : Bool) → (v ≡ true → u ≡ true) → (u ≡ true → v ≡ true) → u ≡ v
+    by_net true true f g = refl
+    by_net false false f g = refl
+    by_net true false f g = sym (g refl)
+    by_net false true f g = f refl
+
+-- the ascending list of them is the clock nets of the design's bits, and no longer
 pub are_clock_nets : FewAreApart → AscendingIsOnce → SourcesOfDesign → (d : Design) (clock : ℕ) → IsAcceptedAt d clock → (count : ℕ) → count ≡ bit_count d
     → (bits : List ℕ) → bits ≡ ascending count (clock_nets d clock) → AreClockNets d clock bits
 are_clock_nets few once sources d clock at count counted bits is =
-    let nets = clock_nets d clock in
+    let nets = own_nets d clock in
     let from : SourcesAre d clock = subst (SourcesAre d) at.clock_is (sources d at.name at.accepted) in
-    let each : HasEachOnce nets bits = subst (HasEachOnce nets) (sym (is ∙ ap (λ n. ascending n nets) counted)) (once (bit_count d) nets from.nets_below) in
+    let own : ascending (bit_count d) (clock_nets d clock) ≡ ascending (bit_count d) nets = filter_same 0 (bit_count d) (clock_nets d clock) nets (λ b l. own_below d clock from b (omega (arith, l))) in
+    let each : HasEachOnce nets bits = subst (HasEachOnce nets) (sym (is ∙ ap (λ n. ascending n (clock_nets d clock)) counted ∙ own)) (once (bit_count d) nets from.nets_below) in
     let most = few nets bits each.once (λ b h. sym (each.has b) ∙ h) in
     let least = distinct_within nets nets (λ b h. h) in
     record { has = each.has; few = omega (arith, most, least) }

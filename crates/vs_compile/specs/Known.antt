@@ -1,5 +1,5 @@
 -- What is known of a design that is compiled.
-use Rattle.std.specs.Prelude.{◌≡◌, ℕ, List}
+use Rattle.std.specs.Prelude.{◌≡◌, ℕ, List, Option}
 use Rattle.vs_design.specs.Designs.{Design}
 use Rattle.vs_design.specs.Accepted.{IsAcceptedDesign}
 use Rattle.vs_flat.specs.Arena.{Arena}
@@ -9,15 +9,15 @@ use Rattle.vs_clock.specs.Clocked.{Clocked, IsClockOf, AreResets}
 use Rattle.vs_clock.specs.Nets.{AreNets}
 use Rattle.vs_program.specs.Compiled.{IsAcceptedAt}
 
--- the design is accepted by some name of its clock, and this is what is told of that clock
+-- the design is accepted by some name of its clock, or without one, and this is what is told of that clock
 pub record IsAcceptedBy (d : Design) (clocks : Clocked) : Type 0 where
-  pub name : List ℕ
+  pub name : Option (List ℕ)
   pub accepted : IsAcceptedDesign d name
   pub clock : IsClockOf d name clocks
 
--- the design is accepted by some name of its clock
+-- the design is accepted by some name of its clock, or without one
 abbrev pub IsAccepted : Design → Type 0
-IsAccepted d = (name : List ℕ) × IsAcceptedDesign d name
+IsAccepted d = (name : Option (List ℕ)) × IsAcceptedDesign d name
 
 -- a flat design, and the bit of its clock
 pub record Known : Type 0 where

@@ -15,7 +15,7 @@ use vs_cone::{list_law, sources_law};
 use vs_flat::{count_bits, trees_law};
 use vs_typed::Typed;
 
-/// The bits of the clock nets, ascending. The only error is that there is no memory.
+/// The bits of the clock nets, ascending; without a clock there are none. The only error is that there is no memory.
 pub(crate) fn nets_of(alloc: Global, typed: &Typed, clocks: &Clocks) -> Result<Vec<u32>, AllocError>
     requires accepted { IsAcceptedAt (design_of typed.now) clocks.now.bit }
     requires nets { AreNets (design_of typed.now) clocks.now.bit clocks.now.nets }

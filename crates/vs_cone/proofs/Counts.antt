@@ -1,5 +1,5 @@
 -- Stores and weights.
-use Rattle.std.proofs.Common.{◌≡◌, ℕ, zero, suc, ◌+◌, ◌≤◌, Bool, true, false, List, [], ◌∷◌, ◌++◌, ◌&&◌, ◌||◌, ◌==◌, if◌then◌else◌, length, Option, Some, None, sym, ap, ◌∙◌, subst, refl, eqb-true, eq-eqb, ne_eqb, arith, inl, inr, ◌⊎◌, slice_get, length-append}
+use Rattle.std.proofs.Common.{◌≡◌, ℕ, zero, suc, ◌+◌, ◌≤◌, ◌<◌, nat_lt, Bool, true, false, List, [], ◌∷◌, ◌++◌, ◌&&◌, ◌||◌, ◌==◌, if◌then◌else◌, length, Option, Some, None, sym, ap, ◌∙◌, subst, refl, eqb-true, eq-eqb, ne_eqb, arith, inl, inr, ◌⊎◌, slice_get, length-append}
 use Rattle.std.specs.Prelude.{sum_by}
 use Rattle.std.specs.List.{filter}
 use Rattle.std.proofs.lemmas.Bool.{and_parts, both_ways}
@@ -9,9 +9,9 @@ use Rattle.vs_net.specs.Network.{writes}
 use Rattle.vs_design.specs.Expressions.{Signal, signal_length}
 use Rattle.vs_design.specs.Values.{count_from, bits_of_signal}
 use Rattle.vs_design.specs.Statements.{Whole, PartOf, WordOf, Both}
-use Rattle.vs_design.specs.Designs.{Process, Continuous, Always, Written, InputPort, OutputPort, is_clocked, Design, top_inputs}
+use Rattle.vs_design.specs.Designs.{Process, Continuous, Always, Written, InputPort, OutputPort, is_clocked, Design, top_inputs, bit_count}
 use Rattle.vs_design.specs.Footprints.{contains, without, signals_bits, input_bits, memory_bits, writes_of}
-use Rattle.vs_design.specs.Clocks.{name_of, is_one_of, port_target, port_targets, nets_within, clock_nets, is_clock_port}
+use Rattle.vs_design.specs.Clocks.{name_of, is_one_of, port_target, port_targets, nets_within, clock_input, clock_nets, own_nets, is_clock_port}
 use Rattle.vs_design.specs.Sizes.{distinct, process_weight, register_bits, sleeper_weight}
 use Rattle.vs_design.specs.Cycles.{AreApart}
 use Rattle.vs_design.specs.Networks.{network_of}
@@ -22,7 +22,7 @@ use Rattle.vs_cone.specs.Counts.{clocked_from, stores_of, AreWithin, StoresFit}
 use Rattle.vs_cone.proofs.Writes.{by_test}
 use Rattle.vs_cone.proofs.Processes.{in_left, in_right, contains-append, process_number, writes_are}
 use Rattle.vs_cone.proofs.Lists.{distinct_more}
-use Rattle.vs_cone.proofs.Given.{register_block, clock_input_bit}
+use Rattle.vs_cone.proofs.Given.{register_block, ClockPlace, among, beyond, clock_place}
 
 -- ---- sums over parts of a list
 
@@ -327,10 +327,35 @@ fewer (b ∷ bs) c =
     other true e f h = let g : (b == c) ≡ true = eq-eqb b c (sym (eqb-true c b e)) in cc
     other false e f h = omega arith
 
-inputs_count : (d : Design) (clock : ℕ) → contains (input_bits d) clock ≡ true → length (data_bits d clock) + 1 ≤ sum_by signal_length (top_inputs d)
-inputs_count d clock h =
-    let few : length (data_bits d clock) + 1 ≤ length (input_bits d) = subst (λ (k : Bool). length (data_bits d clock) + (if k then 1 else 0) ≤ length (input_bits d)) h (fewer (input_bits d) clock) in
-    omega (arith, few, length-signals_bits (top_inputs d))
+-- the data inputs and the clock nets are within the inputs and the ports of the clock
+inputs_count : (d : Design) (name : Option (List ℕ)) (s : Signal) → clock_input d name ≡ Some s → length (data_bits d s.first) + length (own_nets d s.first) ≤ sum_by signal_length (top_inputs d) + sum_by (port_count (clock_nets d s.first)) d.processes
+inputs_count d name s h = by_place (clock_place d name s h) (nat_lt s.first (bit_count d)) refl
+  where
+    all : length (signals_bits (top_inputs d)) ≡ sum_by signal_length (top_inputs d)
+    all = length-signals_bits (top_inputs d)
+
+    past : (m n : ℕ) → nat_lt m n ≡ false → n ≤ m
+    past m n e = grind arith
+
+    below : (m n : ℕ) → nat_lt m n ≡ true → m < n
+    below m n e = grind arith
+
+    data_few : length (data_bits d s.first) ≤ length (input_bits d)
+    data_few = go (contains (input_bits d) s.first) (fewer (input_bits d) s.first)
+      where
+        go : (k : Bool) → length (data_bits d s.first) + (if k then 1 else 0) ≤ length (input_bits d) → length (data_bits d s.first) ≤ length (input_bits d)
+        go true e = omega (arith, e)
+        go false e = omega (arith, e)
+
+    by_place : ClockPlace d s → (c : Bool) → nat_lt s.first (bit_count d) ≡ c → length (data_bits d s.first) + length (own_nets d s.first) ≤ sum_by signal_length (top_inputs d) + sum_by (port_count (clock_nets d s.first)) d.processes
+    by_place place false e =
+        let none : length (own_nets d s.first) ≡ 0 = ap (λ (c : Bool). length (if c then clock_nets d s.first else [])) e in
+        omega (arith, all, data_few, none)
+    by_place (beyond l) true e = absurd (let k = below s.first (bit_count d) e in omega (arith, k, l))
+    by_place (among n is inside one) true e =
+        let few : length (data_bits d s.first) + 1 ≤ length (input_bits d) = subst (λ (k : Bool). length (data_bits d s.first) + (if k then 1 else 0) ≤ length (input_bits d)) inside (fewer (input_bits d) s.first) in
+        let own : length (own_nets d s.first) ≡ length (clock_nets d s.first) = ap (λ (c : Bool). length (if c then clock_nets d s.first else [])) e in
+        omega (arith, all, few, own, nets_count d s.first)
 
 -- ---- all together
 
@@ -338,18 +363,17 @@ pub stores_fit : AcceptedIsLawful → LevelOrderIs → StoresFit
 stores_fit lawful levels d name a order ordered stores resets within resetting =
     let L : IsLawful (network_of d a.clock.first) = lawful d name a in
     let o = levels d order ordered in
-    let nets = nets_count d a.clock.first in
     let own = but_fits d a.clock.first stores within order (λ p h. (o.members p).0 h) in
     let apart = sum_apart (own_stores d (clock_nets d a.clock.first)) d.processes order o.once in
     let weighed = all_weigh d (clock_nets d a.clock.first) d.processes in
     let blocks = clocked_fit d stores 0 d.processes (λ j x e. subst (λ n. stores n ≤ stores_of d x) (zero_add j) (within.each j x e)) in
     let zeroed = clocked_fit d resets 0 d.processes (λ j x e. subst (λ n. resets n ≤ stores_of d x) (zero_add j) (resetting.each j x e)) in
     let bits = bits_fit d.processes (sole L) in
-    let inputs = inputs_count d a.clock.first (clock_input_bit d name a.clock a.clock_found) in
+    let inputs = inputs_count d name a.clock a.clock_found in
     let registers = distinct_more (register_bits d.processes) (register_bits d.processes ++ memory_bits d) (λ b h. in_left (register_bits d.processes) (memory_bits d) b h) in
     record {
-      fall = omega (arith, nets, own, apart, weighed, zeroed, bits, inputs, registers);
-      rise = omega (arith, nets, own, apart, weighed, blocks, bits, inputs, registers);
+      fall = omega (arith, own, apart, weighed, zeroed, bits, inputs, registers);
+      rise = omega (arith, own, apart, weighed, blocks, bits, inputs, registers);
       cones = λ changed. cones_fit d stores changed (but_ports d a.clock.first order);
     }
   where

@@ -1,51 +1,23 @@
 -- Bits of the design.
-use Rattle.std.proofs.Common.{◌≡◌, ℕ, zero, suc, ◌+◌, ◌≤◌, ◌<◌, Bool, true, false, List, [], ◌∷◌, ◌++◌, ◌&&◌, ◌||◌, not, ◌==◌, if◌then◌else◌, map, Option, Some, None, sym, ap, ◌∙◌, subst, refl, eqb-true, eq-eqb, arith, inl, inr, slice_get}
-use Rattle.std.specs.Prelude.{sum_by, find}
+use Rattle.std.proofs.Common.{◌≡◌, ℕ, suc, ◌+◌, ◌≤◌, ◌<◌, Bool, true, false, List, [], ◌∷◌, ◌++◌, ◌&&◌, ◌||◌, not, ◌==◌, if◌then◌else◌, nat_lt, ◌⊎◌, map, Option, Some, None, sym, ap, ◌∙◌, subst, refl, eqb-true, eq-eqb, arith, inl, inr, slice_get}
+use Rattle.std.specs.Prelude.{find}
 use Rattle.std.specs.List.{filter}
 use Rattle.std.proofs.lemmas.Bool.{and_parts}
-use Rattle.std.proofs.lemmas.List.Sums.{sum_by-cons}
 use Rattle.vs_net.specs.Network.{Reset}
 use Rattle.vs_design.specs.Expressions.{Signal, signal_length}
 use Rattle.vs_design.specs.Values.{count_from, bits_of_signal}
 use Rattle.vs_design.specs.Designs.{Process, Continuous, Always, Design, bit_count, top_inputs}
 use Rattle.vs_design.specs.Footprints.{contains, input_bits, all_reads, writes_of, waits_of}
 use Rattle.vs_design.specs.Statements.{Statement}
-use Rattle.vs_design.specs.Clocks.{clock_nets, first_of, may_reset, root_of, events_of, Events, ByClock, ByBoth}
+use Rattle.vs_design.specs.Clocks.{clock_nets, own_nets, first_of, may_reset, root_of, events_of, Events, ByClock, ByBoth}
 use Rattle.vs_design.specs.Resets.{reset_branch, reset_with, reset_by, reset_of}
-use Rattle.vs_design.specs.Elaborated.{have_bits_from}
-use Rattle.vs_design.specs.Laws.{AcceptedIsLawful, BitsOfDesign, ClockNetsAre}
+use Rattle.vs_design.specs.Laws.{AcceptedIsLawful, BitsOfDesign, ClockNetsAre, SpareClockIs}
 use Rattle.vs_cone.specs.Given.{data_bits}
 use Rattle.vs_cone.specs.Sources.{SourcesOfDesign}
 use Rattle.vs_cone.proofs.Writes.{by_test}
 use Rattle.vs_cone.proofs.Processes.{some_is, in_left, in_right}
 use Rattle.vs_cone.proofs.Ports.{port, target_port, has_target, contains_one}
-use Rattle.vs_cone.proofs.Given.{data_bit_is, signal_of_bit, bit_of_signal, from_filter, register_block, register_has, clock_input_bit, data_is_no_net, register_is_no_net, reset_writer, reset_writes, data_is_no_register}
-
-counted : (first n b : ℕ) → contains (count_from first n) b ≡ true → (first ≤ b) × (b < first + n)
-counted first zero b h = cc
-counted first (suc n) b h =
-    by_test (b == first)
-    (λ e. let is : b ≡ first = eqb-true b first e in (omega arith, omega arith))
-    (λ e. let r = counted (suc first) n b (subst (λ c. (c || contains (count_from (suc first) n) b) ≡ true) e h) in (omega (arith, r.0), omega (arith, r.1)))
-
-within : (k : ℕ) (ss : List Signal) (j : ℕ) (s : Signal) (b : ℕ) → have_bits_from k ss ≡ true → slice_get ss j ≡ Some s → contains (bits_of_signal s) b ≡ true → b < k + sum_by signal_length ss
-within k [] j s b h e u = cc
-within k (t ∷ ss) zero s b h e u =
-    let parts = and_parts (t.first == k) (have_bits_from (k + signal_length t) ss) h in
-    let first : t.first ≡ k = eqb-true t.first k parts.0 in
-    let r = counted t.first (signal_length t) b (subst (λ x. contains (bits_of_signal x) b ≡ true) (sym (some_is t s e)) u) in
-    omega (arith, first, r.1, sum_by-cons signal_length t ss)
-within k (t ∷ ss) (suc j) s b h e u =
-    let parts = and_parts (t.first == k) (have_bits_from (k + signal_length t) ss) h in
-    let r = within (k + signal_length t) ss j s b parts.1 e u in
-    omega (arith, r, sum_by-cons signal_length t ss)
-
-input_below : (d : Design) → have_bits_from 0 d.signals ≡ true → (b : ℕ) → contains (input_bits d) b ≡ true → b < bit_count d
-input_below d numbered b h =
-    let r = signal_of_bit (top_inputs d) b h in
-    let f = from_filter (λ t. t.input) d.signals r.0 r.1 r.2 in
-    let u = within 0 d.signals f.0 r.1 b numbered f.1 r.3 in
-    omega (arith, u)
+use Rattle.vs_cone.proofs.Given.{data_bit_is, bit_of_signal, register_block, register_has, input_below, data_is_no_net, register_is_no_net, reset_writer, reset_writes, data_is_no_register}
 
 -- the input of a reset is a data input
 number_of : (ss : List Signal) (clock i : ℕ) (test : ℕ → Bool) → find test (map first_of (filter (may_reset clock) ss)) ≡ Some i → (j : ℕ) × (s : Signal) × (slice_get ss j ≡ Some s) × (may_reset clock s ≡ true) × (s.first ≡ i)
@@ -86,18 +58,20 @@ reset_input d clock (Always place star events statement) r h = by_events (events
         by_root (Some i) is None h = cc
         by_root (Some i) is (Some taken) h = subst (λ c. contains (data_bits d clock) c ≡ true) (ap (λ (q : Reset). q.input) (some_is _ r h)) (root_is_data d clock f.signal.first i is)
 
-pub sources : AcceptedIsLawful → ClockNetsAre → BitsOfDesign → SourcesOfDesign
-sources lawful law bits d name a =
+pub sources : AcceptedIsLawful → ClockNetsAre → SpareClockIs → BitsOfDesign → SourcesOfDesign
+sources lawful law spare bits d name a =
     record {
       data_below = λ b h. input_below d a.lawful.bits_numbered b (and_parts (contains (input_bits d) b) (not (b == a.clock.first)) (sym (data_bit_is d a.clock.first b) ∙ h)).0;
-      nets_below = λ b h. elim ((law d a.clock.first b).0 h) [
-        | inl at ↦ subst (λ c. c < bit_count d) (sym at) (input_below d a.lawful.bits_numbered a.clock.first (clock_input_bit d name a.clock a.clock_found))
+      nets_below = λ b h. elim ((law d a.clock.first b).0 (own_is b h).0) [
+        | inl at ↦ let below = (own_is b h).1 in omega (arith, at, below)
         | inr at ↦
             let r = target_port (clock_nets d a.clock.first) d.processes b at in
             let q = port d a.clock.first (clock_nets d a.clock.first) r.1 (has_target (clock_nets d a.clock.first) r.1 b r.3) in
             let to : b ≡ q.to = contains_one q.to b (subst (λ bs. contains bs b ≡ true) q.target r.3) in
             written r.0 r.1 b r.2 (subst (λ c. contains (writes_of r.1) c ≡ true) (sym to) (sym (Rattle.vs_cone.proofs.Processes.writes_are d a.clock.first r.1 q.to) ∙ q.writes_it))
       ];
+      nets_own = λ b h. (own_is b h).0;
+      nets_are = λ b h. net_is b h (nat_lt a.clock.first (bit_count d)) refl;
       registers_below = λ b h. let r = register_block d.processes b h in written r.0 r.1 b r.2 r.4;
       data_apart = λ b h. data_is_no_net d name a lawful law b h;
       registers_apart = λ b h. register_is_no_net d name a lawful law b h;
@@ -109,3 +83,22 @@ sources lawful law bits d name a =
   where
     written : (p : ℕ) (x : Process) (b : ℕ) → slice_get d.processes p ≡ Some x → contains (writes_of x) b ≡ true → b < bit_count d
     written p x b e h = bits d a.lawful p x e b (in_right (all_reads x) (writes_of x ++ waits_of x) b (in_left (writes_of x) (waits_of x) b h))
+
+    own_is : (b : ℕ) → contains (own_nets d a.clock.first) b ≡ true → (contains (clock_nets d a.clock.first) b ≡ true) × (a.clock.first < bit_count d)
+    own_is b = go (nat_lt a.clock.first (bit_count d)) refl
+      where
+        below : (m n : ℕ) → nat_lt m n ≡ true → m < n
+        below m n e = grind arith
+
+        go : (c : Bool) → nat_lt a.clock.first (bit_count d) ≡ c → contains (if c then clock_nets d a.clock.first else []) b ≡ true → (contains (clock_nets d a.clock.first) b ≡ true) × (a.clock.first < bit_count d)
+        go true e h = (h, below a.clock.first (bit_count d) e)
+        go false e h = cc
+
+    net_is : (b : ℕ) → contains (clock_nets d a.clock.first) b ≡ true → (c : Bool) → nat_lt a.clock.first (bit_count d) ≡ c → (contains (own_nets d a.clock.first) b ≡ true) ⊎ ((b ≡ a.clock.first) × (bit_count d ≤ a.clock.first))
+    net_is b h true e = inl (ap (λ (c : Bool). contains (if c then clock_nets d a.clock.first else []) b) e ∙ h)
+    net_is b h false e =
+        let beyond = past a.clock.first (bit_count d) e in
+        inr (contains_one a.clock.first b (subst (λ (bs : List ℕ). contains bs b ≡ true) (spare d a.lawful a.clock.first beyond).0 h), beyond)
+      where
+        past : (m n : ℕ) → nat_lt m n ≡ false → n ≤ m
+        past m n e = grind arith

@@ -57,20 +57,20 @@ pub record HasRisen (d : Design) (clock : ℕ) (before s : State) : Type 0 where
 -- a first slot in which the clock falls ends once all processes have run but the clock's ports
 abbrev pub FirstFall : Type 0
 FirstFall =
-    (d : Design) (name : List ℕ) (a : IsAcceptedDesign d name) (order : List ℕ) → is_level_order d order ≡ true
+    (d : Design) (name : Option (List ℕ)) (a : IsAcceptedDesign d name) (order : List ℕ) → is_level_order d order ≡ true
     → (vector before s : State) → HasFallen d a.clock.first vector before s
     → IsSlotEnd (network_of d a.clock.first) before (Fall vector) (settle (network_of d a.clock.first) before (but_ports d a.clock.first order) s)
 
 -- a later one ends once of these the cone of the data inputs and of what resets set has run
 abbrev pub LaterFall : Type 0
 LaterFall =
-    (d : Design) (name : List ℕ) (a : IsAcceptedDesign d name) (order : List ℕ) → is_level_order d order ≡ true
+    (d : Design) (name : Option (List ℕ)) (a : IsAcceptedDesign d name) (order : List ℕ) → is_level_order d order ≡ true
     → (vector before s : State) → IsSettled (network_of d a.clock.first) before → HasFallen d a.clock.first vector before s
     → IsSlotEnd (network_of d a.clock.first) before (Fall vector) (settle (network_of d a.clock.first) before (cone d (fall_bits d a.clock.first) (but_ports d a.clock.first order)) s)
 
 -- a slot in which it rises ends once the cone of the registers has run
 abbrev pub LaterRise : Type 0
 LaterRise =
-    (d : Design) (name : List ℕ) (a : IsAcceptedDesign d name) (order : List ℕ) → is_level_order d order ≡ true
+    (d : Design) (name : Option (List ℕ)) (a : IsAcceptedDesign d name) (order : List ℕ) → is_level_order d order ≡ true
     → (before s : State) → IsSettled (network_of d a.clock.first) before → HasRisen d a.clock.first before s
     → IsSlotEnd (network_of d a.clock.first) before Rise (settle (network_of d a.clock.first) before (cone d (register_bits d.processes) (but_ports d a.clock.first order)) s)

@@ -1,5 +1,5 @@
 -- One pass over a level order ends a slot, and in a later slot one over a cone.
-use Rattle.std.specs.Prelude.{◌≡◌, ℕ, true, false, List}
+use Rattle.std.specs.Prelude.{◌≡◌, ℕ, true, false, List, Option}
 use Rattle.vs_four.specs.declared.Bit4.{Bit4}
 use Rattle.vs_net.specs.Network.{State, write_all, Network, kind, writes}
 use Rattle.vs_net.specs.Queue.{Slot}
@@ -32,14 +32,14 @@ pub record IsChangedAt (d : Design) (clock : ℕ) (changed : List ℕ) (before s
 -- once inputs, registers and clock nets have their values, one pass over a level order without the clock's ports ends the slot
 abbrev pub FirstSlots : Type 0
 FirstSlots =
-    (d : Design) (name : List ℕ) (a : IsAcceptedDesign d name) (order : List ℕ) → is_level_order d order ≡ true
+    (d : Design) (name : Option (List ℕ)) (a : IsAcceptedDesign d name) (order : List ℕ) → is_level_order d order ≡ true
     → (before : State) (slot : Slot) (v : Bit4) (s : State) → IsFed (network_of d a.clock.first) before slot s → HaveClock d a.clock.first v s
     → IsSlotEnd (network_of d a.clock.first) before slot (settle (network_of d a.clock.first) before (but_ports d a.clock.first order) s)
 
 -- where the slot begins with settled values, it is enough to run of these the cone of what changed
 abbrev pub LaterSlots : Type 0
 LaterSlots =
-    (d : Design) (name : List ℕ) (a : IsAcceptedDesign d name) (order : List ℕ) → is_level_order d order ≡ true
+    (d : Design) (name : Option (List ℕ)) (a : IsAcceptedDesign d name) (order : List ℕ) → is_level_order d order ≡ true
     → (before : State) (slot : Slot) (v : Bit4) (s : State) (changed : List ℕ) → IsSettled (network_of d a.clock.first) before
     → IsFed (network_of d a.clock.first) before slot s → HaveClock d a.clock.first v s → IsChangedAt d a.clock.first changed before s
     → IsSlotEnd (network_of d a.clock.first) before slot (settle (network_of d a.clock.first) before (cone d changed (but_ports d a.clock.first order)) s)

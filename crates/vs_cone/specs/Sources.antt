@@ -1,18 +1,21 @@
 -- Where data inputs, clock nets and registers have their bits.
-use Rattle.std.specs.Prelude.{◌≡◌, ℕ, ◌<◌, true, false, List, Some, slice_get}
+use Rattle.std.specs.Prelude.{◌≡◌, ℕ, ◌<◌, ◌≤◌, ◌⊎◌, true, false, List, Some, slice_get, Option}
 use Rattle.vs_net.specs.Network.{Reset}
 use Rattle.vs_design.specs.Designs.{Process, is_clocked, Design, bit_count}
 use Rattle.vs_design.specs.Footprints.{contains, writes_of}
-use Rattle.vs_design.specs.Clocks.{clock_nets}
+use Rattle.vs_design.specs.Clocks.{clock_nets, own_nets}
 use Rattle.vs_design.specs.Resets.{reset_of}
 use Rattle.vs_design.specs.Sizes.{register_bits}
 use Rattle.vs_design.specs.Accepted.{IsAcceptedDesign}
 use Rattle.vs_cone.specs.Given.{data_bits, bits_of_reset, reset_bits}
 
--- all are bits of the design, and none is of two of these kinds
+-- all are bits of the design, but a clock that isn't one, and none is of two of these kinds
 pub record SourcesAre (d : Design) (clock : ℕ) : Type 0 where
   pub data_below : (b : ℕ) → contains (data_bits d clock) b ≡ true → b < bit_count d
-  pub nets_below : (b : ℕ) → contains (clock_nets d clock) b ≡ true → b < bit_count d
+  pub nets_below : (b : ℕ) → contains (own_nets d clock) b ≡ true → b < bit_count d
+  -- those are clock nets; the one other clock net is a clock that isn't a bit of the design
+  pub nets_own : (b : ℕ) → contains (own_nets d clock) b ≡ true → contains (clock_nets d clock) b ≡ true
+  pub nets_are : (b : ℕ) → contains (clock_nets d clock) b ≡ true → (contains (own_nets d clock) b ≡ true) ⊎ ((b ≡ clock) × (bit_count d ≤ clock))
   pub registers_below : (b : ℕ) → contains (register_bits d.processes) b ≡ true → b < bit_count d
   pub data_apart : (b : ℕ) → contains (data_bits d clock) b ≡ true → contains (clock_nets d clock) b ≡ false
   pub registers_apart : (b : ℕ) → contains (register_bits d.processes) b ≡ true → contains (clock_nets d clock) b ≡ false
@@ -25,4 +28,4 @@ pub record SourcesAre (d : Design) (clock : ℕ) : Type 0 where
 
 -- so they are in an accepted design
 abbrev pub SourcesOfDesign : Type 0
-SourcesOfDesign = (d : Design) (name : List ℕ) (a : IsAcceptedDesign d name) → SourcesAre d a.clock.first
+SourcesOfDesign = (d : Design) (name : Option (List ℕ)) (a : IsAcceptedDesign d name) → SourcesAre d a.clock.first

@@ -11,7 +11,7 @@ ghost use Rattle.vs_cone.specs.Lists.{AscendingIsOnce, FewAreApart};
 ghost use Rattle.vs_cone.specs.Sources.{SourcesOfDesign};
 ghost use Rattle.vs_cone.specs.Writes.{WritesAre};
 
-use vs_design::{clock_law, cycle_law, footprint_law, lawful_law, pass_law};
+use vs_design::{clock_law, cycle_law, footprint_law, lawful_law, pass_law, spare_law};
 
 /// In any slot it is enough to run the assigns and combinational blocks of a level order but the clock's ports, once the inputs, the registers and all clock nets have their values.
 pub fn first_law()
@@ -58,12 +58,13 @@ pub fn stores_law()
     cycle_law();
 }
 
-/// Data inputs, clock nets and registers are bits of the design, each of one kind; a reset sets registers of its own block, by a data input.
+/// Data inputs, clock nets and registers are bits of the design, each of one kind, but for a clock that isn't one; a reset sets registers of its own block, by a data input.
 pub fn sources_law()
     ensures { SourcesOfDesign }
 {
     lawful_law();
     clock_law();
+    spare_law();
     footprint_law();
 }
 

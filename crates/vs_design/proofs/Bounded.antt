@@ -23,7 +23,7 @@ use Rattle.vs_design.proofs.Lists.{by_test, or_left, or_right}
 use Rattle.vs_design.proofs.Writes.{either_way}
 use Rattle.vs_design.proofs.BodyExact.{cond_of}
 use Rattle.vs_design.proofs.TimeBits.{any_bit}
-use Rattle.vs_design.proofs.Parts.{by_kind, at_process}
+use Rattle.vs_design.proofs.Parts.{by_kind, process_there}
 use Rattle.vs_design.proofs.Lawful.{lawful}
 use Rattle.vs_design.proofs.Weights.{weight, runs, weighed}
 
@@ -75,7 +75,7 @@ any_of test (c ∷ bs) b h k =
     (λ e. or_left (test c) (list_any test bs) (subst (λ m. test m ≡ true) (eqb-true b c e) k))
     (λ e. or_right (test c) (list_any test bs) (any_of test bs b (subst (λ z. (z || contains bs b) ≡ true) e h) k))
 
-module _ (d : Design) (name : List ℕ) (a : IsAcceptedDesign d name) where
+module _ (d : Design) (name : Option (List ℕ)) (a : IsAcceptedDesign d name) where
   abbrev net_work : Network
   net_work = network_of d a.clock.first
 
@@ -89,12 +89,13 @@ module _ (d : Design) (name : List ℕ) (a : IsAcceptedDesign d name) where
     clocked = λ p place star events st h k l w. absurd (either_way false l refl);
     inputs = λ p i s l e f g w. absurd (either_way false g refl);
     clock = λ p i s l e f g w. absurd (either_way false g refl);
+    spare = λ p l f g w. absurd (either_way false g refl);
     none = λ p l w. absurd (either_way false l refl);
   }) p
 
   woken_by : (p : ℕ) (o : Option Process) → slice_get d.processes p ≡ o → (b : ℕ) → contains (wakers o) b ≡ true → listens (net_work.process p) b ≡ true
   woken_by p None h b k = cc
-  woken_by p (Some x) h b k = rw (at_process d a.clock.first d.processes (map (writer_of a.clock.first) (top_inputs d)) p x h) (go x k)
+  woken_by p (Some x) h b k = rw (process_there d a.clock.first p x h) (go x k)
     where
       go : (x : Process) → contains (wakers (Some x)) b ≡ true → listens (process_of d a.clock.first x) b ≡ true
       go (Continuous place port target_place target e) k = k
@@ -114,6 +115,7 @@ module _ (d : Design) (name : List ℕ) (a : IsAcceptedDesign d name) where
     clocked = λ p place star events st h k w. rw h (body_few st s);
     inputs = λ p i r l e f w. cc;
     clock = λ p i r l e f w. cc;
+    spare = λ p l f w. cc;
     none = λ p w. cc;
   }) p
 

@@ -20,7 +20,7 @@ use Rattle.vs_design.proofs.Writes.{either_way}
 use Rattle.vs_design.proofs.Blocks.{body_reads}
 use Rattle.vs_design.proofs.Drivers.{one_process}
 use Rattle.vs_design.proofs.Order.{no_loop}
-use Rattle.vs_design.proofs.Parts.{by_kind, at_process, none_at}
+use Rattle.vs_design.proofs.Parts.{by_kind, process_there, none_at}
 use Rattle.vs_design.proofs.LawfulParts.{one_writer}
 use Rattle.vs_design.proofs.ClosedNets.{closed}
 use Rattle.vs_design.proofs.ClockNets.{clock_number, clock_process, clock_in, net_is, PortAt, PortFacts, port_at, port_listed, is_port, port_facts, clock_port}
@@ -37,7 +37,7 @@ stirs_of d (Some p) b = contains (stirred d (level_order d) p) b
 abbrev pub stirs_at : Design → ℕ → ℕ → Bool
 stirs_at d p b = stirs_of d (slice_get d.processes p) b
 
-module _ (d : Design) (name : List ℕ) (a : IsAcceptedDesign d name) where
+module _ (d : Design) (name : Option (List ℕ)) (a : IsAcceptedDesign d name) where
   abbrev pub nets : List ℕ
   nets = clock_nets d a.clock.first
 
@@ -60,6 +60,7 @@ module _ (d : Design) (name : List ℕ) (a : IsAcceptedDesign d name) where
         clocked = λ p place star events st h k w. cc;
         inputs = λ p i r l e f w. cc;
         clock = λ p i r l e f w. eq-eqb a.clock.first a.clock.first refl;
+        spare = λ p l f w. eq-eqb a.clock.first a.clock.first refl;
         none = λ p w. cc;
       })
 
@@ -70,6 +71,7 @@ module _ (d : Design) (name : List ℕ) (a : IsAcceptedDesign d name) where
     clocked = λ p place star events st h k w. cc;
     inputs = λ p i r l e f w. cc;
     clock = λ p i r l e f w z. subst (λ m. contains nets m ≡ true) (sym (eqb-true b a.clock.first z)) (clock_in (length d.processes) d.processes a.clock.first);
+    spare = λ p l f w z. subst (λ m. contains nets m ≡ true) (sym (eqb-true b a.clock.first z)) (clock_in (length d.processes) d.processes a.clock.first);
     none = λ p w. cc;
   }) p
 
@@ -110,6 +112,7 @@ module _ (d : Design) (name : List ℕ) (a : IsAcceptedDesign d name) where
     clocked = λ p place star events st h k w. clock_bit_net events (events_there p place star events st h k);
     inputs = λ p i r l e f w. cc;
     clock = λ p i r l e f w. cc;
+    spare = λ p l f w. cc;
     none = λ p w. cc;
   }) p
 
@@ -137,7 +140,7 @@ module _ (d : Design) (name : List ℕ) (a : IsAcceptedDesign d name) where
       go (inr k) =
           let q = port_at nets d.processes b k in
           let w = port_written b q in
-          let at = at_process d a.clock.first d.processes (map (Rattle.vs_design.specs.Networks.writer_of a.clock.first) (Rattle.vs_design.specs.Designs.top_inputs d)) q.number q.process q.is in
+          let at = process_there d a.clock.first q.number q.process q.is in
           (q.number, rw at (written q.process w), inr (rw at (rw q.port.is refl)))
         where
           written : (x : Process) → contains (writes_of x) b ≡ true → writes (Rattle.vs_design.specs.Networks.process_of d a.clock.first x) b ≡ true
@@ -175,6 +178,7 @@ module _ (d : Design) (name : List ℕ) (a : IsAcceptedDesign d name) where
     clocked = λ p place star events st h k w n. refl;
     inputs = λ p i r l e f w n. refl;
     clock = λ p i r l e f w n. refl;
+    spare = λ p l f w n. refl;
     none = λ p w n. refl;
   }) p
 
@@ -185,6 +189,7 @@ module _ (d : Design) (name : List ℕ) (a : IsAcceptedDesign d name) where
     clocked = λ p place star events st h k w z. ap {B = List Update} (λ (x : Effect). x.writes ∷ x.updates) (body_reads st s t (λ b q. z b (not_a_net p place star events st h k b q) (λ r ne kr. unstirred p r b place star events st h k ne q)));
     inputs = λ p i r l e f w z. refl;
     clock = λ p i r l e f w z. refl;
+    spare = λ p l f w z. refl;
     none = λ p w z. refl;
   }) p
     where
@@ -215,6 +220,7 @@ module _ (d : Design) (name : List ℕ) (a : IsAcceptedDesign d name) where
         (subst (λ (c : Bool). contains (if c then blocking_bits st else []) b ≡ true) (sym k) (body_once st s (block_facts d name a p place star events st h).fit b z)));
     inputs = λ p i r l e f w. cc;
     clock = λ p i r l e f w. cc;
+    spare = λ p l f w. cc;
     none = λ p w. cc;
   }) p
 
@@ -226,6 +232,7 @@ module _ (d : Design) (name : List ℕ) (a : IsAcceptedDesign d name) where
     clocked = λ r place star events st h k l z w. absurd z;
     inputs = λ r i s l e f m z w. absurd z;
     clock = λ r i s l e f m z w. absurd z;
+    spare = λ r l f m z w. absurd z;
     none = λ r m z w. absurd z;
   }) r
     where
@@ -248,6 +255,7 @@ module _ (d : Design) (name : List ℕ) (a : IsAcceptedDesign d name) where
     clocked = λ p place star events st h k w. cc;
     inputs = λ p i r l e f w. cc;
     clock = λ p i r l e f w. cc;
+    spare = λ p l f w. cc;
     none = λ p w. cc;
   }) p
     where
@@ -259,7 +267,7 @@ module _ (d : Design) (name : List ℕ) (a : IsAcceptedDesign d name) where
           (λ q. q)
         where
           at : net_work.process p ≡ Rattle.vs_design.specs.Networks.process_of d a.clock.first (Continuous place port target_place target e)
-          at = at_process d a.clock.first d.processes (map (Rattle.vs_design.specs.Networks.writer_of a.clock.first) (Rattle.vs_design.specs.Designs.top_inputs d)) p (Continuous place port target_place target e) h
+          at = process_there d a.clock.first p (Continuous place port target_place target e) h
 
           go : contains (target_bits target) b ≡ true → (b ≡ a.clock.first) ⊎ (contains (port_targets nets d.processes) b ≡ true) → ⊥
           go q (inl m) =

@@ -1,5 +1,5 @@
 -- Clock nets.
-use Rattle.std.proofs.Common.{◌≡◌, ℕ, zero, suc, ◌+◌, Bool, true, false, cond, List, [], ◌∷◌, ◌++◌, ◌||◌, ◌&&◌, ◌==◌, eqb-true, eq-eqb, not, if◌then◌else◌, ◌⊎◌, inl, inr, refl, sym, ap, ◌∙◌, subst, length, Option, Some, None}
+use Rattle.std.proofs.Common.{◌≡◌, ℕ, zero, suc, ◌+◌, Bool, true, false, cond, List, [], ◌∷◌, ◌++◌, ◌||◌, ◌&&◌, ◌==◌, eqb-true, eq-eqb, not, if◌then◌else◌, ◌⊎◌, inl, inr, refl, sym, ap, ◌∙◌, subst, length, Option, Some, None, ◌≤◌, arith}
 use Rattle.std.specs.Prelude.{slice_get}
 use Rattle.std.specs.List.{filter, find}
 use Rattle.vs_net.specs.Network.{State, Write, Effect, is_written, write_all, Network, Kind, TheClock, AnAssign, AComb, AClocked, kind, writes, listens, made, updates, clock_net}
@@ -10,14 +10,15 @@ use Rattle.vs_design.specs.Expressions.{Signal, signal_length, Expression, Liter
 use Rattle.vs_design.specs.Values.{count_from, bits_of_signal, value}
 use Rattle.vs_design.specs.Statements.{Target, Whole, PartOf, WordOf, Both}
 use Rattle.vs_design.specs.Bodies.{assignment_writes, body}
-use Rattle.vs_design.specs.Designs.{Port, Written, InputPort, OutputPort, Process, Continuous, Always, Design, top_inputs}
-use Rattle.vs_design.specs.Footprints.{contains, read_bits, target_reads, target_bits}
-use Rattle.vs_design.specs.Clocks.{same_name, name_of, is_one_of, port_target, port_targets, nets_within, is_clock_port}
+use Rattle.vs_design.specs.Designs.{Port, Written, InputPort, OutputPort, Process, Continuous, Always, Design, top_inputs, bit_count}
+use Rattle.vs_design.specs.Footprints.{contains, read_bits, target_reads, target_bits, input_bits}
+use Rattle.vs_design.specs.Clocks.{same_name, spare_clock, clock_input, name_of, is_one_of, port_target, port_targets, nets_within, is_clock_port}
 use Rattle.vs_design.specs.Networks.{network_of}
 use Rattle.vs_design.specs.Accepted.{IsAcceptedDesign}
 use Rattle.vs_design.proofs.Lists.{by_test, and_both, or_left, or_right, contains-append, contains-left, contains-right}
 use Rattle.vs_design.proofs.Writes.{either_way}
-use Rattle.vs_design.proofs.Parts.{at_writer}
+use Rattle.vs_design.proofs.Signals.{member_bits}
+use Rattle.vs_design.proofs.Parts.{writer_there, at_spare}
 
 some_is : {A : Type 0} (x y : A) → Some x ≡ Some y → x ≡ y
 some_is x y e = cc
@@ -42,15 +43,44 @@ find_in t u f (x ∷ ss) s h =
     (λ k. (suc r.0, rw k r.1))
     (λ k. (r.0, rw k r.1)))
 
-pub clock_at : (d : Design) (name : List ℕ) (a : IsAcceptedDesign d name) → (i : ℕ) × (slice_get (top_inputs d) i ≡ Some a.clock)
-clock_at d name a = find_in (λ s. s.input && same_name s.name name && (signal_length s == 1)) (λ s. s.input) (λ s h. (and_both s.input (same_name s.name name) (and_both (s.input && same_name s.name name) (signal_length s == 1) h).0).0) d.signals a.clock a.clock_found
+-- the clock is one of the inputs, of one bit, or none of the design's signals
+pub data ClockAt (d : Design) (s : Signal) : Type 0 where
+  among : (i : ℕ) → slice_get (top_inputs d) i ≡ Some s → signal_length s ≡ 1 → ClockAt d s
+  beyond : s ≡ spare_clock d → ClockAt d s
 
-pub clock_number : (d : Design) (name : List ℕ) → IsAcceptedDesign d name → ℕ
-clock_number d name a = length d.processes + (clock_at d name a).0
+pub clock_place : (d : Design) (name : Option (List ℕ)) (s : Signal) → clock_input d name ≡ Some s → ClockAt d s
+clock_place d None s h = beyond (sym (some_is (spare_clock d) s h))
+clock_place d (Some name) s h =
+    let r = find_in (λ s. s.input && same_name s.name name && (signal_length s == 1)) (λ s. s.input) (λ s h. (and_both s.input (same_name s.name name) (and_both (s.input && same_name s.name name) (signal_length s == 1) h).0).0) d.signals s h in
+    among r.0 r.1 (eqb-true (signal_length s) 1 (and_both (s.input && same_name s.name name) (signal_length s == 1) (find_test (λ s. s.input && same_name s.name name && (signal_length s == 1)) d.signals s h)).1)
 
-pub clock_process : (d : Design) (name : List ℕ) (a : IsAcceptedDesign d name) → (network_of d a.clock.first).process (clock_number d name a) ≡ N.Clock a.clock.first
-unfolding clock_number
-clock_process d name a = at_writer d d.processes a.clock.first (top_inputs d) (clock_at d name a).0 (clock_number d name a) a.clock refl (clock_at d name a).1 ∙ rw (eq-eqb a.clock.first a.clock.first refl) refl
+pub clock_at : (d : Design) (name : Option (List ℕ)) (a : IsAcceptedDesign d name) → ClockAt d a.clock
+clock_at d name a = clock_place d name a.clock a.clock_found
+
+-- it has one bit
+pub clock_long : (d : Design) (s : Signal) → ClockAt d s → signal_length s ≡ 1
+clock_long d s (among i e l) = l
+clock_long d s (beyond e) = ap signal_length e
+
+-- it is an input's bit, or none of the design's
+pub clock_inside : (d : Design) (s : Signal) → ClockAt d s → (contains (input_bits d) s.first ≡ true) ⊎ (bit_count d ≤ s.first)
+clock_inside d s (among i e l) = inl (member_bits (top_inputs d) i s s.first e (subst (λ n. contains (count_from s.first n) s.first ≡ true) (sym l) (or_left (s.first == s.first) false (eq-eqb s.first s.first refl))))
+clock_inside d s (beyond e) = inr (let k = ap (λ (x : Signal). x.first) e in omega (arith, k))
+
+number_of : (d : Design) (s : Signal) → ClockAt d s → ℕ
+number_of d s (among i e l) = length d.processes + i
+number_of d s (beyond e) = length d.processes + length (top_inputs d)
+
+pub clock_number : (d : Design) (name : Option (List ℕ)) → IsAcceptedDesign d name → ℕ
+clock_number d name a = number_of d a.clock (clock_at d name a)
+
+pub clock_process : (d : Design) (name : Option (List ℕ)) (a : IsAcceptedDesign d name) → (network_of d a.clock.first).process (clock_number d name a) ≡ N.Clock a.clock.first
+unfolding clock_number number_of
+clock_process d name a = by_place (clock_at d name a)
+  where
+    by_place : (c : ClockAt d a.clock) → (network_of d a.clock.first).process (number_of d a.clock c) ≡ N.Clock a.clock.first
+    by_place (among i e l) = writer_there d a.clock.first i a.clock e ∙ rw (eq-eqb a.clock.first a.clock.first refl) refl
+    by_place (beyond e) = at_spare d a.clock.first (let k = ap (λ (x : Signal). x.first) e in omega (arith, k))
 
 -- ---- nets and ports
 

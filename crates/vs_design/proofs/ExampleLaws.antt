@@ -1,12 +1,13 @@
 -- The worked designs, by computation.
-use Rattle.std.proofs.Common.{[], ◌∷◌, refl, lit≤}
+use Rattle.std.proofs.Common.{[], ◌∷◌, None, refl, lit≤}
 use Rattle.vs_net.specs.Network.{write_all, is_written, flatten}
 use Rattle.vs_net.specs.Queue.{change, changes, is_held}
+use Rattle.vs_design.specs.Clocks.{spare_clock}
 use Rattle.vs_design.specs.Accepted.{IsAcceptedDesign}
 use Rattle.vs_design.specs.Cycles.{IsCycle, Feeds}
 use Rattle.vs_design.specs.ExampleParts.{clk, clk_signal}
 use Rattle.vs_design.specs.ExampleCalls.{CallsComputed, greatest}
-use Rattle.vs_design.specs.ExampleDesigns.{DesignsComputed, and_gate, counter, if_and_choice, three_registers, woken, set_once, chain, quiet, sleeper, never_run, resettable, reset_through_port, port, adder, clocked_instance, sum}
+use Rattle.vs_design.specs.ExampleDesigns.{DesignsComputed, and_gate, free_gate, counter, if_and_choice, three_registers, woken, set_once, chain, quiet, sleeper, never_run, resettable, reset_through_port, port, adder, clocked_instance, sum}
 use Rattle.vs_design.specs.ExampleRefusals.{RefusalsComputed, loop}
 
 and_gate_is_accepted : IsAcceptedDesign and_gate clk
@@ -20,6 +21,46 @@ and_gate_is_accepted = record {
   no_latch = refl;
   one_driver = refl;
   clock = clk_signal;
+  clock_found = refl;
+  clock_unread = refl;
+  one_clock = refl;
+  reset_forms = refl;
+  no_cycle = refl;
+  no_race = refl;
+  awake = refl;
+}
+
+free_gate_is_accepted : IsAcceptedDesign free_gate None
+free_gate_is_accepted = record {
+  lawful = record { scopes = refl; numbered = refl; bits_numbered = refl; declared = refl; memories = refl; formed = refl; functions = refl; clocked_words = refl; few_bits = lit≤ tt; few_processes = lit≤ tt };
+  fit = refl;
+  small = lit≤ tt;
+  unmixed = refl;
+  sensitive = refl;
+  no_function_latch = refl;
+  no_latch = refl;
+  one_driver = refl;
+  clock = spare_clock free_gate;
+  clock_found = refl;
+  clock_unread = refl;
+  one_clock = refl;
+  reset_forms = refl;
+  no_cycle = refl;
+  no_race = refl;
+  awake = refl;
+}
+
+free_and_is_accepted : IsAcceptedDesign and_gate None
+free_and_is_accepted = record {
+  lawful = record { scopes = refl; numbered = refl; bits_numbered = refl; declared = refl; memories = refl; formed = refl; functions = refl; clocked_words = refl; few_bits = lit≤ tt; few_processes = lit≤ tt };
+  fit = refl;
+  small = lit≤ tt;
+  unmixed = refl;
+  sensitive = refl;
+  no_function_latch = refl;
+  no_latch = refl;
+  one_driver = refl;
+  clock = spare_clock and_gate;
   clock_found = refl;
   clock_unread = refl;
   one_clock = refl;
@@ -357,6 +398,10 @@ designs_computed = record {
   and_gate_size = refl;
   and_gate_accepted = and_gate_is_accepted;
   and_gate_ends = refl;
+  free_gate_size = refl;
+  free_gate_accepted = free_gate_is_accepted;
+  free_gate_ends = refl;
+  and_gate_free = free_and_is_accepted;
   counter_size = refl;
   counter_accepted = counter_is_accepted;
   counter_ends = refl;
@@ -414,6 +459,7 @@ refusals_computed = record {
   gated_refused = refl;
   other_clock_refused = refl;
   no_clock_refused = refl;
+  free_counter_refused = refl;
   too_wide_refused = refl;
   divided_refused = refl;
   wide_division_refused = refl;

@@ -1,9 +1,10 @@
 -- An accepted design's network is lawful.
-use Rattle.std.proofs.Common.{◌≡◌, ℕ, true, false, List, [], ◌∷◌, refl, sym, ◌∙◌, subst}
+use Rattle.std.proofs.Common.{◌≡◌, ℕ, true, false, List, [], ◌∷◌, refl, sym, ◌∙◌, subst, Option, ◌⊎◌, inl, inr}
 use Rattle.vs_net.specs.Network.{State, flatten, branch}
 use Rattle.vs_net.specs.Queue.{Slot, Fall, Rise}
 use Rattle.vs_net.specs.Solution.{beginning}
 use Rattle.vs_net.specs.Laws.{AreKnownSelects}
+use Rattle.vs_net.specs.Lawful.{IsQuietBlock, IsWokenBlock}
 use Rattle.vs_net.proofs.Basics.{write_all_at, none_written}
 use Rattle.vs_net.proofs.Beginning.{begins_none, first_none}
 use Rattle.vs_design.specs.Designs.{Design}
@@ -22,17 +23,24 @@ use Rattle.vs_design.specs.Sets.{has}
 use Rattle.vs_design.specs.TimeZero.{families}
 use Rattle.vs_design.specs.Networks.{network_of, all_processes}
 use Rattle.vs_design.specs.Laws.{SleepersOfDesign, AcceptedIsLawful, EveryOrderOfDesign, OneSolutionOfDesign, LevelRunOfDesign, OnePassOfDesign}
+use Rattle.vs_design.proofs.Lists.{or_left}
 use Rattle.vs_design.proofs.Parts.{beyond_count}
 use Rattle.vs_design.proofs.Order.{is_ordered}
 use Rattle.vs_design.proofs.LawfulParts.{exact, local, apart, comb_updates, clocked_own, one_writer, idle_x, idle_xz}
 use Rattle.vs_design.proofs.ClockNets.{clock_number}
 use Rattle.vs_design.proofs.ClockLaws.{clock_is, clock_bit_is, clock_net_is, nets_written, assign_nets, comb_nets, stirs_at, stirs_own, stirs_on, clocked_local}
 use Rattle.vs_design.proofs.SleepLaws.{is_sleeper}
-use Rattle.vs_design.proofs.TimeLaws.{early_idle, early_comb, early_made, late_idle, late_reset, late_asleep, late_input, late_clock, late_made, quiet_or_woken}
+use Rattle.vs_design.proofs.TimeLaws.{late_or_spare, late_of_listened, early_idle, early_comb, early_made, late_idle, late_reset, late_asleep, late_input, late_clock, late_made, quiet_or_woken}
 
 -- no initial process writes
 begins : (d : Design) (clock b : ℕ) → beginning (network_of d clock) b ≡ (network_of d clock).idle b
 begins d clock b = begins_none (network_of d clock) (λ p. refl) b
+
+-- a block that wakes does so by a bit that it listens to, of which the late set says all
+woken_late : (d : Design) (name : Option (List ℕ)) (a : IsAcceptedDesign d name) (p : ℕ) → let f = families d a.clock.first (level_order d) in let x = (network_of d a.clock.first).process p in
+    IsQuietBlock (λ b. has (f.early b)) x ⊎ IsWokenBlock (λ b. has (f.early b)) (λ b. has (f.late b)) x → IsQuietBlock (λ b. has (f.early b)) x ⊎ IsWokenBlock (λ b. has (f.early b)) (late_or_spare d name a) x
+woken_late d name a p (inl q) = inl q
+woken_late d name a p (inr w) = inr (record { bit = w.bit; listened = w.listened; unknown = w.unknown; known = λ v h. w.known v (late_of_listened d name a p w.bit v w.listened h) })
 
 pub lawful : AcceptedIsLawful
 lawful d name a = record {
@@ -74,19 +82,19 @@ lawful d name a = record {
   reset_run = λ p r s h k. reset_run d name a p r s h k;
   sleepers = λ p x h. is_sleeper d name a p x h;
   early = λ b. has ((families d a.clock.first (level_order d)).early b);
-  late = λ b. has ((families d a.clock.first (level_order d)).late b);
+  late = late_or_spare d name a;
   time_zero = record {
     early_idle = λ b h. subst (λ v. has ((families d a.clock.first (level_order d)).early b) v ≡ true) (sym (first_none (network_of d a.clock.first) (λ p. refl) b)) (early_idle d name a b h);
     early_comb = λ p b h k. early_comb d name a p b h k;
     early_made = λ p h n s k. early_made d name a p h n s k;
-    late_idle = λ b h. subst (λ v. has ((families d a.clock.first (level_order d)).late b) v ≡ true) (sym (begins d a.clock.first b)) (late_idle d name a b h);
-    late_reset = λ p b r h w. subst (λ v. has ((families d a.clock.first (level_order d)).late b) v ≡ true) (sym (write_all_at (flatten (branch r)) (beginning (network_of d a.clock.first)) (network_of d a.clock.first).idle b (begins d a.clock.first b))) (late_reset d name a p b r h w);
-    late_asleep = λ p b x h w. late_asleep d name a p b x h w;
-    late_input = λ p b v h k l. late_input d name a p b v h k l;
+    late_idle = λ b h. or_left _ _ (subst (λ v. has ((families d a.clock.first (level_order d)).late b) v ≡ true) (sym (begins d a.clock.first b)) (late_idle d name a b h));
+    late_reset = λ p b r h w. or_left _ _ (subst (λ v. has ((families d a.clock.first (level_order d)).late b) v ≡ true) (sym (write_all_at (flatten (branch r)) (beginning (network_of d a.clock.first)) (network_of d a.clock.first).idle b (begins d a.clock.first b))) (late_reset d name a p b r h w));
+    late_asleep = λ p b x h w. or_left _ _ (late_asleep d name a p b x h w);
+    late_input = λ p b v h k l. or_left _ _ (late_input d name a p b v h k l);
     late_clock = λ p b h k. late_clock d name a p b h k;
-    late_made = λ p h s k. late_made d name a p h s k;
+    late_made = λ p h s k. λ b w t. or_left _ _ (late_made d name a p h s (λ c l. late_of_listened d name a p c (s c) l (k c l)) b w t);
   };
-  quiet_or_woken = λ p h n. quiet_or_woken d name a p h n;
+  quiet_or_woken = λ p h n. woken_late d name a p (quiet_or_woken d name a p h n);
 }
 
 -- every order of the steps ends in the solution
@@ -94,7 +102,7 @@ pub every_order_of : EveryOrderOfDesign
 every_order_of d name a = every_order (network_of d a.clock.first) (lawful d name a)
 
 -- no net is a select net
-none_select : (d : Design) (name : List ℕ) (a : IsAcceptedDesign d name) (before : State) (slots : List Slot) → AreKnownSelects (network_of d a.clock.first) (lawful d name a) before slots
+none_select : (d : Design) (name : Option (List ℕ)) (a : IsAcceptedDesign d name) (before : State) (slots : List Slot) → AreKnownSelects (network_of d a.clock.first) (lawful d name a) before slots
 unfolding lawful
 none_select d name a before [] = tt
 none_select d name a before (Fall v ∷ slots) = ((λ p b k w h. cc), none_select d name a v slots)

@@ -1,9 +1,9 @@
 -- An accepted design's processes write their own bits alone, by what they listen to.
 use Rattle.vs_net.proofs.Beginning.{written_or}
 use Rattle.vs_net.proofs.Basics.{flat_cons}
-use Rattle.std.proofs.Common.{◌≡◌, ◌≢◌, ℕ, zero, suc, ◌+◌, ◌*◌, ◌≤◌, Bool, true, false, List, [], ◌++◌, ◌&&◌, ◌==◌, eqb-true, eq-eqb, not, inl, inr, refl, sym, ap, ◌∙◌, subst, length, Option, Some, None, arith, ◌∷◌, ◌⊎◌}
+use Rattle.std.proofs.Common.{◌≡◌, ◌≢◌, ℕ, zero, suc, ◌+◌, ◌*◌, ◌≤◌, Bool, true, false, List, [], ◌++◌, ◌&&◌, ◌==◌, eqb-true, eq-eqb, not, inl, inr, refl, sym, ap, ◌∙◌, subst, length, Option, Some, None, arith, ◌∷◌, ◌⊎◌, ◌<◌}
 use Rattle.std.specs.Prelude.{slice_get}
-use Rattle.std.specs.List.{list_any}
+use Rattle.std.specs.List.{list_any, filter}
 use Rattle.vs_four.specs.declared.Bit4.TheVariants.{X}
 use Rattle.vs_net.specs.Network.{State, Write, Effect, is_written, flatten, AnAssign, AComb, AClocked, kind, writes, listens, made, updates, effects, Update}
 use Rattle.vs_net.specs.Lawful.{Settles, IsUnknown}
@@ -13,8 +13,8 @@ use Rattle.vs_design.specs.Expressions.{Signal, range_or_one, words_length, sign
 use Rattle.vs_design.specs.Values.{count_from, bits_of_signal}
 use Rattle.vs_design.specs.Statements.{Target}
 use Rattle.vs_design.specs.Bodies.{assignment_writes, body}
-use Rattle.vs_design.specs.Designs.{Process, Continuous, Always, Design, top_inputs}
-use Rattle.vs_design.specs.Footprints.{contains, read_bits, target_reads, target_bits, writes_of, net_bits, input_bits, variable_bits, is_input, is_net, is_variable}
+use Rattle.vs_design.specs.Designs.{Process, Continuous, Always, Design, top_inputs, bit_count}
+use Rattle.vs_design.specs.Footprints.{contains, read_bits, target_reads, target_bits, writes_of, net_bits, input_bits, variable_bits, signals_bits, is_input, is_net, is_variable}
 use Rattle.vs_design.specs.Levels.{level_order}
 use Rattle.vs_design.specs.Networks.{network_of, idle_value}
 use Rattle.vs_design.specs.Accepted.{IsAcceptedDesign}
@@ -24,7 +24,7 @@ use Rattle.vs_design.proofs.BodyExact.{body_within, body_updates}
 use Rattle.vs_design.proofs.BodyLocal.{assignment_local}
 use Rattle.vs_design.proofs.Blocks.{block_writes, block_reads}
 use Rattle.vs_design.proofs.Drivers.{one_process}
-use Rattle.vs_design.proofs.Signals.{kinds_apart, member_bits, one_signal}
+use Rattle.vs_design.proofs.Signals.{kinds_apart, member_bits, one_signal, filter_high}
 use Rattle.vs_design.proofs.Order.{no_loop}
 use Rattle.vs_design.proofs.Along.{constant_assigns}
 use Rattle.vs_design.proofs.Parts.{by_kind}
@@ -44,7 +44,7 @@ assign_exact t e s b c f =
     none true p q = absurd (either_way (contains (target_bits t) b) (assignment_within t e s b f p) q)
     none false p q = p ∙ sym q
 
-module _ (d : Design) (name : List ℕ) (a : IsAcceptedDesign d name) (c : ℕ) where
+module _ (d : Design) (name : Option (List ℕ)) (a : IsAcceptedDesign d name) (c : ℕ) where
   pub exact : (p b : ℕ) (s : State) → Settles (kind ((network_of d c).process p)) → is_written (made ((network_of d c).process p) s) b ≡ writes ((network_of d c).process p) b
   exact p b s = by_kind d c (λ p x. Settles (kind x) → is_written (made x s) b ≡ writes x b) (record {
     assigns = λ p place port target_place target e h k. let f = assign_facts d name a p place port target_place target e h in assign_exact target e s b f.constant f.fit_target;
@@ -52,6 +52,7 @@ module _ (d : Design) (name : List ℕ) (a : IsAcceptedDesign d name) (c : ℕ) 
     clocked = λ p place star events st h k z. absurd z;
     inputs = λ p i r l e f z. absurd z;
     clock = λ p i r l e f z. absurd z;
+    spare = λ p l f z. absurd z;
     none = λ p z. absurd z;
   }) p
 
@@ -62,6 +63,7 @@ module _ (d : Design) (name : List ℕ) (a : IsAcceptedDesign d name) (c : ℕ) 
     clocked = λ p place star events st h k z. absurd z;
     inputs = λ p i r l e f z. absurd z;
     clock = λ p i r l e f z. absurd z;
+    spare = λ p l f z. absurd z;
     none = λ p z. absurd z;
   }) p
 
@@ -75,6 +77,7 @@ module _ (d : Design) (name : List ℕ) (a : IsAcceptedDesign d name) (c : ℕ) 
     clocked = λ p place star events st h k w. refl;
     inputs = λ p i r l e f w. refl;
     clock = λ p i r l e f w. refl;
+    spare = λ p l f w. refl;
     none = λ p w. refl;
   }) p
 
@@ -85,6 +88,7 @@ module _ (d : Design) (name : List ℕ) (a : IsAcceptedDesign d name) (c : ℕ) 
     clocked = λ p place star events st h k w. cc;
     inputs = λ p i r l e f w. refl;
     clock = λ p i r l e f w. refl;
+    spare = λ p l f w. refl;
     none = λ p w. refl;
   }) p
 
@@ -95,6 +99,7 @@ module _ (d : Design) (name : List ℕ) (a : IsAcceptedDesign d name) (c : ℕ) 
     clocked = λ p place star events st h k w q. body_within st s (block_facts d name a p place star events st h).fit b (given_within (body st s).writes (body st s).updates b q);
     inputs = λ p i r l e f w. cc;
     clock = λ p i r l e f w. cc;
+    spare = λ p l f w. cc;
     none = λ p w. cc;
   }) p
 
@@ -104,6 +109,7 @@ module _ (d : Design) (name : List ℕ) (a : IsAcceptedDesign d name) (c : ℕ) 
 pub data Writer (d : Design) (c p b : ℕ) : Type 0 where
   by_process : (x : Process) → slice_get d.processes p ≡ Some x → contains (writes_of x) b ≡ true → Writer d c p b
   by_input : (i : ℕ) (s : Signal) → p ≡ length d.processes + i → slice_get (top_inputs d) i ≡ Some s → contains (bits_of_signal s) b ≡ true → Writer d c p b
+  by_spare : p ≡ length d.processes + length (top_inputs d) → bit_count d ≤ b → Writer d c p b
 
 pub listed : (bs : List ℕ) (b : ℕ) → list_any (λ c. b == c) bs ≡ true → contains bs b ≡ true
 listed bs b h = h
@@ -144,10 +150,11 @@ writer d c p b = by_kind d c (λ p x. writes x b ≡ true → Writer d c p b) (r
   clocked = λ p place star events st h k w. by_process (Always place star events st) h w;
   inputs = λ p i s l e f w. by_input i s l e w;
   clock = λ p i s l e f w. by_input i s l e (subst (λ m. contains (bits_of_signal s) m ≡ true) (f ∙ sym (eqb-true b c w)) (first_bit s));
+  spare = λ p l f w. by_spare l (let k = eqb-true b c w in omega (arith, f, k));
   none = λ p w. cc;
 }) p
 
-module _ (d : Design) (name : List ℕ) (a : IsAcceptedDesign d name) (c : ℕ) where
+module _ (d : Design) (name : Option (List ℕ)) (a : IsAcceptedDesign d name) (c : ℕ) where
   -- inputs, nets and variables share no bits
   pub nets_not_inputs : (b : ℕ) → contains (net_bits d) b ≡ true → contains (input_bits d) b ≡ true → ⊥
   nets_not_inputs b = kinds_apart is_net is_input 0 d.signals b (λ s h. go s.net s.input h) a.lawful.bits_numbered
@@ -172,6 +179,14 @@ module _ (d : Design) (name : List ℕ) (a : IsAcceptedDesign d name) (c : ℕ) 
       go false i h = refl
       go true i h = cc
 
+  -- and all are bits of the design
+  pub kind_below : (t : Signal → Bool) (b : ℕ) → contains (signals_bits (filter t d.signals)) b ≡ true → b < bit_count d
+  kind_below t b h = let m = filter_high t 0 d.signals b a.lawful.bits_numbered h in omega (arith, m)
+
+  process_below : (p b : ℕ) (x : Process) → slice_get d.processes p ≡ Some x → contains (writes_of x) b ≡ true → b < bit_count d
+  process_below p b (Continuous place port target_place target e) h w = kind_below is_net b ((assign_facts d name a p place port target_place target e h).nets b w)
+  process_below p b (Always place star events st) h w = kind_below is_variable b ((block_facts d name a p place star events st h).variables b w)
+
   process_not_input : (p b : ℕ) (x : Process) → slice_get d.processes p ≡ Some x → contains (writes_of x) b ≡ true → contains (input_bits d) b ≡ true → ⊥
   process_not_input p b (Continuous place port target_place target e) h w = nets_not_inputs b ((assign_facts d name a p place port target_place target e h).nets b w)
   process_not_input p b (Always place star events st) h w = variables_not_inputs b ((block_facts d name a p place star events st h).variables b w)
@@ -184,6 +199,11 @@ module _ (d : Design) (name : List ℕ) (a : IsAcceptedDesign d name) (c : ℕ) 
       go (by_process x e w) (by_input i s l f z) = absurd (process_not_input p b x e w (member_bits (top_inputs d) i s b f z))
       go (by_input i s l e w) (by_process y f z) = absurd (process_not_input q b y f z (member_bits (top_inputs d) i s b e w))
       go (by_input i s l e w) (by_input j r m f z) = let k = one_signal (λ s. s.input) 0 d.signals b i j s r a.lawful.bits_numbered e f w z in omega (arith, k)
+      go (by_process x e w) (by_spare m f) = absurd (let k = process_below p b x e w in omega (arith, k, f))
+      go (by_spare l e) (by_process y f z) = absurd (let k = process_below q b y f z in omega (arith, k, e))
+      go (by_input i s l e w) (by_spare m f) = absurd (let k = kind_below is_input b (member_bits (top_inputs d) i s b e w) in omega (arith, k, f))
+      go (by_spare l e) (by_input j r m f z) = absurd (let k = kind_below is_input b (member_bits (top_inputs d) j r b f z) in omega (arith, k, e))
+      go (by_spare l e) (by_spare m f) = m ∙ sym l
 
   idle_of : (b : ℕ) → contains (net_bits d) b ≡ false → idle_value d b ≡ X
   idle_of b h = rw h refl
@@ -197,6 +217,7 @@ module _ (d : Design) (name : List ℕ) (a : IsAcceptedDesign d name) (c : ℕ) 
     combs = λ p place star events st h k w l. idle_of b (not_net b (variables_not_nets b ((block_facts d name a p place star events st h).variables b w)));
     clocked = λ p place star events st h k w l. idle_of b (not_net b (variables_not_nets b ((block_facts d name a p place star events st h).variables b w)));
     inputs = λ p i s l e f w k. idle_of b (not_net b (λ n. nets_not_inputs b n (member_bits (top_inputs d) i s b e w)));
+    spare = λ p l f w k. idle_of b (not_net b (λ n. let m = kind_below is_net b n in let o = eqb-true b c w in omega (arith, f, m, o)));
     clock = λ p i s l e f w k. idle_of b (not_net b (λ n. nets_not_inputs b n (member_bits (top_inputs d) i s b e (subst (λ m. contains (bits_of_signal s) m ≡ true) (f ∙ sym (eqb-true b c w)) (first_bit s)))));
     none = λ p w k. cc;
   }) p

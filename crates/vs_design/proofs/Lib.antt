@@ -58,4 +58,5 @@ pub mod ExampleLaws
 pub mod ExampleBlocking
 pub mod ExampleMemoryLaws
 pub mod ExampleTogether
+pub mod SpareLaws
 pub mod Within

@@ -1,5 +1,5 @@
 -- The words of memories are those that their updates give.
-use Rattle.std.proofs.Common.{◌≡◌, ◌≢◌, ℕ, zero, suc, ◌+◌, ◌*◌, ◌<◌, Bool, true, false, List, [], ◌∷◌, ◌++◌, ◌||◌, ◌&&◌, ◌==◌, if◌then◌else◌, ◌⊎◌, inl, inr, refl, sym, ap, ◌∙◌, subst, map, Option, Some, None}
+use Rattle.std.proofs.Common.{◌≡◌, ◌≢◌, ℕ, zero, suc, ◌+◌, ◌*◌, ◌<◌, Bool, true, false, List, [], ◌∷◌, ◌++◌, ◌||◌, ◌&&◌, ◌==◌, if◌then◌else◌, ◌⊎◌, inl, inr, refl, sym, ap, ◌∙◌, subst, eqb-true, arith, map, Option, Some, None}
 use Rattle.std.specs.Prelude.{slice_get, not}
 use Rattle.std.specs.List.{list_all}
 use Rattle.vs_four.specs.declared.Bit4.TheVariants.{X}
@@ -29,6 +29,8 @@ use Rattle.vs_design.specs.Memories.{word_bits, block_effects, effects_if, proce
 use Rattle.vs_design.proofs.Lists.{by_test, and_both, or_right, contains_head}
 use Rattle.vs_design.proofs.Writes.{either_way, written-append}
 use Rattle.vs_design.proofs.Parts.{all_at}
+use Rattle.vs_design.proofs.Signals.{filter_high}
+use Rattle.vs_design.proofs.ClockNets.{clock_at, clock_inside}
 use Rattle.vs_design.proofs.Drivers.{one_process}
 use Rattle.vs_design.proofs.Formed.{filtered_bits}
 use Rattle.vs_design.proofs.Facts.{assign_facts, block_facts}
@@ -126,7 +128,7 @@ find_writer (y ∷ ps) b = by_test (contains (writes_of y) b) (λ e. a_writer ze
         none zero x e = subst (λ z. contains (writes_of z) b ≡ false) (some_is y x e) k
         none (suc p) x e = f p x e
 
-module _ (d : Design) (name : List ℕ) (a : IsAcceptedDesign d name) where
+module _ (d : Design) (name : Option (List ℕ)) (a : IsAcceptedDesign d name) where
   abbrev clock : ℕ
   clock = a.clock.first
 
@@ -240,13 +242,22 @@ module _ (d : Design) (name : List ℕ) (a : IsAcceptedDesign d name) where
         (λ e. absurd (unworded_apart d a.lawful.bits_numbered i s at memory st b (formed_at p place star events st h)
         (subst (λ c. (c || writes_no_word st) ≡ true) e (all_at has_clocked_words d.processes p (Always place star events st) a.lawful.clocked_words h)) w k))
 
+    not_clock : (b : ℕ) → contains (bits_of_signal s) b ≡ true → (b == clock) ≡ false
+    not_clock b k = by_test (b == clock) (λ e. absurd (at_clock (eqb-true b clock e))) (λ e. e)
+      where
+        at_clock : b ≡ clock → ⊥
+        at_clock e = elim (clock_inside d a.clock (clock_at d name a)) [
+          | inl q ↦ variables_not_inputs d name a clock b (of_variable b k) (subst (λ c. contains (input_bits d) c ≡ true) (sym e) q)
+          | inr past ↦ let low = filter_high is_variable 0 d.signals b a.lawful.bits_numbered (of_variable b k) in omega (arith, e, past, low)
+        ]
+
     -- at the end of a slot they have what all updates give
     slot_bit : (slot : Slot) (before t : State) → IsSlotEnd (network_of d clock) before slot t → (b : ℕ) → contains (bits_of_signal s) b ≡ true → t b ≡ write_all before (flatten (slot_effects d clock slot before d.processes)) b
     slot_bit slot before t h b k = go (find_writer d.processes b)
       where
         go : AWriter d.processes b → t b ≡ write_all before (flatten (slot_effects d clock slot before d.processes)) b
         go (no_writer f) =
-            ((slot_values_are d name a before slot t).0 h).kept b f (by_test (contains (input_bits d) b) (λ e. absurd (variables_not_inputs d name a clock b (of_variable b k) e)) (λ e. e))
+            ((slot_values_are d name a before slot t).0 h).kept b f (by_test (contains (input_bits d) b) (λ e. absurd (variables_not_inputs d name a clock b (of_variable b k) e)) (λ e. e)) (not_clock b k)
             ∙ sym (write_all_other (flatten (slot_effects d clock slot before d.processes)) before b (none_written slot before b d.processes (λ q y e. silent q y e (f q y e))))
           where
             silent : (q : ℕ) (y : Process) → slice_get d.processes q ≡ Some y → contains (writes_of y) b ≡ false → is_written (flatten (updates_of slot before y)) b ≡ false

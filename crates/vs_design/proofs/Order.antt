@@ -116,6 +116,7 @@ settler d c = by_kind d c (λ p x. Settles (kind x) → Settler d p x) (record {
   clocked = λ p place star events st h k s. absurd s;
   inputs = λ p i s l e f g. absurd g;
   clock = λ p i s l e f g. absurd g;
+  spare = λ p l f g. absurd g;
   none = λ p s. absurd s;
 })
 
@@ -141,5 +142,6 @@ is_ordered d c (p ∷ order) placed P h f =
           clocked = λ p place star events st h k l. absurd (either_way false l refl);
           inputs = λ p i s l e f g. absurd (either_way false g refl);
           clock = λ p i s l e f g. absurd (either_way false g refl);
+          spare = λ p l f g. absurd (either_way false g refl);
           none = λ p l. absurd (either_way false l refl);
         }) p l

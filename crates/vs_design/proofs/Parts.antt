@@ -1,5 +1,5 @@
 -- The processes of a design's network, by kind.
-use Rattle.std.proofs.Common.{◌≡◌, ℕ, zero, suc, ◌+◌, ◌≤◌, Bool, true, false, List, [], ◌∷◌, ◌++◌, refl, ap, subst, map, length, arith, ◌==◌, eqb-true, Some}
+use Rattle.std.proofs.Common.{◌≡◌, ℕ, zero, suc, ◌+◌, ◌≤◌, Bool, true, false, List, [], ◌∷◌, ◌++◌, refl, sym, ap, subst, map, length, arith, ◌==◌, eqb-true, nat_lt, if◌then◌else◌, Some}
 use Rattle.std.specs.Prelude.{slice_get}
 use Rattle.std.specs.List.{list_any, list_all}
 use Rattle.vs_net.specs.Network.{Network, State}
@@ -8,11 +8,11 @@ use Rattle.vs_design.specs.Expressions.{Signal, Expression}
 use Rattle.vs_design.specs.Values.{bits_of_signal}
 use Rattle.vs_design.specs.Statements.{Target, Statement}
 use Rattle.vs_design.specs.Bodies.{assignment_writes, body}
-use Rattle.vs_design.specs.Designs.{Event, Port, Process, Continuous, Always, is_clocked, Design, top_inputs}
+use Rattle.vs_design.specs.Designs.{Event, Port, Process, Continuous, Always, is_clocked, Design, top_inputs, bit_count}
 use Rattle.vs_design.specs.Footprints.{contains, read_bits, target_reads, target_bits, statement_bits, waits_of}
 use Rattle.vs_design.specs.Clocks.{clock_bit, root_of}
 use Rattle.vs_design.specs.Resets.{reset_by}
-use Rattle.vs_design.specs.Networks.{events_in, block_process, process_of, writer_of, at_or_input, network_of}
+use Rattle.vs_design.specs.Networks.{events_in, block_process, process_of, writer_of, spare_writers, at_or_input, network_of}
 use Rattle.vs_design.proofs.Lists.{by_test, and_both, or_neither}
 
 pub all_at : {A : Type 0} (test : A → Bool) (xs : List A) (n : ℕ) (x : A) → list_all test xs ≡ true → slice_get xs n ≡ Some x → test x ≡ true
@@ -31,7 +31,13 @@ none_at test (y ∷ ys) zero x h e = subst (λ z. test z ≡ false) (some_is y x
     some_is y x e = cc
 none_at test (y ∷ ys) (suc n) x h e = none_at test ys n x (or_neither (test y) (list_any test ys) h).1 e
 
-pub at_process : (d : Design) (k : ℕ) (ps : List Process) (ws : List N.Process) (p : ℕ) (x : Process) → slice_get ps p ≡ Some x → at_or_input (map (process_of d k) ps ++ ws) p ≡ process_of d k x
+not_less : (m n : ℕ) → n ≤ m → nat_lt m n ≡ false
+not_less m n h = grind arith
+
+less_not : (m n : ℕ) → nat_lt m n ≡ false → n ≤ m
+less_not m n h = grind arith
+
+at_process : (d : Design) (k : ℕ) (ps : List Process) (ws : List N.Process) (p : ℕ) (x : Process) → slice_get ps p ≡ Some x → at_or_input (map (process_of d k) ps ++ ws) p ≡ process_of d k x
 at_process d k [] ws p x e = cc
 at_process d k (y ∷ ps) ws zero x e = ap (process_of d k) (some_is y x e)
   where
@@ -39,17 +45,39 @@ at_process d k (y ∷ ps) ws zero x e = ap (process_of d k) (some_is y x e)
     some_is y x e = cc
 at_process d k (y ∷ ps) ws (suc p) x e = at_process d k ps ws p x e
 
-pub at_writer : (d : Design) (ps : List Process) (c : ℕ) (ss : List Signal) (i p : ℕ) (s : Signal) → p ≡ length ps + i → slice_get ss i ≡ Some s → at_or_input (map (process_of d c) ps ++ map (writer_of c) ss) p ≡ writer_of c s
-at_writer d [] c [] i p s l e = cc
-at_writer d [] c (t ∷ ss) zero zero s l e = ap (writer_of c) (some_is t s e)
+at_writer : (d : Design) (ps : List Process) (c : ℕ) (ss : List Signal) (ws : List N.Process) (i p : ℕ) (s : Signal) → p ≡ length ps + i → slice_get ss i ≡ Some s → at_or_input (map (process_of d c) ps ++ (map (writer_of c) ss ++ ws)) p ≡ writer_of c s
+at_writer d [] c [] ws i p s l e = cc
+at_writer d [] c (t ∷ ss) ws zero zero s l e = ap (writer_of c) (some_is t s e)
   where
     some_is : (y x : Signal) → Some y ≡ Some x → y ≡ x
     some_is y x e = cc
-at_writer d [] c (t ∷ ss) zero (suc p) s l e = absurd (omega arith)
-at_writer d [] c (t ∷ ss) (suc i) zero s l e = absurd (omega arith)
-at_writer d [] c (t ∷ ss) (suc i) (suc p) s l e = at_writer d [] c ss i p s (omega arith) e
-at_writer d (y ∷ ps) c ss i zero s l e = absurd (omega arith)
-at_writer d (y ∷ ps) c ss i (suc p) s l e = at_writer d ps c ss i p s (omega arith) e
+at_writer d [] c (t ∷ ss) ws zero (suc p) s l e = absurd (omega arith)
+at_writer d [] c (t ∷ ss) ws (suc i) zero s l e = absurd (omega arith)
+at_writer d [] c (t ∷ ss) ws (suc i) (suc p) s l e = at_writer d [] c ss ws i p s (omega arith) e
+at_writer d (y ∷ ps) c ss ws i zero s l e = absurd (omega arith)
+at_writer d (y ∷ ps) c ss ws i (suc p) s l e = at_writer d ps c ss ws i p s (omega arith) e
+
+pub process_there : (d : Design) (c p : ℕ) (x : Process) → slice_get d.processes p ≡ Some x → (network_of d c).process p ≡ process_of d c x
+process_there d c p x e = at_process d c d.processes (map (writer_of c) (top_inputs d) ++ spare_writers d c) p x e
+
+pub writer_there : (d : Design) (c i : ℕ) (s : Signal) → slice_get (top_inputs d) i ≡ Some s → (network_of d c).process (length d.processes + i) ≡ writer_of c s
+writer_there d c i s e = at_writer d d.processes c (top_inputs d) (spare_writers d c) i (length d.processes + i) s refl e
+
+-- the process behind all inputs
+at_behind : (d : Design) (ps : List Process) (c : ℕ) (ss : List Signal) (w : N.Process) (ws : List N.Process) (p : ℕ) → p ≡ length ps + length ss → at_or_input (map (process_of d c) ps ++ (map (writer_of c) ss ++ (w ∷ ws))) p ≡ w
+at_behind d [] c [] w ws zero l = refl
+at_behind d [] c [] w ws (suc p) l = absurd (omega arith)
+at_behind d [] c (s ∷ ss) w ws zero l = absurd (omega arith)
+at_behind d [] c (s ∷ ss) w ws (suc p) l = at_behind d [] c ss w ws p (omega arith)
+at_behind d (x ∷ ps) c ss w ws zero l = absurd (omega arith)
+at_behind d (x ∷ ps) c ss w ws (suc p) l = at_behind d ps c ss w ws p (omega arith)
+
+-- a clock that isn't a bit of the design is there
+pub at_spare : (d : Design) (c : ℕ) → bit_count d ≤ c → (network_of d c).process (length d.processes + length (top_inputs d)) ≡ N.Clock c
+at_spare d c h = subst (λ (ws : List N.Process). at_or_input (map (process_of d c) d.processes ++ (map (writer_of c) (top_inputs d) ++ ws)) (length d.processes + length (top_inputs d)) ≡ N.Clock c) (sym spare_there) (at_behind d d.processes c (top_inputs d) (N.Clock c) [] (length d.processes + length (top_inputs d)) refl)
+  where
+    spare_there : spare_writers d c ≡ N.Clock c ∷ []
+    spare_there = rw (not_less c (bit_count d) h) refl
 
 -- what holds of each process, by kind
 pub record Cases (d : Design) (c : ℕ) (F : ℕ → N.Process → Type 0) : Type 0 where
@@ -61,6 +89,8 @@ pub record Cases (d : Design) (c : ℕ) (F : ℕ → N.Process → Type 0) : Typ
       → F p (N.Clocked (clock_bit (events_in d c events)) (reset_by (root_of d c) (events_in d c events) st) (contains (statement_bits st)) (body st))
   pub inputs : (p i : ℕ) (s : Signal) → p ≡ length d.processes + i → slice_get (top_inputs d) i ≡ Some s → (s.first == c) ≡ false → F p (N.Input (bits_of_signal s))
   pub clock : (p i : ℕ) (s : Signal) → p ≡ length d.processes + i → slice_get (top_inputs d) i ≡ Some s → s.first ≡ c → F p (N.Clock c)
+  -- a clock that isn't a bit of the design
+  pub spare : (p : ℕ) → p ≡ length d.processes + length (top_inputs d) → bit_count d ≤ c → F p (N.Clock c)
   pub none : (p : ℕ) → F p (N.Input [])
 
 block_case : (d : Design) (c : ℕ) (F : ℕ → N.Process → Type 0) → Cases d c F → (p place : ℕ) (star : Bool) (events : List Event) (st : Statement) → slice_get d.processes p ≡ Some (Always place star events st)
@@ -79,21 +109,25 @@ writer_case d c F k p i s l e =
     (λ h. rw h (k.inputs p i s l e h))
 
 pub by_kind : (d : Design) (c : ℕ) (F : ℕ → N.Process → Type 0) → Cases d c F → (p : ℕ) → F p ((network_of d c).process p)
-by_kind d c F k p = go d.processes p (λ q x e. process_case d c F k q x e) (λ q i s l e. writer_case d c F k q i s l e)
+by_kind d c F k p = walk d.processes p F k.none (λ q x e. process_case d c F k q x e) (λ q i s l e. writer_case d c F k q i s l e) k.spare
   where
-    inputs : (ss : List Signal) (p : ℕ) (F' : ℕ → N.Process → Type 0) → ((q : ℕ) → F' q (N.Input [])) → ((q : ℕ) (s : Signal) → slice_get ss q ≡ Some s → F' q (writer_of c s)) → F' p (at_or_input (map (writer_of c) ss) p)
-    inputs [] p F' n w = n p
-    inputs (s ∷ ss) zero F' n w = w 0 s refl
-    inputs (s ∷ ss) (suc p) F' n w = inputs ss p (λ q x. F' (suc q) x) (λ q. n (suc q)) (λ q t e. w (suc q) t e)
+    spares : (p : ℕ) (F' : ℕ → N.Process → Type 0) → ((q : ℕ) → F' q (N.Input [])) → ((q : ℕ) → q ≡ 0 → bit_count d ≤ c → F' q (N.Clock c)) → (b : Bool) → nat_lt c (bit_count d) ≡ b → F' p (at_or_input (if b then [] else (N.Clock c ∷ [])) p)
+    spares p F' n v true h = n p
+    spares zero F' n v false h = v 0 refl (less_not c (bit_count d) h)
+    spares (suc p) F' n v false h = n (suc p)
+
+    inputs : (ss : List Signal) (p : ℕ) (F' : ℕ → N.Process → Type 0) → ((q : ℕ) → F' q (N.Input [])) → ((q : ℕ) (s : Signal) → slice_get ss q ≡ Some s → F' q (writer_of c s)) → ((q : ℕ) → q ≡ length ss → bit_count d ≤ c → F' q (N.Clock c))
+        → F' p (at_or_input (map (writer_of c) ss ++ spare_writers d c) p)
+    inputs [] p F' n w v = spares p F' n v (nat_lt c (bit_count d)) refl
+    inputs (s ∷ ss) zero F' n w v = w 0 s refl
+    inputs (s ∷ ss) (suc p) F' n w v = inputs ss p (λ q x. F' (suc q) x) (λ q. n (suc q)) (λ q t e. w (suc q) t e) (λ q l h. v (suc q) (omega arith) h)
 
     walk : (ps : List Process) (p : ℕ) (F' : ℕ → N.Process → Type 0) → ((q : ℕ) → F' q (N.Input [])) → ((q : ℕ) (x : Process) → slice_get ps q ≡ Some x → F' q (process_of d c x))
-        → ((q i : ℕ) (s : Signal) → q ≡ length ps + i → slice_get (top_inputs d) i ≡ Some s → F' q (writer_of c s)) → F' p (at_or_input (map (process_of d c) ps ++ map (writer_of c) (top_inputs d)) p)
-    walk [] p F' n f w = inputs (top_inputs d) p F' n (λ q s e. w q q s (omega arith) e)
-    walk (x ∷ ps) zero F' n f w = f 0 x refl
-    walk (x ∷ ps) (suc p) F' n f w = walk ps p (λ q y. F' (suc q) y) (λ q. n (suc q)) (λ q y e. f (suc q) y e) (λ q i s l e. w (suc q) i s (omega arith) e)
-
-    go : (ps : List Process) (p : ℕ) → ((q : ℕ) (x : Process) → slice_get d.processes q ≡ Some x → F q (process_of d c x)) → ((q i : ℕ) (s : Signal) → q ≡ length d.processes + i → slice_get (top_inputs d) i ≡ Some s → F q (writer_of c s)) → F p (at_or_input (map (process_of d c) d.processes ++ map (writer_of c) (top_inputs d)) p)
-    go ps p f w = walk d.processes p F k.none f w
+        → ((q i : ℕ) (s : Signal) → q ≡ length ps + i → slice_get (top_inputs d) i ≡ Some s → F' q (writer_of c s)) → ((q : ℕ) → q ≡ length ps + length (top_inputs d) → bit_count d ≤ c → F' q (N.Clock c))
+        → F' p (at_or_input (map (process_of d c) ps ++ (map (writer_of c) (top_inputs d) ++ spare_writers d c)) p)
+    walk [] p F' n f w v = inputs (top_inputs d) p F' n (λ q s e. w q q s (omega arith) e) (λ q l h. v q (omega (arith, l)) h)
+    walk (x ∷ ps) zero F' n f w v = f 0 x refl
+    walk (x ∷ ps) (suc p) F' n f w v = walk ps p (λ q y. F' (suc q) y) (λ q. n (suc q)) (λ q y e. f (suc q) y e) (λ q i s l e. w (suc q) i s (omega arith) e) (λ q l h. v (suc q) (omega arith) h)
 
 pub beyond_count : (xs : List N.Process) (p : ℕ) → length xs ≤ p → at_or_input xs p ≡ N.Input []
 beyond_count [] p h = refl

@@ -27,7 +27,7 @@ use Rattle.vs_design.proofs.Writes.{either_way}
 use Rattle.vs_design.proofs.Blocks.{body_reads}
 use Rattle.vs_design.proofs.Drivers.{one_process}
 use Rattle.vs_design.proofs.Order.{no_loop}
-use Rattle.vs_design.proofs.Parts.{by_kind, at_process, at_writer, all_at}
+use Rattle.vs_design.proofs.Parts.{by_kind, process_there, writer_there, all_at}
 use Rattle.vs_design.proofs.LawfulParts.{one_writer, first_bit}
 use Rattle.vs_design.proofs.ClosedNets.{closed}
 use Rattle.vs_design.proofs.Named.{statement_named}
@@ -195,7 +195,7 @@ reset_is d roots (Some (ByBoth c e)) st reset h = by_parts (roots e.signal.first
 
 -- ---- the reset nets of an accepted design
 
-module _ (d : Design) (name : List ℕ) (a : IsAcceptedDesign d name) where
+module _ (d : Design) (name : Option (List ℕ)) (a : IsAcceptedDesign d name) where
   abbrev c : ℕ
   c = a.clock.first
 
@@ -253,7 +253,7 @@ module _ (d : Design) (name : List ℕ) (a : IsAcceptedDesign d name) where
 
   -- its process
   input_process : (k : ℕ) (s : Signal) → slice_get (top_inputs d) k ≡ Some s → (s.first == c) ≡ false → net_work.process (length d.processes + k) ≡ N.Input (bits_of_signal s)
-  input_process k s e o = at_writer d d.processes c (top_inputs d) k (length d.processes + k) s refl e ∙ rw o refl
+  input_process k s e o = writer_there d c k s e ∙ rw o refl
 
   root_process : (i : ℕ) (r : InputAt i) → net_work.process (length d.processes + r.place) ≡ N.Input (i ∷ [])
   root_process i r = input_process r.place r.signal r.is r.other ∙ ap N.Input (one_bit_of r.signal r.one ∙ ap (λ n. n ∷ []) r.first)
@@ -265,7 +265,7 @@ module _ (d : Design) (name : List ℕ) (a : IsAcceptedDesign d name) where
       let v = port_value nets q.process f in
       let e : b ≡ f.signal.first = one_listed f.signal.first b (subst (λ xs. contains xs b ≡ true) v q.has_it) in
       let own : contains (writes_of q.process) b ≡ true = subst (λ x. contains (writes_of x) b ≡ true) (sym f.is) (subst (λ m. contains (bits_of_signal f.signal) m ≡ true) (sym e) (first_bit f.signal)) in
-      let at = at_process d c d.processes (map (writer_of c) (top_inputs d)) q.number q.process q.is in
+      let at = process_there d c q.number q.process q.is in
       (own, subst (λ x. writes x b ≡ true) (sym (at ∙ ap (process_of d c) f.is)) (subst (λ x. contains (writes_of x) b ≡ true) f.is own), subst (λ x. kind x ≡ AnAssign) (sym (at ∙ ap (process_of d c) f.is)) refl)
 
   two_kinds : (k : Kind) → k ≡ AnAssign → k ≡ AnInput → ⊥
@@ -322,6 +322,7 @@ module _ (d : Design) (name : List ℕ) (a : IsAcceptedDesign d name) where
         (λ q. let one = eqb-true (signal_length s) 1 q in inl (s.first, ap N.Input (one_bit_of s one), root_self k s e one f))
         (λ q. inr (λ b w. rootless k s e f q b w (roots b) refl));
     clock = λ p i s l e f k. cc;
+    spare = λ p l f k. cc;
     none = λ p k. inr (λ b w. cc);
   }) p
     where
@@ -351,7 +352,7 @@ module _ (d : Design) (name : List ℕ) (a : IsAcceptedDesign d name) where
     made = process_of d c x
 
     at_p : net_work.process p ≡ made
-    at_p = at_process d c d.processes (map (writer_of c) (top_inputs d)) p x h
+    at_p = process_there d c p x h
 
     some_same : (y z : Process) → Some y ≡ Some z → y ≡ z
     some_same y z q = cc
@@ -460,6 +461,7 @@ module _ (d : Design) (name : List ℕ) (a : IsAcceptedDesign d name) where
     clocked = λ p place star events st h k l. cc;
     inputs = λ p i s l e f k. cc;
     clock = λ p i s l e f k. cc;
+    spare = λ p l f k. cc;
     none = λ p k. cc;
   }) p
 
@@ -475,6 +477,7 @@ module _ (d : Design) (name : List ℕ) (a : IsAcceptedDesign d name) where
     clocked = λ p place star events st h k l. (reset_is d roots (events_in d c events) st r l).on_net;
     inputs = λ p i s l e f k. cc;
     clock = λ p i s l e f k. cc;
+    spare = λ p l f k. cc;
     none = λ p k. cc;
   }) p
 
@@ -485,5 +488,6 @@ module _ (d : Design) (name : List ℕ) (a : IsAcceptedDesign d name) where
     clocked = λ p place star events st h k l g. (reset_is d roots (events_in d c events) st r l).run (formed_at p place star events st h) s g;
     inputs = λ p i s l e f k. cc;
     clock = λ p i s l e f k. cc;
+    spare = λ p l f k. cc;
     none = λ p k. cc;
   }) p

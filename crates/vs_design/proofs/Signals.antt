@@ -1,7 +1,8 @@
 -- Signals share no bits.
 use Rattle.std.proofs.Common.{◌≡◌, ℕ, zero, suc, ◌+◌, ◌≤◌, ◌<◌, Bool, true, false, List, [], ◌∷◌, ◌++◌, ◌||◌, refl, sym, ap, ◌∙◌, subst, arith, ◌==◌, eqb-true, Some}
-use Rattle.std.specs.Prelude.{slice_get}
+use Rattle.std.specs.Prelude.{slice_get, sum_by}
 use Rattle.std.specs.List.{filter}
+use Rattle.std.proofs.lemmas.List.Sums.{sum_by-cons}
 use Rattle.vs_design.specs.Expressions.{Signal, signal_length}
 use Rattle.vs_design.specs.Values.{count_from, bits_of_signal}
 use Rattle.vs_design.specs.Footprints.{contains, signals_bits}
@@ -44,6 +45,19 @@ filter_low t k (s ∷ ss) b h c =
     (λ q. let l = count_low s.first (signal_length s) b q in let z = p.0 in omega arith)
     (λ q. let l = filter_low t (k + signal_length s) ss b p.1 q in omega arith))
     (λ e. let l = filter_low t (k + signal_length s) ss b p.1 (subst (λ xs. contains (signals_bits xs) b ≡ true) (filter_leave t s ss e) c) in omega arith)
+
+-- and none lies beyond them all
+pub filter_high : (t : Signal → Bool) (k : ℕ) (ss : List Signal) (b : ℕ) → have_bits_from k ss ≡ true → contains (signals_bits (filter t ss)) b ≡ true → b < k + sum_by signal_length ss
+filter_high t k [] b h c = cc
+filter_high t k (s ∷ ss) b h c =
+    let p = head_first k s ss h in
+    let total = sum_by-cons signal_length s ss in
+    let rest = filter_high t (k + signal_length s) ss b p.1 in
+    by_test (t s)
+    (λ e. split (bits_of_signal s) (signals_bits (filter t ss)) b (subst (λ xs. contains (signals_bits xs) b ≡ true) (filter_take t s ss e) c)
+    (λ q. let l = count_high s.first (signal_length s) b q in let z = p.0 in omega (arith, l, z, total))
+    (λ q. let l = rest q in omega (arith, l, total)))
+    (λ e. let l = rest (subst (λ xs. contains (signals_bits xs) b ≡ true) (filter_leave t s ss e) c) in omega (arith, l, total))
 
 -- two kinds of signals share no bit
 pub kinds_apart : (t u : Signal → Bool) (k : ℕ) (ss : List Signal) (b : ℕ) → ((s : Signal) → t s ≡ true → u s ≡ false) → have_bits_from k ss ≡ true → contains (signals_bits (filter t ss)) b ≡ true → contains (signals_bits (filter u ss)) b ≡ true → ⊥

@@ -14,7 +14,7 @@ use Rattle.vs_design.specs.Statements.{CaseKind, Statement, Empty, Assignment, T
 use Rattle.vs_design.specs.Values.{own_value, value}
 use Rattle.vs_design.specs.Bodies.{last_of_each, assignment_writes, body, arms_body, is_taken}
 use Rattle.vs_design.specs.Designs.{Event, Process, Continuous, Always, is_clocked, is_combinational, Design, top_inputs}
-use Rattle.vs_design.specs.Footprints.{contains, target_bits, statement_bits, writes_of, waits_of, net_bits, variable_bits}
+use Rattle.vs_design.specs.Footprints.{contains, target_bits, statement_bits, writes_of, waits_of, net_bits, variable_bits, is_variable}
 use Rattle.vs_design.specs.Fits.{fits_target, is_fit, fits_statement, fits_arms, fit_items}
 use Rattle.vs_design.specs.Networks.{network_of, writer_of, block_process}
 use Rattle.vs_design.specs.Accepted.{IsAcceptedDesign}
@@ -22,9 +22,9 @@ use Rattle.vs_design.specs.Sleepers.{most_writes, arms_most, process_most, is_on
 use Rattle.vs_design.specs.Values.{bits_of_signal}
 use Rattle.vs_design.proofs.Lists.{by_test, and_both, contains-left, contains-right}
 use Rattle.vs_design.proofs.Writes.{either_way, written_last, assignment_within}
-use Rattle.vs_design.proofs.Parts.{all_at, by_kind, at_process}
+use Rattle.vs_design.proofs.Parts.{all_at, by_kind, process_there}
 use Rattle.vs_design.proofs.Signals.{member_bits}
-use Rattle.vs_design.proofs.LawfulParts.{first_bit, variables_not_nets, variables_not_inputs, exact}
+use Rattle.vs_design.proofs.LawfulParts.{first_bit, variables_not_nets, variables_not_inputs, kind_below, exact}
 use Rattle.vs_design.proofs.Facts.{assign_facts, block_facts}
 use Rattle.vs_design.proofs.TimeBits.{all_of_bits, some_is}
 
@@ -183,7 +183,7 @@ comb_listed (y ∷ ps) (suc n) place star events st b e c w = contains-right (if
 
 -- ---- they are sleepers of the network
 
-module _ (d : Design) (name : List ℕ) (a : IsAcceptedDesign d name) where
+module _ (d : Design) (name : Option (List ℕ)) (a : IsAcceptedDesign d name) where
   abbrev net_work : Network
   net_work = network_of d a.clock.first
 
@@ -212,6 +212,7 @@ module _ (d : Design) (name : List ℕ) (a : IsAcceptedDesign d name) where
     clocked = λ p place star events st i k w. refl;
     inputs = λ p i s l e f w. absurd (variables_not_inputs d name a a.clock.first b (still_variable b h) (member_bits (top_inputs d) i s b e w));
     clock = λ p i s l e f w. absurd (variables_not_inputs d name a a.clock.first b (still_variable b h) (member_bits (top_inputs d) i s b e (subst (λ m. contains (bits_of_signal s) m ≡ true) (f ∙ sym (eqb-true b a.clock.first w)) (first_bit s))));
+    spare = λ p l f w. absurd (let k = kind_below d name a a.clock.first is_variable b (still_variable b h) in let e = eqb-true b a.clock.first w in omega (arith, f, k, e));
     none = λ p w. cc;
   }) r
 
@@ -226,13 +227,14 @@ module _ (d : Design) (name : List ℕ) (a : IsAcceptedDesign d name) where
         let o = times-append (body st s).writes (flatten (body st s).updates) b in omega (arith, m, n, o);
     inputs = λ p i t l e f k. cc;
     clock = λ p i t l e f k. cc;
+    spare = λ p l f k. cc;
     none = λ p k. cc;
   }) r
 
   -- what the network has for a sleeper
   pub process_is : (p : ℕ) (x : Sleeper) (f : AsleepFacts d p x) → net_work.process p ≡ N.Comb (contains (waits_of (Always f.place f.star f.events f.statement))) (contains (statement_bits f.statement)) (body f.statement)
   process_is p x f =
-      at_process d a.clock.first d.processes (map (writer_of a.clock.first) (top_inputs d)) p (Always f.place f.star f.events f.statement) f.at
+      process_there d a.clock.first p (Always f.place f.star f.events f.statement) f.at
       ∙ ap {B = N.Process} (λ c. block_process d a.clock.first c (Always f.place f.star f.events f.statement) f.events f.statement) f.settles
 
   pub is_sleeper : (p : ℕ) (x : Sleeper) → sleeper_at d p ≡ Some x → IsSleeper net_work p x

@@ -1,17 +1,18 @@
 -- Which combinational blocks sleep.
-use Rattle.std.proofs.Common.{◌≡◌, ℕ, Bool, true, false, List, [], ◌∷◌, ◌||◌, ◌&&◌, ◌==◌, not, inr, refl, sym, ap, ◌∙◌, subst, eqb-true, Option, Some, None}
+use Rattle.std.proofs.Common.{◌≡◌, ℕ, Bool, true, false, List, [], ◌∷◌, ◌||◌, ◌&&◌, ◌==◌, not, ◌⊎◌, inl, inr, ◌≤◌, ◌<◌, arith, nat_lt, if◌then◌else◌, refl, sym, ap, ◌∙◌, subst, eqb-true, Option, Some, None}
 use Rattle.std.specs.List.{list_any, list_all}
 use Rattle.vs_four.specs.declared.Bit4.TheVariants.{X}
 use Rattle.vs_net.specs.Network.{flatten, is_written}
 use Rattle.vs_net.specs.Network as N
 use Rattle.vs_design.specs.Statements.{Statement, Empty, Assignment, Then, If, Case, Arms, Arm, Default}
-use Rattle.vs_design.specs.Designs.{Process, Continuous, Always, is_clocked, Design}
+use Rattle.vs_design.specs.Designs.{Process, Continuous, Always, is_clocked, Design, bit_count}
 use Rattle.vs_design.specs.Footprints.{contains, target_bits, statement_bits, statement_reads, waits_of, input_bits, net_bits, variable_bits, is_input, is_net, is_variable}
 use Rattle.vs_design.specs.Latches.{early_reads}
 use Rattle.vs_design.specs.Rules.{mixed_in, mixed_in_arms, mixed_assigns, missing_bits, latches}
 use Rattle.vs_design.specs.Levels.{is_level_order}
 use Rattle.vs_design.specs.Sets.{Set4, has, only, is_only_x, is_unknown_set, is_known_set}
 use Rattle.vs_design.specs.LiftedBodies.{lifted_body}
+use Rattle.vs_design.specs.Clocks.{own_clock}
 use Rattle.vs_design.specs.Resets.{reset_of, with_reset, with_resets}
 use Rattle.vs_design.specs.Sleepers.{at_once, arms_at_once, comb_bits, is_once, is_still, stays_x, is_sleeping}
 use Rattle.vs_design.specs.TimeZero.{Families, families, early_source, before_run, block_sets, is_quiet, wakes}
@@ -28,7 +29,7 @@ use Rattle.vs_design.proofs.SetBits.{union_right}
 use Rattle.vs_design.proofs.SetReadsBody.{body_sets_read}
 use Rattle.vs_design.proofs.Drivers.{empty_is}
 use Rattle.vs_design.proofs.Parts.{all_at}
-use Rattle.vs_design.proofs.Signals.{kinds_apart}
+use Rattle.vs_design.proofs.Signals.{filter_high, kinds_apart}
 use Rattle.vs_design.proofs.Formed.{target_kind}
 use Rattle.vs_design.proofs.Facts.{CombFacts, comb_facts_by}
 use Rattle.vs_design.proofs.SleepLaws.{comb_listed}
@@ -68,7 +69,7 @@ resets_keep d clock (x ∷ ps) b s h = reset_keeps (reset_of d clock x) b (with_
 not_known : (s : Set4) → has s X ≡ true → is_known_set s ≡ false
 not_known s h = rw h refl
 
-module _ (d : Design) (o : IsOrderly d) (clock : ℕ) (clock_in : contains (input_bits d) clock ≡ true) (order : List ℕ) (h : is_level_order d order ≡ true) where
+module _ (d : Design) (o : IsOrderly d) (clock : ℕ) (clock_in : (contains (input_bits d) clock ≡ true) ⊎ (bit_count d ≤ clock)) (order : List ℕ) (h : is_level_order d order ≡ true) where
   abbrev f : Families
   f = families d clock order
 
@@ -117,8 +118,16 @@ module _ (d : Design) (o : IsOrderly d) (clock : ℕ) (clock_in : contains (inpu
   late_has : (b : ℕ) → Still b → has (f.late b) X ≡ true
   late_has b k = subst (λ s. has s X ≡ true) (sym late_is) (resets_keep d clock d.processes b (early_source d b) (rw (no_net b k) refl))
     where
-      not_clock : contains (clock ∷ []) b ≡ false
-      not_clock = by_test (b == clock) (λ e. absurd (either_way (contains (input_bits d) b) (subst (λ m. contains (input_bits d) m ≡ true) (sym (eqb-true b clock e)) clock_in) (no_input b k))) (λ e. rw e refl)
+      not_clock : contains (own_clock d clock) b ≡ false
+      not_clock = by_test (b == clock) (λ e. absurd (by_place (eqb-true b clock e) clock_in)) (λ e. apart e (nat_lt clock (bit_count d)))
+        where
+          apart : (b == clock) ≡ false → (c : Bool) → contains (if c then (clock ∷ []) else []) b ≡ false
+          apart e true = rw e refl
+          apart e false = refl
+
+          by_place : b ≡ clock → (contains (input_bits d) clock ≡ true) ⊎ (bit_count d ≤ clock) → ⊥
+          by_place e (inl i) = either_way (contains (input_bits d) b) (subst (λ m. contains (input_bits d) m ≡ true) (sym e) i) (no_input b k)
+          by_place e (inr l) = let m = filter_high is_variable 0 d.signals b o.lawful.bits_numbered k.variable in omega (arith, e, l, m)
 
       late_is : f.late b ≡ with_resets d clock d.processes b (early_source d b)
       late_is = ((solved d o clock order h).source b (source b k)).1 ∙ rw (not_clock, no_input b k) refl

@@ -14,18 +14,18 @@ use Rattle.vs_design.specs.Statements.{Target, Statement}
 use Rattle.vs_design.specs.Bodies.{body}
 use Rattle.vs_design.specs.Designs.{Event, Port, Process, Continuous, Always, is_clocked, Design, top_inputs}
 use Rattle.vs_design.specs.Footprints.{contains, statement_bits, writes_of, input_bits}
-use Rattle.vs_design.specs.Clocks.{clock_bit, same_name}
+use Rattle.vs_design.specs.Clocks.{clock_bit}
 use Rattle.vs_design.specs.Resets.{reset_of}
 use Rattle.vs_design.specs.Sleepers.{sleeper_of, sleeper_at}
 use Rattle.vs_design.specs.Networks.{events_in, network_of, process_of, writer_of, block_process}
 use Rattle.vs_design.specs.Accepted.{IsAcceptedDesign}
 use Rattle.vs_design.specs.SlotValues.{clock_value, input_value, register_value, IsSlotValues, SlotValuesAre}
-use Rattle.vs_design.proofs.Lists.{by_test, and_both}
+use Rattle.vs_design.proofs.Lists.{by_test}
 use Rattle.vs_design.proofs.Writes.{either_way}
 use Rattle.vs_design.proofs.Signals.{member_bits}
-use Rattle.vs_design.proofs.Parts.{by_kind, at_process, at_writer}
+use Rattle.vs_design.proofs.Parts.{by_kind, process_there, writer_there}
 use Rattle.vs_design.proofs.LawfulParts.{first_bit}
-use Rattle.vs_design.proofs.ClockNets.{clock_at, one_listed, find_test}
+use Rattle.vs_design.proofs.ClockNets.{clock_at, clock_long, clock_number, clock_process, one_listed}
 use Rattle.vs_design.proofs.TimeBits.{signal_with}
 use Rattle.vs_design.proofs.TimeLaws.{clock_signal}
 
@@ -76,15 +76,15 @@ nothing_made : (s : State) → write_all s [] ≡ s
 unfolding write_all
 nothing_made s = refl
 
-module _ (d : Design) (name : List ℕ) (a : IsAcceptedDesign d name) (before : State) (slot : Slot) (s : State) where
+module _ (d : Design) (name : Option (List ℕ)) (a : IsAcceptedDesign d name) (before : State) (slot : Slot) (s : State) where
   abbrev net_work : Network
   net_work = network_of d a.clock.first
 
   process_at : (p : ℕ) (x : Process) → slice_get d.processes p ≡ Some x → net_work.process p ≡ process_of d a.clock.first x
-  process_at p x h = at_process d a.clock.first d.processes (map (writer_of a.clock.first) (top_inputs d)) p x h
+  process_at p x h = process_there d a.clock.first p x h
 
   writer_at : (i : ℕ) (r : Signal) → slice_get (top_inputs d) i ≡ Some r → net_work.process (length d.processes + i) ≡ writer_of a.clock.first r
-  writer_at i r h = at_writer d d.processes a.clock.first (top_inputs d) i (length d.processes + i) r refl h
+  writer_at i r h = writer_there d a.clock.first i r h
 
   block_is : (place : ℕ) (star : Bool) (events : List Event) (st : Statement) (c : Bool) → is_clocked (Always place star events st) ≡ c → process_of d a.clock.first (Always place star events st) ≡ block_process d a.clock.first c (Always place star events st) events st
   block_is place star events st c e = ap {B = N.Process} (λ x. block_process d a.clock.first x (Always place star events st) events st) e
@@ -113,16 +113,11 @@ module _ (d : Design) (name : List ℕ) (a : IsAcceptedDesign d name) (before : 
     register = λ p place star events st i k b w.
         let e = process_at p (Always place star events st) i ∙ block_is place star events st true k in
         registered p (clock_bit (events_in d a.clock.first events)) (reset_of d a.clock.first (Always place star events st)) st e b w;
-    clock_input =
-        let c = clock_at d name a in
-        clocked (length d.processes + c.0) (writer_at c.0 a.clock c.1 ∙ clock_writer a.clock (eq-eqb a.clock.first a.clock.first refl));
+    clock_input = clocked (clock_number d name a) (clock_process d name a);
     input = λ i r e f b w. given (length d.processes + i) (bits_of_signal r) (writer_at i r e ∙ input_writer r f) b w;
-    kept = λ b n i. h.kept b (λ p. unwritten b n i p);
+    kept = λ b n i k. h.kept b (λ p. unwritten b n i k p);
   }
     where
-      clock_writer : (r : Signal) → (r.first == a.clock.first) ≡ true → writer_of a.clock.first r ≡ N.Clock a.clock.first
-      clock_writer r e = rw e refl
-
       input_writer : (r : Signal) → (r.first == a.clock.first) ≡ false → writer_of a.clock.first r ≡ N.Input (bits_of_signal r)
       input_writer r e = rw e refl
 
@@ -136,13 +131,14 @@ module _ (d : Design) (name : List ℕ) (a : IsAcceptedDesign d name) (before : 
       given : (p : ℕ) (bits : List ℕ) → net_work.process p ≡ N.Input bits → (b : ℕ) → contains bits b ≡ true → s b ≡ input_value slot before b
       given p bits e b w = subst (λ x. IsWriter (kind x) → writes x b ≡ true → s b ≡ driven x slot before b) e (h.updated p b) tt w ∙ input_driven bits slot before b w
 
-      unwritten : (b : ℕ) → ((p : ℕ) (process : Process) → slice_get d.processes p ≡ Some process → contains (writes_of process) b ≡ false) → contains (input_bits d) b ≡ false → (p : ℕ) → writes (net_work.process p) b ≡ false
-      unwritten b n i = by_kind d a.clock.first (λ p x. writes x b ≡ false) (record {
+      unwritten : (b : ℕ) → ((p : ℕ) (process : Process) → slice_get d.processes p ≡ Some process → contains (writes_of process) b ≡ false) → contains (input_bits d) b ≡ false → (b == a.clock.first) ≡ false → (p : ℕ) → writes (net_work.process p) b ≡ false
+      unwritten b n i k = by_kind d a.clock.first (λ p x. writes x b ≡ false) (record {
         assigns = λ p place port target_place target e h. n p (Continuous place port target_place target e) h;
-        combs = λ p place star events st h k. n p (Always place star events st) h;
-        clocked = λ p place star events st h k. n p (Always place star events st) h;
+        combs = λ p place star events st h c. n p (Always place star events st) h;
+        clocked = λ p place star events st h c. n p (Always place star events st) h;
         inputs = λ p j r l e f. outside j r e;
-        clock = λ p j r l e f. by_test (b == a.clock.first) (λ q. absurd (either_way (contains (bits_of_signal r) b) (subst (λ m. contains (bits_of_signal r) m ≡ true) (f ∙ sym (eqb-true b a.clock.first q)) (first_bit r)) (outside j r e))) (λ q. q);
+        clock = λ p j r l e f. k;
+        spare = λ p l f. k;
         none = λ p. refl;
       })
         where
@@ -159,6 +155,7 @@ module _ (d : Design) (name : List ℕ) (a : IsAcceptedDesign d name) (before : 
       clocked = λ p place star events st i k z. absurd z;
       inputs = λ p j r l e f z. absurd z;
       clock = λ p j r l e f z. absurd z;
+      spare = λ p l f z. absurd z;
       none = λ p z. absurd z;
     });
     updated = λ p b. by_kind d a.clock.first (λ p x. IsWriter (kind x) → writes x b ≡ true → s b ≡ driven x slot before b) (record {
@@ -167,9 +164,10 @@ module _ (d : Design) (name : List ℕ) (a : IsAcceptedDesign d name) (before : 
       clocked = λ p place star events st i k w z. h.register p place star events st i k b z ∙ sym (ap {B = Bit4} (λ (t : State). t b) (register_driven (clock_bit (events_in d a.clock.first events)) (reset_of d a.clock.first (Always place star events st)) (contains (statement_bits st)) st slot before));
       inputs = λ p j r l e f w z. h.input j r e f b z ∙ sym (input_driven (bits_of_signal r) slot before b z);
       clock = λ p j r l e f w z. subst (λ m. s m ≡ driven (N.Clock a.clock.first) slot before m) (sym (eqb-true b a.clock.first z)) (h.clock_input ∙ sym (clock_driven a.clock.first slot before));
+      spare = λ p l f w z. subst (λ m. s m ≡ driven (N.Clock a.clock.first) slot before m) (sym (eqb-true b a.clock.first z)) (h.clock_input ∙ sym (clock_driven a.clock.first slot before));
       none = λ p w z. cc;
     }) p;
-    kept = λ b n. h.kept b (λ p x e. not_written b n p x e) (no_input b n);
+    kept = λ b n. h.kept b (λ p x e. not_written b n p x e) (no_input b n) (not_clock b n);
   }
     where
       of_process : (x : Process) (b : ℕ) → contains (writes_of x) b ≡ true → writes (process_of d a.clock.first x) b ≡ true
@@ -183,11 +181,14 @@ module _ (d : Design) (name : List ℕ) (a : IsAcceptedDesign d name) (before : 
       not_written : (b : ℕ) → ((p : ℕ) → writes (net_work.process p) b ≡ false) → (p : ℕ) (x : Process) → slice_get d.processes p ≡ Some x → contains (writes_of x) b ≡ false
       not_written b n p x e = by_test (contains (writes_of x) b) (λ w. absurd (either_way (writes (net_work.process p) b) (subst (λ y. writes y b ≡ true) (sym (process_at p x e)) (of_process x b w)) (n p))) (λ w. w)
 
+      not_clock : (b : ℕ) → ((p : ℕ) → writes (net_work.process p) b ≡ false) → (b == a.clock.first) ≡ false
+      not_clock b n = subst (λ x. writes x b ≡ false) (clock_process d name a) (n (clock_number d name a))
+
       no_input : (b : ℕ) → ((p : ℕ) → writes (net_work.process p) b ≡ false) → contains (input_bits d) b ≡ false
       no_input b n = by_test (contains (input_bits d) b) (λ i. absurd (one (signal_with (top_inputs d) b i))) (λ i. i)
         where
           long : signal_length a.clock ≡ 1
-          long = eqb-true (signal_length a.clock) 1 (and_both (a.clock.input && same_name a.clock.name name) (signal_length a.clock == 1) (find_test (λ s. s.input && same_name s.name name && (signal_length s == 1)) d.signals a.clock a.clock_found)).1
+          long = clock_long d a.clock (clock_at d name a)
 
           one : (i : ℕ) × (r : Signal) × (slice_get (top_inputs d) i ≡ Some r) × (contains (bits_of_signal r) b ≡ true) → ⊥
           one q =

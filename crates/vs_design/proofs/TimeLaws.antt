@@ -1,7 +1,8 @@
 -- The sets A and E of an accepted design, and the rule of time zero.
-use Rattle.std.proofs.Common.{◌≡◌, ℕ, zero, suc, ◌+◌, Bool, true, false, List, [], ◌∷◌, ◌++◌, ◌&&◌, ◌==◌, eqb-true, eq-eqb, not, if◌then◌else◌, ◌⊎◌, inl, inr, refl, sym, ap, ◌∙◌, subst, map, length, Option, Some, None}
-use Rattle.std.specs.Prelude.{slice_get}
+use Rattle.std.proofs.Common.{◌≡◌, ℕ, zero, suc, ◌+◌, Bool, true, false, List, [], ◌∷◌, ◌++◌, ◌||◌, ◌&&◌, ◌==◌, eqb-true, eq-eqb, not, if◌then◌else◌, ◌⊎◌, inl, inr, refl, sym, ap, ◌∙◌, subst, map, length, Option, Some, None, arith, ◌≤◌, ◌<◌, nat_lt}
+use Rattle.std.specs.Prelude.{slice_get, nat_le}
 use Rattle.vs_four.specs.declared.Bit4.{Bit4}
+use Rattle.vs_four.specs.Tables.{same}
 use Rattle.vs_four.specs.declared.Bit4.TheVariants.{Zero, One, X, Z}
 use Rattle.vs_net.specs.Network.{State, Effect, write_all, is_written, flatten, Network, Kind, AnInput, TheClock, AnAssign, AComb, AClocked, kind, writes, listens, made}
 use Rattle.vs_net.specs.Network as N
@@ -10,11 +11,12 @@ use Rattle.vs_design.specs.Expressions.{Signal, signal_length}
 use Rattle.vs_design.specs.Values.{count_from, bits_of_signal}
 use Rattle.vs_design.specs.Statements.{Statement}
 use Rattle.vs_design.specs.Bodies.{assignment_writes, body}
-use Rattle.vs_design.specs.Designs.{Event, Process, Continuous, Always, is_clocked, Design, top_inputs}
-use Rattle.vs_design.specs.Footprints.{contains, read_bits, target_reads, statement_bits, writes_of, reads_of, waits_of, net_bits, input_bits}
+use Rattle.vs_design.specs.Designs.{Event, Process, Continuous, Always, is_clocked, Design, top_inputs, bit_count}
+use Rattle.vs_design.specs.Footprints.{contains, read_bits, target_reads, statement_reads, statement_bits, writes_of, reads_of, waits_of, net_bits, input_bits, is_input}
 use Rattle.vs_design.specs.Levels.{level_order}
 use Rattle.vs_design.specs.Sets.{Set4, has, only, known_set, union, is_only_x, is_unknown_set, is_known_set}
 use Rattle.vs_design.specs.Lifted.{Family}
+use Rattle.vs_design.specs.Clocks.{own_clock}
 use Rattle.vs_design.specs.Resets.{reset_of, with_reset, with_resets}
 use Rattle.vs_net.proofs.Basics.{write_all_covered, write_all_other}
 use Rattle.vs_net.proofs.Nets.{reset_clocked}
@@ -22,20 +24,21 @@ use Rattle.vs_design.specs.Sleepers.{is_sleeping, sleeper_at}
 use Rattle.vs_design.specs.TimeZero.{Families, families, early_source, late_source, block_sets, early_end, late_end, is_quiet, wakes, is_uncertain}
 use Rattle.vs_design.specs.Networks.{network_of, process_of, writer_of, block_process, idle_value}
 use Rattle.vs_design.specs.Accepted.{IsAcceptedDesign}
-use Rattle.vs_design.proofs.Lists.{by_test, and_both, or_left, contains-left, contains-right}
+use Rattle.vs_design.proofs.Lists.{by_test, and_both, or_left, or_right, contains-left, contains-right}
 use Rattle.vs_design.proofs.Writes.{either_way}
 use Rattle.vs_design.proofs.SetBits.{union_left, union_right}
 use Rattle.vs_design.proofs.Signals.{one_signal, member_bits}
-use Rattle.vs_design.proofs.Parts.{by_kind, at_process, at_writer, none_at}
-use Rattle.vs_design.proofs.LawfulParts.{one_writer, first_bit}
+use Rattle.vs_design.proofs.Parts.{by_kind, process_there, writer_there, none_at}
+use Rattle.vs_design.proofs.LawfulParts.{one_writer, first_bit, kind_below}
 use Rattle.vs_design.proofs.Facts.{assign_facts, block_facts, comb_facts}
-use Rattle.vs_design.proofs.ClockNets.{clock_at, clock_number, clock_process, one_listed}
+use Rattle.vs_design.proofs.ClockNets.{ClockAt, among, beyond, clock_at, clock_long, clock_inside, clock_number, clock_process, one_listed}
 use Rattle.vs_design.proofs.ClockLaws.{clock_is}
 use Rattle.vs_design.proofs.SleepLaws.{awake_at, AsleepFacts, asleep_facts, process_is}
+use Rattle.vs_design.proofs.Named.{bits_of_design}
 use Rattle.vs_design.proofs.Along.{SameAt, Found, found, unwritten, assign_made, block_made}
 use Rattle.vs_design.proofs.TimeBits.{only_x_is, only_x_has, unknown_set, known_set_is, all_of_bits, any_bit, signal_with, some_is}
 
-module _ (d : Design) (name : List ℕ) (a : IsAcceptedDesign d name) where
+module _ (d : Design) (name : Option (List ℕ)) (a : IsAcceptedDesign d name) where
   abbrev pub sets : Families
   sets = families d a.clock.first (level_order d)
 
@@ -47,7 +50,7 @@ module _ (d : Design) (name : List ℕ) (a : IsAcceptedDesign d name) where
 
   -- the network's process of a number
   settling : (r : ℕ) (x : Process) (b : ℕ) → slice_get d.processes r ≡ Some x → is_clocked x ≡ false → contains (writes_of x) b ≡ true → (writes (net_work.process r) b ≡ true) × Settles (kind (net_work.process r))
-  settling r x b h k w = subst (λ y. (writes y b ≡ true) × Settles (kind y)) (sym (at_process d a.clock.first d.processes (map (writer_of a.clock.first) (top_inputs d)) r x h)) (go x k w)
+  settling r x b h k w = subst (λ y. (writes y b ≡ true) × Settles (kind y)) (sym (process_there d a.clock.first r x h)) (go x k w)
     where
       go : (x : Process) → is_clocked x ≡ false → contains (writes_of x) b ≡ true → (writes (process_of d a.clock.first x) b ≡ true) × Settles (kind (process_of d a.clock.first x))
       go (Continuous place port target_place target e) k w = (w, tt)
@@ -70,6 +73,7 @@ module _ (d : Design) (name : List ℕ) (a : IsAcceptedDesign d name) where
     clocked = λ p place star events st h k w z. cc;
     inputs = λ p i r l e f w z. cc;
     clock = λ p i r l e f w z. cc;
+    spare = λ p l f w z. cc;
     none = λ p w z. cc;
   }) p
     where
@@ -97,6 +101,7 @@ module _ (d : Design) (name : List ℕ) (a : IsAcceptedDesign d name) where
     clocked = λ p place star events st h k z n. absurd z;
     inputs = λ p i r l e f z n. absurd z;
     clock = λ p i r l e f z n. absurd z;
+    spare = λ p l f z n. absurd z;
     none = λ p z n. absurd z;
   }) p z n
     where
@@ -125,6 +130,7 @@ module _ (d : Design) (name : List ℕ) (a : IsAcceptedDesign d name) where
     clocked = λ p place star events st h k z. absurd z;
     inputs = λ p i r l e f z. absurd z;
     clock = λ p i r l e f z. absurd z;
+    spare = λ p l f z. absurd z;
     none = λ p z. absurd z;
   }) p z
     where
@@ -149,18 +155,64 @@ module _ (d : Design) (name : List ℕ) (a : IsAcceptedDesign d name) where
 
   -- the signal of the clock's bit is the clock, of one bit
   pub clock_signal : (i : ℕ) (s : Signal) (b : ℕ) → slice_get (top_inputs d) i ≡ Some s → contains (bits_of_signal s) a.clock.first ≡ true → s ≡ a.clock
-  clock_signal i s b e h =
-      let k = one_signal (λ s. s.input) 0 d.signals a.clock.first i (clock_at d name a).0 s a.clock a.lawful.bits_numbered e (clock_at d name a).1 h (first_bit a.clock) in
-      some_is s a.clock (sym e ∙ subst (λ m. slice_get (top_inputs d) m ≡ Some a.clock) (sym k) (clock_at d name a).1)
+  clock_signal i s b e h = by_place (clock_at d name a)
+    where
+      by_place : ClockAt d a.clock → s ≡ a.clock
+      by_place (among j at long) =
+          let k = one_signal (λ s. s.input) 0 d.signals a.clock.first i j s a.clock a.lawful.bits_numbered e at h (first_bit a.clock) in
+          some_is s a.clock (sym e ∙ subst (λ m. slice_get (top_inputs d) m ≡ Some a.clock) (sym k) at)
+      by_place (beyond q) =
+          let k = kind_below d name a a.clock.first is_input a.clock.first (member_bits (top_inputs d) i s a.clock.first e h) in
+          let first = ap (λ (x : Signal). x.first) q in absurd (omega (arith, k, first))
 
   unsettled : (p b : ℕ) → writes (net_work.process p) b ≡ true → (Settles (kind (net_work.process p)) → ⊥) → (q : ℕ) → writes (net_work.process q) b ≡ true → Settles (kind (net_work.process q)) → ⊥
   unsettled p b w n q v s = n (subst (λ m. Settles (kind (net_work.process m))) (one_writer d name a a.clock.first p q b w v) s)
 
-  pub late_clock : (p b : ℕ) → kind (net_work.process p) ≡ TheClock → writes (net_work.process p) b ≡ true → has (sets.late b) Zero ≡ true
+  -- an input's bit has what its set says, and a bit beyond the design, as a clock may be that the design doesn't have, may be 0
+  abbrev pub late_or_spare : ℕ → Bit4 → Bool
+  late_or_spare b v = has (sets.late b) v || (nat_le (bit_count d) b && same v Zero)
+
+  -- what a process listens to is a bit of the design
+  pub listened_below : (p b : ℕ) → listens (net_work.process p) b ≡ true → b < bit_count d
+  listened_below p b = by_kind d a.clock.first (λ p x. listens x b ≡ true → b < bit_count d) (record {
+    assigns = λ p place port target_place target e h l. bits_of_design d a.lawful p (Continuous place port target_place target e) h b (contains-left (target_reads target ++ read_bits e) _ b l);
+    combs = λ p place star events st h k l. bits_of_design d a.lawful p (Always place star events st) h b (contains-right (statement_reads st) (statement_bits st ++ waits_of (Always place star events st)) b (contains-right (statement_bits st) (waits_of (Always place star events st)) b l));
+    clocked = λ p place star events st h k l. absurd (either_way false l refl);
+    inputs = λ p i s l e f g. absurd (either_way false g refl);
+    clock = λ p i s l e f g. absurd (either_way false g refl);
+    spare = λ p l f g. absurd (either_way false g refl);
+    none = λ p l. absurd (either_way false l refl);
+  }) p
+
+  pub late_of_listened : (p b : ℕ) (v : Bit4) → listens (net_work.process p) b ≡ true → late_or_spare b v ≡ true → has (sets.late b) v ≡ true
+  late_of_listened p b v l h = go (has (sets.late b) v) (nat_le (bit_count d) b) (same v Zero) (above (bit_count d) b (listened_below p b l)) h
+    where
+      above : (m n : ℕ) → n < m → nat_le m n ≡ false
+      above m n h = grind arith
+
+      go : (x y z : Bool) → y ≡ false → (x || (y && z)) ≡ true → x ≡ true
+      go true y z e h = refl
+      go false true z e h = cc
+      go false false z e h = cc
+
+  pub late_clock : (p b : ℕ) → kind (net_work.process p) ≡ TheClock → writes (net_work.process p) b ≡ true → late_or_spare b Zero ≡ true
   late_clock p b h w =
       let same : b ≡ a.clock.first = is_clock p h w in
-      subst (λ s. has s Zero ≡ true) (sym (first_sets b (unsettled p b w (λ s. settles_not (kind (net_work.process p)) h s))).1) (rw same (rw (or_left (a.clock.first == a.clock.first) false (eq-eqb a.clock.first a.clock.first refl)) refl))
+      elim (clock_inside d a.clock (clock_at d name a)) [
+        | inl i ↦ or_left (has (sets.late b) Zero) (nat_le (bit_count d) b && true)
+            (subst (λ s. has s Zero ≡ true) (sym (first_sets b (unsettled p b w (λ s. settles_not (kind (net_work.process p)) h s))).1) (rw same (rw (own_is (is_below a.clock.first (bit_count d) (kind_below d name a a.clock.first is_input a.clock.first i))) refl)))
+        | inr l ↦ or_right (has (sets.late b) Zero) (nat_le (bit_count d) b && true) (rw (is_most (bit_count d) b (omega (arith, l, same))) refl)
+      ]
     where
+      is_below : (m n : ℕ) → m < n → nat_lt m n ≡ true
+      is_below m n h = grind arith
+
+      is_most : (m n : ℕ) → m ≤ n → nat_le m n ≡ true
+      is_most m n h = grind arith
+
+      own_is : nat_lt a.clock.first (bit_count d) ≡ true → contains (own_clock d a.clock.first) a.clock.first ≡ true
+      own_is e = rw e (or_left (a.clock.first == a.clock.first) false (eq-eqb a.clock.first a.clock.first refl))
+
       settles_not : (k : Kind) → k ≡ TheClock → Settles k → ⊥
       settles_not TheClock h s = s
       settles_not AnInput h s = s
@@ -175,12 +227,20 @@ module _ (d : Design) (name : List ℕ) (a : IsAcceptedDesign d name) where
         clocked = λ p place star events st h k w z. cc;
         inputs = λ p i r l e f w z. cc;
         clock = λ p i r l e f w z. eqb-true b a.clock.first z;
+        spare = λ p l f w z. eqb-true b a.clock.first z;
         none = λ p w z. cc;
       })
 
+  not_own : (b : ℕ) → (b == a.clock.first) ≡ false → contains (own_clock d a.clock.first) b ≡ false
+  not_own b e = go (nat_lt a.clock.first (bit_count d))
+    where
+      go : (c : Bool) → contains (if c then (a.clock.first ∷ []) else []) b ≡ false
+      go true = rw e refl
+      go false = refl
+
   -- the late sets of a bit that no settling process writes: the clock's, an input's, another's
   source_input : (b : ℕ) (v : Bit4) → (b == a.clock.first) ≡ false → contains (input_bits d) b ≡ true → IsKnown v → has (late_source d a.clock.first b) v ≡ true
-  source_input b v e h k = rw e (rw h (known v k))
+  source_input b v e h k = rw (not_own b e) (rw h (known v k))
     where
       known : (v : Bit4) → IsKnown v → has known_set v ≡ true
       known Zero k = refl
@@ -217,7 +277,7 @@ module _ (d : Design) (name : List ℕ) (a : IsAcceptedDesign d name) where
   resets_have (y ∷ ps) (suc p) x r b s h e w = reset_keeps (reset_of d a.clock.first y) b (with_resets d a.clock.first ps b s) (write_all (λ m. X) (flatten (N.branch r)) b) (resets_have ps p x r b s h e w)
 
   source_other : (b : ℕ) → (b == a.clock.first) ≡ false → contains (input_bits d) b ≡ false → has (late_source d a.clock.first b) (idle_value d b) ≡ true
-  source_other b e h = rw e (rw h (resets_keep d.processes b (early_source d b) (idle_value d b) (source_idle b)))
+  source_other b e h = rw (not_own b e) (rw h (resets_keep d.processes b (early_source d b) (idle_value d b) (source_idle b)))
 
   pub late_input : (p b : ℕ) (v : Bit4) → kind (net_work.process p) ≡ AnInput → writes (net_work.process p) b ≡ true → IsKnown v → has (sets.late b) v ≡ true
   late_input p b v h w k = subst (λ s. has s v ≡ true) (sym (first_sets b (unsettled p b w (λ s. settles_not (kind (net_work.process p)) h s))).1) (is_input p h w)
@@ -241,6 +301,7 @@ module _ (d : Design) (name : List ℕ) (a : IsAcceptedDesign d name) where
             absurd (either_way (s.first == a.clock.first) (subst (λ x. (x.first == a.clock.first) ≡ true) (sym same) (eq-eqb a.clock.first a.clock.first refl)) f))
             (λ q. source_input b v q (member_bits (top_inputs d) i s b e z) k);
         clock = λ p i r l e f w z. cc;
+        spare = λ p l f w z. cc;
         none = λ p w z. cc;
       })
 
@@ -273,7 +334,7 @@ module _ (d : Design) (name : List ℕ) (a : IsAcceptedDesign d name) where
 
       an_input : (b == a.clock.first) ≡ false → (i : ℕ) × (s : Signal) × (slice_get (top_inputs d) i ≡ Some s) × (contains (bits_of_signal s) b ≡ true) → ⊥
       an_input q r =
-          let at = at_writer d d.processes a.clock.first (top_inputs d) r.0 (length d.processes + r.0) r.1 refl r.2 in
+          let at = writer_there d a.clock.first r.0 r.1 r.2 in
           by_test (r.1.first == a.clock.first)
           (λ e.
           let same : r.1 ≡ a.clock = clock_signal r.0 r.1 b r.2 (subst (λ m. contains (bits_of_signal r.1) m ≡ true) (eqb-true r.1.first a.clock.first e) (first_bit r.1)) in
@@ -283,7 +344,7 @@ module _ (d : Design) (name : List ℕ) (a : IsAcceptedDesign d name) where
           input_kinds (kind (net_work.process (length d.processes + r.0))) (rw here refl) (h (length d.processes + r.0) (rw here r.3)))
         where
           one_long : signal_length a.clock ≡ 1
-          one_long = eqb-true (signal_length a.clock) 1 (and_both (a.clock.input && Rattle.vs_design.specs.Clocks.same_name a.clock.name name) (signal_length a.clock == 1) (Rattle.vs_design.proofs.ClockNets.find_test (λ s. s.input && Rattle.vs_design.specs.Clocks.same_name s.name name && (signal_length s == 1)) d.signals a.clock a.clock_found)).1
+          one_long = clock_long d a.clock (clock_at d name a)
 
           clock_bit : (b : ℕ) → contains (bits_of_signal a.clock) b ≡ true → b ≡ a.clock.first
           clock_bit b k = one_listed a.clock.first b (subst (λ n. contains (count_from a.clock.first n) b ≡ true) one_long k)
@@ -299,7 +360,7 @@ module _ (d : Design) (name : List ℕ) (a : IsAcceptedDesign d name) where
       let g = late_register b only_clocked in
       by_test (is_written (flatten (N.branch r)) b)
       (λ z. let m = has_reset p e in
-      subst (λ s. has s (write_all net_work.idle (flatten (N.branch r)) b) ≡ true) (sym (g.2 ∙ (rw g.0 (rw g.1 refl))))
+      subst (λ s. has s (write_all net_work.idle (flatten (N.branch r)) b) ≡ true) (sym (g.2 ∙ (rw (not_own b g.0) (rw g.1 refl))))
       (subst (λ v. has (with_resets d a.clock.first d.processes b (early_source d b)) v ≡ true) (write_all_covered (flatten (N.branch r)) (λ m. X) net_work.idle b z)
       (resets_have d.processes p m.0 r b (early_source d b) m.1 m.2 z)))
       (λ z. subst (λ v. has (sets.late b) v ≡ true) (sym (write_all_other (flatten (N.branch r)) net_work.idle b z)) (late_idle b only_clocked))
@@ -311,6 +372,7 @@ module _ (d : Design) (name : List ℕ) (a : IsAcceptedDesign d name) where
         clocked = λ p place star events st h k l. (Always place star events st, h, l);
         inputs = λ p i s l e f k. cc;
         clock = λ p i s l e f k. cc;
+        spare = λ p l f k. cc;
         none = λ p k. cc;
       })
 
@@ -327,6 +389,7 @@ module _ (d : Design) (name : List ℕ) (a : IsAcceptedDesign d name) where
     clocked = λ p place star events st h k w n. cc;
     inputs = λ p i r l e f w n. cc;
     clock = λ p i r l e f w n. cc;
+    spare = λ p l f w n. cc;
     none = λ p w n. cc;
   }) p
     where

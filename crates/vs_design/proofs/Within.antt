@@ -22,7 +22,7 @@ some_same x y e = cc
 is_below : (x n : ℕ) → x ≤ n → nat_le x n ≡ true
 is_below x n h = grind arith
 
-signal_below : (first : ℕ) (ss : List Signal) (n : ℕ) (s : Signal) → have_bits_from first ss ≡ true → slice_get ss n ≡ Some s → s.first + signal_length s ≤ first + sum_by signal_length ss
+pub signal_below : (first : ℕ) (ss : List Signal) (n : ℕ) (s : Signal) → have_bits_from first ss ≡ true → slice_get ss n ≡ Some s → s.first + signal_length s ≤ first + sum_by signal_length ss
 signal_below first [] n s h e = cc
 signal_below first (x ∷ xs) zero s h e =
     let k = and_both (x.first == first) (have_bits_from (first + signal_length x) xs) h in

@@ -1,5 +1,5 @@
 -- An accepted design, as far as it is a matter of the elaborated one: it breaks no rule.
-use Rattle.std.specs.Prelude.{◌≡◌, ℕ, ◌≤◌, Bool, true, false, List, [], ◌∷◌, Some}
+use Rattle.std.specs.Prelude.{◌≡◌, ℕ, ◌≤◌, Bool, true, false, List, [], ◌∷◌, Option, Some}
 use Rattle.std.specs.List.{list_any, list_all}
 use Rattle.vs_design.specs.Expressions.{Signal}
 use Rattle.vs_design.specs.Designs.{Design}
@@ -17,8 +17,8 @@ abbrev pub is_empty : List ℕ → Bool
 is_empty [] = true
 is_empty (b ∷ bs) = false
 
--- with a clock input of this name
-pub record IsAcceptedDesign (d : Design) (name : List ℕ) : Type 0 where
+-- with a clock input of this name, or without a clock
+pub record IsAcceptedDesign (d : Design) (name : Option (List ℕ)) : Type 0 where
   pub lawful : IsLawfulDesign d
   -- TooWide, Division
   pub fit : list_all fits_process d.processes ≡ true

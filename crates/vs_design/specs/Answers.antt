@@ -1,5 +1,5 @@
 -- The one answer that the rules give of a design: accepted, or the first refusal.
-use Rattle.std.specs.Prelude.{◌≡◌, ℕ, true, List, [], ◌∷◌, ◌⊎◌, Some, None}
+use Rattle.std.specs.Prelude.{◌≡◌, ℕ, true, List, [], ◌∷◌, ◌⊎◌, Option, Some, None}
 use Rattle.vs_design.specs.Designs.{Design}
 use Rattle.vs_design.specs.Elaborated.{IsLawfulDesign}
 use Rattle.vs_design.specs.Levels.{has_no_cycle}
@@ -21,7 +21,7 @@ first_of [] = 0
 first_of (p ∷ ps) = p
 
 -- the rules are tried in this order; which of several cycles is answered is left open
-abbrev pub IsRefusedBy : Design → List ℕ → DesignRefusal → Type 0
+abbrev pub IsRefusedBy : Design → Option (List ℕ) → DesignRefusal → Type 0
 IsRefusedBy d name (OfWidth r) = width_refusal d ≡ Some r
 IsRefusedBy d name (OfBlock r) = (width_refusal d ≡ None) × (block_refusal d ≡ Some r)
 IsRefusedBy d name (OfDriver r) = (width_refusal d ≡ None) × (block_refusal d ≡ None) × (driver_refusal d ≡ Some r)
@@ -31,7 +31,7 @@ IsRefusedBy d name (OfZero r) = (width_refusal d ≡ None) × (block_refusal d �
 
 -- a design that elaboration gives is accepted or refused, and not both
 abbrev pub AcceptedOrRefused : Type 0
-AcceptedOrRefused = (d : Design) (name : List ℕ) → IsLawfulDesign d → IsAcceptedDesign d name ⊎ ((r : DesignRefusal) × IsRefusedBy d name r)
+AcceptedOrRefused = (d : Design) (name : Option (List ℕ)) → IsLawfulDesign d → IsAcceptedDesign d name ⊎ ((r : DesignRefusal) × IsRefusedBy d name r)
 
 abbrev pub NotBoth : Type 0
-NotBoth = (d : Design) (name : List ℕ) → IsAcceptedDesign d name → (r : DesignRefusal) → IsRefusedBy d name r → ⊥
+NotBoth = (d : Design) (name : Option (List ℕ)) → IsAcceptedDesign d name → (r : DesignRefusal) → IsRefusedBy d name r → ⊥

@@ -1,9 +1,9 @@
 -- The clock nets and the reset nets, and the rules NoClock, ClockRead and NotTheClock.
-use Rattle.std.specs.Prelude.{ℕ, zero, suc, Bool, true, false, not, ◌&&◌, List, [], ◌∷◌, ◌++◌, find, filter, map, is_some, length, if◌then◌else◌, ◌==◌, Option, Some, None}
+use Rattle.std.specs.Prelude.{ℕ, zero, suc, Bool, true, false, not, ◌&&◌, List, [], ◌∷◌, ◌++◌, find, filter, map, is_some, length, if◌then◌else◌, ◌==◌, nat_lt, Option, Some, None}
 use Rattle.std.specs.List.{list_any}
 use Rattle.vs_design.specs.Expressions.{Signal, signal_length, Expression, Name, At}
 use Rattle.vs_design.specs.Statements.{Whole}
-use Rattle.vs_design.specs.Designs.{Edge, Posedge, Event, InputPort, Process, Continuous, Always, is_clocked, has_edge, Design, top_inputs}
+use Rattle.vs_design.specs.Designs.{Edge, Posedge, Event, InputPort, Process, Continuous, Always, is_clocked, has_edge, Design, top_inputs, bit_count}
 use Rattle.vs_design.specs.Footprints.{contains, reads_of, waits_of}
 
 abbrev pub same_name : List ℕ → List ℕ → Bool
@@ -11,9 +11,18 @@ same_name [] [] = true
 same_name (a ∷ xs) (b ∷ ys) = (a == b) && same_name xs ys
 same_name _ _ = false
 
--- the one-bit input of the top that has this name; the rule NoClock where there is none
-abbrev pub clock_input : Design → List ℕ → Option Signal
-clock_input d name = find (λ s. s.input && same_name s.name name && (signal_length s == 1)) d.signals
+-- the one-bit input of the top that has this name
+abbrev pub named_input : Design → List ℕ → Option Signal
+named_input d name = find (λ s. s.input && same_name s.name name && (signal_length s == 1)) d.signals
+
+-- where no clock is named a signal takes its place whose bit isn't one of the design's, and which none of the design's signals is: no process reads it or waits on it
+abbrev pub spare_clock : Design → Signal
+spare_clock d = record { name = []; scope = 0; number = length d.signals; net = true; input = true; range = None; signed = false; first = bit_count d; words = None }
+
+-- the clock by its name; the rule NoClock where a name is given that is none of a one-bit input's
+abbrev pub clock_input : Design → Option (List ℕ) → Option Signal
+clock_input d (Some name) = named_input d name
+clock_input d None = Some (spare_clock d)
 
 -- the signal that the expression is the name of; round brackets are no matter
 abbrev pub name_of : Expression → Option Signal
@@ -42,6 +51,14 @@ nets_within (suc n) ps clock = clock ∷ port_targets (nets_within n ps clock) p
 -- the clock nets, each by its one bit
 abbrev pub clock_nets : Design → ℕ → List ℕ
 clock_nets d clock = nets_within (length d.processes) d.processes clock
+
+-- the clock, where it is a bit of the design
+abbrev pub own_clock : Design → ℕ → List ℕ
+own_clock d clock = if nat_lt clock (bit_count d) then (clock ∷ []) else []
+
+-- and the clock nets, where it is: without a clock there are none
+abbrev pub own_nets : Design → ℕ → List ℕ
+own_nets d clock = if nat_lt clock (bit_count d) then clock_nets d clock else []
 
 abbrev pub is_clock_port : List ℕ → Process → Bool
 is_clock_port nets p = not (length (port_target nets p) == 0)

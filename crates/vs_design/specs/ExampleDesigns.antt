@@ -12,7 +12,7 @@ use Rattle.vs_design.specs.Clocks.{clock_nets}
 use Rattle.vs_design.specs.Sets.{only, union, known_set}
 use Rattle.vs_design.specs.TimeZero.{families}
 use Rattle.vs_design.specs.Accepted.{IsAcceptedDesign}
-use Rattle.vs_design.specs.ExampleParts.{input_of, wire_of, reg_of, range_of, to_zero, clk, clk_signal, dec, plain, bit, blocking, nonblocking, assign, on_posedge, on_star, top_scope, design_of, slot_ends}
+use Rattle.vs_design.specs.ExampleParts.{input_of, wire_of, reg_of, range_of, to_zero, clk, clk_signal, dec, plain, bit, blocking, nonblocking, assign, on_posedge, on_star, top_scope, design_of, slot_ends, free_ends}
 
 -- inputs and registers of one bit that several examples have
 abbrev pub a1 : Signal
@@ -45,6 +45,16 @@ w3 = wire_of (codes "w") 3 None 3
 -- `assign y = a & b;`
 abbrev pub and_gate : Design
 and_gate = design_of (clk_signal ∷ a1 ∷ b2 ∷ y3_net ∷ []) (assign 51 (Whole y3_net) (Binary BitAnd (Name a1) (Name b2)) ∷ [])
+
+-- `module top(input a, input b, output y); assign y = a & b; endmodule`, which has no clock
+abbrev pub a0 : Signal
+a0 = input_of (codes "a") 0 None 0
+
+abbrev pub b1 : Signal
+b1 = input_of (codes "b") 1 None 1
+
+abbrev pub free_gate : Design
+free_gate = design_of (a0 ∷ b1 ∷ y2_net ∷ []) (assign 43 (Whole y2_net) (Binary BitAnd (Name a0) (Name b1)) ∷ [])
 
 -- `always @(posedge clk) if (rst) q <= 4'd0; else q <= q + 4'd1;`
 abbrev pub rst1 : Signal
@@ -260,6 +270,13 @@ pub record DesignsComputed : Type 0 where
   pub and_gate_accepted : IsAcceptedDesign and_gate clk
   pub and_gate_ends : slot_ends and_gate (Zero ∷ One ∷ Zero ∷ []) ((Zero ∷ One ∷ One ∷ []) ∷ []) ≡
       ((Zero ∷ One ∷ Zero ∷ Zero ∷ []) ∷ (One ∷ One ∷ Zero ∷ Zero ∷ []) ∷ (Zero ∷ One ∷ One ∷ One ∷ []) ∷ (One ∷ One ∷ One ∷ One ∷ []) ∷ [])
+  -- the same without a clock: bits a, b, y. No clock is named, and both inputs are data
+  pub free_gate_size : size free_gate ≡ 4
+  pub free_gate_accepted : IsAcceptedDesign free_gate None
+  pub free_gate_ends : free_ends free_gate (One ∷ Zero ∷ []) ((One ∷ One ∷ []) ∷ []) ≡
+      ((One ∷ Zero ∷ Zero ∷ []) ∷ (One ∷ Zero ∷ Zero ∷ []) ∷ (One ∷ One ∷ One ∷ []) ∷ (One ∷ One ∷ One ∷ []) ∷ [])
+  -- an input `clk` that nothing reads may stand there and be data
+  pub and_gate_free : IsAcceptedDesign and_gate None
   -- a counter that `rst` clears: bits clk, rst and the four of q
   pub counter_size : size counter ≡ 39
   pub counter_accepted : IsAcceptedDesign counter clk

@@ -33,12 +33,12 @@ range_of left right = record { left = left; right = right }
 abbrev pub to_zero : ℕ → Option Range
 to_zero left = Some (range_of left 0)
 
--- the clock is always the first input, of bit 0
-abbrev pub clk : List ℕ
-clk = codes "clk"
+-- the clock is the first input, of bit 0, where the design has one
+abbrev pub clk : Option (List ℕ)
+clk = Some (codes "clk")
 
 abbrev pub clk_signal : Signal
-clk_signal = input_of clk 0 None 0
+clk_signal = input_of (codes "clk") 0 None 0
 
 -- ---- literals and selects
 
@@ -97,9 +97,16 @@ design_of signals processes = record { scopes = top_scope ∷ []; signals = sign
 abbrev pub vector : BitList → State
 vector bits b = get_or bits b X
 
--- all bits by number at the end of each slot, from an event queue's run in level order
-abbrev pub slot_ends : Design → BitList → List BitList → List BitList
-slot_ends d v vs =
-    let n = network_of d 0 in
+-- all bits by number at the end of each slot, from an event queue's run in level order, with the clock of this bit
+abbrev pub slot_ends_by : Design → ℕ → BitList → List BitList → List BitList
+slot_ends_by d clock v vs =
+    let n = network_of d clock in
     let q = start n n.idle (vector v) (map vector vs) in
     map (λ s. read s (count_from 0 (bit_count d))) (ends n q (level_run n (level_order d) q))
+
+abbrev pub slot_ends : Design → BitList → List BitList → List BitList
+slot_ends d v vs = slot_ends_by d 0 v vs
+
+-- without a clock
+abbrev pub free_ends : Design → BitList → List BitList → List BitList
+free_ends d v vs = slot_ends_by d (bit_count d) v vs

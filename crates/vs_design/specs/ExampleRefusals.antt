@@ -7,7 +7,7 @@ use Rattle.vs_design.specs.Levels.{has_no_cycle}
 use Rattle.vs_design.specs.Cycles.{IsCycle}
 use Rattle.vs_design.specs.Refusals.{TooWide, Division, TooLarge, width_refusal, MixedAssign, Sensitivity, Latch, block_refusal, TwoDrivers, driver_refusal, NoClock, ClockRead, NotTheClock, ResetForm, clock_refusal, TimeZero, zero_refusal, IsUnrefused}
 use Rattle.vs_design.specs.ExampleParts.{input_of, wire_of, reg_of, clk, clk_signal, dec, blocking, nonblocking, assign, on_posedge, on_star, design_of}
-use Rattle.vs_design.specs.ExampleDesigns.{a1, d1, b2, y2, y2_net, y3, q2, and_gate, a64, b64, y64}
+use Rattle.vs_design.specs.ExampleDesigns.{a1, d1, b2, y2, y2_net, y3, q2, and_gate, counter, a64, b64, y64}
 
 abbrev pub y1 : Signal
 y1 = reg_of (codes "y") 1 None 1
@@ -120,7 +120,9 @@ pub record RefusalsComputed : Type 0 where
   pub gated_refused : clock_refusal gated clk ≡ Some (ClockRead 0 65)
   -- a clocked block on another net
   pub other_clock_refused : clock_refusal other_clock clk ≡ Some (NotTheClock 1 87)
-  pub no_clock_refused : clock_refusal gated (codes "clock") ≡ Some NoClock
+  pub no_clock_refused : clock_refusal gated (Some (codes "clock")) ≡ Some NoClock
+  -- without a clock a clocked block is on none
+  pub free_counter_refused : clock_refusal counter None ≡ Some (NotTheClock 0 54)
   -- `assign y = {a, 1'b0};` with an a of 64 bits
   pub too_wide_refused : width_refusal too_wide ≡ Some (TooWide 60)
   -- a division stands within the brackets round it: in `((a / b))` at 60 it is at 62

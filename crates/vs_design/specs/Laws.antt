@@ -1,5 +1,5 @@
 -- The laws of a design.
-use Rattle.std.specs.Prelude.{◌≡◌, ℕ, true, not, ◌&&◌, List, [], ◌∷◌, ◌≤◌, ◌<◌, ◌↔◌, ◌⊎◌, length, ◌++◌, nat_lt, Some, slice_get}
+use Rattle.std.specs.Prelude.{◌≡◌, ℕ, true, false, not, ◌&&◌, List, [], ◌∷◌, ◌≤◌, ◌<◌, ◌↔◌, ◌⊎◌, length, ◌++◌, nat_lt, Option, Some, slice_get}
 use Rattle.std.specs.List.{list_any, list_all}
 use Rattle.std.specs.List.Sorted.{IsStrictlyIncreasing}
 use Rattle.vs_net.specs.Network.{State, Sleeper}
@@ -11,11 +11,11 @@ use Rattle.vs_net.specs.Laws.{IsKnownVector, AreKnownResets, has_run, IsAfterSlo
 use Rattle.vs_net.specs.LevelRun.{level_run}
 use Rattle.vs_net.specs.Bound.{IsWeighed, bound, IsPartOfRun, HasNoNext}
 use Rattle.vs_design.specs.Statements.{Statement}
-use Rattle.vs_design.specs.Designs.{Event, Process, Always, Design, bit_count}
+use Rattle.vs_design.specs.Designs.{Event, Process, Always, is_clocked, Design, bit_count}
 use Rattle.vs_design.specs.Footprints.{contains, all_reads, writes_of, waits_of, input_bits, ascending}
 use Rattle.vs_design.specs.Races.{has_no_race}
 use Rattle.vs_design.specs.Rules.{mixed_assigns, missing_bits}
-use Rattle.vs_design.specs.Clocks.{port_targets, clock_nets}
+use Rattle.vs_design.specs.Clocks.{port_targets, clock_nets, root_of, reads_clock, has_other_clock}
 use Rattle.vs_design.specs.Networks.{network_of}
 use Rattle.vs_design.specs.Bounds.{feeds_of, size_of}
 use Rattle.vs_design.specs.Levels.{is_level_order}
@@ -47,14 +47,20 @@ AscendingRises = (count : ℕ) (bs : List ℕ) → IsStrictlyIncreasing (ascendi
 abbrev pub ClockNetsAre : Type 0
 ClockNetsAre = (d : Design) (clock b : ℕ) → (contains (clock_nets d clock) b ≡ true) ↔ ((b ≡ clock) ⊎ (contains (port_targets (clock_nets d clock) d.processes) b ≡ true))
 
+-- Without a clock the bit that stands for it is none of the design's: no port copies it, nothing reads it or waits on it, and each clocked block has another clock.
+abbrev pub SpareClockIs : Type 0
+SpareClockIs = (d : Design) → IsLawfulDesign d → (clock : ℕ) → bit_count d ≤ clock
+    → (clock_nets d clock ≡ clock ∷ []) × (list_any (reads_clock (clock_nets d clock)) d.processes ≡ false)
+    × ((p : ℕ) (process : Process) → slice_get d.processes p ≡ Some process → is_clocked process ≡ true → has_other_clock (clock_nets d clock) (root_of d clock) process ≡ true)
+
 -- where no rule on blocks and drivers is broken, the families found along a level order solve the equations of time zero, whichever order it is, and no other pair does
 abbrev pub OneFamilies : Type 0
 OneFamilies = (d : Design) → IsOrderly d → (clock : ℕ) (order : List ℕ) → is_level_order d order ≡ true → IsSolved d clock (families d clock order)
     × ((f g : Families) → IsSolved d clock f → IsSolved d clock g → (b : ℕ) → (f.early b ≡ g.early b) × (f.late b ≡ g.late b))
 
--- Where no rule on blocks and drivers is broken a combinational block sleeps exactly where it waits on such bits alone and is neither quiet nor wakes.
+-- Where no rule on blocks and drivers is broken, and the clock is an input's bit or none of the design's, a combinational block sleeps exactly where it waits on such bits alone and is neither quiet nor wakes.
 abbrev pub SleepingIs : Type 0
-SleepingIs = (d : Design) → IsOrderly d → list_all (λ p. is_empty (missing_bits p)) d.processes ≡ true → (clock : ℕ) → contains (input_bits d) clock ≡ true → (order : List ℕ) → is_level_order d order ≡ true
+SleepingIs = (d : Design) → IsOrderly d → list_all (λ p. is_empty (missing_bits p)) d.processes ≡ true → (clock : ℕ) → (contains (input_bits d) clock ≡ true) ⊎ (bit_count d ≤ clock) → (order : List ℕ) → is_level_order d order ≡ true
     → (p : ℕ) (s : Statement) (i : IsBlock d p s) → let x = Always i.place i.star i.events s in let f = families d clock order in
     is_sleeping d x ≡ (list_all (is_still d) (waits_of x) && not (quiet_process f x) && not (wakes f x))
 
@@ -67,7 +73,7 @@ LevelOrderIs = (d : Design) (order : List ℕ) → is_level_order d order ≡ tr
 
 -- a design that elaboration gives is accepted exactly where nothing refuses it
 abbrev pub AcceptedExactly : Type 0
-AcceptedExactly = (d : Design) (name : List ℕ) → IsLawfulDesign d → IsAcceptedDesign d name ↔ IsUnrefused d name
+AcceptedExactly = (d : Design) (name : Option (List ℕ)) → IsLawfulDesign d → IsAcceptedDesign d name ↔ IsUnrefused d name
 
 -- where the clocked blocks write nothing at once, no design has a race
 abbrev pub UnmixedHasNoRace : Type 0
@@ -75,35 +81,35 @@ UnmixedHasNoRace = (d : Design) → list_all (λ p. is_empty (mixed_assigns p)) 
 
 -- the network of an accepted design is lawful
 abbrev pub AcceptedIsLawful : Type 0
-AcceptedIsLawful = (d : Design) (name : List ℕ) (a : IsAcceptedDesign d name) → IsLawful (network_of d a.clock.first)
+AcceptedIsLawful = (d : Design) (name : Option (List ℕ)) (a : IsAcceptedDesign d name) → IsLawful (network_of d a.clock.first)
 
 -- so every completed run of its event queue, in whatever order of its steps, ends each slot with the one solution
 abbrev pub EveryOrderOfDesign : Type 0
-EveryOrderOfDesign = (d : Design) (name : List ℕ) (a : IsAcceptedDesign d name) → let n = network_of d a.clock.first in (first v : State) (vs : List State) → IsFirst n first → IsKnownVector n v → AreKnownResets n vs → (choices : List Choice) → IsCompleted n (start n first v vs) choices → IsSolution n (beginning n) (slots_of (v ∷ vs)) (ends n (start n first v vs) choices)
+EveryOrderOfDesign = (d : Design) (name : Option (List ℕ)) (a : IsAcceptedDesign d name) → let n = network_of d a.clock.first in (first v : State) (vs : List State) → IsFirst n first → IsKnownVector n v → AreKnownResets n vs → (choices : List Choice) → IsCompleted n (start n first v vs) choices → IsSolution n (beginning n) (slots_of (v ∷ vs)) (ends n (start n first v vs) choices)
 
 -- the equations of an accepted design have no second solution
 abbrev pub OneSolutionOfDesign : Type 0
-OneSolutionOfDesign = (d : Design) (name : List ℕ) (a : IsAcceptedDesign d name) → let n = network_of d a.clock.first in (before : State) (slots : List Slot) (xs ys : List State) → IsSolution n before slots xs → IsSolution n before slots ys → xs ≡ ys
+OneSolutionOfDesign = (d : Design) (name : Option (List ℕ)) (a : IsAcceptedDesign d name) → let n = network_of d a.clock.first in (before : State) (slots : List Slot) (xs ys : List State) → IsSolution n before slots xs → IsSolution n before slots ys → xs ≡ ys
 
 -- in each of its level orders the level run is a completed run, and it ends with the solution
 abbrev pub LevelRunOfDesign : Type 0
-LevelRunOfDesign = (d : Design) (name : List ℕ) (a : IsAcceptedDesign d name) (order : List ℕ) → is_level_order d order ≡ true → let n = network_of d a.clock.first in (first v : State) (vs : List State) → IsFirst n first → IsKnownVector n v → AreKnownResets n vs → let q = start n first v vs in IsCompleted n q (level_run n order q) × IsSolution n (beginning n) (slots_of (v ∷ vs)) (ends n q (level_run n order q))
+LevelRunOfDesign = (d : Design) (name : Option (List ℕ)) (a : IsAcceptedDesign d name) (order : List ℕ) → is_level_order d order ≡ true → let n = network_of d a.clock.first in (first v : State) (vs : List State) → IsFirst n first → IsKnownVector n v → AreKnownResets n vs → let q = start n first v vs in IsCompleted n q (level_run n order q) × IsSolution n (beginning n) (slots_of (v ∷ vs)) (ends n q (level_run n order q))
 
 -- where inputs and registers have their values, one pass over any of its level orders gives the values at the slot's end
 abbrev pub OnePassOfDesign : Type 0
-OnePassOfDesign = (d : Design) (name : List ℕ) (a : IsAcceptedDesign d name) (order : List ℕ) → is_level_order d order ≡ true → let n = network_of d a.clock.first in (before : State) (slot : Slot) (s : State) → IsFed n before slot s → IsSlotEnd n before slot (settle n before order s)
+OnePassOfDesign = (d : Design) (name : Option (List ℕ)) (a : IsAcceptedDesign d name) (order : List ℕ) → is_level_order d order ≡ true → let n = network_of d a.clock.first in (before : State) (slot : Slot) (s : State) → IsFed n before slot s → IsSlotEnd n before slot (settle n before order s)
 
 -- its processes have weights, so between two beginnings of slots there are at most `bound` steps, in any order
 abbrev pub BoundOfDesign : Type 0
-BoundOfDesign = (d : Design) (name : List ℕ) (a : IsAcceptedDesign d name) → let n = network_of d a.clock.first in (w : ℕ → ℕ) × (r : ℕ → ℕ) × IsWeighed n (feeds_of d a.clock.first) (size_of d) w r
+BoundOfDesign = (d : Design) (name : Option (List ℕ)) (a : IsAcceptedDesign d name) → let n = network_of d a.clock.first in (w : ℕ → ℕ) × (r : ℕ → ℕ) × IsWeighed n (feeds_of d a.clock.first) (size_of d) w r
     × ((first v : State) (vs : List State) → IsFirst n first → IsKnownVector n v → AreKnownResets n vs → (earlier steps : List Choice) → IsPartOfRun n (start n first v vs) (earlier ++ steps) → HasNoNext steps → length steps ≤ bound n w r)
 
 -- every run of its event queue can be continued to a completed one
 abbrev pub RunsEndOfDesign : Type 0
-RunsEndOfDesign = (d : Design) (name : List ℕ) (a : IsAcceptedDesign d name) → let n = network_of d a.clock.first in (first v : State) (vs : List State) → IsFirst n first → IsKnownVector n v → AreKnownResets n vs → (earlier : List Choice) → IsPartOfRun n (start n first v vs) earlier → (later : List Choice) × IsCompleted n (start n first v vs) (earlier ++ later)
+RunsEndOfDesign = (d : Design) (name : Option (List ℕ)) (a : IsAcceptedDesign d name) → let n = network_of d a.clock.first in (first v : State) (vs : List State) → IsFirst n first → IsKnownVector n v → AreKnownResets n vs → (earlier : List Choice) → IsPartOfRun n (start n first v vs) earlier → (later : List Choice) × IsCompleted n (start n first v vs) (earlier ++ later)
 
 -- in every completed run, at the end of each slot, a sleeping block has run exactly where a bit that it waits on wasn't x at the end of that slot or one before it
 abbrev pub SleepersOfDesign : Type 0
-SleepersOfDesign = (d : Design) (name : List ℕ) (a : IsAcceptedDesign d name) → let n = network_of d a.clock.first in (first v : State) (vs : List State) → IsFirst n first → IsKnownVector n v → AreKnownResets n vs
+SleepersOfDesign = (d : Design) (name : Option (List ℕ)) (a : IsAcceptedDesign d name) → let n = network_of d a.clock.first in (first v : State) (vs : List State) → IsFirst n first → IsKnownVector n v → AreKnownResets n vs
     → (earlier later : List Choice) → IsCompleted n (start n first v vs) (earlier ++ later) → IsAfterSlot later
     → (p : ℕ) (x : Sleeper) → sleeper_at d p ≡ Some x → (has_run p earlier ≡ true) ↔ (list_any (λ s. not (all_x s x.on)) (ends n (start n first v vs) earlier) ≡ true)

@@ -58,5 +58,5 @@ word d clock s n before slots xs = word_along d clock (word_bits s n) (all_x (wo
 
 -- in the solution of an accepted design each word of a memory is that at the end of each slot
 abbrev pub WordsAre : Type 0
-WordsAre = (d : Design) (name : List ℕ) (a : IsAcceptedDesign d name) → let n = network_of d a.clock.first in (slots : List Slot) (xs : List State) → IsSolution n (beginning n) slots xs
+WordsAre = (d : Design) (name : Option (List ℕ)) (a : IsAcceptedDesign d name) → let n = network_of d a.clock.first in (slots : List Slot) (xs : List State) → IsSolution n (beginning n) slots xs
     → (i : ℕ) (s : Signal) → slice_get d.signals i ≡ Some s → is_memory s ≡ true → (k : ℕ) → k < range_length (addresses s) → map (λ x. read x (word_bits s k)) xs ≡ word d a.clock.first s k (beginning n) slots xs

@@ -1,5 +1,5 @@
 -- A design as a network of processes, on which the event queue runs (IEEE 1364-2005, 11.3 and 11.4).
-use Rattle.std.specs.Prelude.{ℕ, zero, suc, Bool, true, false, List, [], ◌∷◌, ◌++◌, map, length, if◌then◌else◌, ◌==◌, Option}
+use Rattle.std.specs.Prelude.{ℕ, zero, suc, Bool, true, false, List, [], ◌∷◌, ◌++◌, map, length, if◌then◌else◌, ◌==◌, nat_lt, Option}
 use Rattle.vs_four.specs.declared.Bit4.TheVariants.{X, Z}
 use Rattle.vs_net.specs.Network.{State, Network}
 use Rattle.vs_net.specs.Network as N
@@ -7,7 +7,7 @@ use Rattle.vs_design.specs.Expressions.{Signal}
 use Rattle.vs_design.specs.Values.{bits_of_signal}
 use Rattle.vs_design.specs.Statements.{Statement}
 use Rattle.vs_design.specs.Bodies.{assignment_writes, body}
-use Rattle.vs_design.specs.Designs.{Event, Process, Continuous, Always, is_clocked, Design, top_inputs}
+use Rattle.vs_design.specs.Designs.{Event, Process, Continuous, Always, is_clocked, Design, top_inputs, bit_count}
 use Rattle.vs_design.specs.Footprints.{contains, all_reads, writes_of, waits_of, net_bits}
 use Rattle.vs_design.specs.Clocks.{Events, events_of, clock_nets, root_of, clock_bit}
 use Rattle.vs_design.specs.Resets.{reset_by}
@@ -29,9 +29,13 @@ process_of d clock (Always place star events statement) = block_process d clock 
 abbrev pub writer_of : ℕ → Signal → N.Process
 writer_of clock s = if s.first == clock then N.Clock clock else N.Input (bits_of_signal s)
 
--- the processes by number, then the inputs in order of declaration
+-- a clock that isn't a bit of the design is a writer besides
+abbrev pub spare_writers : Design → ℕ → List N.Process
+spare_writers d clock = if nat_lt clock (bit_count d) then [] else (N.Clock clock ∷ [])
+
+-- the processes by number, then the inputs in order of declaration, and then such a clock
 abbrev pub all_processes : Design → ℕ → List N.Process
-all_processes d clock = map (process_of d clock) d.processes ++ map (writer_of clock) (top_inputs d)
+all_processes d clock = map (process_of d clock) d.processes ++ (map (writer_of clock) (top_inputs d) ++ spare_writers d clock)
 
 -- the process of this number, or an input without bits
 abbrev pub at_or_input : List N.Process → ℕ → N.Process

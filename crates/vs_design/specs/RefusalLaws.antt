@@ -1,5 +1,5 @@
 -- What each refusal says of the design.
-use Rattle.std.specs.Prelude.{◌≡◌, ℕ, ◌≤◌, ◌<◌, Bool, true, false, not, ◌||◌, List, [], ◌∷◌, ◌⊎◌, ◌↔◌, Some, None, slice_get}
+use Rattle.std.specs.Prelude.{◌≡◌, ℕ, ◌≤◌, ◌<◌, Bool, true, false, not, ◌||◌, List, [], ◌∷◌, ◌⊎◌, ◌↔◌, Option, Some, None, slice_get}
 use Rattle.std.specs.List.{list_any, list_all}
 use Rattle.vs_design.specs.Expressions.{Signal}
 use Rattle.vs_design.specs.Values.{bits_of_signal}
@@ -79,7 +79,7 @@ DriverRefusalIs = (d : Design) (r : DriverRefusal) → driver_refusal d ≡ Some
 
 -- ---- the clock, and time zero
 
-abbrev pub IsClockRefusal : Design → List ℕ → ClockRefusal → Type 0
+abbrev pub IsClockRefusal : Design → Option (List ℕ) → ClockRefusal → Type 0
 IsClockRefusal d name NoClock = clock_input d name ≡ None
 IsClockRefusal d name (ClockRead p at) = (clock : Signal) × (clock_input d name ≡ Some clock) × ((process : Process) × IsFirstOf d (reads_clock (clock_nets d clock.first)) p process × (at ≡ process_place process))
 IsClockRefusal d name (NotTheClock p at) =
@@ -91,10 +91,10 @@ IsClockRefusal d name (ResetForm p at) =
     × ((process : Process) × IsFirstOf d (has_other_form (clock_nets d clock.first) (root_of d clock.first)) p process × (at ≡ process_place process))
 
 abbrev pub ClockRefusalIs : Type 0
-ClockRefusalIs = (d : Design) (name : List ℕ) (r : ClockRefusal) → clock_refusal d name ≡ Some r → IsClockRefusal d name r
+ClockRefusalIs = (d : Design) (name : Option (List ℕ)) (r : ClockRefusal) → clock_refusal d name ≡ Some r → IsClockRefusal d name r
 
-abbrev pub IsZeroRefusal : Design → List ℕ → ZeroRefusal → Type 0
+abbrev pub IsZeroRefusal : Design → Option (List ℕ) → ZeroRefusal → Type 0
 IsZeroRefusal d name (TimeZero p at) = (clock : Signal) × (clock_input d name ≡ Some clock) × ((process : Process) × IsFirstOf d (is_uncertain d (families d clock.first (level_order d))) p process × (at ≡ process_place process))
 
 abbrev pub ZeroRefusalIs : Type 0
-ZeroRefusalIs = (d : Design) (name : List ℕ) (r : ZeroRefusal) → zero_refusal d name ≡ Some r → IsZeroRefusal d name r
+ZeroRefusalIs = (d : Design) (name : Option (List ℕ)) (r : ZeroRefusal) → zero_refusal d name ≡ Some r → IsZeroRefusal d name r

@@ -237,7 +237,7 @@ clock_refusal_by d (Some clock) =
     (first_found (λ p process. where_true (has_other_form (clock_nets d clock.first) (root_of d clock.first) process) (ResetForm p (process_place process))) 0 d.processes))
 
 -- NoClock, then ClockRead, then NotTheClock, then ResetForm, each of the least process
-abbrev pub clock_refusal : Design → List ℕ → Option ClockRefusal
+abbrev pub clock_refusal : Design → Option (List ℕ) → Option ClockRefusal
 clock_refusal d name = clock_refusal_by d (clock_input d name)
 
 pub data ZeroRefusal : Type 0 where
@@ -248,13 +248,13 @@ zero_refusal_by d None = None
 zero_refusal_by d (Some clock) = first_found (λ p process. where_true (is_uncertain d (families d clock.first (level_order d)) process) (TimeZero p (process_place process))) 0 d.processes
 
 -- the least block that breaks TimeZero
-abbrev pub zero_refusal : Design → List ℕ → Option ZeroRefusal
+abbrev pub zero_refusal : Design → Option (List ℕ) → Option ZeroRefusal
 zero_refusal d name = zero_refusal_by d (clock_input d name)
 
 -- ---- none
 
 -- nothing refuses the design
-pub record IsUnrefused (d : Design) (name : List ℕ) : Type 0 where
+pub record IsUnrefused (d : Design) (name : Option (List ℕ)) : Type 0 where
   pub widths : width_refusal d ≡ None
   pub blocks : block_refusal d ≡ None
   pub drivers : driver_refusal d ≡ None

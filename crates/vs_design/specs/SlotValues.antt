@@ -46,9 +46,9 @@ pub record IsSlotValues (d : Design) (clock : ℕ) (before : State) (slot : Slot
       → (b : ℕ) → contains (statement_bits st) b ≡ true → s b ≡ register_value (reset_of d clock (Always place star events st)) st slot before b
   pub clock_input : s clock ≡ clock_value slot
   pub input : (i : ℕ) (signal : Signal) → slice_get (top_inputs d) i ≡ Some signal → (signal.first == clock) ≡ false → (b : ℕ) → contains (bits_of_signal signal) b ≡ true → s b ≡ input_value slot before b
-  -- a bit that no process writes, and no input has, stays
-  pub kept : (b : ℕ) → ((p : ℕ) (process : Process) → slice_get d.processes p ≡ Some process → contains (writes_of process) b ≡ false) → contains (input_bits d) b ≡ false → s b ≡ before b
+  -- a bit that no process writes, that no input has, and that isn't the clock's, stays
+  pub kept : (b : ℕ) → ((p : ℕ) (process : Process) → slice_get d.processes p ≡ Some process → contains (writes_of process) b ≡ false) → contains (input_bits d) b ≡ false → (b == clock) ≡ false → s b ≡ before b
 
 -- these are the equations of the design's network
 abbrev pub SlotValuesAre : Type 0
-SlotValuesAre = (d : Design) (name : List ℕ) (a : IsAcceptedDesign d name) (before : State) (slot : Slot) (s : State) → IsSlotEnd (network_of d a.clock.first) before slot s ↔ IsSlotValues d a.clock.first before slot s
+SlotValuesAre = (d : Design) (name : Option (List ℕ)) (a : IsAcceptedDesign d name) (before : State) (slot : Slot) (s : State) → IsSlotEnd (network_of d a.clock.first) before slot s ↔ IsSlotValues d a.clock.first before slot s

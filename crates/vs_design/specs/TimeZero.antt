@@ -5,6 +5,7 @@ use Rattle.vs_four.specs.declared.Bit4.TheVariants.{Zero, X, Z}
 use Rattle.vs_design.specs.Statements.{Statement}
 use Rattle.vs_design.specs.Designs.{Process, Continuous, Always, is_combinational, Design}
 use Rattle.vs_design.specs.Footprints.{contains, waits_of, statement_bits, input_bits, net_bits}
+use Rattle.vs_design.specs.Clocks.{own_clock}
 use Rattle.vs_design.specs.Resets.{with_resets}
 use Rattle.vs_design.specs.Sleepers.{is_sleeping}
 use Rattle.vs_design.specs.Sets.{Set4, only, known_set, any_value, union, is_only_x, is_unknown_set, is_known_set}
@@ -22,7 +23,7 @@ early_source d b = if contains (net_bits d) b then only Z else only X
 
 -- its late sets: 0 in the clock, 0 or 1 in any other input, else as early, with the value that a reset gives it last
 abbrev pub late_source : Design → ℕ → Family
-late_source d clock b = if contains (clock ∷ []) b then only Zero else (if contains (input_bits d) b then known_set else with_resets d clock d.processes b (early_source d b))
+late_source d clock b = if contains (own_clock d clock) b then only Zero else (if contains (input_bits d) b then known_set else with_resets d clock d.processes b (early_source d b))
 
 -- a block's own bits may have any value when it begins: without latches each is assigned before it is read
 abbrev pub before_run : List ℕ → Family → Family

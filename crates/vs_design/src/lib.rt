@@ -15,7 +15,7 @@ ghost use Rattle.vs_design.specs.ExampleSets.{SetsComputed};
 ghost use Rattle.vs_design.specs.ExampleSizes.{SizesComputed};
 ghost use Rattle.vs_design.specs.ExampleTogether.{TogetherComputed};
 ghost use Rattle.vs_design.specs.ExampleValues.{ValuesComputed};
-ghost use Rattle.vs_design.specs.Laws.{AcceptedExactly, AcceptedIsLawful, AscendingHas, AscendingRises, BitsOfDesign, BoundOfDesign, ClockNetsAre, EveryOrderOfDesign, LevelOrderIs, LevelRunOfDesign, OneFamilies, OnePassOfDesign, OneSolutionOfDesign, OrderOrCycle, RunsEndOfDesign, SleepersOfDesign, SleepingIs, StarMissesNone, UnmixedHasNoRace};
+ghost use Rattle.vs_design.specs.Laws.{AcceptedExactly, AcceptedIsLawful, AscendingHas, AscendingRises, BitsOfDesign, BoundOfDesign, ClockNetsAre, EveryOrderOfDesign, LevelOrderIs, LevelRunOfDesign, OneFamilies, OnePassOfDesign, OneSolutionOfDesign, OrderOrCycle, RunsEndOfDesign, SleepersOfDesign, SleepingIs, SpareClockIs, StarMissesNone, UnmixedHasNoRace};
 ghost use Rattle.vs_design.specs.Memories.{WordsAre};
 ghost use Rattle.vs_design.specs.Paths.{LatchBitsAre};
 ghost use Rattle.vs_design.specs.PlaceLaws.{ItemPlacesAgree, StatementFits, StatementPlacesAgree};
@@ -63,6 +63,11 @@ pub fn sets_law()
 /// The clock nets are the clock input and each net that input ports lead to from it.
 pub fn clock_law()
     ensures { ClockNetsAre }
+{}
+
+/// Without a clock the design has no clock net, and each clocked block breaks the rule NotTheClock.
+pub fn spare_law()
+    ensures { SpareClockIs }
 {}
 
 /// A level order has each assign and combinational block once, after all that feed it; and it is found exactly where there is no cycle of them.

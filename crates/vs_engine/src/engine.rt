@@ -33,17 +33,19 @@ pub struct Engine<W: Word> {
     compiled: Compiled,
     file: PlaneFile<W>,
     begun: bool,
+    // What the clock has. It has a plane only where it is one of the design's bits.
+    level: Bit4,
 }
 
-// Clauses see the program, the pairs by slot number, and whether a slot was run.
+// Clauses see the program, the pairs by slot number, whether a slot was run, and what the clock has.
 impl<W: Word> Model for Engine<W> {
     ghost use Rattle.vs_engine.specs.Lanes.{Running, IsWhole};
 
     ghost Value = { Running W };
 
-    ghost view = { λ e. record { program = e.compiled; file = e.file; begun = e.begun } };
+    ghost view = { λ e. record { program = e.compiled; file = e.file; begun = e.begun; level = e.level } };
 
-    ghost invariant = { λ e. IsWhole W.lane W.LANES (record { program = e.compiled; file = e.file; begun = e.begun }) };
+    ghost invariant = { λ e. IsWhole W.lane W.LANES (record { program = e.compiled; file = e.file; begun = e.begun; level = e.level }) };
 }
 
 impl<W: Word> Engine<W> {
@@ -60,6 +62,7 @@ impl<W: Word> Engine<W> {
             compiled,
             file,
             begun: false,
+            level: Bit4::X,
         })
     }
 
@@ -150,6 +153,7 @@ impl<W: Word> Engine<W> {
         self.compiled
             .execute(settling(self.begun), &mut self.file, steps);
         self.begun = true;
+        self.level = Bit4::Zero;
     }
 
     /// A slot in which the clock rises, after one in which it fell. Each lane has then the values at the end of that slot.
@@ -164,6 +168,7 @@ impl<W: Word> Engine<W> {
         self.compiled.execute(Phase::Next, &mut self.file, steps);
         store_all(self.compiled.clocks(), Bit4::One, &mut self.file, steps);
         self.compiled.execute(Phase::Rise, &mut self.file, steps);
+        self.level = Bit4::One;
     }
 }
 

@@ -44,7 +44,7 @@ as_long head other text drawn heavy ports e = rw e refl
 
 -- ---- the design, accepted
 
-ports_read : {tells : Bool} (top path head clock : List ℕ) (old new : Told tells) (text : List ℕ) (ports : Option PortLists) → IsStart tells head (old.contents.files path) text
+ports_read : {tells : Bool} (top path head : List ℕ) (clock : Option (List ℕ)) (old new : Told tells) (text : List ℕ) (ports : Option PortLists) → IsStart tells head (old.contents.files path) text
     → IsFaultless old.register new.register → TellsPorts false text top clock ports
     → IsPortsRead top path head clock old new (record { file = Some (drop (length head) text); head = length head; drawn = None; heavy = None; ports = ports })
 ports_read top path head clock old new text ports s quiet p = record {
@@ -58,7 +58,7 @@ ports_read top path head clock old new text ports s quiet p = record {
   faultless = quiet;
 }
 
-pub sees_ported : {tells : Bool} (top path head clock : List ℕ) (old new : Told tells) (text : List ℕ) (ports : Option PortLists) (seen : Seen) → OnlyRead old new
+pub sees_ported : {tells : Bool} (top path head : List ℕ) (clock : Option (List ℕ)) (old new : Told tells) (text : List ℕ) (ports : Option PortLists) (seen : Seen) → OnlyRead old new
     → IsStart tells head (old.contents.files path) text → IsFaultless old.register new.register → TellsPorts false text top clock ports
     → seen ≡ record { file = Some (drop (length head) text); head = length head; drawn = None; heavy = None; ports = ports } → SeesOf top (Some (ported path head clock)) old new seen
 sees_ported top path head clock old new text ports seen only s quiet p e =

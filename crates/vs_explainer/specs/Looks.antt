@@ -16,11 +16,11 @@ use Rattle.vs_setup.specs.Ports.{TellsPorts}
 use Rattle.vs_explainer.specs.Heavy.{AreWeighed}
 
 -- A file that is read again: the design, with the lines of macros before it, which is drawn or isn't; the design, of which the processes are weighed; the design, which is accepted with the input of this name
--- as its clock, for the ports that stimuli name; or a stimulus, as far as one of its lines or, where none is known, as far as the text of a design may go.
+-- as its clock, or without a clock, for the ports that stimuli name; or a stimulus, as far as one of its lines or, where none is known, as far as the text of a design may go.
 pub data Look : Type 0 where
   design : (path head : List ℕ) → (draws : Bool) → Look
   weighed : (path head : List ℕ) → Look
-  ported : (path head clock : List ℕ) → Look
+  ported : (path head : List ℕ) → (clock : Option (List ℕ)) → Look
   stimulus : (path : List ℕ) → (lines : Option ℕ) → Look
 
 abbrev pub stimulus_look : (lines : Option ℕ) → List ℕ → Look
@@ -88,7 +88,7 @@ pub record IsDesignWeighed {tells : Bool} (top path head : List ℕ) (old new : 
   pub faultless : IsFaultless old.register new.register
 
 -- The design was read, as far as its text may go, and where this text is accepted its ports were seen, and where it is refused none. A header need not name an output for these.
-pub record IsPortsRead {tells : Bool} (top path head clock : List ℕ) (old new : Told tells) (seen : Seen) : Type 0 where
+pub record IsPortsRead {tells : Bool} (top path head : List ℕ) (clock : Option (List ℕ)) (old new : Told tells) (seen : Seen) : Type 0 where
   pub taken : List ℕ
   pub file_is : seen.file ≡ Some taken
   pub taken_is : IsTrue tells → taken ≡ take (most_bytes - length head) (old.contents.files path)

@@ -95,7 +95,7 @@ pub fn explain_ending<D: Desk>(job: Option<&Job>, ending: &Ending, desk: &mut D)
 
 /// The forms of all words.
 const FORMS: &str =
-    "error: Usage: the words aren't those of the program, or a value of --define is no macro\nnote: cyclesim run [OPTIONS] --top <T> --clock <C> <DESIGN> <STIM>...\nnote: cyclesim check [OPTIONS] --top <T> --clock <C> <DESIGN> <STIM>...\nnote: cyclesim bench <N> [L]\nnote: cyclesim --explain <WORDS>...\nnote: --top <T>: the name of the top module\nnote: --clock <C>: the name of the top's clock input\nnote: --half <H>: half a clock period, from 1 to 1000000 [default: 5]\nnote: --define <NAME[=TEXT]>: a macro that is defined before the design's text, up to 64 of them\nnote: --share: one identifier code in the waveform for all signals that ports join, with run alone\nnote: docs/running.md says what each word is (docs/refusals.md)\n";
+    "error: Usage: the words aren't those of the program, or a value of --define is no macro\nnote: cyclesim run [OPTIONS] --top <T> <DESIGN> <STIM>...\nnote: cyclesim check [OPTIONS] --top <T> <DESIGN> <STIM>...\nnote: cyclesim bench <N> [L]\nnote: cyclesim --explain <WORDS>...\nnote: --top <T>: the name of the top module\nnote: --clock <C>: the name of the top's clock input, if it has one\nnote: --half <H>: half a clock period, from 1 to 1000000 [default: 5]\nnote: --define <NAME[=TEXT]>: a macro that is defined before the design's text, up to 64 of them\nnote: --share: one identifier code in the waveform for all signals that ports join, with run alone\nnote: docs/running.md says what each word is (docs/refusals.md)\n";
 
 /// Puts the forms of all words at place 0 of a desk. It takes no memory. Where a call fails some first bytes are put.
 pub fn explain_usage<D: Desk>(desk: &mut D)

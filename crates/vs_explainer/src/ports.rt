@@ -24,7 +24,7 @@ fn ported_view(alloc: Global, job: &Job, text: Vec<u8>) -> Result<View, AllocErr
         alloc,
         text.as_slice(),
         job.top.as_bytes(),
-        job.clock.as_bytes(),
+        job.clock_bytes(),
         false,
     )?;
     Ok(View {

@@ -1,11 +1,12 @@
 -- The lines of a refusal that has a place in the design's file.
-use Rattle.std.specs.Prelude.{ℕ, ◌-◌, Bool, true, false, not, ◌&&◌, ◌==◌, List, [], ◌∷◌, ◌++◌, drop, Option, is_some, is_none, codes, option_and_then, if◌then◌else◌}
+use Rattle.std.specs.Prelude.{ℕ, ◌-◌, Bool, true, false, not, ◌&&◌, ◌==◌, List, [], ◌∷◌, ◌++◌, drop, Option, None, is_some, is_none, codes, option_and_then, if◌then◌else◌}
 use Rattle.std.specs.List.{flat_map}
 use Rattle.std.specs.Option.{option_map_or}
 use Rattle.vs_names.specs.Drawn.{Drawn, process_byte}
 use Rattle.vs_refusal.specs.Refusals.{name}
 use Rattle.vs_refusal.specs.declared.refusal.Refusal.{Refusal}
-use Rattle.vs_refusal.specs.declared.refusal.Refusal.TheVariants.{Latch, Sensitivity, TwoDrivers, Cycle}
+use Rattle.vs_refusal.specs.declared.refusal.Refusal.TheVariants.{Latch, Sensitivity, TwoDrivers, Process, Cycle}
+use Rattle.vs_refusal.specs.declared.names.ProcessName.TheVariants.{NotTheClock}
 use Rattle.vs_hints.specs.Hints.{opening, closing, remedy}
 use Rattle.vs_explanation.specs.Seen.{Seen}
 use Rattle.vs_explanation.specs.Placed.{place_text, caret_text, change_text}
@@ -59,10 +60,15 @@ unnamed_text seen r =
 abbrev pub head_text : ℕ → ℕ → List ℕ
 head_text head at = if at == 0 && not (head == 0) then codes "note: or in a line that --define gives\n" else []
 
--- the notes of a refusal at byte `at` of the file
-abbrev pub notes_text : List ℕ → Seen → Refusal → ℕ → List ℕ
-notes_text path seen r at = head_text seen.head at ++ (further_text path seen (further r) ++ (change_text seen.file at ++ (unnamed_text seen r ++ remedy_text r)))
+-- a clocked block is refused where no clock is named
+abbrev pub clockless_text : Option (List ℕ) → Refusal → List ℕ
+clockless_text None (Process NotTheClock process at) = codes "note: no clock is named: --clock <C> says which input it is\n"
+clockless_text clock r = []
+
+-- the notes of a refusal at byte `at` of the file, where the clock is this one
+abbrev pub notes_text : List ℕ → Option (List ℕ) → Seen → Refusal → ℕ → List ℕ
+notes_text path clock seen r at = head_text seen.head at ++ (further_text path seen (further r) ++ (change_text seen.file at ++ (unnamed_text seen r ++ (clockless_text clock r ++ remedy_text r))))
 
 -- all its lines
-abbrev pub located : List ℕ → Seen → Refusal → List ℕ → ℕ → List ℕ
-located path seen r subject at = error_at (place_text path seen.file at) r subject ++ (caret_text seen.file at ++ notes_text path seen r at)
+abbrev pub located : List ℕ → Option (List ℕ) → Seen → Refusal → List ℕ → ℕ → List ℕ
+located path clock seen r subject at = error_at (place_text path seen.file at) r subject ++ (caret_text seen.file at ++ notes_text path clock seen r at)

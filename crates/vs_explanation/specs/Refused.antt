@@ -60,4 +60,4 @@ unlocated job seen r = unlined job seen r
 
 -- all lines of a refusal of a job
 abbrev pub refusal_text : Job → Seen → Refusal → List ℕ
-refusal_text job seen r = option_map_or (located job.design seen r (subject job seen.drawn r)) (at_of r) (unlocated job seen r)
+refusal_text job seen r = option_map_or (located job.design job.clock seen r (subject job seen.drawn r)) (at_of r) (unlocated job seen r)

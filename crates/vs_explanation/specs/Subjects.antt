@@ -1,5 +1,5 @@
 -- The name or the number in the sentence of a refusal.
-use Rattle.std.specs.Prelude.{ℕ, ◌-◌, nat_lt, List, [], ◌++◌, slice_get, Option, codes, decimal, if◌then◌else◌}
+use Rattle.std.specs.Prelude.{ℕ, ◌-◌, nat_lt, List, [], ◌++◌, slice_get, Option, Some, None, codes, decimal, if◌then◌else◌}
 use Rattle.std.specs.Option.{option_map_or}
 use Rattle.vs_desk.specs.Places.{stimulus_place, waveform_place}
 use Rattle.vs_flat.specs.DesignOf.{design_of}
@@ -47,10 +47,15 @@ roles_text first second = role_text first ++ (codes " and to " ++ role_text seco
 abbrev pub size_text : ℕ → List ℕ
 size_text size = decimal size ++ codes " plane operations a half-period"
 
+-- a refusal of the clock is of the name that is given
+abbrev pub clock_text : Option (List ℕ) → List ℕ
+clock_text None = []
+clock_text (Some clock) = escaped clock
+
 -- nothing where the sentence has neither
 abbrev pub subject : Job → Option Drawn → Refusal → List ℕ
 subject job drawn (Bare NoTop) = escaped job.top
-subject job drawn (Bare NoClock) = escaped job.clock
+subject job drawn (Bare NoClock) = clock_text job.clock
 subject job drawn (SamePath first second) = roles_text first second
 subject job drawn (TooLarge size) = size_text size
 subject job drawn (Latch process bit at) = bit_subject drawn bit

@@ -6,7 +6,7 @@ ghost use Rattle.vs_explanation.specs.Subjects.{subject};
 ghost use Rattle.vs_explanation.specs.Seen.{seen_of};
 
 use crate::Seen;
-use crate::notes::{push_further, push_head, push_remedy, push_unnamed};
+use crate::notes::{push_clockless, push_further, push_head, push_remedy, push_unnamed};
 use crate::placed::{push_caret, push_change, push_place};
 use crate::subjects::push_subject;
 use std::alloc::AllocError;
@@ -41,12 +41,13 @@ fn push_notes(
     refusal: &Refusal,
     at: u32,
 ) -> Result<(), AllocError>
-    ensures { OnOk result (page.new ≡ page.old ++ spec.notes_text job.now.design (seen_of seen.now) refusal.now at) }
+    ensures { OnOk result (page.new ≡ page.old ++ spec.notes_text job.now.design job.now.clock (seen_of seen.now) refusal.now at) }
 {
     push_head(page, seen.head, at)?;
     push_further(page, job.design.as_bytes(), seen, refusal)?;
     push_change(page, seen.file, at)?;
     push_unnamed(page, seen, refusal)?;
+    push_clockless(page, job, refusal)?;
     push_remedy(page, refusal)
 }
 
@@ -58,7 +59,7 @@ pub(crate) fn push_located(
     refusal: &Refusal,
     at: u32,
 ) -> Result<(), AllocError>
-    ensures { OnOk result (page.new ≡ page.old ++ spec.located job.now.design (seen_of seen.now) refusal.now (subject job.now (seen_of seen.now).drawn refusal.now) at) }
+    ensures { OnOk result (page.new ≡ page.old ++ spec.located job.now.design job.now.clock (seen_of seen.now) refusal.now (subject job.now (seen_of seen.now).drawn refusal.now) at) }
 {
     push_place(page, job.design.as_bytes(), seen.file, at)?;
     page.text(": ")?;

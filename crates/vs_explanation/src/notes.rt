@@ -9,7 +9,8 @@ use crate::placed::push_place;
 use std::alloc::AllocError;
 use vs_excerpt::Page;
 use vs_hints::remedy;
-use vs_refusal::Refusal;
+use vs_job::Job;
+use vs_refusal::{ProcessName, Refusal};
 
 /// Adds the remedy of a refusal.
 pub(crate) fn push_remedy(page: &mut Page, refusal: &Refusal) -> Result<(), AllocError>
@@ -116,4 +117,23 @@ pub(crate) fn push_unnamed(
         )?;
     }
     Ok(())
+}
+
+/// Adds that no clock is named, to the refusal of a clocked block by its clock.
+pub(crate) fn push_clockless(
+    page: &mut Page,
+    job: &Job,
+    refusal: &Refusal,
+) -> Result<(), AllocError>
+    ensures { OnOk result (page.new ≡ page.old ++ spec.clockless_text job.now.clock refusal.now) }
+{
+    match &job.clock {
+        Some(_) => Ok(()),
+        None => match refusal {
+            Refusal::Process(ProcessName::NotTheClock, _, _) => {
+                page.text("note: no clock is named: --clock <C> says which input it is\n")
+            }
+            _ => Ok(()),
+        },
+    }
 }

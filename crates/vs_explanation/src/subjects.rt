@@ -53,6 +53,16 @@ pub(crate) fn push_size(page: &mut Page, size: u64) -> Result<(), AllocError>
     page.text(" plane operations a half-period")
 }
 
+/// Adds the name of the clock, if one is given.
+fn push_clock(page: &mut Page, job: &Job) -> Result<(), AllocError>
+    ensures { OnOk result (page.new ≡ page.old ++ spec.clock_text job.now.clock) }
+{
+    match job.clock_bytes() {
+        Some(clock) => page.escaped(clock),
+        None => Ok(()),
+    }
+}
+
 /// Adds the name or the number in the sentence of a refusal, if it has one.
 pub(crate) fn push_subject(
     page: &mut Page,
@@ -64,7 +74,7 @@ pub(crate) fn push_subject(
 {
     match refusal {
         Refusal::Bare(BareName::NoTop) => page.escaped(job.top.as_bytes()),
-        Refusal::Bare(BareName::NoClock) => page.escaped(job.clock.as_bytes()),
+        Refusal::Bare(BareName::NoClock) => push_clock(page, job),
         Refusal::SamePath { first, second } => push_roles(page, *first, *second),
         Refusal::TooLarge { size } => push_size(page, *size),
         Refusal::Latch { bit, .. } => push_bit(page, drawing, *bit),

@@ -23,7 +23,7 @@ abbrev pub bare_remedy : BareName → List ℕ
 bare_remedy Usage = codes "docs/running.md says what each word is"
 bare_remedy TooLong = codes "split the design"
 bare_remedy NoTop = codes "check --top"
-bare_remedy NoClock = codes "check --clock; a design without registers has a clock too: give it an input clk that nothing reads"
+bare_remedy NoClock = codes "check --clock; a design without registers needs none"
 
 abbrev pub at_sentence : AtName → List ℕ
 at_sentence NoToken = codes "no token begins here"

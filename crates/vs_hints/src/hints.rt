@@ -27,8 +27,7 @@ fn bare_remedy(name: BareName) -> &'static str
         BareName::Usage => "docs/running.md says what each word is",
         BareName::TooLong => "split the design",
         BareName::NoTop => "check --top",
-        BareName::NoClock =>
-            "check --clock; a design without registers has a clock too: give it an input clk that nothing reads",
+        BareName::NoClock => "check --clock; a design without registers needs none",
     }
 }
 

@@ -13,7 +13,7 @@ use Rattle.vs_job.specs.declared.words.Flag.{Flag}
 use Rattle.vs_job.specs.declared.words.Flag.TheVariants.{Top, Clock, Half, Define}
 use Rattle.vs_job.specs.declared.words.Next.{Next}
 use Rattle.vs_job.specs.declared.words.Next.TheVariants.{Any, Value, Path}
-use Rattle.vs_job.specs.Job.{Text, mode_and_words, Said, only_paths, path_and, share_and, value_and, is_plain, plain_value_and, flag_named, is_equals, attached, option_and, said, once, half_given, most_defines, are_defines, head_given, design_and_stimuli, share_given, called, job}
+use Rattle.vs_job.specs.Job.{Text, mode_and_words, Said, only_paths, path_and, share_and, value_and, is_plain, plain_value_and, flag_named, is_equals, attached, option_and, said, once, at_most_once, half_given, most_defines, are_defines, head_given, design_and_stimuli, share_given, called, job}
 use Rattle.vs_job.specs.Lines.{Line, start, with_path, is_given, with_share, given, with_value, with_flag, with_any, with_word, is_complete, read, line, values, shares, said_of}
 
 -- what a line and the words behind it say
@@ -45,20 +45,20 @@ no_more (Some a) f h = h a
 called-tops : (mode : Mode) (s : Said) → once s.tops ≡ None → called mode s ≡ None
 called-tops mode s e = rw e
 
-called-clocks : (mode : Mode) (s : Said) → once s.clocks ≡ None → called mode s ≡ None
+called-clocks : (mode : Mode) (s : Said) → at_most_once s.clocks ≡ None → called mode s ≡ None
 called-clocks mode s e = no_more (once s.tops) _ (λ top. rw e)
 
 called-halves : (mode : Mode) (s : Said) → half_given s.halves ≡ None → called mode s ≡ None
-called-halves mode s e = no_more (once s.tops) _ (λ top. no_more (once s.clocks) _ (λ clock. rw e))
+called-halves mode s e = no_more (once s.tops) _ (λ top. no_more (at_most_once s.clocks) _ (λ clock. rw e))
 
 called-defines : (mode : Mode) (s : Said) → head_given s.defines ≡ None → called mode s ≡ None
-called-defines mode s e = no_more (once s.tops) _ (λ top. no_more (once s.clocks) _ (λ clock. no_more (half_given s.halves) _ (λ half. rw e)))
+called-defines mode s e = no_more (once s.tops) _ (λ top. no_more (at_most_once s.clocks) _ (λ clock. no_more (half_given s.halves) _ (λ half. rw e)))
 
 called-paths : (mode : Mode) (s : Said) → design_and_stimuli s.paths ≡ None → called mode s ≡ None
-called-paths mode s e = no_more (once s.tops) _ (λ top. no_more (once s.clocks) _ (λ clock. no_more (half_given s.halves) _ (λ half. no_more (head_given s.defines) _ (λ head. rw e))))
+called-paths mode s e = no_more (once s.tops) _ (λ top. no_more (at_most_once s.clocks) _ (λ clock. no_more (half_given s.halves) _ (λ half. no_more (head_given s.defines) _ (λ head. rw e))))
 
 called-shares : (mode : Mode) (s : Said) → share_given mode s.shares ≡ None → called mode s ≡ None
-called-shares mode s e = no_more (once s.tops) _ (λ top. no_more (once s.clocks) _ (λ clock. no_more (half_given s.halves) _ (λ half. no_more (head_given s.defines) _ (λ head. no_more (design_and_stimuli s.paths) _ (λ paths. rw e)))))
+called-shares mode s e = no_more (once s.tops) _ (λ top. no_more (at_most_once s.clocks) _ (λ clock. no_more (half_given s.halves) _ (λ half. no_more (head_given s.defines) _ (λ head. no_more (design_and_stimuli s.paths) _ (λ paths. rw e)))))
 
 -- `--share` stands twice
 twice_shared : (mode : Mode) (n : ℕ) → share_given mode (suc (suc n)) ≡ None

@@ -5,4 +5,5 @@ pub mod Ranges
 pub mod Benches
 pub mod Listed
 pub mod Options
+pub mod Once
 pub mod InTurn

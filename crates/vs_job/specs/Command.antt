@@ -22,7 +22,7 @@ abbrev pub job_of : Command → Job
 job_of c = record {
   mode = c.mode;
   top = c.top.now;
-  clock = c.clock.now;
+  clock = option_map (λ s. s.now) c.clock;
   half = c.half;
   share = c.share;
   head = head_of (map (λ s. s.now) c.defines.now);

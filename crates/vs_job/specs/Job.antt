@@ -113,6 +113,12 @@ abbrev pub once : List Text → Option Text
 once (value ∷ []) = Some value
 once _ = None
 
+-- the value of an option that is given once, or none where it isn't given
+abbrev pub at_most_once : List Text → Option (Option Text)
+at_most_once [] = Some None
+at_most_once (value ∷ []) = Some (Some value)
+at_most_once _ = None
+
 -- the half-period, which is 5 where none is given
 abbrev pub half_given : List Text → Option ℕ
 half_given [] = Some 5
@@ -206,7 +212,7 @@ design_and_stimuli (design ∷ stimuli) = if nat_le 1 (length stimuli) && nat_le
 abbrev pub called : Mode → Said → Option Job
 called mode s = do
   top ← once s.tops
-  clock ← once s.clocks
+  clock ← at_most_once s.clocks
   half ← half_given s.halves
   head ← head_given s.defines
   paths ← design_and_stimuli s.paths

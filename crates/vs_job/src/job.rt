@@ -1,6 +1,6 @@
 //! The job that the words of the command line call for.
 
-ghost use Rattle.std.specs.Prelude.{◌≡◌, ◌↔◌, map, IfOk, string_bytes};
+ghost use Rattle.std.specs.Prelude.{◌≡◌, ◌↔◌, map, option_map, IfOk, string_bytes};
 ghost use Rattle.vs_job.specs.Job.{job, IsJob};
 ghost use Rattle.vs_job.specs.declared.job.JobError.TheVariants.{Memory};
 
@@ -26,8 +26,8 @@ pub struct Job {
     pub mode: Mode,
     /// The name of the top module.
     pub top: Text,
-    /// The name of the top's clock input.
-    pub clock: Text,
+    /// The name of the top's clock input. None: no clock is named, and every input of the top is a data input.
+    pub clock: Option<Text>,
     /// Half a clock period in units of time, from 1 to 1,000,000.
     pub half: u32,
     /// Whether all signals that ports join have one identifier code in a waveform, or each signal one
@@ -40,6 +40,18 @@ pub struct Job {
     pub design: Text,
     /// The path of each lane's stimulus, for 1 to 256 lanes.
     pub stimuli: Texts,
+}
+
+impl Job {
+    /// The name of the top's clock input, if one is given, as bytes.
+    pub fn clock_bytes(&self) -> Option<&[u8]>
+        ensures { option_map (λ c. c.now) result ≡ self.now.clock }
+    {
+        match &self.clock {
+            Some(clock) => Some(clock.as_bytes()),
+            None => None,
+        }
+    }
 }
 
 /// Why words give no job.
@@ -62,13 +74,13 @@ impl From<AllocError> for JobError {
 }
 
 /// Reads the words of the command line, the program's own name first:
-/// `cyclesim run --top T --clock C [--half H] [--define NAME[=TEXT]].. [--share] DESIGN STIM..`, or the
+/// `cyclesim run --top T [--clock C] [--half H] [--define NAME[=TEXT]].. [--share] DESIGN STIM..`, or the
 /// same with `check` in the place of `run` and without `--share`.
 ///
 /// The options stand anywhere behind the command, each once but for `--define`, all but `--share` with
 /// the value in the next word or, as in `--top=T`, behind the first `=`. `--` ends them: each word behind it is a path.
 /// Before it no value and no path begins with `-`. H is a decimal number from 1 to 1,000,000 without a
-/// sign or a leading zero, and 5 where it isn't given. The first path is the design, and 1 to 256
+/// sign or a leading zero, and 5 where it isn't given. Without `--clock` the design has no clock. The first path is the design, and 1 to 256
 /// stimuli follow.
 ///
 /// A value of `--define` is a simple identifier (IEEE 1364-2005, 3.7), or one with `=` and a text of

@@ -65,7 +65,7 @@ pub(crate) struct Line<'a> {
 pub(crate) struct Command<'b, 'a> {
     mode: Mode,
     top: &'a str,
-    clock: &'a str,
+    clock: Option<&'a str>,
     half: u32,
     share: bool,
     defines: &'b [&'a str],
@@ -255,11 +255,12 @@ impl<'a> Line<'a> {
     }
 
     /// The job that the line calls for.
+    #[tactic(auto, using(crate::proofs::Once::at_most_once_values))]
     pub(crate) fn called(&self) -> Option<Command<'_, 'a>>
         ensures { option_map job_of result ≡ spec.called self.now.mode (said_of (line_of self.now)) }
     {
         let top = self.top?;
-        let clock = self.clock?;
+        let clock = self.clock;
         let half = half_given(self.half)?;
         let defines = self.defines.as_slice();
         if !are_defines(defines) {
@@ -345,6 +346,16 @@ fn copy(alloc: Global, word: &str) -> Result<Text, AllocError>
     Ok(Text::of(String::from_str(alloc, word)?))
 }
 
+/// Copies a word, where one is given.
+fn copy_given(alloc: Global, word: Option<&str>) -> Result<Option<Text>, AllocError>
+    ensures { IfOk result (λ text. text ≡ option_map (λ s. s.now) word.entry) }
+{
+    match word {
+        Some(word) => Ok(Some(copy(alloc, word)?)),
+        None => Ok(None),
+    }
+}
+
 /// Copies words.
 fn copies(alloc: Global, words: &[&str]) -> Result<Texts, AllocError>
     ensures { IfOk result (λ texts. texts ≡ map (λ s. s.now) words.now) }
@@ -364,7 +375,7 @@ impl Command<'_, '_> {
         Ok(Job {
             mode: self.mode,
             top: copy(alloc, self.top)?,
-            clock: copy(alloc, self.clock)?,
+            clock: copy_given(alloc, self.clock)?,
             half: self.half,
             share: self.share,
             head: head_of(alloc, self.defines)?,

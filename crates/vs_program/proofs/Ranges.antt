@@ -76,7 +76,7 @@ pub record Small (d : Design) (p : Program) : Type 0 where
   pub fall : fall_stores p ≤ size d
   pub rise : rise_stores p ≤ size d
 
-pub small : FewAreApart → StoresFit → (d : Design) (name : List ℕ) (a : IsAcceptedDesign d name) (order : List ℕ) → is_level_order d order ≡ true
+pub small : FewAreApart → StoresFit → (d : Design) (name : Option (List ℕ)) (a : IsAcceptedDesign d name) (order : List ℕ) → is_level_order d order ≡ true
     → (l : Layout) → IsLayoutOf d l → (regs : List ℕ) (p : Program) → IsMadeOf d a.clock.first order regs l p → Small d p
 small fewer fit d name a order ordered l low regs p made =
     let fits : StoresFitIn d a.clock.first order (may d) (may d) = fit d name a order ordered (may d) (may d) (within d) (within d) in
@@ -176,7 +176,7 @@ widest_small : (xs : List Process) → widest_of xs ≤ sum_by process_weight xs
 widest_small [] = omega arith
 widest_small (x ∷ xs) = let rest = widest_small xs in omega (arith, rest, sum_by-cons process_weight x xs)
 
-pub in_range : FewAreApart → StoresFit → SourcesOfDesign → (d : Design) (name : List ℕ) (a : IsAcceptedDesign d name) (order : List ℕ) → is_level_order d order ≡ true
+pub in_range : FewAreApart → StoresFit → SourcesOfDesign → (d : Design) (name : Option (List ℕ)) (a : IsAcceptedDesign d name) (order : List ℕ) → is_level_order d order ≡ true
     → (l : Layout) → IsLayoutOf d l → (regs : List ℕ) (p : Program) → IsMadeOf d a.clock.first order regs l p → IsInRange p
 in_range fewer fit sources d name a order ordered l low regs p made =
     let from : SourcesAre d a.clock.first = sources d name a in

@@ -1,6 +1,8 @@
 -- A program of a design gives the solution.
-use Rattle.std.proofs.Common.{◌≡◌, ℕ, Bool, true, false, List, [], ◌∷◌, map, sym, ◌∙◌, subst, refl}
+use Rattle.std.proofs.Common.{◌≡◌, ℕ, Bool, true, false, List, [], ◌∷◌, sym, ◌∙◌, subst, refl}
 use mathlib.Core.Path.{fun_ext}
+use Rattle.vs_four.specs.declared.Bit4.{Bit4}
+use Rattle.vs_four.specs.declared.Bit4.TheVariants.{Zero, One, X}
 use Rattle.vs_net.specs.Network as N
 use Rattle.vs_net.specs.Queue.{Fall, Rise, slots_of}
 use Rattle.vs_net.specs.Solution.{beginning, IsSolution}
@@ -12,48 +14,48 @@ use Rattle.vs_program.specs.Lowered.{HasConstants}
 use Rattle.vs_program.specs.Masks.{HaveMasks}
 use Rattle.vs_program.specs.Program.{Program, values, initial_slots}
 use Rattle.vs_program.specs.Compiled.{IsProgramOf, IsEnd, IsReached, EndsAreReached}
-use Rattle.vs_program.specs.Runs.{IsFall, AreRounds, RoundsSolve}
+use Rattle.vs_program.specs.Runs.{IsFall, AreRounds, values_after, RoundsSolve}
 
 -- the network of a design has no initial processes, so each of its bits begins idle
 begins_idle : (d : Design) (clock : ℕ) → beginning (network_of d clock) ≡ (network_of d clock).idle
 begins_idle d clock = fun_ext (begins_none (network_of d clock) (λ p. refl))
 
 pub ends_are_reached : EndsAreReached
-ends_are_reached d clock p before slot after end = record {
+ends_are_reached d clock p level before slot after end = record {
   constants = end.constants;
   masks = end.masks;
-  settled = record { from = values p.bits before; each = end.ends.settled };
+  settled = record { from = values p.bits clock level before; each = end.ends.settled };
 }
 
 module _ (d : Design) (clock : ℕ) (p : Program) (is : IsProgramOf d clock p) where
   -- what a round begins with: where there was a fall before, values with which a time slot can begin
-  MayBegin : Bool → State → Type 0
-  MayBegin true slots = IsReached d clock p slots
-  MayBegin false slots = HasConstants slots × HaveMasks d clock p.bits slots
+  MayBegin : Bool → Bit4 → State → Type 0
+  MayBegin true level slots = IsReached d clock p level slots
+  MayBegin false level slots = HasConstants slots × HaveMasks d clock p.bits level slots
 
-  fall_ends : (begun : Bool) (v : N.State) (before after : State) → MayBegin begun before → IsFall begun p v before after → IsEnd d clock p before (Fall v) after
+  fall_ends : (begun : Bool) (level : Bit4) (v : N.State) (before after : State) → MayBegin begun level before → IsFall begun p v before after → IsEnd d clock p level before (Fall v) after
   unfolding MayBegin
-  fall_ends true v before after may fall = is.falls v before fall.fallen after may fall.falls fall.settled
-  fall_ends false v before after may fall = is.first v before fall.fallen after may.0 may.1 fall.falls fall.settled
+  fall_ends true level v before after may fall = is.falls level v before fall.fallen after may fall.falls fall.settled
+  fall_ends false level v before after may fall = is.first level v before fall.fallen after may.0 may.1 fall.falls fall.settled
 
-  solve : (begun : Bool) (before : State) → MayBegin begun before → (vs : List N.State) (ends : List State) → AreRounds begun p before vs ends
-      → IsSolution (network_of d clock) (values p.bits before) (slots_of vs) (map (values p.bits) ends)
+  solve : (begun : Bool) (level : Bit4) (before : State) → MayBegin begun level before → (vs : List N.State) (ends : List State) → AreRounds begun p before vs ends
+      → IsSolution (network_of d clock) (values p.bits clock level before) (slots_of vs) (values_after p clock (slots_of vs) ends)
   unfolding MayBegin
-  solve begun before may [] [] rounds = tt
-  solve begun before may [] (low ∷ ends) rounds = absurd rounds
-  solve begun before may (v ∷ vs) [] rounds = absurd rounds
-  solve begun before may (v ∷ vs) (low ∷ []) rounds = absurd rounds
-  solve begun before may (v ∷ vs) (low ∷ high ∷ ends) rounds =
-      let low_end = fall_ends begun v before low may rounds.0 in
-      let low_reached = ends_are_reached d clock p before (Fall v) low low_end in
-      let high_end = is.rises low rounds.1.stepped rounds.1.risen high low_reached rounds.1.steps rounds.1.rises rounds.1.settled in
-      (low_end.ends, (high_end.ends, solve true high (ends_are_reached d clock p low Rise high high_end) vs ends rounds.2))
+  solve begun level before may [] [] rounds = tt
+  solve begun level before may [] (low ∷ ends) rounds = absurd rounds
+  solve begun level before may (v ∷ vs) [] rounds = absurd rounds
+  solve begun level before may (v ∷ vs) (low ∷ []) rounds = absurd rounds
+  solve begun level before may (v ∷ vs) (low ∷ high ∷ ends) rounds =
+      let low_end = fall_ends begun level v before low may rounds.0 in
+      let low_reached = ends_are_reached d clock p level before (Fall v) low low_end in
+      let high_end = is.rises Zero low rounds.1.stepped rounds.1.risen high low_reached rounds.1.steps rounds.1.rises rounds.1.settled in
+      (low_end.ends, (high_end.ends, solve true One high (ends_are_reached d clock p Zero low Rise high high_end) vs ends rounds.2))
 
   solves : (vs : List N.State) (ends : List State) → AreRounds false p (initial_slots p) vs ends
-      → IsSolution (network_of d clock) (beginning (network_of d clock)) (slots_of vs) (map (values p.bits) ends)
+      → IsSolution (network_of d clock) (beginning (network_of d clock)) (slots_of vs) (values_after p clock (slots_of vs) ends)
   unfolding MayBegin
-  solves vs ends rounds = subst (λ (s : N.State). IsSolution (network_of d clock) s (slots_of vs) (map (values p.bits) ends)) (is.idle ∙ sym (begins_idle d clock))
-      (solve false (initial_slots p) (is.constants, is.begins) vs ends rounds)
+  solves vs ends rounds = subst (λ (s : N.State). IsSolution (network_of d clock) s (slots_of vs) (values_after p clock (slots_of vs) ends)) (is.idle ∙ sym (begins_idle d clock))
+      (solve false X (initial_slots p) (is.constants, is.begins) vs ends rounds)
 
 pub rounds_solve : RoundsSolve
 rounds_solve d clock p is vectors ends rounds = solves d clock p is vectors ends rounds

@@ -1,7 +1,7 @@
 -- What a program of a design does in each time slot (IEEE 1364-2005, clause 11).
-use Rattle.std.specs.Prelude.{◌≡◌, ℕ, ◌<◌, ◌≤◌, true, false, List, length, map}
+use Rattle.std.specs.Prelude.{◌≡◌, ℕ, ◌<◌, ◌≤◌, true, false, List, Option, length, map}
 use Rattle.vs_four.specs.declared.Bit4.{Bit4}
-use Rattle.vs_four.specs.declared.Bit4.TheVariants.{Zero, One}
+use Rattle.vs_four.specs.declared.Bit4.TheVariants.{Zero, One, X}
 use Rattle.vs_net.specs.Network as N
 use Rattle.vs_net.specs.Queue.{Slot, Fall, Rise}
 use Rattle.vs_net.specs.Solution.{IsSlotEnd}
@@ -10,8 +10,9 @@ use Rattle.vs_design.specs.Values.{count_from}
 use Rattle.vs_design.specs.Designs.{Design, bit_count}
 use Rattle.vs_design.specs.Footprints.{contains}
 pub use Rattle.vs_design.specs.Footprints.{shown_signals}
-use Rattle.vs_design.specs.Clocks.{clock_nets}
+use Rattle.vs_design.specs.Clocks.{own_nets}
 use Rattle.vs_design.specs.Networks.{network_of}
+use Rattle.vs_design.specs.SlotValues.{clock_value}
 use Rattle.vs_design.specs.Sizes.{size}
 use Rattle.vs_design.specs.Accepted.{IsAcceptedDesign}
 use Rattle.vs_cone.specs.Laws.{IsSettled}
@@ -50,37 +51,38 @@ pub record Rises (p : Program) (before after : State) : Type 0 where
   pub others : (b : ℕ) → contains p.clocks b ≡ false → after (home b) ≡ before (home b)
   pub behind : (slot : ℕ) → home p.bits ≤ slot → after slot ≡ before slot
 
--- a lane's slots hold the values at the end of this time slot, the constants, and the masks
-pub record IsEnd (d : Design) (clock : ℕ) (p : Program) (before : State) (slot : Slot) (after : State) : Type 0 where
+-- A lane's slots hold the values at the end of this time slot, the constants, and the masks. The clock's level before it was this one
+pub record IsEnd (d : Design) (clock : ℕ) (p : Program) (level : Bit4) (before : State) (slot : Slot) (after : State) : Type 0 where
   pub constants : HasConstants after
-  pub masks : HaveMasks d clock p.bits after
-  pub ends : IsSlotEnd (network_of d clock) (values p.bits before) slot (values p.bits after)
+  pub masks : HaveMasks d clock p.bits (clock_value slot) after
+  pub ends : IsSlotEnd (network_of d clock) (values p.bits clock level before) slot (values p.bits clock (clock_value slot) after)
 
--- a lane's slots hold the constants, settled values of the bits, and the masks: so they do at the end of every slot
-pub record IsReached (d : Design) (clock : ℕ) (p : Program) (slots : State) : Type 0 where
+-- A lane's slots hold the constants, settled values of the bits, and the masks, where the clock has this level: so they do at the end of every slot
+pub record IsReached (d : Design) (clock : ℕ) (p : Program) (level : Bit4) (slots : State) : Type 0 where
   pub constants : HasConstants slots
-  pub masks : HaveMasks d clock p.bits slots
-  pub settled : IsSettled (network_of d clock) (values p.bits slots)
+  pub masks : HaveMasks d clock p.bits level slots
+  pub settled : IsSettled (network_of d clock) (values p.bits clock level slots)
 
 -- the program is one of the design whose clock is this bit
 pub record IsProgramOf (d : Design) (clock : ℕ) (p : Program) : Type 0 where
   pub bits : p.bits ≡ bit_count d
+  pub clock_is : p.clock ≡ clock
   pub inputs : p.inputs ≡ data_bits d clock
-  pub clocks : (b : ℕ) → contains p.clocks b ≡ contains (clock_nets d clock) b
+  pub clocks : (b : ℕ) → contains p.clocks b ≡ contains (own_nets d clock) b
   pub signals : p.signals ≡ map span_of (shown_signals d)
   -- it begins with the constants, and with the values that the bits have before anything writes them (4.2)
   pub constants : HasConstants (initial_slots p)
-  pub idle : values p.bits (initial_slots p) ≡ (network_of d clock).idle
-  pub begins : HaveMasks d clock p.bits (initial_slots p)
+  pub idle : values p.bits clock X (initial_slots p) ≡ (network_of d clock).idle
+  pub begins : HaveMasks d clock p.bits X (initial_slots p)
   -- in a first slot the clock falls: whatever the values at its beginning, where the masks fit them the program leaves those at its end
-  pub first : (vector : N.State) (before fallen after : State) → HasConstants before → HaveMasks d clock p.bits before
-      → Falls p vector before fallen → AreCalled p.first fallen after → IsEnd d clock p before (Fall vector) after
+  pub first : (level : Bit4) (vector : N.State) (before fallen after : State) → HasConstants before → HaveMasks d clock p.bits level before
+      → Falls p vector before fallen → AreCalled p.first fallen after → IsEnd d clock p level before (Fall vector) after
   -- and so in a later one, which begins where another has ended
-  pub falls : (vector : N.State) (before fallen after : State) → IsReached d clock p before
-      → Falls p vector before fallen → AreCalled p.fall fallen after → IsEnd d clock p before (Fall vector) after
+  pub falls : (level : Bit4) (vector : N.State) (before fallen after : State) → IsReached d clock p level before
+      → Falls p vector before fallen → AreCalled p.fall fallen after → IsEnd d clock p level before (Fall vector) after
   -- where the clock rises, the registers' next values come from those before it
-  pub rises : (before stepped risen after : State) → IsReached d clock p before
-      → AreCalled p.next before stepped → Rises p stepped risen → AreCalled p.rise risen after → IsEnd d clock p before Rise after
+  pub rises : (level : Bit4) (before stepped risen after : State) → IsReached d clock p level before
+      → AreCalled p.next before stepped → Rises p stepped risen → AreCalled p.rise risen after → IsEnd d clock p level before Rise after
   -- within the design's size
   pub first_small : first_stores p ≤ size d
   pub fall_small : fall_stores p ≤ size d
@@ -90,10 +92,10 @@ pub record IsProgramOf (d : Design) (clock : ℕ) (p : Program) : Type 0 where
 
 -- an accepted design whose clock is this bit
 pub record IsAcceptedAt (d : Design) (clock : ℕ) : Type 0 where
-  pub name : List ℕ
+  pub name : Option (List ℕ)
   pub accepted : IsAcceptedDesign d name
   pub clock_is : accepted.clock.first ≡ clock
 
 -- what ends a time slot is what a later one may begin with
 abbrev pub EndsAreReached : Type 0
-EndsAreReached = (d : Design) (clock : ℕ) (p : Program) (before : State) (slot : Slot) (after : State) → IsEnd d clock p before slot after → IsReached d clock p after
+EndsAreReached = (d : Design) (clock : ℕ) (p : Program) (level : Bit4) (before : State) (slot : Slot) (after : State) → IsEnd d clock p level before slot after → IsReached d clock p (clock_value slot) after

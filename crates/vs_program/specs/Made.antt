@@ -1,11 +1,11 @@
 -- Programs that are made of the calls of a design's processes.
 use Rattle.std.specs.Prelude.{◌≡◌, ℕ, ◌≤◌, true, List, [], ◌∷◌, ◌++◌, map, length, Option, Some, None, slice_get}
-use Rattle.vs_four.specs.declared.Bit4.TheVariants.{Zero}
+use Rattle.vs_four.specs.declared.Bit4.TheVariants.{Zero, X}
 use Rattle.vs_net.specs.Network.{Sleeper}
 use Rattle.vs_design.specs.Designs.{Process, Design, bit_count}
 use Rattle.vs_design.specs.Sizes.{register_bits}
 use Rattle.vs_design.specs.Footprints.{contains, ascending}
-use Rattle.vs_design.specs.Clocks.{clock_nets}
+use Rattle.vs_design.specs.Clocks.{own_nets}
 use Rattle.vs_design.specs.Resets.{reset_of}
 use Rattle.vs_design.specs.Sleepers.{sleeper_of}
 use Rattle.vs_design.specs.Levels.{is_level_order}
@@ -48,10 +48,10 @@ AreCallsOf d l ps calls = AreJoined (IsLoweredAt d l) ps calls
 abbrev pub AreResetsOf : Design → ℕ → Layout → List ℕ → List Call → Type 0
 AreResetsOf d clock l ps calls = AreJoined (IsResetAt d clock l) ps calls
 
--- these are the clock nets, and no more than there are
+-- these are the clock nets among the design's bits, and no more than there are
 pub record AreClockNets (d : Design) (clock : ℕ) (nets : List ℕ) : Type 0 where
-  pub has : (b : ℕ) → contains nets b ≡ contains (clock_nets d clock) b
-  pub few : length nets ≤ length (clock_nets d clock)
+  pub has : (b : ℕ) → contains nets b ≡ contains (own_nets d clock) b
+  pub few : length nets ≤ length (own_nets d clock)
 
 -- the call that copies the next values of these registers to their bits; there is none where there is no register
 abbrev pub copy_shadows : Layout → List ℕ → List Call
@@ -73,12 +73,13 @@ rise_processes d clock order = cone d (register_bits d.processes) (but_ports d c
 -- the program is made of calls of the design's processes
 pub record IsMadeOf (d : Design) (clock : ℕ) (order regs : List ℕ) (l : Layout) (p : Program) : Type 0 where
   pub bits : p.bits ≡ bit_count d
+  pub clock_is : p.clock ≡ clock
   pub inputs : p.inputs ≡ data_bits d clock
   pub clocks : AreClockNets d clock p.clocks
   pub registers : AreRegisters d regs
   pub signals : p.signals ≡ map span_of (shown_signals d)
   pub constants : HasConstants (initial_slots p)
-  pub idle : values p.bits (initial_slots p) ≡ (network_of d clock).idle
+  pub idle : values p.bits clock X (initial_slots p) ≡ (network_of d clock).idle
   pub masks : (q : ℕ) → contains (sleepers d) q ≡ true → initial_slots p (mask_of d q) ≡ Zero
   -- where the clock falls the resets come first
   pub resets : List Call
@@ -106,20 +107,20 @@ pub record IsMadeOf (d : Design) (clock : ℕ) (order regs : List ℕ) (l : Layo
 -- it is a program of the design
 abbrev pub ProgramsAreMade : Type 0
 ProgramsAreMade =
-    (d : Design) (name : List ℕ) (a : IsAcceptedDesign d name) (order : List ℕ) → is_level_order d order ≡ true
+    (d : Design) (name : Option (List ℕ)) (a : IsAcceptedDesign d name) (order : List ℕ) → is_level_order d order ≡ true
     → (l : Layout) → IsLayoutOf d l
     → (regs : List ℕ) (p : Program) → IsMadeOf d a.clock.first order regs l p → IsProgramOf d a.clock.first p
 
 -- all of its slots are there
 abbrev pub ProgramsAreInRange : Type 0
 ProgramsAreInRange =
-    (d : Design) (name : List ℕ) (a : IsAcceptedDesign d name) (order : List ℕ) → is_level_order d order ≡ true
+    (d : Design) (name : Option (List ℕ)) (a : IsAcceptedDesign d name) (order : List ℕ) → is_level_order d order ≡ true
     → (l : Layout) → IsLayoutOf d l
     → (regs : List ℕ) (p : Program) → IsMadeOf d a.clock.first order regs l p → IsInRange p
 
 -- the bits of the registers in ascending order are such a list
 abbrev pub RegistersInOrder : Type 0
-RegistersInOrder = (d : Design) (name : List ℕ) (a : IsAcceptedDesign d name) → AreRegisters d (ascending (bit_count d) (register_bits d.processes))
+RegistersInOrder = (d : Design) (name : Option (List ℕ)) (a : IsAcceptedDesign d name) → AreRegisters d (ascending (bit_count d) (register_bits d.processes))
 
 -- no process makes more stores than it may
 abbrev pub StoresAreFew : Type 0

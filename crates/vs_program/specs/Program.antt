@@ -1,5 +1,5 @@
 -- Straight programs over slots, and the slots of a lane as values of the design's bits.
-use Rattle.std.specs.Prelude.{◌≡◌, ℕ, ◌+◌, ◌<◌, ◌≤◌, ◌^◌, Bool, true, ◌&&◌, List, length, nat_lt, nat_le, if◌then◌else◌, slice_index_or, All}
+use Rattle.std.specs.Prelude.{◌≡◌, ℕ, ◌+◌, ◌<◌, ◌≤◌, ◌^◌, Bool, true, ◌&&◌, List, length, nat_lt, nat_le, ◌==◌, if◌then◌else◌, slice_index_or, All}
 use Rattle.std.specs.List.{list_all}
 use Rattle.vs_four.specs.declared.Bit4.{Bit4}
 use Rattle.vs_four.specs.declared.Bit4.TheVariants.{X}
@@ -14,9 +14,11 @@ use Rattle.vs_program.specs.Lowered.{home}
 pub record Program : Type 0 where
   -- how many bits the design has
   pub bits : ℕ
+  -- the clock's bit, which is none of these where the design has no clock
+  pub clock : ℕ
   -- the bits of the data inputs
   pub inputs : List ℕ
-  -- the clock's bit, and those of the nets that copy it
+  -- the clock's bit, where it is one of the design's, and those of the nets that copy it
   pub clocks : List ℕ
   -- what each slot begins with
   pub initial : List Bit4
@@ -36,9 +38,13 @@ calls_at p Fall = p.fall
 calls_at p Next = p.next
 calls_at p Rise = p.rise
 
--- the values of the design's bits that a lane's slots hold; past the last bit all is x
-abbrev pub values : ℕ → State → N.State
-values bits slots b = if nat_lt b bits then slots (home b) else X
+-- what a bit has that isn't one of the design's: x, but a clock its level
+abbrev pub beyond : ℕ → Bit4 → ℕ → Bit4
+beyond clock level b = if b == clock then level else X
+
+-- the values of the design's bits that a lane's slots hold. No slot holds the clock that isn't one of them
+abbrev pub values : ℕ → ℕ → Bit4 → State → N.State
+values bits clock level slots b = if nat_lt b bits then slots (home b) else beyond clock level b
 
 -- the slots at the beginning
 abbrev pub initial_slots : Program → State

@@ -1,9 +1,10 @@
 -- What a program does over all time slots, and that it is the one solution.
-use Rattle.std.specs.Prelude.{ℕ, Bool, true, false, List, [], ◌∷◌, map, if◌then◌else◌}
+use Rattle.std.specs.Prelude.{ℕ, Bool, true, false, List, [], ◌∷◌, if◌then◌else◌}
 use Rattle.vs_net.specs.Network as N
-use Rattle.vs_net.specs.Queue.{slots_of}
+use Rattle.vs_net.specs.Queue.{Slot, slots_of}
 use Rattle.vs_net.specs.Solution.{beginning, IsSolution}
 use Rattle.vs_design.specs.Designs.{Design}
+use Rattle.vs_design.specs.SlotValues.{clock_value}
 use Rattle.vs_design.specs.Networks.{network_of}
 use Rattle.vs_code.specs.Calls.{Call, State, AreCalled}
 use Rattle.vs_program.specs.Program.{Program, values, initial_slots}
@@ -33,9 +34,14 @@ AreRounds begun p before [] [] = Unit {0}
 AreRounds begun p before (v ∷ vs) (low ∷ high ∷ ends) = IsFall begun p v before low × IsRise p low high × AreRounds true p high vs ends
 AreRounds begun p before _ _ = ⊥
 
+-- the values that the slots of a lane hold after each time slot, with the level that the clock has then
+abbrev pub values_after : Program → ℕ → List Slot → List State → List N.State
+values_after p clock (slot ∷ slots) (after ∷ ends) = values p.bits clock (clock_value slot) after ∷ values_after p clock slots ends
+values_after p clock _ _ = []
+
 -- from the slots at the beginning a program of a design gives the solution, on whatever vectors
 abbrev pub RoundsSolve : Type 0
 RoundsSolve =
     (d : Design) (clock : ℕ) (p : Program) → IsProgramOf d clock p → (vectors : List N.State) (ends : List State)
     → AreRounds false p (initial_slots p) vectors ends
-    → IsSolution (network_of d clock) (beginning (network_of d clock)) (slots_of vectors) (map (values p.bits) ends)
+    → IsSolution (network_of d clock) (beginning (network_of d clock)) (slots_of vectors) (values_after p clock (slots_of vectors) ends)

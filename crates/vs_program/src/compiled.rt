@@ -68,9 +68,11 @@ impl Phases {
 pub struct Parts {
     /// How many bits the design has.
     pub bits: u32,
+    /// The clock's bit; the number of the design's bits stands for none.
+    pub clock: u32,
     /// The bits of the data inputs, in bit order.
     pub inputs: Vec<u32>,
-    /// The clock's bit, and those of the nets that copy it.
+    /// The clock's bit, and those of the nets that copy it. There is none without a clock.
     pub clocks: Vec<u32>,
     /// What each slot begins with, in every lane.
     pub initial: Vec<Bit4>,
@@ -86,6 +88,7 @@ pub struct Parts {
 #[derive(Drop)]
 pub struct Compiled {
     bits: u32,
+    clock: u32,
     inputs: Vec<u32>,
     clocks: Vec<u32>,
     initial: Vec<Bit4>,
@@ -115,6 +118,7 @@ impl Compiled {
     {
         let Parts {
             bits,
+            clock,
             inputs,
             clocks,
             initial,
@@ -124,6 +128,7 @@ impl Compiled {
         } = parts;
         Compiled {
             bits,
+            clock,
             inputs,
             clocks,
             initial,
@@ -140,7 +145,7 @@ impl Compiled {
         self.inputs.as_slice()
     }
 
-    /// The clock's bit, and those of the nets that copy it.
+    /// The clock's bit, and those of the nets that copy it. There is none without a clock.
     pub fn clocks(&self) -> &[u32]
         ensures { result.now ≡ self.now.clocks }
     {

@@ -9,7 +9,7 @@ ghost use Rattle.vs_program.specs.Weights.{KernelsWeighAsOperators};
 
 use vs_code::{sequence_law, weight_law};
 use vs_cone::{fall_law, list_law, rise_law, sources_law, stores_law, write_law};
-use vs_design::{cycle_law, footprint_law, lawful_law, reads_law};
+use vs_design::{clock_law, cycle_law, footprint_law, lawful_law, reads_law};
 
 /// Where each process is lowered, the calls of all of them, put together slot by slot, are a program of the design, within its size (`made`), and all of its slots are there (`in_range`). The rest is what is needed to put them together: a layout, the registers in order, and lists that grow call by call.
 pub fn program_law()
@@ -30,6 +30,7 @@ pub fn program_law()
     sources_law();
     stores_law();
     write_law();
+    clock_law();
     cycle_law();
     footprint_law();
     lawful_law();

@@ -23,7 +23,7 @@ use Rattle.vs_design.specs.LiftedBodies.{lifted_body}
 use Rattle.vs_design.specs.Sleepers.{is_still, at_once, stays_x, is_sleeping, sleeper_if, sleeper_of}
 use Rattle.vs_design.specs.Sizes.{distinct, process_weight, statement_weight, sleeper_weight, size}
 use Rattle.vs_design.specs.Cycles.{AreApart}
-use Rattle.vs_design.specs.Networks.{process_of, block_process, writer_of, at_or_input, network_of}
+use Rattle.vs_design.specs.Networks.{process_of, block_process, writer_of, spare_writers, at_or_input, network_of}
 use Rattle.vs_design.specs.Accepted.{IsAcceptedDesign}
 use Rattle.vs_design.specs.Laws.{AcceptedIsLawful, BitsOfDesign}
 use Rattle.vs_cone.specs.Lists.{HasEachOnce, FewAreApart}
@@ -527,7 +527,7 @@ some_is x y e = cc
 process_number : (d : Design) (clock p : ℕ) (x : Process) → slice_get d.processes p ≡ Some x → (network_of d clock).process p ≡ process_of d clock x
 process_number d clock p x e = go d.processes p e
   where
-    go : (ps : List Process) (p : ℕ) → slice_get ps p ≡ Some x → at_or_input (map (process_of d clock) ps ++ map (writer_of clock) (top_inputs d)) p ≡ process_of d clock x
+    go : (ps : List Process) (p : ℕ) → slice_get ps p ≡ Some x → at_or_input (map (process_of d clock) ps ++ (map (writer_of clock) (top_inputs d) ++ spare_writers d clock)) p ≡ process_of d clock x
     go [] p e = cc
     go (y ∷ ps) zero e = ap (process_of d clock) (some_is y x e)
     go (y ∷ ps) (suc p) e = go ps p e
@@ -591,7 +591,7 @@ one_of_all f [] q y e = cc
 one_of_all f (z ∷ ps) zero y e = let sum = sum_by-cons f z ps in subst (λ w. f w ≤ sum_by f (z ∷ ps)) (some_is z y e) (omega (arith, sum))
 one_of_all f (z ∷ ps) (suc q) y e = let sum = sum_by-cons f z ps in let rest = one_of_all f ps q y e in omega (arith, sum, rest)
 
-module _ (fewer : FewAreApart) (lawful : AcceptedIsLawful) (footprint : BitsOfDesign) (masks : MasksFit) (d : Design) (name : List ℕ) (a : IsAcceptedDesign d name) (l : Layout) (layout : IsLayoutOf d l) (numbers : l.first_temp + size d ≤ 2 ^ 32) (p : ℕ) (x : Process) (e : slice_get d.processes p ≡ Some x) (h : is_sleeping d x ≡ true) (on bits : List ℕ) (on_is : HasEachOnce (waits_of x) on) (bits_is : HasEachOnce (writes_of x) bits) where
+module _ (fewer : FewAreApart) (lawful : AcceptedIsLawful) (footprint : BitsOfDesign) (masks : MasksFit) (d : Design) (name : Option (List ℕ)) (a : IsAcceptedDesign d name) (l : Layout) (layout : IsLayoutOf d l) (numbers : l.first_temp + size d ≤ 2 ^ 32) (p : ℕ) (x : Process) (e : slice_get d.processes p ≡ Some x) (h : is_sleeping d x ≡ true) (on bits : List ℕ) (on_is : HasEachOnce (waits_of x) on) (bits_is : HasEachOnce (writes_of x) bits) where
   room_is : HasRoom l x (record { on = waits_of x; bits = writes_of x }) (mask_of d p) l.first_temp on bits
   room_is =
       let fits = masks d l layout p x e h in

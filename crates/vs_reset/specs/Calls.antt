@@ -1,5 +1,5 @@
 -- The calls of a reset (IEEE 1364-2005, 9.7.2 and 9.9.2).
-use Rattle.std.specs.Prelude.{◌≡◌, ℕ, suc, ◌+◌, ◌≤◌, ◌^◌, true, List, [], ◌∷◌, map, length, Some, None, slice_get}
+use Rattle.std.specs.Prelude.{◌≡◌, ℕ, suc, ◌+◌, ◌≤◌, ◌^◌, true, List, [], ◌∷◌, map, length, Some, None, slice_get, Option}
 use Rattle.vs_four.specs.declared.Bit4.{Bit4}
 use Rattle.vs_four.specs.declared.Bit4.TheVariants.{Zero, One, X, Z}
 use Rattle.vs_net.specs.Network.{Edge, Posedge, Negedge, Reset, branch, write_all, flatten}
@@ -62,7 +62,7 @@ reset_calls l r (b ∷ bits) = condition_call l r ∷ choice_call l r (b ∷ bit
 -- they are calls of the block's reset, by a list of the bits that it sets, each once, and where all slots can be numbered
 abbrev pub ResetCallsAre : Type 0
 ResetCallsAre =
-    (d : Design) (name : List ℕ) (a : IsAcceptedDesign d name) (l : Layout) → IsLayoutOf d l → l.first_temp + size d ≤ 2 ^ 32
+    (d : Design) (name : Option (List ℕ)) (a : IsAcceptedDesign d name) (l : Layout) → IsLayoutOf d l → l.first_temp + size d ≤ 2 ^ 32
     → (p : ℕ) (x : Process) → slice_get d.processes p ≡ Some x → is_clocked x ≡ true
     → (r : Reset) → reset_of d a.clock.first x ≡ Some r → (bits : List ℕ) → HasEachOnce (bits_of_reset (Some r)) bits
     → IsLoweredReset l (Some r) x (reset_calls l r bits)

@@ -1,5 +1,6 @@
 -- The first vector of a valid stimulus is known in every data input.
-use Rattle.std.proofs.Common.{◌≡◌, ◌<◌, ◌≤◌, ◌+◌, ◌∙◌, ◌==◌, ◌&&◌, ◌||◌, ℕ, zero, suc, Bool, true, false, not, if◌then◌else◌, List, [], ◌∷◌, ◌++◌, length, map, filter, find, sum, sym, ap, refl, subst, arith, Some, inl, inr, ◌⊎◌, length-append}
+use Rattle.std.proofs.Common.{◌≡◌, ◌<◌, ◌≤◌, ◌+◌, ◌∙◌, ◌==◌, ◌&&◌, ◌||◌, ℕ, zero, suc, Bool, true, false, not, if◌then◌else◌, List, [], ◌∷◌, ◌++◌, length, map, filter, find, sum, sym, ap, refl, subst, arith, Some, inl, inr, ◌⊎◌, length-append, Option, None, nat_lt}
+use Rattle.std.specs.Prelude.{sum_by}
 use Rattle.std.proofs.lemmas.Bool.{and_parts, eqb-true}
 use Rattle.std.proofs.lemmas.Bool.Decides.{nat_tests}
 use Rattle.std.proofs.lemmas.Option.{same_Some}
@@ -14,15 +15,15 @@ use Rattle.vs_net.specs.Network as N
 use Rattle.vs_net.specs.Lawful.{IsKnown}
 use Rattle.vs_net.specs.Laws.{IsKnownVector}
 use Rattle.vs_design.specs.Expressions.{Signal, signal_length}
-use Rattle.vs_design.specs.Clocks.{same_name}
+use Rattle.vs_design.specs.Clocks.{same_name, spare_clock, clock_input}
 use Rattle.vs_design.specs.Statements.{Statement}
-use Rattle.vs_design.specs.Designs.{Event, Design, Process, Continuous, Always, top_inputs}
+use Rattle.vs_design.specs.Designs.{Event, Design, Process, Continuous, Always, top_inputs, bit_count}
 use Rattle.vs_design.specs.Values.{count_from, bits_of_signal}
 use Rattle.vs_design.specs.Footprints.{contains, without, signals_bits, is_input}
 use Rattle.vs_design.specs.Elaborated.{have_bits_from}
 use Rattle.vs_design.specs.Resets.{reset_inputs}
 use Rattle.vs_design.specs.Accepted.{IsAcceptedDesign}
-use Rattle.vs_design.specs.Networks.{process_of, block_process, writer_of, at_or_input, network_of}
+use Rattle.vs_design.specs.Networks.{process_of, block_process, writer_of, spare_writers, at_or_input, network_of}
 use Rattle.vs_cone.specs.Given.{data_bits}
 use Rattle.vs_stim.specs.declared.input.Input.{Input}
 use Rattle.vs_stim.specs.Header.{lengths}
@@ -145,9 +146,24 @@ bits_are clock (s ∷ ss) h = bits_step clock s ss s.input refl h.0 (bits_are cl
 one_bit : (name : List ℕ) (s : Signal) → (s.input && same_name s.name name && (signal_length s == 1)) ≡ true → signal_length s ≡ 1
 one_bit name s h = eqb-true (signal_length s) 1 (and_parts (s.input && same_name s.name name) (signal_length s == 1) h).1
 
+-- all signals lie below a clock that isn't one of the design's bits
+all_before : (clock base : ℕ) (ss : List Signal) → have_bits_from base ss ≡ true → base + sum_by signal_length ss ≤ clock → AreApart clock ss
+all_before clock base [] h past = tt
+all_before clock base (s ∷ ss) h past =
+    let at = first_is base s ss h in
+    let total = sum_by-cons signal_length s ss in
+    (inr (inr (omega (arith, at.0, total, past))), all_before clock (base + signal_length s) ss at.1 (omega (arith, total, past)))
+
+-- the clock is a signal of one bit, or none of the design's
+clock_apart : (d : Design) (name : Option (List ℕ)) (c : Signal) → have_bits_from 0 d.signals ≡ true → clock_input d name ≡ Some c → AreApart c.first d.signals
+clock_apart d None c h found =
+    let is : spare_clock d ≡ c = same_Some (spare_clock d) c found in
+    all_before c.first 0 d.signals h (omega (arith, ap (λ (x : Signal). x.first) is))
+clock_apart d (Some name) c h found = apart (λ s. s.input && same_name s.name name && (signal_length s == 1)) c.first 0 d.signals c h found refl (one_bit name)
+
 -- the data bits are the bits of the data inputs
-pub data_bits_are : (d : Design) (name : List ℕ) (a : IsAcceptedDesign d name) → data_bits d a.clock.first ≡ signals_bits (filter (is_data_input a.clock.first) d.signals)
-data_bits_are d name a = bits_are a.clock.first d.signals (apart (λ s. s.input && same_name s.name name && (signal_length s == 1)) a.clock.first 0 d.signals a.clock a.lawful.bits_numbered a.clock_found refl (one_bit name))
+pub data_bits_are : (d : Design) (name : Option (List ℕ)) (a : IsAcceptedDesign d name) → data_bits d a.clock.first ≡ signals_bits (filter (is_data_input a.clock.first) d.signals)
+data_bits_are d name a = bits_are a.clock.first d.signals (clock_apart d name a.clock a.lawful.bits_numbered a.clock_found)
 
 inputs_sum : (resets : List ℕ) (ss : List Signal) → sum (lengths (map (input_of resets) ss)) ≡ length (signals_bits ss)
 inputs_sum resets [] = refl
@@ -156,7 +172,7 @@ inputs_sum resets (s ∷ ss) =
     let first = length-count_from s.first (signal_length s) in
     sum_by-cons (λ x. x) (signal_length s) (lengths (map (input_of resets) ss)) ∙ omega (arith, length-append (bits_of_signal s) (signals_bits ss))
 
-pub inputs_fit : (d : Design) (name : List ℕ) (a : IsAcceptedDesign d name) (inputs : List Input) → AreDataInputs d a.clock.first inputs → sum (lengths inputs) ≡ length (data_bits d a.clock.first)
+pub inputs_fit : (d : Design) (name : Option (List ℕ)) (a : IsAcceptedDesign d name) (inputs : List Input) → AreDataInputs d a.clock.first inputs → sum (lengths inputs) ≡ length (data_bits d a.clock.first)
 inputs_fit d name a inputs h =
     ap (λ (is : List Input). sum (lengths is)) h.inputs_are
     ∙ inputs_sum (reset_inputs d a.clock.first) (filter (is_data_input a.clock.first) d.signals) ∙ ap length (sym (data_bits_are d name a))
@@ -236,33 +252,38 @@ pub skip_bit : (e : Bool) (s : Signal) (ss : List Signal) (b : ℕ) → contains
 skip_bit true s ss b h = contains_append (bits_of_signal s) (signals_bits ss) b h
 skip_bit false s ss b h = h
 
-at_place : (clock : ℕ) (s : Signal) (ss others : List Signal) (p b : ℕ) → let process = at_or_input (map (writer_of clock) (s ∷ others)) p in kind process ≡ AnInput → writes process b ≡ true
-    → ((q : ℕ) → let other = at_or_input (map (writer_of clock) others) q in kind other ≡ AnInput → writes other b ≡ true → contains (signals_bits ss) b ≡ true)
+at_place : (clock : ℕ) (spare : List N.Process) (s : Signal) (ss others : List Signal) (p b : ℕ) → let process = at_or_input (map (writer_of clock) (s ∷ others) ++ spare) p in kind process ≡ AnInput → writes process b ≡ true
+    → ((q : ℕ) → let other = at_or_input (map (writer_of clock) others ++ spare) q in kind other ≡ AnInput → writes other b ≡ true → contains (signals_bits ss) b ≡ true)
     → contains (signals_bits (if not (s.first == clock) then s ∷ ss else ss)) b ≡ true
-at_place clock s ss others zero b k w rest = input_bit clock s ss b (s.first == clock) refl k w
-at_place clock s ss others (suc p) b k w rest = skip_bit (not (s.first == clock)) s ss b (rest p k w)
+at_place clock spare s ss others zero b k w rest = input_bit clock s ss b (s.first == clock) refl k w
+at_place clock spare s ss others (suc p) b k w rest = skip_bit (not (s.first == clock)) s ss b (rest p k w)
 
-at_signal : (clock : ℕ) (s : Signal) (ss : List Signal) (p b : ℕ) (i : Bool) → s.input ≡ i
-    → let process = at_or_input (map (writer_of clock) (filter (λ s. s.input) (s ∷ ss))) p in kind process ≡ AnInput → writes process b ≡ true
-    → ((q : ℕ) → let other = at_or_input (map (writer_of clock) (filter (λ s. s.input) ss)) q in kind other ≡ AnInput → writes other b ≡ true → contains (signals_bits (filter (is_data_input clock) ss)) b ≡ true)
+at_signal : (clock : ℕ) (spare : List N.Process) (s : Signal) (ss : List Signal) (p b : ℕ) (i : Bool) → s.input ≡ i
+    → let process = at_or_input (map (writer_of clock) (filter (λ s. s.input) (s ∷ ss)) ++ spare) p in kind process ≡ AnInput → writes process b ≡ true
+    → ((q : ℕ) → let other = at_or_input (map (writer_of clock) (filter (λ s. s.input) ss) ++ spare) q in kind other ≡ AnInput → writes other b ≡ true → contains (signals_bits (filter (is_data_input clock) ss)) b ≡ true)
     → contains (signals_bits (filter (is_data_input clock) (s ∷ ss))) b ≡ true
-at_signal clock s ss p b true is k w rest =
+at_signal clock spare s ss p b true is k w rest =
     let inputs = filter (λ (x : Signal). x.input) ss in
     let those = filter (is_data_input clock) ss in
-    let at = λ (i : Bool). at_or_input (map (writer_of clock) (if i then s ∷ inputs else inputs)) p in
+    let at = λ (i : Bool). at_or_input (map (writer_of clock) (if i then s ∷ inputs else inputs) ++ spare) p in
     subst (λ (i : Bool). contains (signals_bits (if i && not (s.first == clock) then s ∷ those else those)) b ≡ true) (sym is)
-    (at_place clock s those inputs p b (subst (λ (i : Bool). kind (at i) ≡ AnInput) is k) (subst (λ (i : Bool). writes (at i) b ≡ true) is w) rest)
-at_signal clock s ss p b false is k w rest =
+    (at_place clock spare s those inputs p b (subst (λ (i : Bool). kind (at i) ≡ AnInput) is k) (subst (λ (i : Bool). writes (at i) b ≡ true) is w) rest)
+at_signal clock spare s ss p b false is k w rest =
     let inputs = filter (λ (x : Signal). x.input) ss in
     let those = filter (is_data_input clock) ss in
-    let at = λ (i : Bool). at_or_input (map (writer_of clock) (if i then s ∷ inputs else inputs)) p in
+    let at = λ (i : Bool). at_or_input (map (writer_of clock) (if i then s ∷ inputs else inputs) ++ spare) p in
     subst (λ (i : Bool). contains (signals_bits (if i && not (s.first == clock) then s ∷ those else those)) b ≡ true) (sym is)
     (rest p (subst (λ (i : Bool). kind (at i) ≡ AnInput) is k) (subst (λ (i : Bool). writes (at i) b ≡ true) is w))
 
-at_inputs : (clock : ℕ) (ss : List Signal) (p b : ℕ) → let process = at_or_input (map (writer_of clock) (filter (λ s. s.input) ss)) p in kind process ≡ AnInput → writes process b ≡ true
+at_inputs : (d : Design) (clock : ℕ) (ss : List Signal) (p b : ℕ) → let process = at_or_input (map (writer_of clock) (filter (λ s. s.input) ss) ++ spare_writers d clock) p in kind process ≡ AnInput → writes process b ≡ true
     → contains (signals_bits (filter (is_data_input clock) ss)) b ≡ true
-at_inputs clock [] p b k w = absurd (cc)
-at_inputs clock (s ∷ ss) p b k w = at_signal clock s ss p b s.input refl k w (λ q. at_inputs clock ss q b)
+at_inputs d clock [] p b k w = absurd (no_spare (nat_lt clock (bit_count d)) p k w)
+  where
+    no_spare : (c : Bool) (p : ℕ) → let process = at_or_input (if c then [] else (N.Clock clock ∷ [])) p in kind process ≡ AnInput → writes process b ≡ true → ⊥
+    no_spare true p k w = cc
+    no_spare false zero k w = cc
+    no_spare false (suc p) k w = cc
+at_inputs d clock (s ∷ ss) p b k w = at_signal clock (spare_writers d clock) s ss p b s.input refl k w (λ q. at_inputs d clock ss q b)
 
 at_process : (d : Design) (clock : ℕ) (ps : List Process) (others : List N.Process) (p b : ℕ) (P : Type 0) → let process = at_or_input (map (process_of d clock) ps ++ others) p in kind process ≡ AnInput → writes process b ≡ true
     → ((q : ℕ) → kind (at_or_input others q) ≡ AnInput → writes (at_or_input others q) b ≡ true → P) → P
@@ -271,13 +292,13 @@ at_process d clock (x ∷ ps) others zero b P k w rest = absurd (no_input d cloc
 at_process d clock (x ∷ ps) others (suc p) b P k w rest = at_process d clock ps others p b P k w rest
 
 -- an input's bits are data bits
-pub input_bits_are : (d : Design) (name : List ℕ) (a : IsAcceptedDesign d name) (p b : ℕ) → let process = (network_of d a.clock.first).process p in kind process ≡ AnInput → writes process b ≡ true → contains (data_bits d a.clock.first) b ≡ true
+pub input_bits_are : (d : Design) (name : Option (List ℕ)) (a : IsAcceptedDesign d name) (p b : ℕ) → let process = (network_of d a.clock.first).process p in kind process ≡ AnInput → writes process b ≡ true → contains (data_bits d a.clock.first) b ≡ true
 input_bits_are d name a p b k w =
     subst (λ (bs : List ℕ). contains bs b ≡ true) (sym (data_bits_are d name a))
-    (at_process d a.clock.first d.processes (map (writer_of a.clock.first) (top_inputs d)) p b (contains (signals_bits (filter (is_data_input a.clock.first) d.signals)) b ≡ true) k w (λ q. at_inputs a.clock.first d.signals q b))
+    (at_process d a.clock.first d.processes (map (writer_of a.clock.first) (top_inputs d) ++ spare_writers d a.clock.first) p b (contains (signals_bits (filter (is_data_input a.clock.first) d.signals)) b ≡ true) k w (λ q. at_inputs d a.clock.first d.signals q b))
 
 -- a known vector of the inputs' lengths is known in every input
-pub vector_is_known : (d : Design) (name : List ℕ) (a : IsAcceptedDesign d name) (inputs : List Input) (v : Vector) → AreDataInputs d a.clock.first inputs → sizes v ≡ lengths inputs → vector_known v ≡ true
+pub vector_is_known : (d : Design) (name : Option (List ℕ)) (a : IsAcceptedDesign d name) (inputs : List Input) (v : Vector) → AreDataInputs d a.clock.first inputs → sizes v ≡ lengths inputs → vector_known v ≡ true
     → IsKnownVector (network_of d a.clock.first) (vector_state d a.clock.first v)
 vector_is_known d name a inputs v h fits known = λ p b k w.
     written_known (data_bits d a.clock.first) (bits_of v) (λ b. X) b (sym (bits_long v ∙ ap sum fits ∙ inputs_fit d name a inputs h)) (bits_known v known) (inl (input_bits_are d name a p b k w))

@@ -1,5 +1,5 @@
 -- The inputs of resets are known in every vector of a valid stimulus.
-use Rattle.std.proofs.Common.{◌≡◌, ◌<◌, ◌≤◌, ◌+◌, ◌∙◌, ◌==◌, ◌&&◌, ◌||◌, ℕ, zero, suc, Bool, true, false, not, if◌then◌else◌, List, [], ◌∷◌, ◌++◌, length, map, filter, find, sym, ap, refl, subst, arith, Option, Some, None, inl, inr, ◌⊎◌, All, sum}
+use Rattle.std.proofs.Common.{◌≡◌, ◌<◌, ◌≤◌, ◌+◌, ◌∙◌, ◌==◌, ◌&&◌, ◌||◌, ℕ, zero, suc, Bool, true, false, not, if◌then◌else◌, List, [], ◌∷◌, ◌++◌, length, map, filter, find, sym, ap, refl, subst, arith, Option, Some, None, inl, inr, ◌⊎◌, All, sum, nat_lt}
 use Rattle.std.specs.List.{list_any}
 use Rattle.std.proofs.lemmas.Bool.{and_parts, eqb-true, eq-eqb}
 use Rattle.std.proofs.lemmas.Bool.Decides.{nat_tests}
@@ -14,14 +14,14 @@ use Rattle.vs_net.specs.Lawful.{IsKnown}
 use Rattle.vs_net.specs.Laws.{HasKnownResets, AreKnownResets}
 use Rattle.vs_design.specs.Expressions.{Signal, signal_length}
 use Rattle.vs_design.specs.Statements.{Statement}
-use Rattle.vs_design.specs.Designs.{Event, Design, Process, Continuous, Always, is_clocked, top_inputs}
+use Rattle.vs_design.specs.Designs.{Event, Design, Process, Continuous, Always, is_clocked, top_inputs, bit_count}
 use Rattle.vs_design.specs.Values.{count_from, bits_of_signal}
 use Rattle.vs_design.specs.Footprints.{contains, signals_bits}
 use Rattle.vs_design.specs.Elaborated.{have_bits_from}
 use Rattle.vs_design.specs.Clocks.{Events, ByClock, ByBoth, clock_nets, root_of, may_reset, first_of, one_bit_inputs}
 use Rattle.vs_design.specs.Resets.{reset_branch, reset_with, reset_by, reset_of, has_root, reset_inputs}
 use Rattle.vs_design.specs.Accepted.{IsAcceptedDesign}
-use Rattle.vs_design.specs.Networks.{events_in, block_process, process_of, writer_of, at_or_input, network_of}
+use Rattle.vs_design.specs.Networks.{events_in, block_process, process_of, writer_of, spare_writers, at_or_input, network_of}
 use Rattle.vs_cone.specs.Given.{data_bits}
 use Rattle.vs_stim.specs.declared.input.Input.{Input}
 use Rattle.vs_stim.specs.Header.{lengths}
@@ -83,17 +83,22 @@ block_root d clock true place star events s ps r h =
     (ap (λ (e : Bool). e || list_any (λ p. has_root r.input (reset_of d clock p)) ps) own, found_in (λ i. contains (clock_nets d i) root.0) (one_bit_inputs d clock) r.input root.1)
 block_root d clock false place star events s ps r h = absurd (cc)
 
-no_writer : (clock : ℕ) (ss : List Signal) (p : ℕ) (r : Reset) → N.reset_of (at_or_input (map (writer_of clock) ss) p) ≡ Some r → ⊥
-no_writer clock [] p r h = cc
-no_writer clock (s ∷ ss) zero r h = by_clock (s.first == clock) h
+no_writer : (d : Design) (clock : ℕ) (ss : List Signal) (p : ℕ) (r : Reset) → N.reset_of (at_or_input (map (writer_of clock) ss ++ spare_writers d clock) p) ≡ Some r → ⊥
+no_writer d clock [] p r h = no_spare (nat_lt clock (bit_count d)) p h
+  where
+    no_spare : (c : Bool) (p : ℕ) → N.reset_of (at_or_input (if c then [] else (N.Clock clock ∷ [])) p) ≡ Some r → ⊥
+    no_spare true p h = cc
+    no_spare false zero h = cc
+    no_spare false (suc p) h = cc
+no_writer d clock (s ∷ ss) zero r h = by_clock (s.first == clock) h
   where
     by_clock : (b : Bool) → N.reset_of (if b then N.Clock clock else N.Input (bits_of_signal s)) ≡ Some r → ⊥
     by_clock true h = cc
     by_clock false h = cc
-no_writer clock (s ∷ ss) (suc p) r h = no_writer clock ss p r h
+no_writer d clock (s ∷ ss) (suc p) r h = no_writer d clock ss p r h
 
-root_among : (d : Design) (clock : ℕ) (ps : List Process) (ss : List Signal) (p : ℕ) (r : Reset) → N.reset_of (at_or_input (map (process_of d clock) ps ++ map (writer_of clock) ss) p) ≡ Some r → IsRoot d clock ps r.input
-root_among d clock [] ss p r h = absurd (no_writer clock ss p r h)
+root_among : (d : Design) (clock : ℕ) (ps : List Process) (ss : List Signal) (p : ℕ) (r : Reset) → N.reset_of (at_or_input (map (process_of d clock) ps ++ (map (writer_of clock) ss ++ spare_writers d clock)) p) ≡ Some r → IsRoot d clock ps r.input
+root_among d clock [] ss p r h = absurd (no_writer d clock ss p r h)
 root_among d clock (Continuous place port target_place target e ∷ ps) ss zero r h = absurd (cc)
 root_among d clock (Always place star events s ∷ ps) ss zero r h = block_root d clock (is_clocked (Always place star events s)) place star events s ps r h
 root_among d clock (q ∷ ps) ss (suc p) r h =
@@ -244,7 +249,7 @@ signals_known_at resets b (s ∷ ss) (x ∷ v) on apart fits known =
     (signal_known_at resets b s x on apart.0 k.0) (signals_known_at resets b ss v on apart.1 later k.1)
 
 -- a vector whose reset inputs are known has known resets
-resets_known : (d : Design) (name : List ℕ) (a : IsAcceptedDesign d name) (inputs : List Input) (v : Vector) → AreDataInputs d a.clock.first inputs → sizes v ≡ lengths inputs → known_in_resets inputs v ≡ true
+resets_known : (d : Design) (name : Option (List ℕ)) (a : IsAcceptedDesign d name) (inputs : List Input) (v : Vector) → AreDataInputs d a.clock.first inputs → sizes v ≡ lengths inputs → known_in_resets inputs v ≡ true
     → HasKnownResets (network_of d a.clock.first) (vector_state d a.clock.first v)
 resets_known d name a inputs v h fits known = λ p r is.
     let clock = a.clock.first in
@@ -260,7 +265,7 @@ resets_known d name a inputs v h fits known = λ p r is.
     (inl (subst (λ (bs : List ℕ). contains bs r.input ≡ true) (sym (data_bits_are d name a)) (firsts_driven clock r.input d.signals root.1)))
 
 -- and so have all of these
-pub all_resets_known : (d : Design) (name : List ℕ) (a : IsAcceptedDesign d name) (inputs : List Input) (vs : List Vector) → AreDataInputs d a.clock.first inputs
+pub all_resets_known : (d : Design) (name : Option (List ℕ)) (a : IsAcceptedDesign d name) (inputs : List Input) (vs : List Vector) → AreDataInputs d a.clock.first inputs
     → All (λ v. sizes v ≡ lengths inputs) vs → All (λ v. known_in_resets inputs v ≡ true) vs → AreKnownResets (network_of d a.clock.first) (map (vector_state d a.clock.first) vs)
 all_resets_known d name a inputs [] h fits known = tt
 all_resets_known d name a inputs (v ∷ vs) h fits known = (

@@ -1,5 +1,5 @@
 -- The data inputs and the outputs of a design, as the stimuli name them.
-use Rattle.std.specs.Prelude.{◌≡◌, ℕ, Bool, not, ◌&&◌, ◌==◌, List, map, filter, length, sum, All}
+use Rattle.std.specs.Prelude.{◌≡◌, ℕ, Bool, not, ◌&&◌, ◌==◌, List, map, filter, length, sum, All, Option}
 use Rattle.std.specs.List.{list_any}
 use Rattle.vs_design.specs.Expressions.{Signal, signal_length}
 use Rattle.vs_design.specs.Designs.{Design}
@@ -49,4 +49,4 @@ pub record AreDataInputs (d : Design) (clock : ℕ) (inputs : List Input) : Type
 
 -- They have together as many bits as the design's data inputs.
 abbrev pub InputBitsFit : Type 0
-InputBitsFit = (d : Design) (name : List ℕ) (a : IsAcceptedDesign d name) (inputs : List Input) → AreDataInputs d a.clock.first inputs → sum (lengths inputs) ≡ length (data_bits d a.clock.first)
+InputBitsFit = (d : Design) (name : Option (List ℕ)) (a : IsAcceptedDesign d name) (inputs : List Input) → AreDataInputs d a.clock.first inputs → sum (lengths inputs) ≡ length (data_bits d a.clock.first)

@@ -1,5 +1,5 @@
 -- What is loaded of a text, put together.
-use Rattle.std.proofs.Common.{◌≡◌, ℕ, ◌<◌, Bool, false, Some, List, length, sym, subst, ap, ◌∙◌, All}
+use Rattle.std.proofs.Common.{◌≡◌, ℕ, ◌<◌, Bool, false, Some, List, length, sym, subst, ap, ◌∙◌, All, Option}
 use Rattle.vs_design.specs.Expressions.{Signal}
 use Rattle.vs_design.specs.Designs.{Design}
 use Rattle.vs_design.specs.Networks.{network_of}
@@ -22,7 +22,7 @@ some_is : (x y : Signal) → Some x ≡ Some y → x ≡ y
 some_is x y e = cc
 
 -- what is told of the clock is told of the signal by which the design is accepted
-pub clock_first : (d : Design) (name : List ℕ) (c : Clocked) (a : IsAcceptedDesign d name) → IsClockOf d name c → a.clock.first ≡ c.bit
+pub clock_first : (d : Design) (name : Option (List ℕ)) (c : Clocked) (a : IsAcceptedDesign d name) → IsClockOf d name c → a.clock.first ≡ c.bit
 clock_first d name c a h = ap (λ (s : Signal). s.first) (some_is a.clock h.signal (sym a.clock_found ∙ h.is)) ∙ sym h.bit_is
 
 -- what is known of an engine that was made of a design's program
@@ -32,12 +32,12 @@ pub record IsMade {W : Type 0} (lane : W → ℕ → Bool) (lanes : ℕ) (d : De
   pub idle : (i : ℕ) → i < lanes → state lane engine i ≡ (network_of d clock).idle
 
 -- the outputs of a text that was read are those of its tree
-outputs_named : OneReading → {text top clock : List ℕ} {d : Design} (accepted : IsAcceptedText text top clock d) (a : Acceptance) → HaveOutputs text top a → a.outputs ≡ top_outputs accepted.source top
+outputs_named : OneReading → {text top : List ℕ} {clock : Option (List ℕ)} {d : Design} (accepted : IsAcceptedText text top clock d) (a : Acceptance) → HaveOutputs text top a → a.outputs ≡ top_outputs accepted.source top
 outputs_named one {text = text} {top = top} accepted a h =
     h.outputs_are ∙ ap (λ (s : Source). top_outputs s top) (one text h.tokens accepted.tokens h.source accepted.source h.read accepted.read)
 
 -- the ports of an accepted text
-pub ports_named : (demanded : Bool) (text top clock : List ℕ) (a : Acceptance) (ports : PortLists) → OneReading → (accepted : IsAcceptedText text top clock (design_of a.flat))
+pub ports_named : (demanded : Bool) (text top : List ℕ) (clock : Option (List ℕ)) (a : Acceptance) (ports : PortLists) → OneReading → (accepted : IsAcceptedText text top clock (design_of a.flat))
     → HaveOutputs text top a → IsAcceptance clock a → ports.inputs ≡ inputs_among a.clocks.reset_inputs a.clocks.bit (design_of a.flat).signals
     → ports.outputs ≡ outputs_among a.outputs (design_of a.flat).signals → ports.demanded ≡ demanded → ports ≡ ports_with demanded accepted
 ports_named demanded text top clock a ports one accepted have lent inputs_are outputs_are demanded_is = λ i. record { inputs = named i; outputs = outputs_is i; demanded = demanded_is i }
@@ -57,7 +57,7 @@ ports_named demanded text top clock a ports one accepted have lent inputs_are ou
     outputs_is : ports.outputs ≡ outputs d (top_outputs accepted.source top)
     outputs_is = outputs_are ∙ ap (λ (names : List (List ℕ)). outputs_among names d.signals) (outputs_named one accepted a have)
 
-pub loaded : {W : Type 0} (lane : W → ℕ → Bool) (lanes : ℕ) (demanded : Bool) (text top clock : List ℕ) (a : Acceptance) (ports : PortLists) (engine : Running W)
+pub loaded : {W : Type 0} (lane : W → ℕ → Bool) (lanes : ℕ) (demanded : Bool) (text top : List ℕ) (clock : Option (List ℕ)) (a : Acceptance) (ports : PortLists) (engine : Running W)
     → InputBitsFit → OneReading → IsAcceptedText text top clock (design_of a.flat) → HaveOutputs text top a → IsAcceptance clock a → IsMade lane lanes (design_of a.flat) a.clocks.bit engine
     → ports.inputs ≡ inputs_among a.clocks.reset_inputs a.clocks.bit (design_of a.flat).signals → ports.outputs ≡ outputs_among a.outputs (design_of a.flat).signals
     → ports.demanded ≡ demanded → IsLoaded lane lanes demanded text top clock a ports engine

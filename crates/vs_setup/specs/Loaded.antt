@@ -1,5 +1,5 @@
 -- What is loaded of an accepted text.
-use Rattle.std.specs.Prelude.{◌≡◌, ℕ, ◌<◌, Bool, false, List, length, map, sum}
+use Rattle.std.specs.Prelude.{◌≡◌, ℕ, ◌<◌, Bool, false, List, length, map, sum, Option}
 use Rattle.std.specs.List.{filter}
 use Rattle.vs_design.specs.Networks.{network_of}
 use Rattle.vs_flat.specs.DesignOf.{design_of}
@@ -20,7 +20,7 @@ watched a = map span_of (filter (is_output a.outputs) (design_of a.flat).signals
 -- The text is accepted as this design, and the engine runs it: in each of its lanes, of which there are so many and which `lane` reads, the bits
 -- have the values that they have before anything writes them, and no slot was run. Stimuli name its ports, and a header has to name outputs where this is
 -- demanded.
-pub record IsLoaded {W : Type 0} (lane : W → ℕ → Bool) (lanes : ℕ) (demanded : Bool) (text top clock : List ℕ) (a : Acceptance) (ports : PortLists) (engine : Running W) : Type 0 where
+pub record IsLoaded {W : Type 0} (lane : W → ℕ → Bool) (lanes : ℕ) (demanded : Bool) (text top : List ℕ) (clock : Option (List ℕ)) (a : Acceptance) (ports : PortLists) (engine : Running W) : Type 0 where
   pub accepted : IsAcceptedText text top clock (design_of a.flat)
   pub program : IsProgramOf (design_of a.flat) accepted.accepted.clock.first engine.program
   pub idle : (i : ℕ) → i < lanes → state lane engine i ≡ (network_of (design_of a.flat) accepted.accepted.clock.first).idle

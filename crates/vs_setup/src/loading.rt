@@ -1,6 +1,6 @@
 //! The loading of a design text.
 
-ghost use Rattle.std.specs.Prelude.{◌≡◌, ◌<◌, ◌≤◌, ℕ, false, true, IfOk, IfErr, length};
+ghost use Rattle.std.specs.Prelude.{◌≡◌, ◌<◌, ◌≤◌, ℕ, false, true, IfOk, IfErr, length, option_map};
 ghost use Rattle.vs_design.specs.Levels.{is_level_order};
 ghost use Rattle.vs_design.specs.Networks.{network_of};
 ghost use Rattle.vs_flat.specs.DesignOf.{design_of};
@@ -31,23 +31,23 @@ pub struct Loaded<W: Word> {
     pub accepted: Accepted,
     /// What runs it, with each bit idle in every lane.
     pub engine: Engine<W>,
-    /// The inputs of the top but the clock, and its outputs, in order of declaration.
+    /// The inputs of the top but the clock, if there is one, and its outputs, in order of declaration.
     pub ports: Ports,
 }
 
-/// Loads the design of a text of at most 4,194,304 bytes whose top module and whose clock input have these names: it is accepted and compiled.
+/// Loads the design of a text of at most 4,194,304 bytes whose top module and whose clock input have these names, or that has no clock where none is named: it is accepted and compiled.
 /// Where outputs are demanded, the header of a stimulus has to name one at least.
 /// All memory that an engine needs is taken here. Otherwise the text is refused, by the first rule that it breaks, or there is no memory.
 pub fn load<W: Lanes>(
     alloc: Global,
     text: &[u8],
     top: &[u8],
-    clock: &[u8],
+    clock: Option<&[u8]>,
     demanded: bool,
 ) -> Result<Loaded<W>, AcceptError>
     requires { length text.now ≤ most_bytes }
-    ensures loaded { IfOk result (λ l. IsLoaded W.lane W.LANES demanded text.now top.now clock.now l.accepted l.ports l.engine) }
-    ensures refused { IfErr result (IsRefusalOf text.now top.now clock.now) }
+    ensures loaded { IfOk result (λ l. IsLoaded W.lane W.LANES demanded text.now top.now (option_map (λ c. c.now) clock.entry) l.accepted l.ports l.engine) }
+    ensures refused { IfErr result (IsRefusalOf text.now top.now (option_map (λ c. c.now) clock.entry)) }
 {
     inputs_law();
     answer_law();
@@ -94,18 +94,18 @@ fn ports_of(alloc: Global, accepted: &Accepted, demanded: bool) -> Result<Ports,
     Ok(Ports::of(inputs, outputs, demanded))
 }
 
-/// The data inputs and the outputs of the design of a text of at most 4,194,304 bytes whose top module and whose clock input have these names, as stimuli name them: with
-/// the text accepted, and nothing compiled. Where outputs are demanded, the header of a stimulus has to name one at least. None where the text is refused. The only
+/// The data inputs and the outputs of the design of a text of at most 4,194,304 bytes whose top module and whose clock input have these names, or that has no clock where
+/// none is named, as stimuli name them: with the text accepted, and nothing compiled. Where outputs are demanded, the header of a stimulus has to name one at least. None where the text is refused. The only
 /// error is that memory ran out.
 pub fn read_ports(
     alloc: Global,
     text: &[u8],
     top: &[u8],
-    clock: &[u8],
+    clock: Option<&[u8]>,
     demanded: bool,
 ) -> Result<Option<Ports>, AllocError>
     requires { length text.now ≤ most_bytes }
-    ensures { IfOk result (TellsPorts demanded text.now top.now clock.now) }
+    ensures { IfOk result (TellsPorts demanded text.now top.now (option_map (λ c. c.now) clock.entry)) }
 {
     answer_law();
     match accept(alloc, text, top, clock) {

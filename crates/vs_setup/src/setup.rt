@@ -117,13 +117,7 @@ fn load_text<W: Lanes>(alloc: Global, job: &Job, text: &[u8]) -> Result<Loaded<W
     ensures refused { IfErr result (IsLoadError (length job.now.head) text.now job.now.top job.now.clock) }
 {
     let demanded = demands(job.mode);
-    match load(
-        alloc,
-        text,
-        job.top.as_bytes(),
-        job.clock.as_bytes(),
-        demanded,
-    ) {
+    match load(alloc, text, job.top.as_bytes(), job.clock_bytes(), demanded) {
         Ok(loaded) => Ok(loaded),
         Err(error) => Err(SetupError::unaccepted(error, job.head.as_bytes().len() as u32)),
     }

@@ -114,7 +114,7 @@ design_usage byte (OfClock (rule.ResetForm p at)) h = cc
 design_usage byte (Cycle processes at) h = cc
 design_usage byte (OfZero (rule.TimeZero p at)) h = cc
 
-text_usage : (text top clock : List ℕ) (r : Refusal) → IsRefusedText text top clock r → r ≡ Bare Usage → ⊥
+text_usage : (text top : List ℕ) (clock : Option (List ℕ)) (r : Refusal) → IsRefusedText text top clock r → r ≡ Bare Usage → ⊥
 text_usage text top clock r (ByTokens e cut told) h = token_usage e (told ∙ ap (λ (q : Refusal). Some q) h)
 text_usage text top clock r (ByMacros written e cut faulty told) h = macro_usage e (told ∙ ap (λ (q : Refusal). Some q) h)
 text_usage text top clock r (ByTree tokens x reads fault told) h = tree_usage _ x (told ∙ h)

@@ -37,7 +37,7 @@ abbrev gives : (ports : PortLists) (text : List ℕ) → (reading ports text).re
     → reading ports text ≡ record { vectors = vs; wanted = (reading ports text).wanted; refusal = None }
 gives ports text whole vs e = λ i. record { vectors = e i; wanted = (reading ports text).wanted; refusal = whole i }
 
-abbrev lawful : (d : Design) (name : List ℕ) (a : IsAcceptedDesign d name) (ports : PortLists) → AreDataInputs d a.clock.first ports.inputs → (text : List ℕ) → (reading ports text).refusal ≡ None
+abbrev lawful : (d : Design) (name : Option (List ℕ)) (a : IsAcceptedDesign d name) (ports : PortLists) → AreDataInputs d a.clock.first ports.inputs → (text : List ℕ) → (reading ports text).refusal ≡ None
     → (first : Vector) (later : List Vector) → (reading ports text).vectors ≡ first ∷ later → IsLawfulLane d name ports text first later
 lawful d name a ports driven text whole first later e =
     record { accepted = a; inputs_are = driven; wanted = (reading ports text).wanted; valid = gives ports text whole (first ∷ later) e }
@@ -50,7 +50,7 @@ no_vectors has_vector ports text whole e =
     absurd (omega (arith, some, none))
 
 -- and there is a run of the queue on these
-run_on : SomeRun → (d : Design) (name : List ℕ) (ports : PortLists) (text : List ℕ) (v : Vector) (vs : List Vector) (h : IsLawfulLane d name ports text v vs) → (values : List State) × IsRunOn d h.accepted.clock.first (v ∷ vs) values
+run_on : SomeRun → (d : Design) (name : Option (List ℕ)) (ports : PortLists) (text : List ℕ) (v : Vector) (vs : List Vector) (h : IsLawfulLane d name ports text v vs) → (values : List State) × IsRunOn d h.accepted.clock.first (v ∷ vs) values
 run_on some_run d name ports text v vs h =
     let one = some_run d name ports text v vs h in
     let clock = h.accepted.clock.first in
@@ -63,7 +63,7 @@ plain : (ports : PortLists) → ports.demanded ≡ false → ports ≡ record { 
 plain ports e = λ i. record { inputs = ports.inputs; outputs = ports.outputs; demanded = e i }
 
 -- a lane that has got all is written
-pub lane_written : TextOfEveryRun → SomeRun → WholeHasVector → (share : Bool) (d : Design) (name : List ℕ) (a : IsAcceptedDesign d name) (half : ℕ) (ports : PortLists) → ports.demanded ≡ false → AreDataInputs d a.clock.first ports.inputs
+pub lane_written : TextOfEveryRun → SomeRun → WholeHasVector → (share : Bool) (d : Design) (name : Option (List ℕ)) (a : IsAcceptedDesign d name) (half : ℕ) (ports : PortLists) → ports.demanded ≡ false → AreDataInputs d a.clock.first ports.inputs
     → (text put : List ℕ) → (reading ports text).refusal ≡ None → IsGiven share d a.clock.first half (reading ports text) (suc (length (reading ports text).vectors)) put → IsLaneWritten share d a.clock.first half ports text put
 lane_written every_run some_run has_vector share d name a half ports free driven text put whole given = go (reading ports text).vectors refl
   where
@@ -87,7 +87,7 @@ lane_written every_run some_run has_vector share d name a half ports free driven
     }
 
 -- a lane of which all was compared is checked
-pub lane_checked : VerdictOfEveryRun → SomeRun → WholeHasVector → (d : Design) (name : List ℕ) (a : IsAcceptedDesign d name) (ports : PortLists) → AreDataInputs d a.clock.first ports.inputs
+pub lane_checked : VerdictOfEveryRun → SomeRun → WholeHasVector → (d : Design) (name : Option (List ℕ)) (a : IsAcceptedDesign d name) (ports : PortLists) → AreDataInputs d a.clock.first ports.inputs
     → (text : List ℕ) (found : Option Found) → (reading ports text).refusal ≡ None → IsFound d a.clock.first ports text (length (reading ports text).vectors) found → IsLaneChecked d a.clock.first ports text found
 lane_checked every_run some_run has_vector d name a ports driven text found whole given = go (reading ports text).vectors refl
   where
@@ -107,7 +107,7 @@ lane_checked every_run some_run has_vector d name a ports driven text found whol
     }
 
 -- an equal text is accepted as the same design
-abbrev pub accepted_as : (top clock : List ℕ) (d : Design) (text other : List ℕ) → text ≡ other → IsAcceptedText text top clock d → IsAcceptedText other top clock d
+abbrev pub accepted_as : (top : List ℕ) (clock : Option (List ℕ)) (d : Design) (text other : List ℕ) → text ≡ other → IsAcceptedText text top clock d → IsAcceptedText other top clock d
 accepted_as top clock d text other e a = record {
   short = subst (λ (t : List ℕ). length t ≤ most_bytes) e a.short;
   tokens = a.tokens;

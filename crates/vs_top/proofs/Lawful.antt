@@ -121,7 +121,7 @@ no_refusal not_both job c l r (ByLine d run k i e lt m h is) = lawful_line job c
 -- ---- what is done is lawful
 
 -- the ports of a run have to name no output
-pub run_free : (mode : Mode) {text top clock : List ℕ} {d : Design} (a : IsAcceptedText text top clock d) → mode ≡ modes.Run → (ports_of mode a).demanded ≡ false
+pub run_free : (mode : Mode) {text top : List ℕ} {clock : Option (List ℕ)} {d : Design} (a : IsAcceptedText text top clock d) → mode ≡ modes.Run → (ports_of mode a).demanded ≡ false
 run_free mode a e = subst (λ (m : Mode). (ports_of m a).demanded ≡ false) (sym e) refl
 
 -- a valid stimulus by ports that aren't demanded is one by these

@@ -239,7 +239,7 @@ class_values d r lawful settled m n (Joined p x a b at h) =
     value_at-is d r a j.from from ∙ joined_bits j.from j.to j.e r j.named j.long here ∙ sym (value_at-is d r b j.to to)
 
 -- at the end of each slot
-ends_settled : SlotValuesAre → (d : Design) (name : List ℕ) (a : IsAcceptedDesign d name) (before : State) (slots : List Slot) (ends : List State) → IsSolution (network_of d a.clock.first) before slots ends
+ends_settled : SlotValuesAre → (d : Design) (name : Option (List ℕ)) (a : IsAcceptedDesign d name) (before : State) (slots : List Slot) (ends : List State) → IsSolution (network_of d a.clock.first) before slots ends
     → (k : ℕ) (end : State) → slice_get ends k ≡ Some end → AreSettled d end
 ends_settled law d name a before [] [] h k end at = absurd (no_some end at)
 ends_settled law d name a before [] (s ∷ ss) h k end at = absurd h

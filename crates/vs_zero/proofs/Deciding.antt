@@ -89,7 +89,7 @@ found_none breaks k (y ∷ ps) h =
     ap (λ t. otherwise (where_true t (TimeZero k (process_place y))) (found breaks (suc k) ps)) (h 0 y refl)
     ∙ found_none breaks (suc k) ps (λ q z f. h (suc q) z f)
 
-pub refused : (d : Design) (name : List ℕ) (c : Clocked) → IsClockOf d name c → (p at : ℕ) → IsFirst d (is_uncertain d (families d c.bit (level_order d))) (Some p) → at ≡ place_at d.processes p → zero_refusal d name ≡ Some (TimeZero p at)
+pub refused : (d : Design) (name : Option (List ℕ)) (c : Clocked) → IsClockOf d name c → (p at : ℕ) → IsFirst d (is_uncertain d (families d c.bit (level_order d))) (Some p) → at ≡ place_at d.processes p → zero_refusal d name ≡ Some (TimeZero p at)
 refused d name c i p at h e =
     ap (zero_refusal_by d) i.is
     ∙ ap (λ b. found (is_uncertain d (families d b (level_order d))) 0 d.processes) (sym i.bit_is)
@@ -100,7 +100,7 @@ refused d name c i p at h e =
     zero_plus : (p : ℕ) → 0 + p ≡ p
     zero_plus p = omega arith
 
-pub none_refused : (d : Design) (name : List ℕ) (c : Clocked) → IsClockOf d name c → IsFirst d (is_uncertain d (families d c.bit (level_order d))) None → zero_refusal d name ≡ None
+pub none_refused : (d : Design) (name : Option (List ℕ)) (c : Clocked) → IsClockOf d name c → IsFirst d (is_uncertain d (families d c.bit (level_order d))) None → zero_refusal d name ≡ None
 none_refused d name c i h =
     ap (zero_refusal_by d) i.is
     ∙ ap (λ b. found (is_uncertain d (families d b (level_order d))) 0 d.processes) (sym i.bit_is)
@@ -108,31 +108,3 @@ none_refused d name c i h =
 
 pub first_there : (d : Design) (breaks : Process → Bool) (p : ℕ) → IsFirst d breaks (Some p) → p < length d.processes
 first_there d breaks p h = slice_get_within d.processes p h.0 h.1.is
-
--- ---- the clock's bit is a bit of the design
-
-find_true : (test : Signal → Bool) (ss : List Signal) (s : Signal) → find test ss ≡ Some s → test s ≡ true
-find_true test [] s h = cc
-find_true test (x ∷ xs) s h = by_test (test x) (λ e. subst (λ (z : Signal). test z ≡ true) (some_same x s (sym (ap {B = Option Signal} (λ t. if t then Some x else find test xs) e) ∙ h)) e) (λ e. find_true test xs s (sym (ap {B = Option Signal} (λ t. if t then Some x else find test xs) e) ∙ h))
-  where
-    some_same : (x y : Signal) → Some x ≡ Some y → x ≡ y
-    some_same x y e = cc
-
-signal_below : (first : ℕ) (ss : List Signal) (n : ℕ) (s : Signal) → have_bits_from first ss ≡ true → slice_get ss n ≡ Some s → s.first + signal_length s ≤ first + sum_by signal_length ss
-signal_below first [] n s h e = cc
-signal_below first (x ∷ xs) zero s h e =
-    let k = and_both (x.first == first) (have_bits_from (first + signal_length x) xs) h in
-    let f : x.first ≡ first = eqb-true x.first first k.0 in
-    subst (λ (z : Signal). z.first + signal_length z ≤ first + sum_by signal_length (x ∷ xs)) (some_same x s e) (omega (arith, f, sum_by-cons signal_length x xs))
-  where
-    some_same : (x y : Signal) → Some x ≡ Some y → x ≡ y
-    some_same x y e = cc
-signal_below first (x ∷ xs) (suc n) s h e =
-    let k = and_both (x.first == first) (have_bits_from (first + signal_length x) xs) h in
-    let r = signal_below (first + signal_length x) xs n s k.1 e in omega (arith, r, sum_by-cons signal_length x xs)
-
-pub clock_below : (d : Design) → IsLawfulDesign d → (name : List ℕ) (c : Clocked) → IsClockOf d name c → c.bit < bit_count d
-clock_below d l name c i =
-    let one : signal_length i.signal ≡ 1 = eqb-true (signal_length i.signal) 1 (and_both (i.signal.input && same_name i.signal.name name) (signal_length i.signal == 1) (find_true (λ s. s.input && same_name s.name name && (signal_length s == 1)) d.signals i.signal i.is)).1 in
-    let r = signal_below 0 d.signals c.input i.signal l.bits_numbered i.there in
-    omega (arith, r, one, i.bit_is)

@@ -1,6 +1,6 @@
 -- Tables whose bits get their sets signal by signal.
-use Rattle.std.proofs.Common.{◌≡◌, ℕ, zero, suc, ◌+◌, ◌<◌, Bool, true, false, List, [], ◌∷◌, ◌++◌, length, take, set, filter, refl, sym, ap, ◌∙◌, arith, inl, inr}
-use Rattle.std.specs.Prelude.{◌||◌, ◌==◌, if◌then◌else◌}
+use Rattle.std.proofs.Common.{◌≡◌, ℕ, zero, suc, ◌+◌, ◌<◌, ◌≤◌, Bool, true, false, List, [], ◌∷◌, ◌++◌, length, take, set, filter, refl, sym, ap, ◌∙◌, arith, inl, inr}
+use Rattle.std.specs.Prelude.{◌||◌, ◌==◌, nat_lt, if◌then◌else◌}
 use mathlib.Core.Path.{fun_ext}
 use Rattle.std.proofs.lemmas.List.{take_more, get_or_past}
 use Rattle.std.proofs.Math.Seq.{take-append_seam}
@@ -11,7 +11,7 @@ use Rattle.vs_net.specs.Network.{put}
 use Rattle.vs_design.specs.Expressions.{Signal}
 use Rattle.vs_design.specs.Footprints.{contains, signals_bits, input_bits}
 use Rattle.vs_design.specs.Lifted.{Family}
-use Rattle.vs_design.specs.Designs.{Design}
+use Rattle.vs_design.specs.Designs.{Design, bit_count}
 use Rattle.vs_design.specs.Resets.{with_resets}
 use Rattle.vs_design.specs.Sets.{Set4, only, known_set}
 use Rattle.vs_design.specs.TimeZero.{early_source, late_source}
@@ -20,7 +20,7 @@ use Rattle.vs_flat.specs.Trees.{no_signal, signal_at}
 use Rattle.vs_sets.specs.Branches.{replaced}
 use Rattle.vs_sets.specs.Tables.{beyond, family_of}
 use Rattle.vs_zero.specs.declared.sources.SignalKind.TheVariants.{Net, Input}
-use Rattle.vs_zero.specs.Sources.{bits_of_kind}
+use Rattle.vs_zero.specs.Sources.{bits_of_kind, with_clock}
 use Rattle.vs_sets.proofs.Families.{put_family}
 use Rattle.vs_sets.proofs.BranchSteps.{or_false}
 
@@ -106,7 +106,17 @@ seam n xs ys h = ap {B = List Set4} (λ m. take m (xs ++ ys)) h ∙ take-append_
 
 -- ---- the late sets
 
-pub late_made : (d : Design) (clock : ℕ) (t : List Set4) → clock < length t → family_of t ≡ replaced (bits_of_kind Input d) (λ b. known_set) (λ b. with_resets d clock d.processes b (early_source d b)) → family_of (set t clock (only Zero)) ≡ late_source d clock
-late_made d clock t l h = put_family t clock (only Zero) l ∙ ap (λ (f : Family). put f clock (only Zero)) h ∙ fun_ext (λ b. ap (λ k. if k then only Zero else rest b) (sym (or_false (b == clock)))) where
-  rest : Family
-  rest b = if contains (input_bits d) b then known_set else with_resets d clock d.processes b (early_source d b)
+pub clock_put : (clock : ℕ) (t : List Set4) → clock < length t → family_of (set t clock (only Zero)) ≡ with_clock clock (length t) (family_of t)
+clock_put clock t l = put_family t clock (only Zero) l ∙ fun_ext (λ b. ap (λ k. if k then only Zero else family_of t b) (sym (or_false (b == clock)) ∙ ap (λ c. contains (if c then (clock ∷ []) else []) b) (sym (is_below clock (length t) l))))
+  where
+    is_below : (m n : ℕ) → m < n → nat_lt m n ≡ true
+    is_below m n h = grind arith
+
+pub clock_left : (clock : ℕ) (t : List Set4) → length t ≤ clock → family_of t ≡ with_clock clock (length t) (family_of t)
+clock_left clock t l = fun_ext (λ b. ap (λ c. if contains (if c then (clock ∷ []) else []) b then only Zero else family_of t b) (sym (is_past clock (length t) l)))
+  where
+    is_past : (m n : ℕ) → n ≤ m → nat_lt m n ≡ false
+    is_past m n h = grind arith
+
+pub late_made : (d : Design) (clock : ℕ) (f : Family) → f ≡ replaced (bits_of_kind Input d) (λ b. known_set) (λ b. with_resets d clock d.processes b (early_source d b)) → with_clock clock (bit_count d) f ≡ late_source d clock
+late_made d clock f h = ap (with_clock clock (bit_count d)) h

@@ -1,8 +1,11 @@
 -- The sets that a table begins with.
-use Rattle.std.specs.Prelude.{ℕ, Bool, List, filter}
+use Rattle.std.specs.Prelude.{ℕ, Bool, List, [], ◌∷◌, filter, nat_lt, if◌then◌else◌}
+use Rattle.vs_four.specs.declared.Bit4.TheVariants.{Zero}
 use Rattle.vs_design.specs.Expressions.{Signal}
 use Rattle.vs_design.specs.Designs.{Design}
-use Rattle.vs_design.specs.Footprints.{is_input, is_net, signals_bits}
+use Rattle.vs_design.specs.Footprints.{contains, is_input, is_net, signals_bits}
+use Rattle.vs_design.specs.Lifted.{Family}
+use Rattle.vs_design.specs.Sets.{only}
 use Rattle.vs_zero.specs.declared.sources.SignalKind.{SignalKind}
 use Rattle.vs_zero.specs.declared.sources.SignalKind.TheVariants.{Net, Input}
 
@@ -13,3 +16,7 @@ is_kind Input s = is_input s
 -- the bits of all signals of this kind
 abbrev pub bits_of_kind : SignalKind → Design → List ℕ
 bits_of_kind kind d = signals_bits (filter (is_kind kind) d.signals)
+
+-- these sets, but 0 alone in the clock, where it is one of so many bits
+abbrev pub with_clock : ℕ → ℕ → Family → Family
+with_clock clock count sets b = if contains (if nat_lt clock count then (clock ∷ []) else []) b then only Zero else sets b

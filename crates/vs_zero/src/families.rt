@@ -1,6 +1,6 @@
 //! The early and the late sets of all bits at time zero.
 
-ghost use Rattle.std.specs.Prelude.{◌≡◌, ◌<◌, None, Some, true, length, IfOk};
+ghost use Rattle.std.specs.Prelude.{◌≡◌, None, Some, true, length, IfOk};
 ghost use Rattle.vs_design.specs.Designs.{bit_count};
 ghost use Rattle.vs_design.specs.Levels.{is_level_order};
 ghost use Rattle.vs_design.specs.Refusals.{block_refusal};
@@ -10,6 +10,7 @@ ghost use Rattle.vs_clock.specs.Clocked.{AreResets};
 ghost use Rattle.vs_flat.specs.DesignOf.{design_of};
 ghost use Rattle.vs_reads.specs.Footprint.{footprints_of};
 ghost use Rattle.vs_sets.specs.Tables.{family_of};
+ghost use Rattle.vs_zero.specs.Sources.{with_clock};
 ghost use Rattle.vs_zero.specs.States.{state_of, unknown};
 ghost use Rattle.vs_zero.specs.Values.{IsZero};
 
@@ -67,7 +68,16 @@ fn add_resets(
     }
 }
 
-/// The late sets of bits that no assign and no combinational block writes: 0 in the clock, 0 or 1 in any other input, else as early, with the value that a reset gives it last.
+/// Gives the clock 0 alone, where it is one of the bits of the table.
+fn set_clock(clock: u32, table: &mut [Set4])
+    ensures { family_of table.new ≡ with_clock clock (length table.old) (family_of table.old) }
+{
+    if (clock as usize) < table.len() {
+        table[clock as usize] = Set4::only(Bit4::Zero);
+    }
+}
+
+/// The late sets of bits that no assign and no combinational block writes: 0 in the clock, where there is one, 0 or 1 in any other input, else as early, with the value that a reset gives it last.
 fn late_sources(
     alloc: Global,
     typed: &Typed,
@@ -77,7 +87,6 @@ fn late_sources(
     requires footprints { footprints.now ≡ footprints_of (design_of typed.now) }
     requires blocks { block_refusal (design_of typed.now) ≡ None }
     requires resets { AreResets typed.now clocks.now }
-    requires clock { clocks.now.bit < bit_count (design_of typed.now) }
     ensures count { IfOk result (λ v. length v.items ≡ bit_count (design_of typed.now)) }
     ensures sets { IfOk result (λ v. family_of v.items ≡ late_source (design_of typed.now) clocks.now.bit) }
 {
@@ -101,7 +110,7 @@ fn late_sources(
         Set4::known(),
         table.as_mut_slice(),
     );
-    table[clocks.bit() as usize] = Set4::only(Bit4::Zero);
+    set_clock(clocks.bit(), table.as_mut_slice());
     Ok(table)
 }
 
@@ -117,7 +126,6 @@ impl Families {
         requires footprints { footprints.now ≡ footprints_of (design_of typed.now) }
         requires blocks { block_refusal (design_of typed.now) ≡ None }
         requires resets { AreResets typed.now clocks.now }
-        requires clock { clocks.now.bit < bit_count (design_of typed.now) }
         requires order { is_level_order (design_of typed.now) order.now ≡ true }
         ensures early_count { IfOk result (λ f. length f.early.items ≡ bit_count (design_of typed.now)) }
         ensures late_count { IfOk result (λ f. length f.late.items ≡ bit_count (design_of typed.now)) }

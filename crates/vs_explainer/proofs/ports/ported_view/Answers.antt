@@ -1,4 +1,4 @@
-use Rattle.std.proofs.Common.{List, ℕ, length, false, None, ap, subst}
+use Rattle.std.proofs.Common.{List, ℕ, Option, length, false, None, ap, subst, option_map}
 use Rattle.vs_setup.specs.Ports.{TellsPorts}
 use Rattle.vs_explainer.proofs.Sights.{as_long}
 use Rattle.vs_explainer.proofs.ports.ported_view.Goals as goal
@@ -8,7 +8,7 @@ returns-clause-view c =
     let ports = c.in_ok-ports.ports in (
       ports,
       subst (λ (t : List ℕ). TellsPorts false c.args.text.items t c.args.job.now.clock ports) c.as_bytes.ensures
-          (subst (λ (t : List ℕ). TellsPorts false c.args.text.items c.as_bytes.result.now t ports) c.as_bytes-2.ensures
-          (subst (λ (t : List ℕ). TellsPorts false t c.as_bytes.result.now c.as_bytes-2.result.now ports) c.as_slice.ensures.value c.in_ok-ports.ensures)),
-      as_long _ _ _ None None ports (ap (λ (t : List ℕ). length t) c.as_bytes-3.ensures),
+          (subst (λ (t : Option (List ℕ)). TellsPorts false c.args.text.items c.as_bytes.result.now t ports) c.clock_bytes.ensures
+          (subst (λ (t : List ℕ). TellsPorts false t c.as_bytes.result.now (option_map (λ n. n.now) c.clock_bytes.result) ports) c.as_slice.ensures.value c.in_ok-ports.ensures)),
+      as_long _ _ _ None None ports (ap (λ (t : List ℕ). length t) c.as_bytes-2.ensures),
     )

@@ -10,4 +10,4 @@ returns-in-Err-clause-refused g c =
     let told : c.unaccepted.result ≡ accept_error (length job.head) c.in-Err.error =
     c.unaccepted.ensures ∙ ap (λ (head : List ℕ). accept_error (length head) c.in-Err.error) c.as_bytes-in-Err.ensures in
     subst (λ (e : SetupError). IsLoadError (length job.head) c.args.text.now job.top job.clock e) (sym told)
-    (unaccepted (length job.head) c.args.text.now job.top job.clock c.in-Err.error (rw (c.as_bytes.ensures, c.as_bytes-2.ensures) at c.in-Err.ensures.refused))
+    (unaccepted (length job.head) c.args.text.now job.top job.clock c.in-Err.error (rw (c.as_bytes.ensures, c.clock_bytes.ensures) at c.in-Err.ensures.refused))

@@ -1,4 +1,4 @@
-use Rattle.std.proofs.Common.{◌<◌, ◌++◌, ℕ, List, length, take, drop, set, sym, ap, ap₂, ◌∙◌, arith}
+use Rattle.std.proofs.Common.{◌≡◌, ◌++◌, ℕ, List, length, take, drop, sym, ap, ap₂, ◌∙◌, arith}
 use Rattle.vs_design.specs.Designs.{bit_count}
 use Rattle.vs_design.specs.Lifted.{Family}
 use Rattle.vs_design.specs.Resets.{with_resets}
@@ -9,7 +9,7 @@ use Rattle.vs_flat.specs.DesignOf.{design_of}
 use Rattle.vs_sets.specs.Branches.{replaced}
 use Rattle.vs_sets.specs.Tables.{family_of}
 use Rattle.vs_zero.specs.declared.sources.SignalKind.TheVariants.{Input}
-use Rattle.vs_zero.specs.Sources.{bits_of_kind}
+use Rattle.vs_zero.specs.Sources.{bits_of_kind, with_clock}
 use Rattle.vs_zero.proofs.Sourcing.{late_made, seam}
 use Rattle.vs_zero.proofs.families.late_sources.Goals as goal
 
@@ -24,13 +24,16 @@ returns-clause-sets c =
     let first = seam len after (drop (length after) start) (sym (c.add_resets.auto.table ∙ c.as_mut_slice-3.ensures.len)) in
     let many = c.fill_kind.auto.table ∙ c.as_mut_slice-4.ensures.len in
     let whole = seam len items (drop (length items) (take len (after ++ drop (length after) start))) (sym many) in
-    let below : clock < length items = omega (arith, many, ap length c.as_mut_slice-3.ensures.value, c.as_mut_slice-3.ensures.len, c.in_ok-table.ensures.count, ap (λ (b : Arena). bit_count (design_of b)) c.shapes-shapes.ensures, c.requires.clock) in
+    let count : length items ≡ bit_count d = omega (arith, many, ap length c.as_mut_slice-3.ensures.value, c.as_mut_slice-3.ensures.len, c.in_ok-table.ensures.count, ap (λ (b : Arena). bit_count (design_of b)) c.shapes-shapes.ensures) in
     let early = ap family_of c.as_mut_slice-3.ensures.value ∙ c.in_ok-table.ensures.sets ∙ ap (λ (b : Arena). early_source (design_of b)) c.shapes-shapes.ensures in
     let resets = c.add_resets.ensures ∙ ap (λ (g : Family). let h : Family = λ b. with_resets d clock d.processes b (g b) in h) early in
     let inputs = c.fill_kind.ensures
     ∙ ap₂ (λ (b : Arena) (s : Set4). replaced (bits_of_kind Input (design_of b)) (λ n. s) (family_of c.as_mut_slice-4.result.now)) c.shapes-shapes.ensures c.known.ensures
     ∙ ap (λ (t : List Set4). replaced (bits_of_kind Input d) (λ n. known_set) (family_of t)) (c.as_mut_slice-4.ensures.value ∙ first)
     ∙ ap (λ (f : Family). replaced (bits_of_kind Input d) (λ n. known_set) f) resets in
-    ap (λ (t : List Set4). family_of (set t c.bit.result c.only.result)) whole
-    ∙ ap₂ (λ (n : ℕ) (s : Set4). family_of (set items n s)) c.bit.ensures c.only.ensures
-    ∙ late_made d clock items below inputs
+    let last : List Set4 = c.set_clock.new.table in
+    let ends = seam len last (drop (length last) (take len (items ++ drop (length items) (take len (after ++ drop (length after) start))))) (sym (c.set_clock.auto.table ∙ c.as_mut_slice-5.ensures.len)) in
+    ap family_of ends ∙ c.set_clock.ensures
+    ∙ ap₂ (λ (n : ℕ) (t : List Set4). with_clock n (length t) (family_of t)) c.bit.ensures (c.as_mut_slice-5.ensures.value ∙ whole)
+    ∙ ap (λ (n : ℕ). with_clock clock n (family_of items)) count
+    ∙ late_made d clock (family_of items) inputs

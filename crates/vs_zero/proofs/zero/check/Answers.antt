@@ -8,13 +8,10 @@ use Rattle.vs_flat.specs.DesignOf.{design_of}
 use Rattle.vs_sets.specs.Tables.{family_of}
 use Rattle.vs_clock.specs.Tests.{IsFirst}
 use Rattle.vs_reads.proofs.ByKind.{place_at_is}
-use Rattle.vs_zero.proofs.Deciding.{clock_below, one_families, refused, none_refused}
+use Rattle.vs_zero.proofs.Deciding.{one_families, refused, none_refused}
 use Rattle.vs_zero.proofs.Settling.{both}
 use Rattle.vs_zero.proofs.Unrefused.{orderly}
 use Rattle.vs_zero.proofs.zero.check.Goals as goal
-
-pub of-requires-clause-clock : goal.of-requires-clause-clock
-of-requires-clause-clock c = clock_below (design_of c.args.typed.now) c.flat-flat.ensures.lawful.design c.requires.clock.0 c.args.clocks.now c.requires.clock.1
 
 pub returns-in-Some-clause-refused : goal.returns-in-Some-clause-refused
 returns-in-Some-clause-refused c = λ name i.

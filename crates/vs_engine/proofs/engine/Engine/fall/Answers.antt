@@ -1,4 +1,5 @@
 use Rattle.std.proofs.Common.{◌≡◌, ℕ, ◌<◌, ◌∙◌, Bool, true, false, if◌then◌else◌, refl, List, length, sym, ap, subst}
+use Rattle.vs_four.specs.declared.Bit4.TheVariants.{Zero}
 use Rattle.vs_net.specs.Queue.{Fall}
 use Rattle.vs_net.specs.Network.{write_all}
 use Rattle.vs_net.specs.Solution.{IsSlotEnd}
@@ -10,7 +11,7 @@ use Rattle.vs_program.specs.declared.compiled.Phase.TheVariants as Phase
 use Rattle.vs_program.specs.Program.{Program, calls_at, values}
 use Rattle.vs_program.specs.Compiled.{IsProgramOf, IsEnd}
 use Rattle.vs_engine.specs.Lanes.{Running, lane_slots, home_writes, state, vector}
-use Rattle.vs_engine.proofs.Slots.{fallen_is, fall_ends, reached_at, has_slot}
+use Rattle.vs_engine.proofs.Slots.{fallen_is, fall_ends, end_at, reached_at, has_slot}
 use Rattle.vs_engine.proofs.engine.Engine.fall.Goals as goal
 
 pub feed-requires-clause-room : goal.feed-requires-clause-room
@@ -23,7 +24,7 @@ store_all-requires-clause-room g c = λ b h.
     has_slot c.self.inside.compiled (length c.feed.new.file) c.self.inside.compiled.clocks c.self.invariant.in_range (c.feed.ensures.slots ∙ c.self.invariant.slots) c.self.invariant.in_range.clocks b
     (subst (λ bits. contains bits b ≡ true) c.clocks.ensures h)
 
-long : (g : _) (c : goal.After-self-1 g) → length c.self.inside.compiled.inputs ≡ length c.args.inputs.now
+long : (g : _) (c : goal.After-self-2-1 g) → length c.self.inside.compiled.inputs ≡ length c.args.inputs.now
 long g c = let P : Running _ → Type 0 = λ e. length c.args.inputs.now ≡ length e.program.inputs in sym (subst P (sym c.self.view_is) c.requires)
 
 -- the calls of a first fall, or of a later one
@@ -32,10 +33,10 @@ settling_calls p true = refl
 settling_calls p false = refl
 
 -- each lane has come to the end of the slot
-ended : (g : _) (c : goal.After-self-1 g) (d : Design) (clock i : ℕ) → IsProgramOf d clock c.self.inside.compiled → i < g.W.Word.LANES
-    → IsEnd d clock c.self.inside.compiled (lane_slots g.W.Word.lane c.self.inside.file i) (Fall (vector g.W.Word.lane c.self.inside.compiled.inputs c.args.inputs.now i)) (lane_slots g.W.Word.lane c.execute.new.file i)
+ended : (g : _) (c : goal.After-self-2-1 g) (d : Design) (clock i : ℕ) → IsProgramOf d clock c.self.inside.compiled → i < g.W.Word.LANES
+    → IsEnd d clock c.self.inside.compiled c.self.inside.level (lane_slots g.W.Word.lane c.self.inside.file i) (Fall (vector g.W.Word.lane c.self.inside.compiled.inputs c.args.inputs.now i)) (lane_slots g.W.Word.lane c.execute.new.file i)
 ended g c d clock i is in_lanes =
-    fall_ends d clock c.self.inside.compiled is c.self.inside.begun (vector g.W.Word.lane c.self.inside.compiled.inputs c.args.inputs.now i)
+    fall_ends d clock c.self.inside.compiled is c.self.inside.begun c.self.inside.level (vector g.W.Word.lane c.self.inside.compiled.inputs c.args.inputs.now i)
     (lane_slots g.W.Word.lane c.self.inside.file i) (lane_slots g.W.Word.lane c.store_all.new.file i) (lane_slots g.W.Word.lane c.execute.new.file i)
     (c.self.invariant.constants d clock i is in_lanes)
     (c.self.invariant.masks d clock i is in_lanes)
@@ -55,12 +56,12 @@ invariant_of-self g c = record {
   constants = λ d clock i is in_lanes. (ended g c d clock i is in_lanes).constants;
   masks = λ d clock i is in_lanes. (ended g c d clock i is in_lanes).masks;
   reached = λ e d clock i is in_lanes.
-      reached_at d clock c.self.inside.compiled (lane_slots g.W.Word.lane c.self.inside.file i) (lane_slots g.W.Word.lane c.execute.new.file i) (Fall (vector g.W.Word.lane c.self.inside.compiled.inputs c.args.inputs.now i)) (ended g c d clock i is in_lanes);
+      reached_at d clock c.self.inside.compiled c.self.inside.level (lane_slots g.W.Word.lane c.self.inside.file i) (lane_slots g.W.Word.lane c.execute.new.file i) (Fall (vector g.W.Word.lane c.self.inside.compiled.inputs c.args.inputs.now i)) (ended g c d clock i is in_lanes);
 }
 
 pub returns-clause-ends : goal.returns-clause-ends
 returns-clause-ends g c = λ d clock i.
     let P : Running _ → Type 0 = λ e.
     IsProgramOf d clock e.program → i < g.W.Word.LANES
-    → IsSlotEnd (network_of d clock) (state g.W.Word.lane e i) (Fall (vector g.W.Word.lane e.program.inputs c.args.inputs.now i)) (values c.self.inside.compiled.bits (lane_slots g.W.Word.lane c.execute.new.file i)) in
-    subst P c.self.view_is (λ is in_lanes. (ended g c d clock i is in_lanes).ends)
+    → IsSlotEnd (network_of d clock) (state g.W.Word.lane e i) (Fall (vector g.W.Word.lane e.program.inputs c.args.inputs.now i)) (values c.self.inside.compiled.bits c.self.inside.compiled.clock Zero (lane_slots g.W.Word.lane c.execute.new.file i)) in
+    subst P c.self.view_is (λ is in_lanes. end_at d clock c.self.inside.compiled is c.self.inside.level (lane_slots g.W.Word.lane c.self.inside.file i) (lane_slots g.W.Word.lane c.execute.new.file i) (Fall (vector g.W.Word.lane c.self.inside.compiled.inputs c.args.inputs.now i)) (ended g c d clock i is in_lanes))

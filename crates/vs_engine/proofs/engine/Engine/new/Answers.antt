@@ -38,9 +38,9 @@ invariant_of-result g c = record {
   in_range = c.initial.ensures.in_range;
   slots = c.in_ok-file.ensures.slots ∙ ap length c.initial.ensures.initial;
   constants = λ d clock i is in_lanes. subst HasConstants (sym (lane_is g c i in_lanes)) is.constants;
-  masks = λ d clock i is in_lanes. subst (HaveMasks d clock c.args.compiled.bits) (sym (lane_is g c i in_lanes)) is.begins;
+  masks = λ d clock i is in_lanes. subst (HaveMasks d clock c.args.compiled.bits X) (sym (lane_is g c i in_lanes)) is.begins;
   reached = λ e. absurd (never e);
 }
 
 pub returns-clause-idle : goal.returns-clause-idle
-returns-clause-idle g c = λ d clock i is in_lanes. ap (values c.args.compiled.bits) (lane_is g c i in_lanes) ∙ is.idle
+returns-clause-idle g c = λ d clock i is in_lanes. ap (values c.args.compiled.bits c.args.compiled.clock X) (lane_is g c i in_lanes) ∙ ap (λ (k : ℕ). values c.args.compiled.bits k X (initial_slots c.args.compiled)) is.clock_is ∙ is.idle
