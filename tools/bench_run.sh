@@ -427,7 +427,7 @@ All-at : {X : Type 0} (P : X → Type 0) (xs : List X) (i : ℕ) (x : X) → sli
 All-at P xs i x e all = subst P (get_or_from_slice_get xs i x x e) (All-get_or P xs i x (slice_get_within xs i x e) all)
 
 pub new_waves-requires-clause-lawful : goal.new_waves-requires-clause-lawful
-new_waves-requires-clause-lawful c = subst IsLawful (sym c.flat.ensures.same) c.flat.ensures.lawful
+new_waves-requires-clause-lawful g c = subst IsLawful (sym c.flat.ensures.same) c.flat.ensures.lawful
 
 pub measure-requires-clause-waves : goal.measure-requires-clause-waves
 measure-requires-clause-waves g c =
