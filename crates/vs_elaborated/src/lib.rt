@@ -5,4 +5,6 @@
 
 mod laws;
 
-pub use laws::{design_examples, elaborated_law, instance_law, refusal_examples, scope_law};
+pub use laws::{
+    design_examples, elaborated_law, instance_law, refusal_examples, scope_law, unroll_law,
+};

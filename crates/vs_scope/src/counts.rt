@@ -13,3 +13,13 @@ pub(crate) fn one_more(n: u32) -> Result<u32, AllocError>
         Some(more) => Ok(more),
     }
 }
+
+/// Two counts together. More than 32 bits count are too many for memory.
+pub(crate) fn together(a: u32, b: u32) -> Result<u32, AllocError>
+    ensures { IfOk result (λ r. r ≡ a + b) }
+{
+    match a.checked_add(b) {
+        None => Err(AllocError),
+        Some(sum) => Ok(sum),
+    }
+}

@@ -1,0 +1,22 @@
+//! Statements, and what is assigned to: the rules that they break, with each turn of a loop by itself, and how many statements loops copy (IEEE
+//! 1364-2005, clause 9 and 10.4).
+#![tactic(auto)]
+
+mod blocks;
+mod controls;
+mod layers;
+mod said;
+mod statements;
+mod targets;
+mod told;
+mod turns;
+mod values;
+mod walk;
+mod words;
+
+pub use controls::{check_control, is_clocked};
+pub use layers::Surroundings;
+pub use said::{StatementSaid, check_statement};
+pub use statements::BodyKind;
+pub use targets::check_target;
+pub use values::assigned;
