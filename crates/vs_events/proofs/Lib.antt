@@ -1,0 +1,5 @@
+pub mod Woken
+pub mod Stepping
+pub mod Ranks
+pub mod BeginningSteps
+pub mod Listening

@@ -1,0 +1,11 @@
+use Rattle.std.proofs.Common.{◌∷◌, ◌++◌, [], map, ap, ap₂, ◌∙◌}
+use Rattle.vs_events.specs.declared.beginning.Role.TheVariants as R
+use Rattle.vs_events.specs.Beginning.{is_assign}
+use Rattle.vs_events.proofs.BeginningSteps.{take_map, take_all}
+use Rattle.vs_events.proofs.beginning.assign_flags.Goals as goal
+
+pub loop-k-preserved : goal.loop-k-preserved
+loop-k-preserved c = c.in_ok-push.ensures.items ∙ ap₂ (λ bs b. bs ++ b ∷ []) c.loop-k.invariant c.is_assign.ensures ∙ take_map is_assign c.args.roles.now c.loop-k.k R.Assign c.loop-k-test.true
+
+pub returns : goal.returns
+returns c = c.loop-k.invariant ∙ ap (map is_assign) (take_all c.args.roles.now c.loop-k.k c.loop-k-test.false)

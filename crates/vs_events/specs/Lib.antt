@@ -1,0 +1,7 @@
+pub mod Hearing
+pub mod Held
+pub mod Wired
+pub mod Laws
+pub mod Kept
+pub mod Choices
+pub mod Beginning

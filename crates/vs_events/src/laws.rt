@@ -1,0 +1,31 @@
+//! What is done to the lists is what the queue does.
+
+ghost use Rattle.vs_events.specs.Beginning.{BeginningIsStart, DrivingIsNext};
+ghost use Rattle.vs_events.specs.Laws.{ActivateIsStep, ApplyIsStep, EvaluateIsStep, RunIsStep, StartIsStep, TakeIsStep, WritesAreChanges};
+ghost use Rattle.vs_events.specs.Wired.{ListeningIsHeard};
+
+/// Writes to the lists, with the listeners of a network, are the writes of its queue: the same values, and the same processes are due.
+pub fn write_law()
+    ensures { WritesAreChanges }
+{}
+
+/// What the steps of one process do to the lists is what they do to the queue.
+pub fn step_law()
+    ensures start { StartIsStep }
+    ensures evaluate { EvaluateIsStep }
+    ensures apply { ApplyIsStep }
+    ensures run { RunIsStep }
+    ensures take { TakeIsStep }
+    ensures activate { ActivateIsStep }
+{}
+
+/// A run begins with the lists of `Events::new` and what the environment drives in the first slot, and a later slot with what it drives in it, where nothing waits.
+pub fn slot_law()
+    ensures start { BeginningIsStart }
+    ensures next { DrivingIsNext }
+{}
+
+/// The listeners that a wiring was given hear exactly the changes to which they are sensitive.
+pub fn wiring_law()
+    ensures { ListeningIsHeard }
+{}

@@ -1,0 +1,16 @@
+mod Fitting
+mod WordSteps
+mod PartValues
+mod Spreading
+mod Running
+mod Lengths
+mod Called
+mod Arguments
+mod TargetSteps
+mod Named
+mod Results
+mod Operators
+mod CaseSteps
+mod Branches
+mod ByProcess
+mod Wider

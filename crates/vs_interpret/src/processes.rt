@@ -1,0 +1,71 @@
+//! What the processes of a design do, on the values of its bits.
+
+ghost use Rattle.std.specs.Prelude.{◌≡◌, ◌<◌, ◌≤◌, ℕ, length, true, false, slice_get, Some, IfOk, OnOk};
+ghost use Rattle.std.specs.List.{list_all};
+ghost use Rattle.vs_net.specs.Network as N;
+ghost use Rattle.vs_design.specs.Designs as D;
+ghost use Rattle.vs_design.specs.Fits.{fits_process};
+ghost use Rattle.vs_design.specs.Networks.{process_of};
+ghost use Rattle.vs_flat.specs.DesignOf.{design_of};
+ghost use Rattle.vs_writes.specs.Held.{state_of};
+
+use crate::public::{assignment_writes, run};
+use std::alloc::{AllocError, Global};
+use vs_design::within_law;
+use vs_flat::{Kind, lawful_law, trees_law};
+use vs_four::Bit4;
+use vs_reads::fit_process;
+use vs_shape::Shapes;
+use vs_writes::{Effect, Update};
+
+/// The writes of process p, an assign, where each bit of the design has a value, the first ones of these (IEEE 1364-2005, 6.1): those that it makes in the design's network. Of a block there are none here. Want of memory is the only error.
+pub fn assigned(
+    alloc: Global,
+    shapes: &Shapes,
+    values: &[Bit4],
+    p: u32,
+) -> Result<Update, AllocError>
+    requires there { p < length shapes.now.processes }
+    requires fits { list_all fits_process (design_of shapes.now).processes ≡ true }
+    requires values { D.bit_count (design_of shapes.now) ≤ length values.now }
+    ensures { IfOk result (λ u. (clock : ℕ) (x : D.Process) → slice_get (design_of shapes.now).processes p ≡ Some x → D.is_assign x ≡ true → u ≡ N.made (process_of (design_of shapes.now) clock x) (state_of values.now)) }
+{
+    lawful_law();
+    trees_law();
+    within_law();
+    let _ = shapes.flat();
+    match &fit_process(shapes, p).kind {
+        Kind::Assign { target, expr, .. } => {
+            assignment_writes(alloc, shapes, values, *target, *expr)
+        }
+        Kind::Block { .. } => Ok(Update::new(alloc)),
+    }
+}
+
+/// Runs process p, a block, whole, from its event control to the next (IEEE 1364-2005, 9.9.2): the bits get its blocking writes, and what it did is answered, as in the design's network. An assign does nothing here. Want of memory is the only error; the values are then left between.
+pub fn run_block(
+    alloc: Global,
+    shapes: &Shapes,
+    values: &mut [Bit4],
+    p: u32,
+) -> Result<Effect, AllocError>
+    requires there { p < length shapes.now.processes }
+    requires fits { list_all fits_process (design_of shapes.now).processes ≡ true }
+    requires values { D.bit_count (design_of shapes.now) ≤ length values.old }
+    ensures effect { IfOk result (λ f. (clock : ℕ) (x : D.Process) → slice_get (design_of shapes.now).processes p ≡ Some x → D.is_assign x ≡ false
+        → (f.writes ≡ N.made (process_of (design_of shapes.now) clock x) (state_of values.old)) × (f.updates ≡ N.updates (process_of (design_of shapes.now) clock x) (state_of values.old))) }
+    ensures state { (clock : ℕ) (x : D.Process) → slice_get (design_of shapes.now).processes p ≡ Some x → D.is_assign x ≡ false → OnOk result (state_of values.new ≡ N.write_all (state_of values.old) (N.made (process_of (design_of shapes.now) clock x) (state_of values.old))) }
+{
+    lawful_law();
+    trees_law();
+    within_law();
+    let _ = shapes.flat();
+    match &fit_process(shapes, p).kind {
+        Kind::Assign { .. } => Ok(Effect::new(alloc)),
+        Kind::Block { statement, .. } => {
+            let mut done = Effect::new(alloc);
+            run(alloc, shapes, values, *statement, &mut done)?;
+            Ok(done)
+        }
+    }
+}

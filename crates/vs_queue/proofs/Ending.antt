@@ -1,0 +1,95 @@
+-- How a run goes on, period by period: what the machine keeps from step to step.
+use Rattle.std.proofs.Common.{◌≡◌, ℕ, suc, ◌+◌, ◌-◌, ◌^◌, ◌<◌, Bool, true, false, List, [], ◌∷◌, ◌++◌, take, length, refl, sym, ap, ◌∙◌, subst, arith}
+use Rattle.std.specs.Prelude.{min}
+use Rattle.std.proofs.Math.Seq.{take-append_seam}
+use Rattle.vs_four.specs.declared.Bit4.{Bit4}
+use Rattle.vs_net.specs.Network.{Network}
+use Rattle.vs_net.specs.Queue.{Slot, Rise, Queue}
+use Rattle.vs_net.specs.Queue as Q
+use Rattle.vs_design.specs.Designs.{Design}
+use Rattle.vs_design.specs.Networks.{network_of}
+use Rattle.vs_clock.specs.Clocked.{Clocked}
+use Rattle.vs_writes.specs.Held.{state_of}
+use Rattle.vs_events.specs.Held.{Events, queue_of}
+use Rattle.vs_queue.specs.Chosen as C
+use Rattle.vs_queue.specs.Chosen.{next_seed}
+use Rattle.vs_queue.specs.Longest.{longest}
+use Rattle.vs_queue.specs.Machines.{IsAcceptedBy}
+use Rattle.vs_queue.specs.Reached.{IsReached, counted}
+use Rattle.vs_queue.specs.Running.{IsRunning}
+use Rattle.vs_queue.specs.Runs.{IsCopied, IsEnded, IsUnderWay}
+use Rattle.vs_queue.specs.Turns.{IsTurn, IsRested}
+use Rattle.vs_queue.proofs.Measure.{AreFew}
+use Rattle.vs_queue.proofs.Settles.{most_by, few_now, turned, few_on, shorter_turn}
+
+-- a list with as many in front as it has
+pub seam : (n : ℕ) (xs ys : List Bit4) → n ≡ length xs → take n (xs ++ ys) ≡ xs
+seam n xs ys h = ap {B = List Bit4} (λ m. take m (xs ++ ys)) h ∙ take-append_seam xs ys
+
+-- both copies have a value for each bit
+pub copied_on : (d : Design) (clock : ℕ) (e now : Events) (shadow next : List Bit4) → IsCopied d clock e shadow → IsRunning d clock now → state_of next ≡ state_of now.values → length next ≡ length shadow → IsCopied d clock now next
+copied_on d clock e now shadow next r running same long = record { running = running; shadow_is = same; long = long ∙ r.long ∙ r.running.inside.values ∙ sym running.inside.values }
+
+pub counted_on : (k n : ℕ) → k ≡ min (n + 1) (2 ^ 64 - 1) → k ≡ counted (suc n)
+counted_on k n h = h ∙ ap counted (let e : n + 1 ≡ suc n = omega arith in e)
+
+pub reached_as : (n : Network) (from : Queue) (order : ℕ) (q : Queue) (seed next : ℕ) (values ends : List (List Bit4)) (steps count : ℕ) → next ≡ seed → ends ≡ values → count ≡ steps → IsReached n from order q seed values steps → IsReached n from order q next ends count
+reached_as n from order q seed next values ends steps count a b c r =
+    subst (λ k. IsReached n from order q next ends k) (sym c) (subst (λ (vs : List (List Bit4)). IsReached n from order q next vs steps) (sym b) (subst (λ s. IsReached n from order q s values steps) (sym a) r))
+
+-- ---- within a slot
+
+-- a run comes as far as this one from wherever it was
+abbrev pub ComesFrom : Network → Events → ℕ → List (List Bit4) → ℕ → Events → ℕ → List (List Bit4) → ℕ → Type 0
+ComesFrom n e seed ends steps now next values count =
+    (from : Queue) (order : ℕ) (slots : List Slot) → IsReached n from order (queue_of e slots) seed ends steps → IsReached n from order (queue_of now slots) next values count
+
+abbrev pub IsFew : Design → Clocked → Events → Type 0
+IsFew d c e = (slots : List Slot) × AreFew (network_of d c.bit) (most_by d c) (queue_of e slots)
+
+pub few_first : (d : Design) (c : Clocked) (b : IsAcceptedBy d c) (e : Events) (seed : ℕ) (ends : List (List Bit4)) (steps : ℕ) → IsUnderWay d c.bit e seed ends steps → IsFew d c e
+few_first d c b e seed ends steps u = (u.slots, few_now d c b e seed ends steps u)
+
+pub few_turn : (d : Design) (c : Clocked) (e now : Events) (seed : ℕ) → IsFew d c e → ((slots : List Slot) → IsTurn (network_of d c.bit) (queue_of e slots) seed true (queue_of now slots)) → IsFew d c now
+few_turn d c e now seed few turn = (few.0, few_on (network_of d c.bit) (most_by d c) (queue_of e few.0) seed (queue_of now few.0) few.1 (turn few.0))
+
+pub turn_smaller : (d : Design) (c : Clocked) (e now : Events) (seed : ℕ) → IsFew d c e → ((slots : List Slot) → IsTurn (network_of d c.bit) (queue_of e slots) seed true (queue_of now slots))
+    → longest (network_of d c.bit) (most_by d c) (queue_of now []) < longest (network_of d c.bit) (most_by d c) (queue_of e [])
+turn_smaller d c e now seed few turn = shorter_turn (network_of d c.bit) (most_by d c) e now few.0 seed few.1 (turn few.0)
+
+pub turn_reached : (n : Network) (first e now : Events) (before seed next : ℕ) (started ends : List (List Bit4)) (begun steps count : ℕ) → ComesFrom n first before started begun e seed ends steps
+    → ((slots : List Slot) → IsTurn n (queue_of e slots) seed true (queue_of now slots)) → next ≡ next_seed seed → count ≡ counted (suc steps) → ComesFrom n first before started begun now next ends count
+turn_reached n first e now before seed next started ends begun steps count so_far turn s k = λ from order slots r.
+    reached_as n from order (queue_of now slots) (next_seed seed) next ends ends (counted (suc steps)) count s refl k (turned n from order (queue_of e slots) seed ends steps (queue_of now slots) (so_far from order slots r) (turn slots))
+
+-- a turn that does nothing
+pub over_reached : (n : Network) (first e now : Events) (before seed : ℕ) (started ends : List (List Bit4)) (begun steps : ℕ) → ComesFrom n first before started begun e seed ends steps
+    → ((slots : List Slot) → IsTurn n (queue_of e slots) seed false (queue_of now slots)) → ComesFrom n first before started begun now seed ends steps
+over_reached n first e now before seed started ends begun steps so_far turn = λ from order slots r. subst (λ (q : Queue). IsReached n from order q seed ends steps) (sym (turn slots).same) (so_far from order slots r)
+
+pub over_ended : (d : Design) (clock : ℕ) (e now : Events) (seed : ℕ) → ((slots : List Slot) → IsTurn (network_of d clock) (queue_of e slots) seed false (queue_of now slots)) → IsRested now → IsEnded d clock now
+over_ended d clock e now seed turn rests = record {
+  rested = rests;
+  over = λ slots. ap (C.possible_steps (network_of d clock)) (turn slots).same ∙ (turn slots).over;
+}
+
+-- ---- from slot to slot
+
+pub still_under_way : (d : Design) (clock : ℕ) (e now : Events) (seed next : ℕ) (ends values : List (List Bit4)) (steps count : ℕ) (slots : List Slot) (u : IsUnderWay d clock e seed ends steps) → u.slots ≡ Rise ∷ slots
+    → ((from : Queue) (order : ℕ) → IsReached (network_of d clock) from order (queue_of e (Rise ∷ slots)) seed ends steps → IsReached (network_of d clock) from order (queue_of now slots) next values count)
+    → IsUnderWay d clock now next values count
+still_under_way d clock e now seed next ends values steps count slots u is comes = record {
+  first = u.first;
+  vector = u.vector;
+  later = u.later;
+  order = u.order;
+  slots = slots;
+  begun = u.begun;
+  known = u.known;
+  resets = u.resets;
+  reached = comes (Q.start (network_of d clock) u.first u.vector u.later) u.order (subst (λ (ss : List Slot). IsReached (network_of d clock) (Q.start (network_of d clock) u.first u.vector u.later) u.order (queue_of e ss) seed ends steps) is u.reached);
+}
+
+-- a turn by what it answers
+pub turn_is : (n : Network) (e now : Events) (seed : ℕ) (more b : Bool) → more ≡ b → ((slots : List Slot) → IsTurn n (queue_of e slots) seed more (queue_of now slots)) → (slots : List Slot) → IsTurn n (queue_of e slots) seed b (queue_of now slots)
+turn_is n e now seed more b is turn slots = subst (λ (m : Bool). IsTurn n (queue_of e slots) seed m (queue_of now slots)) is (turn slots)

@@ -1,0 +1,117 @@
+-- What a turn does is a step that is drawn, or the slot is over.
+use Rattle.std.proofs.Common.{◌≡◌, ℕ, zero, suc, ◌%◌, Bool, true, false, not, ◌||◌, if◌then◌else◌, cond, List, [], ◌∷◌, filter, length, get_or, refl, sym, ap, ◌∙◌, subst, arith, Some}
+use Rattle.std.specs.Prelude.{slice_get, nat_lt}
+use Rattle.std.specs.List.{list_any}
+use Rattle.vs_net.specs.Network.{Network}
+use Rattle.vs_net.specs.Queue.{Slot, Choice, Start, Evaluate, Apply, Run, Take, Activate, Next}
+use Rattle.vs_net.specs.LevelRun.{below, is_empty}
+use Rattle.vs_design.specs.Designs.{Design}
+use Rattle.vs_design.specs.Networks.{network_of}
+use Rattle.vs_clock.specs.Clocked.{Clocked}
+use Rattle.vs_ranked.specs.Members.{members}
+use Rattle.vs_events.specs.declared.listener.Listener.{Listener}
+use Rattle.vs_events.specs.Held.{Events, queue_of}
+use Rattle.vs_events.specs.Choices.{steps_of}
+use Rattle.vs_queue.specs.Chosen.{drawn, open_steps, or_else, activation, beginning, possible_steps}
+use Rattle.vs_queue.specs.Longest.{begins_slot}
+use Rattle.vs_queue.specs.Listens.{listeners_of}
+use Rattle.vs_queue.specs.Machines.{IsAcceptedBy}
+use Rattle.vs_queue.specs.Sound.{IsSound, DrawnIsPossible}
+use Rattle.vs_queue.specs.Running.{IsRunning, stepped, IsStepped, StepsRun}
+use Rattle.vs_queue.specs.Turns.{IsTurn, IsRested}
+use Rattle.vs_queue.proofs.Choosing.{all_at}
+use Rattle.vs_queue.proofs.Possible.{steps_are_possible, members_passing}
+use Rattle.vs_queue.proofs.Stepwise.{is_step, are_steps, no_member, empty_of}
+use Rattle.vs_queue.proofs.Told.{step_by}
+
+within_slot : (c : Choice) → is_step c ≡ true → begins_slot c ≡ false
+within_slot (Start p) h = refl
+within_slot (Evaluate p) h = refl
+within_slot (Apply p) h = refl
+within_slot (Run p) h = refl
+within_slot (Take p) h = refl
+within_slot Activate h = cc
+within_slot Next h = cc
+
+pub drawn_turn : DrawnIsPossible → (d : Design) (clock : ℕ) (e now : Events) (seed : ℕ) (c : Choice) → IsRunning d clock e → slice_get (steps_of e) (drawn seed % length (steps_of e)) ≡ Some c → IsStepped d clock e c now → (slots : List Slot) → IsTurn (network_of d clock) (queue_of e slots) seed true (queue_of now slots)
+drawn_turn law d clock e now seed c r at s slots = record {
+  choice = c;
+  drawn = law (network_of d clock) e slots seed c r.sound at;
+  within = within_slot c (all_at is_step (steps_of e) (drawn seed % length (steps_of e)) c (are_steps e) at);
+  after = s.queue slots;
+}
+
+-- the machine takes the step that is drawn
+pub record IsTaken (d : Design) (clock : ℕ) (e : Events) (seed : ℕ) (c : Choice) (now : Events) : Type 0 where
+  pub drawn_is : slice_get (steps_of e) (drawn seed % length (steps_of e)) ≡ Some c
+  pub step_is : IsStepped d clock e c now
+
+pub is_taken : StepsRun → (d : Design) (c : Clocked) (b : IsAcceptedBy d c) (e now : Events) (table : List (List Listener)) → table ≡ listeners_of d → IsRunning d c.bit e → (seed count place : ℕ) → count ≡ length (steps_of e) → place ≡ drawn seed % count
+    → (x : Choice) → slice_get (steps_of e) place ≡ Some x → now ≡ stepped (network_of d c.bit) table e x → IsTaken d c.bit e seed x now
+is_taken law d c b e now table same r seed count place many which x at is =
+    let here : slice_get (steps_of e) (drawn seed % length (steps_of e)) ≡ Some x = ap (λ k. slice_get (steps_of e) (drawn seed % k)) (sym many) ∙ ap (slice_get (steps_of e)) (sym which) ∙ at in
+    record {
+      drawn_is = here;
+      step_is = subst (IsStepped d c.bit e x) (sym (is ∙ ap (λ (t : List (List Listener)). stepped (network_of d c.bit) t e x) same)) (step_by d c b law e (drawn seed % length (steps_of e)) x r here);
+    }
+
+-- ---- where no step of a process is possible
+
+any_filter : (test : ℕ → Bool) (ps : List ℕ) → list_any test ps ≡ nat_lt 0 (length (filter test ps))
+any_filter test [] = refl
+any_filter test (p ∷ ps) = go (test p) (any_filter test ps)
+  where
+    go : (c : Bool) → list_any test ps ≡ nat_lt 0 (length (filter test ps)) → (c || list_any test ps) ≡ nat_lt 0 (length (cond c (p ∷ filter test ps) (filter test ps)))
+    go true h = some (length (filter test ps))
+      where
+        some : (k : ℕ) → true ≡ nat_lt 0 (suc k)
+        some k = grind arith
+    go false h = h
+
+waits_is : (n : Network) (e : Events) → IsSound n e → list_any (λ p. not (is_empty (get_or e.waiting p []))) (below n.count) ≡ nat_lt 0 (length (members e.lates))
+waits_is n e sound =
+    any_filter (λ p. not (is_empty (get_or e.waiting p []))) (below n.count)
+    ∙ ap (λ ps. nat_lt 0 (length ps)) (sym (members_passing n e.lates (λ p. not (is_empty (get_or e.waiting p []))) (sound.held.lates ∙ sound.count) (λ p. sym (sound.lates p))))
+
+none_of : {A : Type 0} (xs : List A) → length xs ≡ 0 → xs ≡ []
+none_of [] h = refl
+none_of (x ∷ xs) h = absurd (omega (arith, h))
+
+pub mod_one : (k : ℕ) → k % 1 ≡ 0
+mod_one k = omega arith
+
+module _ (d : Design) (clock : ℕ) (e : Events) (r : IsRunning d clock e) (none : length (steps_of e) ≡ 0) where
+  abbrev n : Network
+  n = network_of d clock
+
+  pub no_steps : steps_of e ≡ []
+  no_steps = none_of (steps_of e) none
+
+  no_open : (slots : List Slot) → open_steps n (queue_of e slots) ≡ []
+  no_open slots = sym (steps_are_possible n e slots r.sound) ∙ no_steps
+
+  left : (slots : List Slot) (b : Bool) → nat_lt 0 (length (members e.lates)) ≡ b → possible_steps n (queue_of e slots) ≡ or_else (if b then (Activate ∷ []) else []) (beginning slots)
+  left slots b h =
+      ap (λ os. or_else os (or_else (activation n (queue_of e slots)) (beginning slots))) (no_open slots)
+      ∙ ap (λ c. or_else (if c then (Activate ∷ []) else []) (beginning slots)) (waits_is n e r.sound ∙ h)
+
+  pub activation_turn : (now : Events) (seed : ℕ) → nat_lt 0 (length (members e.lates)) ≡ true → IsStepped d clock e Activate now → (slots : List Slot) → IsTurn n (queue_of e slots) seed true (queue_of now slots)
+  activation_turn now seed h s slots = record {
+    choice = Activate;
+    drawn = ap (λ (cs : List Choice). slice_get cs (drawn seed % length cs)) (left slots true h) ∙ ap (λ k. slice_get (Activate ∷ []) k) (mod_one (drawn seed));
+    within = refl;
+    after = s.queue slots;
+  }
+
+  pub over_turn : (seed : ℕ) → nat_lt 0 (length (members e.lates)) ≡ false → (slots : List Slot) → IsTurn n (queue_of e slots) seed false (queue_of e slots)
+  over_turn seed h slots = record { over = left slots false h; same = refl }
+
+  few : (k : ℕ) → nat_lt 0 k ≡ false → k ≡ 0
+  few zero h = refl
+  few (suc k) h = absurd (let z = some k in cc)
+    where
+      some : (k : ℕ) → nat_lt 0 (suc k) ≡ true
+      some k = grind arith
+
+  pub rests : nat_lt 0 (length (members e.lates)) ≡ false → IsRested e
+  rests h p = empty_of (get_or e.waiting p []) (sym (r.sound.lates p) ∙ no_member e.lates 0 p (none_of (members e.lates) (few (length (members e.lates)) h)))

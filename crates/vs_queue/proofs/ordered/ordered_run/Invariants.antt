@@ -1,0 +1,14 @@
+use Rattle.vs_flat.specs.DesignOf.{design_of}
+use Rattle.vs_queue.specs.Coming.{ComesTo}
+use Rattle.vs_queue.specs.Runs.{IsCopied, IsEnded}
+use Rattle.vs_queue.proofs.ordered.ordered_run.Given as goal
+
+abbrev pub invariant-loop-k : goal.invariant-loop-k
+invariant-loop-k l =
+    let d = design_of l.typed in
+    let clock = l.clocks.bit in
+    record {
+      copied : IsCopied d clock l.run.events l.run.shadow.items;
+      ended : IsEnded d clock l.run.events;
+      come : ComesTo d clock l.order l.vectors l.k l.run.events l.run.seed l.run.ends l.run.steps;
+    }

@@ -1,0 +1,37 @@
+-- What a run of a design's queue has done so far.
+use Rattle.std.specs.Prelude.{◌≡◌, ℕ, List, length}
+use Rattle.vs_four.specs.declared.Bit4.{Bit4}
+use Rattle.vs_net.specs.Network.{State}
+use Rattle.vs_net.specs.Queue.{Slot, start, IsFirst}
+use Rattle.vs_net.specs.Laws.{IsKnownVector, AreKnownResets}
+use Rattle.vs_design.specs.Designs.{Design}
+use Rattle.vs_design.specs.Networks.{network_of}
+use Rattle.vs_writes.specs.Held.{state_of}
+use Rattle.vs_events.specs.Held.{Events, queue_of}
+use Rattle.vs_queue.specs.Chosen as C
+use Rattle.vs_queue.specs.Reached.{IsReached}
+use Rattle.vs_queue.specs.Running.{IsRunning}
+use Rattle.vs_queue.specs.Turns.{IsRested}
+
+-- the lists run, and the other copy of the values is the same
+pub record IsCopied (d : Design) (clock : ℕ) (e : Events) (shadow : List Bit4) : Type 0 where
+  pub running : IsRunning d clock e
+  pub shadow_is : state_of shadow ≡ state_of e.values
+  pub long : length shadow ≡ length e.values
+
+-- a run of the design on a drive that is known as far as it has to be has come to these lists
+pub record IsUnderWay (d : Design) (clock : ℕ) (e : Events) (seed : ℕ) (ends : List (List Bit4)) (steps : ℕ) : Type 0 where
+  pub first : State
+  pub vector : State
+  pub later : List State
+  pub order : ℕ
+  pub slots : List Slot
+  pub begun : IsFirst (network_of d clock) first
+  pub known : IsKnownVector (network_of d clock) vector
+  pub resets : AreKnownResets (network_of d clock) later
+  pub reached : IsReached (network_of d clock) (start (network_of d clock) first vector later) order (queue_of e slots) seed ends steps
+
+-- nothing is left in the slot
+pub record IsEnded (d : Design) (clock : ℕ) (e : Events) : Type 0 where
+  pub rested : IsRested e
+  pub over : (slots : List Slot) → C.possible_steps (network_of d clock) (queue_of e slots) ≡ C.beginning slots

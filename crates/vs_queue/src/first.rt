@@ -1,0 +1,248 @@
+//! What a run of a design begins with (IEEE 1364-2005, 4.2 and 11.4).
+
+ghost use Rattle.std.specs.Prelude.{◌≡◌, ◌<◌, ◌+◌, ◌≤◌, ◌||◌, ◌&&◌, not, ◌∷◌, ℕ, Bool, List, length, map, filter, replicate, slice_set, false, true, if◌then◌else◌, IfOk, OnOk};
+ghost use Rattle.std.specs.List.{list_any};
+ghost use Rattle.vs_design.specs.Designs as D;
+ghost use Rattle.vs_design.specs.Footprints.{contains, net_bits};
+ghost use Rattle.vs_design.specs.Networks.{idle_value};
+ghost use Rattle.vs_design.specs.Values.{count_from};
+ghost use Rattle.vs_flat.specs.DesignOf.{design_of};
+ghost use Rattle.vs_reads.specs.Footprint.{footprints_of};
+ghost use Rattle.vs_writes.specs.Held.{state_of};
+ghost use Rattle.vs_queue.specs.Beginnings.{all_roles, role_of_kind, roles_of};
+ghost use Rattle.vs_queue.specs.Spare.{is_spare, value_count};
+ghost use Rattle.vs_queue.specs.First.{first_seed, first_value, flag_at, flagged, idle_by, is_assign_kind};
+ghost use Rattle.vs_queue.specs.Ordered.{driven_bits, drawn_values, drives, seed_after, x_or_z};
+
+use crate::seeds::{drawn, next_seed};
+use std::alloc::{AllocError, Global};
+use vs_events::Role;
+use vs_flat::{Flat, Kind, Signal, bits_of, count_bits, lawful_law, trees_law};
+use vs_four::Bit4;
+use vs_reads::{Footprints, footprint_law};
+use vs_typed::Typed;
+
+/// Whether a process of this kind is an assign.
+fn is_assign(kind: &Kind) -> bool
+    ensures { result ≡ is_assign_kind kind.now }
+{
+    matches!(kind, Kind::Assign { .. })
+}
+
+/// Whether a signal is a net, and no input.
+fn is_net(signal: &Signal) -> bool
+    ensures { result ≡ (signal.now.net && not signal.now.input) }
+{
+    signal.net && !signal.input
+}
+
+/// The role of a process of this kind.
+fn role_of(kind: &Kind) -> Role
+    ensures { result ≡ role_of_kind kind.now }
+{
+    match kind {
+        Kind::Assign { .. } => Role::Assign,
+        Kind::Block { .. } => Role::Block,
+    }
+}
+
+/// The roles of the processes, and then of the inputs of the top. The only error is that there is no memory.
+fn roles_of(alloc: Global, flat: &Flat) -> Result<Vec<Role>, AllocError>
+    ensures { IfOk result (λ v. v.items ≡ roles_of (design_of flat.now)) }
+{
+    trees_law();
+    let mut roles = Vec::new(alloc);
+    for p in 0..flat.process_count() {
+        roles.push(role_of(&flat.process(p).kind))?;
+    }
+    for i in 0..flat.top_inputs().len() {
+        roles.push(Role::Input)?;
+    }
+    Ok(roles)
+}
+
+/// Whether the clock is none of the design's bits.
+pub(crate) fn is_spare(flat: &Flat, clock: u32) -> bool
+    ensures { result ≡ is_spare (design_of flat.now) clock }
+{
+    trees_law();
+    clock >= count_bits(flat)
+}
+
+/// The roles of the processes, of the inputs of the top, and of a clock that is none of the design's bits. The only error is that there is no memory.
+pub(crate) fn all_roles(alloc: Global, flat: &Flat, clock: u32) -> Result<Vec<Role>, AllocError>
+    ensures { IfOk result (λ v. v.items ≡ all_roles (design_of flat.now) clock) }
+{
+    let mut roles = roles_of(alloc, flat)?;
+    if is_spare(flat, clock) {
+        roles.push(Role::Input)?;
+        return Ok(roles);
+    }
+    Ok(roles)
+}
+
+/// Sets the flag of this bit.
+fn set_flag(flags: &mut Vec<bool>, bit: usize)
+    requires { bit < length flags.old.items }
+    ensures { flags.new.items ≡ slice_set flags.old.items bit true }
+{
+    flags[bit] = true;
+}
+
+/// Sets the flags of these bits.
+fn flag_bits(flags: &mut Vec<bool>, bits: &[u32])
+    requires { (b : ℕ) → contains bits.now b ≡ true → b < length flags.old.items }
+    ensures count { length flags.new.items ≡ length flags.old.items }
+    ensures flags { (b : ℕ) → flag_at flags.new.items b ≡ (flag_at flags.old.items b || contains bits.now b) }
+{
+    for bit in bits {
+        set_flag(flags, *bit as usize);
+    }
+}
+
+/// Sets the flags of so many bits from the first on.
+fn flag_run(flags: &mut Vec<bool>, first: u32, count: u32)
+    requires { first + count ≤ length flags.old.items }
+    ensures count { length flags.new.items ≡ length flags.old.items }
+    ensures flags { (b : ℕ) → flag_at flags.new.items b ≡ (flag_at flags.old.items b || contains (count_from first count) b) }
+{
+    for k in 0..count {
+        set_flag(flags, first as usize + k as usize);
+    }
+}
+
+/// By bit whether it is a net's.
+fn net_flags(alloc: Global, typed: &Typed) -> Result<Vec<bool>, AllocError>
+    ensures count { IfOk result (λ v. length v.items ≡ D.bit_count (design_of typed.now)) }
+    ensures flags { IfOk result (λ v. (b : ℕ) → flag_at v.items b ≡ contains (net_bits (design_of typed.now)) b) }
+{
+    trees_law();
+    lawful_law();
+    let flat = typed.flat();
+    let mut flags = vec![in alloc; false; count_bits(flat) as usize]?;
+    for n in 0..flat.signal_count() {
+        let signal = flat.signal(n);
+        if is_net(signal) {
+            flag_run(&mut flags, signal.first_bit, bits_of(signal));
+        }
+    }
+    Ok(flags)
+}
+
+/// By bit whether an assign writes it.
+fn driven_flags(
+    alloc: Global,
+    typed: &Typed,
+    footprints: &Footprints,
+) -> Result<Vec<bool>, AllocError>
+    requires { footprints.now ≡ footprints_of (design_of typed.now) }
+    ensures count { IfOk result (λ v. length v.items ≡ D.bit_count (design_of typed.now)) }
+    ensures flags { IfOk result (λ v. (b : ℕ) → flag_at v.items b ≡ list_any (drives b) (design_of typed.now).processes) }
+{
+    trees_law();
+    lawful_law();
+    footprint_law();
+    let flat = typed.flat();
+    let mut flags = vec![in alloc; false; count_bits(flat) as usize]?;
+    for p in 0..flat.process_count() {
+        if is_assign(&flat.process(p).kind) {
+            flag_bits(&mut flags, footprints.writes(p));
+        }
+    }
+    Ok(flags)
+}
+
+/// What is drawn for a bit: even is x, odd is z.
+fn x_or_z(draw: u32) -> Bit4
+    ensures { result ≡ x_or_z draw }
+{
+    if draw % 2 == 0 { Bit4::X } else { Bit4::Z }
+}
+
+/// The value that a bit begins with: of a driven net it is drawn.
+fn first_value(net: bool, driven: bool, seed: u64) -> Bit4
+    ensures { result ≡ first_value net driven seed }
+{
+    if !net {
+        Bit4::X
+    } else if driven {
+        x_or_z(drawn(seed))
+    } else {
+        Bit4::Z
+    }
+}
+
+/// The generator after that.
+fn seed_behind(net: bool, driven: bool, seed: u64) -> u64
+    ensures { result ≡ first_seed net driven seed }
+{
+    if net && driven { next_seed(seed) } else { seed }
+}
+
+/// The values that bits begin with, where these are nets' and these are driven, and the generator after what was drawn for them.
+fn values_by(
+    alloc: Global,
+    nets: &[bool],
+    driven: &[bool],
+    order: u64,
+) -> Result<(Vec<Bit4>, u64), AllocError>
+    requires { length driven.now ≡ length nets.now }
+    ensures count { IfOk result (λ r. length r.0.items ≡ length nets.now) }
+    ensures values { IfOk result (λ r. state_of r.0.items ≡ drawn_values (flagged nets.now driven.now) order (idle_by nets.now)) }
+    ensures seed { IfOk result (λ r. r.1 ≡ seed_after (flagged nets.now driven.now) order) }
+{
+    let mut values = Vec::new(alloc);
+    let mut seed = order;
+    for b in 0..nets.len() {
+        values.push(first_value(nets[b], driven[b], seed))?;
+        seed = seed_behind(nets[b], driven[b], seed);
+    }
+    Ok((values, seed))
+}
+
+/// The values that the bits of a design begin with, drawn for nets that assigns drive, and the generator after that. The only error is that there is no memory.
+fn first_values(
+    alloc: Global,
+    typed: &Typed,
+    footprints: &Footprints,
+    order: u64,
+) -> Result<(Vec<Bit4>, u64), AllocError>
+    requires { footprints.now ≡ footprints_of (design_of typed.now) }
+    ensures count { IfOk result (λ r. length r.0.items ≡ D.bit_count (design_of typed.now)) }
+    ensures values { IfOk result (λ r. state_of r.0.items ≡ drawn_values (driven_bits (design_of typed.now)) order (idle_value (design_of typed.now))) }
+    ensures seed { IfOk result (λ r. r.1 ≡ seed_after (driven_bits (design_of typed.now)) order) }
+{
+    let nets = net_flags(alloc, typed)?;
+    let driven = driven_flags(alloc, typed, footprints)?;
+    values_by(alloc, nets.as_slice(), driven.as_slice(), order)
+}
+
+/// An x behind these values, where there is to be one.
+fn add_spare(values: &mut Vec<Bit4>, spare: bool) -> Result<(), AllocError>
+    ensures count { OnOk result (length values.new.items ≡ length values.old.items + (if spare then 1 else 0)) }
+    ensures same { OnOk result (state_of values.new.items ≡ state_of values.old.items) }
+{
+    if spare {
+        values.push(Bit4::X)?;
+        return Ok(());
+    }
+    Ok(())
+}
+
+/// The values that a run begins with: those of the bits of the design, and x for a clock that is none of them; and the generator after that. The only error is that there is no memory.
+pub(crate) fn all_values(
+    alloc: Global,
+    typed: &Typed,
+    footprints: &Footprints,
+    clock: u32,
+    order: u64,
+) -> Result<(Vec<Bit4>, u64), AllocError>
+    requires { footprints.now ≡ footprints_of (design_of typed.now) }
+    ensures count { IfOk result (λ r. length r.0.items ≡ value_count (design_of typed.now) clock) }
+    ensures values { IfOk result (λ r. state_of r.0.items ≡ drawn_values (driven_bits (design_of typed.now)) order (idle_value (design_of typed.now))) }
+    ensures seed { IfOk result (λ r. r.1 ≡ seed_after (driven_bits (design_of typed.now)) order) }
+{
+    let (mut values, seed) = first_values(alloc, typed, footprints, order)?;
+    add_spare(&mut values, is_spare(typed.flat(), clock))?;
+    Ok((values, seed))
+}

@@ -1,0 +1,150 @@
+//! The run of a design's queue that a number chooses.
+
+ghost use Rattle.std.specs.Prelude.{◌≡◌, ◌<◌, ◌+◌, ◌∷◌, ℕ, List, length, map, IfOk, OnOk};
+ghost use Rattle.vs_net.specs.Network.{State};
+ghost use Rattle.vs_net.specs.Queue.{Rise, slots_of, start};
+ghost use Rattle.vs_net.specs.Laws.{AreKnownResets, IsKnownVector};
+ghost use Rattle.vs_net.specs.Solution.{IsSolution, beginning};
+ghost use Rattle.vs_design.specs.Designs as D;
+ghost use Rattle.vs_design.specs.Networks.{idle_value, network_of};
+ghost use Rattle.vs_events.specs.Held.{queue_of};
+ghost use Rattle.vs_flat.specs.DesignOf.{design_of};
+ghost use Rattle.vs_reads.specs.Footprint.{footprints_of};
+ghost use Rattle.vs_writes.specs.Held.{state_of};
+ghost use Rattle.vs_queue.specs.Coming.{ComesTo};
+ghost use Rattle.vs_queue.specs.Driven.{AreGiven, AreVectors, IsKnownDrive, data_inputs, Vector as Given};
+ghost use Rattle.vs_queue.specs.Machines.{IsAcceptedBy, IsMachine};
+ghost use Rattle.vs_queue.specs.Ordered.{IsOrderedRun, driven_bits, drawn_values, seed_after};
+ghost use Rattle.vs_queue.specs.Reached.{IsReached};
+ghost use Rattle.vs_queue.specs.Runs.{IsCopied, IsEnded};
+
+use crate::first::{all_roles, all_values};
+use crate::laws::{chosen_law, first_law, keeping_law};
+use crate::machine::Machine;
+use crate::run::Run;
+use crate::vector::{Ends, Vector};
+use crate::wires::wiring_of;
+use std::alloc::{AllocError, Global};
+use vs_clock::Clocks;
+use vs_design::order_law;
+use vs_events::{Events, slot_law};
+use vs_reads::Footprints;
+use vs_typed::Typed;
+
+/// What a run begins with: nothing has been done, and in the first slot the clock falls with this vector.
+fn begin(
+    machine: &Machine,
+    footprints: &Footprints,
+    vector: &Vector,
+    order: u64,
+) -> Result<Run, AllocError>
+    requires machine { IsMachine machine.now.typed.now machine.now.clocks.now machine.now.wiring.now }
+    requires footprints { footprints.now ≡ footprints_of (design_of machine.now.typed.now) }
+    requires given { (v : State) × AreGiven (data_inputs machine.now.clocks.now.bit (D.top_inputs (design_of machine.now.typed.now))) vector.now v }
+    ensures copied { IfOk result (λ r. IsCopied (design_of machine.now.typed.now) machine.now.clocks.now.bit r.events r.shadow.items) }
+    ensures reached { IfOk result (λ r. (v : State) (later : List State) → AreGiven (data_inputs machine.now.clocks.now.bit (D.top_inputs (design_of machine.now.typed.now))) vector.now v
+        → let d = design_of machine.now.typed.now in let n = network_of d machine.now.clocks.now.bit in
+        IsReached n (start n (drawn_values (driven_bits d) order (idle_value d)) v later) (seed_after (driven_bits d) order) (queue_of r.events (Rise ∷ slots_of later)) r.seed r.ends r.steps) }
+{
+    slot_law();
+    keeping_law();
+    let alloc = machine.alloc;
+    let typed = machine.typed;
+    let clock = machine.clocks.bit();
+    let (values, seed) = all_values(alloc, typed, footprints, clock, order)?;
+    let shadow = Vec::from_slice(alloc, values.as_slice())?;
+    let roles = all_roles(alloc, typed.flat(), clock)?;
+    let mut events = Events::new(alloc, roles.as_slice(), values)?;
+    machine.drive(&mut events, Some(vector))?;
+    let ends = Ends::new(alloc);
+    Ok(Run {
+        events,
+        shadow,
+        seed,
+        ends,
+        steps: 0,
+    })
+}
+
+/// The first period: the clock falls with the first vector, and rises.
+fn first_period(
+    machine: &Machine,
+    footprints: &Footprints,
+    vectors: &[Vector],
+    order: u64,
+) -> Result<Run, AllocError>
+    requires machine { IsMachine machine.now.typed.now machine.now.clocks.now machine.now.wiring.now }
+    requires footprints { footprints.now ≡ footprints_of (design_of machine.now.typed.now) }
+    requires drive { IsKnownDrive (design_of machine.now.typed.now) machine.now.clocks.now.bit vectors.now }
+    ensures copied { IfOk result (λ r. IsCopied (design_of machine.now.typed.now) machine.now.clocks.now.bit r.events r.shadow.items) }
+    ensures ended { IfOk result (λ r. IsEnded (design_of machine.now.typed.now) machine.now.clocks.now.bit r.events) }
+    ensures come { IfOk result (λ r. ComesTo (design_of machine.now.typed.now) machine.now.clocks.now.bit order vectors.now 1 r.events r.seed r.ends r.steps) }
+{
+    first_law();
+    let mut run = begin(machine, footprints, &vectors[0], order)?;
+    machine.rise(&mut run)?;
+    Ok(run)
+}
+
+/// A later period, that of vector k.
+fn next_period(
+    machine: &Machine,
+    run: &mut Run,
+    vectors: &[Vector],
+    k: usize,
+) -> Result<(), AllocError>
+    requires machine { IsMachine machine.now.typed.now machine.now.clocks.now machine.now.wiring.now }
+    requires drive { IsKnownDrive (design_of machine.now.typed.now) machine.now.clocks.now.bit vectors.now }
+    requires there { k < length vectors.now }
+    requires copied { IsCopied (design_of machine.now.typed.now) machine.now.clocks.now.bit run.old.events run.old.shadow.items }
+    requires ended { IsEnded (design_of machine.now.typed.now) machine.now.clocks.now.bit run.old.events }
+    requires come { (order : ℕ) × ComesTo (design_of machine.now.typed.now) machine.now.clocks.now.bit order vectors.now k run.old.events run.old.seed run.old.ends run.old.steps }
+    ensures copied { OnOk result (IsCopied (design_of machine.now.typed.now) machine.now.clocks.now.bit run.new.events run.new.shadow.items) }
+    ensures ended { OnOk result (IsEnded (design_of machine.now.typed.now) machine.now.clocks.now.bit run.new.events) }
+    ensures come { (order : ℕ) → ComesTo (design_of machine.now.typed.now) machine.now.clocks.now.bit order vectors.now k run.old.events run.old.seed run.old.ends run.old.steps
+        → OnOk result (ComesTo (design_of machine.now.typed.now) machine.now.clocks.now.bit order vectors.now (k + 1) run.new.events run.new.seed run.new.ends run.new.steps) }
+{
+    first_law();
+    machine.begin_slot(run, Some(&vectors[k]))?;
+    machine.rise(run)
+}
+
+/// Executes the event queue of an accepted design (IEEE 1364-2005, clause 11) in the order that a number chooses, on these vectors, one for each period of the clock: the values of all bits at the end of each slot, behind those of the design's bits that of a clock that is none of them, and how many steps were taken, 2^64 - 1 if there are more. The only error is that there is no memory.
+///
+/// There is one vector at least. A vector has a value of its length for each data input; the first one is known, and so are the inputs of resets in the others.
+///
+/// The run is exactly the one that the number chooses (`IsChosen`), so by the law of every order its slots end with the one solution.
+pub fn ordered_run(
+    alloc: Global,
+    typed: &Typed,
+    footprints: &Footprints,
+    clocks: &Clocks,
+    vectors: &[Vector],
+    order: u64,
+) -> Result<(Ends, u64), AllocError>
+    requires accepted { IsAcceptedBy (design_of typed.now) clocks.now }
+    requires footprints { footprints.now ≡ footprints_of (design_of typed.now) }
+    requires drive { IsKnownDrive (design_of typed.now) clocks.now.bit vectors.now }
+    ensures run { IfOk result (λ r. (first : State) (later : List State) → AreVectors (design_of typed.now) clocks.now.bit vectors.now (first ∷ later) → IsKnownVector (network_of (design_of typed.now) clocks.now.bit) first
+        → AreKnownResets (network_of (design_of typed.now) clocks.now.bit) later → IsOrderedRun (design_of typed.now) clocks.now.bit order first later r.0 r.1) }
+    ensures solution { IfOk result (λ r. (first : State) (later : List State) → AreVectors (design_of typed.now) clocks.now.bit vectors.now (first ∷ later) → IsKnownVector (network_of (design_of typed.now) clocks.now.bit) first
+        → AreKnownResets (network_of (design_of typed.now) clocks.now.bit) later → let n = network_of (design_of typed.now) clocks.now.bit in IsSolution n (beginning n) (slots_of (first ∷ later)) (map state_of r.0)) }
+{
+    first_law();
+    chosen_law();
+    order_law();
+    vs_design::lawful_law();
+    let wiring = wiring_of(alloc, typed, footprints, clocks)?;
+    let machine = Machine {
+        alloc,
+        typed,
+        clocks,
+        wiring: &wiring,
+    };
+    let mut run = first_period(&machine, footprints, vectors, order)?;
+    for k in 1..vectors.len() {
+        next_period(&machine, &mut run, vectors, k)?;
+    }
+    run.ends.push(alloc, run.events.values())?;
+    Ok((run.ends, run.steps))
+}
