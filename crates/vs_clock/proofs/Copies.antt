@@ -1,6 +1,6 @@
--- Input ports that copy a bit.
-use Rattle.std.proofs.Common.{◌≡◌, ℕ, ◌+◌, ◌<◌, Bool, true, false, List, [], ◌∷◌, ◌++◌, ◌||◌, ◌&&◌, ◌==◌, refl, sym, ap, ◌∙◌, subst, eqb-true, eq-eqb, get_or, set, take, length, Some, None, Option, is_some, ◌≢◌, cond, get_or-set_same, get_or-set_other}
-use Rattle.std.specs.Prelude.{slice_get, unwrap_or}
+-- Assigns that copy a bit.
+use Rattle.std.proofs.Common.{◌≡◌, ℕ, ◌+◌, ◌<◌, Bool, true, false, List, [], ◌∷◌, ◌++◌, ◌||◌, ◌&&◌, ◌==◌, refl, sym, ap, ◌∙◌, subst, eqb-true, eq-eqb, get_or, set, take, length, Some, None, Option, ◌≢◌, cond, get_or-set_same, get_or-set_other}
+use Rattle.std.specs.Prelude.{slice_get}
 use Rattle.std.proofs.Math.ListN.{length-set}
 use Rattle.std.proofs.lemmas.List.{take_more}
 use Rattle.std.proofs.lemmas.List.Folds.{list_any-append}
@@ -8,16 +8,14 @@ use Rattle.std.proofs.lemmas.Option.{slice_get_within, get_or_from_slice_get}
 use Rattle.vs_design.specs.Expressions as E
 use Rattle.vs_design.specs.Expressions.{Signal, signal_length, Expression, Name, At}
 use Rattle.vs_design.specs.Values.{count_from, bits_of_signal}
-use Rattle.vs_design.specs.Statements.{Whole, PartOf, WordOf, Both}
-use Rattle.vs_design.specs.Designs.{Process, Written, InputPort, OutputPort, Continuous, Always, Design, bit_count}
+use Rattle.vs_design.specs.Statements.{Target, Whole, PartOf, WordOf, Both}
+use Rattle.vs_design.specs.Designs.{Port, Process, Continuous, Always, Design, bit_count}
 use Rattle.vs_design.specs.Footprints.{contains, all_reads, read_bits, writes_of, waits_of}
 use Rattle.vs_design.specs.Clocks.{name_of}
 use Rattle.vs_design.specs.Elaborated.{IsLawfulDesign}
 use Rattle.vs_design.specs.Laws.{BitsOfDesign}
-use Rattle.vs_flat.specs.Targets.{target_of}
-use Rattle.vs_flat.specs.Trees.{no_signal, target_tree}
 use Rattle.vs_clock.specs.Spread.{targets_at}
-use Rattle.vs_clock.specs.Ports.{one_bit, bit_of, both_bits, port_bits, is_copy, copies, AreTargets}
+use Rattle.vs_clock.specs.Ports.{one_bit, bit_of, both_bits, whole_bit, port_bits, is_copy, copies, AreTargets}
 use Rattle.vs_reads.proofs.Tests.{by_test, either_way, or_left, or_right, contains-append, contains_head}
 
 same_other : (q p : ℕ) → (q == p) ≡ false → q ≡ p → ⊥
@@ -27,32 +25,17 @@ or_nothing : (a : Bool) → (a || false) ≡ a
 or_nothing true = refl
 or_nothing false = refl
 
--- a name as a target
-named_target : (e : Expression) (s : Signal) → name_of e ≡ Some s → target_of e ≡ Some (Whole s)
-named_target (E.Literal bits signed sized) s h = cc
-named_target (Name signal) s h = let e : signal ≡ s = cc in ap (λ z. Some (Whole z)) e
-named_target (E.Select source part index) s h = cc
-named_target (E.Unary op a) s h = cc
-named_target (E.Binary op a b) s h = cc
-named_target (E.Word signal index) s h = cc
-named_target (E.Call header statement arguments) s h = cc
-named_target (E.Choice c p q) s h = cc
-named_target (E.Join high low) s h = cc
-named_target (E.Repeat count a) s h = cc
-named_target (At place e) s h = named_target e s h
+-- ---- what an assign copies, by its target
 
-pub named_tree : (e : Expression) (s : Signal) → name_of e ≡ Some s → target_tree e ≡ Whole s
-named_tree e s h = ap (λ o. unwrap_or o (Whole no_signal)) (named_target e s h)
+none_right : (o : Option ℕ) → both_bits o None ≡ None
+none_right None = refl
+none_right (Some b) = refl
 
--- an input port's assign
-pub port_is : (place target_place : ℕ) (target e : Expression) → is_some (name_of target) ≡ true → port_bits (Continuous place InputPort target_place (target_tree target) e) ≡ both_bits (bit_of (name_of e)) (bit_of (name_of target))
-port_is place target_place target e h = go (name_of target) refl h
-  where
-    go : (o : Option Signal) → name_of target ≡ o → is_some o ≡ true → port_bits (Continuous place InputPort target_place (target_tree target) e) ≡ both_bits (bit_of (name_of e)) (bit_of (name_of target))
-    go None f k = cc
-    go (Some s) f k =
-        ap (λ t. port_bits (Continuous place InputPort target_place t e)) (named_tree target s f)
-        ∙ sym (ap (λ o. both_bits (bit_of (name_of e)) (bit_of o)) f)
+pub whole_port : (place target_place : ℕ) (port : Port) (t : Target) (e : Expression) → both_bits (bit_of (name_of e)) (whole_bit t) ≡ port_bits (Continuous place port target_place t e)
+whole_port place target_place port (Whole signal) e = refl
+whole_port place target_place port (PartOf signal part index) e = none_right (bit_of (name_of e))
+whole_port place target_place port (WordOf signal index) e = none_right (bit_of (name_of e))
+whole_port place target_place port (Both high low) e = none_right (bit_of (name_of e))
 
 -- ---- the bits that are copied are bits of the design
 
@@ -88,12 +71,10 @@ both_are (Some x) (Some y) b t h = (ap Some (ap (λ (p : ℕ × ℕ). p.0) (some
     some_same a b e = cc
 
 copy_in : (x : Process) (b t : ℕ) → port_bits x ≡ Some (b, t) → (contains (all_reads x) b ≡ true) × (contains (writes_of x) t ≡ true)
-copy_in (Continuous place Written target_place target e) b t h = cc
-copy_in (Continuous place InputPort target_place (Whole signal) e) b t h = let p = both_are (bit_of (name_of e)) (one_bit signal) b t h in (name_read e b p.0, one_is signal t p.1)
-copy_in (Continuous place InputPort target_place (PartOf signal part index) e) b t h = cc
-copy_in (Continuous place InputPort target_place (WordOf signal index) e) b t h = cc
-copy_in (Continuous place InputPort target_place (Both high low) e) b t h = cc
-copy_in (Continuous place OutputPort target_place target e) b t h = cc
+copy_in (Continuous place port target_place (Whole signal) e) b t h = let p = both_are (bit_of (name_of e)) (one_bit signal) b t h in (name_read e b p.0, one_is signal t p.1)
+copy_in (Continuous place port target_place (PartOf signal part index) e) b t h = cc
+copy_in (Continuous place port target_place (WordOf signal index) e) b t h = cc
+copy_in (Continuous place port target_place (Both high low) e) b t h = cc
 copy_in (Always place star events statement) b t h = cc
 
 pub copy_below : BitsOfDesign → (d : Design) → IsLawfulDesign d → (p : ℕ) (x : Process) (b t : ℕ) → slice_get d.processes p ≡ Some x → port_bits x ≡ Some (b, t) → (b < bit_count d) × (t < bit_count d)

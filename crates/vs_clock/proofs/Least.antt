@@ -1,4 +1,4 @@
--- The nets that a bit leads to through input ports, and the labels that spread along them.
+-- The nets that a bit leads to through assigns that copy it, and the labels that spread along them.
 use Rattle.std.proofs.Common.{◌≡◌, ℕ, zero, suc, ◌+◌, ◌<◌, Bool, true, false, List, [], ◌∷◌, ◌++◌, ◌||◌, ◌&&◌, ◌==◌, refl, sym, ap, ◌∙◌, subst, eqb-true, eq-eqb, get_or, take, length, arith, Some, None, Option, is_some, find, if◌then◌else◌, nat_lt, inl, inr}
 use Rattle.std.specs.Prelude.{slice_get}
 use Rattle.std.proofs.lemmas.Bool.{ltb-true, ltb-false}
@@ -8,7 +8,7 @@ use Rattle.std.proofs.Math.Seq.{take-append_seam}
 use Rattle.std.proofs.Math.Nat.{le_refl}
 use Rattle.vs_design.specs.Expressions.{Signal, signal_length}
 use Rattle.vs_design.specs.Statements.{Whole, PartOf, WordOf, Both}
-use Rattle.vs_design.specs.Designs.{Process, Written, InputPort, OutputPort, Continuous, Always, Design, bit_count}
+use Rattle.vs_design.specs.Designs.{Process, Continuous, Always, Design, bit_count}
 use Rattle.vs_design.specs.Footprints.{contains}
 use Rattle.vs_design.specs.Clocks.{name_of, is_one_of, port_target, port_targets, nets_within, clock_nets}
 use Rattle.vs_design.specs.Elaborated.{IsLawfulDesign}
@@ -62,8 +62,7 @@ hits nets t None = false
 hits nets t (Some (from, to)) = contains nets from && (t == to)
 
 pub target_hits : (nets : List ℕ) (x : Process) (t : ℕ) → contains (port_target nets x) t ≡ hits nets t (port_bits x)
-target_hits nets (Continuous place Written target_place target e) t = refl
-target_hits nets (Continuous place InputPort target_place (Whole signal) e) t = go (name_of e) (signal_length signal == 1)
+target_hits nets (Continuous place port target_place (Whole signal) e) t = go (name_of e) (signal_length signal == 1)
   where
     and_nothing : (a : Bool) → (a && false) ≡ false
     and_nothing true = refl
@@ -81,10 +80,9 @@ target_hits nets (Continuous place InputPort target_place (Whole signal) e) t = 
             last false = refl
         step true false = ap {B = Bool} (λ c. contains (if c then (signal.first ∷ []) else []) t) (and_nothing (contains nets s.first))
         step false k = refl
-target_hits nets (Continuous place InputPort target_place (PartOf signal part index) e) t = refl
-target_hits nets (Continuous place InputPort target_place (WordOf signal index) e) t = refl
-target_hits nets (Continuous place InputPort target_place (Both high low) e) t = refl
-target_hits nets (Continuous place OutputPort target_place target e) t = refl
+target_hits nets (Continuous place port target_place (PartOf signal part index) e) t = refl
+target_hits nets (Continuous place port target_place (WordOf signal index) e) t = refl
+target_hits nets (Continuous place port target_place (Both high low) e) t = refl
 target_hits nets (Always place star events statement) t = refl
 
 -- what a port leads to from a net

@@ -1,5 +1,6 @@
 pub mod Single
 pub mod Copies
+pub mod Wholes
 pub mod Spreading
 pub mod ByKind
 pub mod Least

@@ -1,5 +1,5 @@
 -- The labels of the bits that copy the clock; where there is no clock, one more label behind those of the design's bits.
-use Rattle.std.proofs.Common.{◌≡◌, ℕ, ◌+◌, ◌≤◌, ◌<◌, Bool, true, false, List, [], ◌∷◌, ◌++◌, ◌||◌, ◌==◌, refl, sym, ap, ◌∙◌, subst, eqb-true, eq-eqb, length, length-append, arith, Some, None, Option, Vec, Global, Result, Ok, Err, is_some, find, if◌then◌else◌, ◌≢◌}
+use Rattle.std.proofs.Common.{◌≡◌, ℕ, ◌+◌, ◌≤◌, ◌<◌, Bool, true, false, List, [], ◌∷◌, ◌++◌, ◌||◌, ◌==◌, refl, sym, ap, ◌∙◌, subst, eqb-true, eq-eqb, length, length-append, arith, Some, None, Option, Vec, Global, Result, Ok, Err, is_some, if◌then◌else◌, ◌≢◌}
 use Rattle.std.proofs.Math.ListN.{get_or-append}
 use Rattle.std.proofs.Math.Seq.{get_or-append_seam}
 use Rattle.std.specs.Prelude.{IfOk}
@@ -8,7 +8,7 @@ use Rattle.vs_design.specs.Elaborated.{IsLawfulDesign}
 use Rattle.vs_design.specs.Clocks.{clock_nets}
 use Rattle.vs_design.specs.Footprints.{contains}
 use Rattle.vs_design.specs.Laws.{SpareClockIs}
-use Rattle.vs_clock.specs.Roots.{AreRoots, root_among}
+use Rattle.vs_clock.specs.Roots.{AreRoots}
 use Rattle.vs_clock.specs.Spread.{label_at, has_label}
 use Rattle.vs_reads.proofs.Tests.{by_test, either_way}
 use Rattle.vs_clock.proofs.Spreading.{label_within}

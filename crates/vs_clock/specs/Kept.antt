@@ -1,4 +1,4 @@
--- How the targets of ports are kept.
+-- How the targets of copies are kept.
 use Rattle.std.specs.Prelude.{ℕ, List, map}
 use Rattle.smallvec.specs.SmallVec.{SmallVec}
 use Rattle.vs_clock.specs.declared.targets.Targets.TheInside.{Inside}

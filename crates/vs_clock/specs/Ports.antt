@@ -1,13 +1,14 @@
--- Input ports that copy a bit.
-use Rattle.std.specs.Prelude.{◌≡◌, ℕ, ◌<◌, Bool, false, ◌&&◌, List, length, take, ◌==◌, if◌then◌else◌, Option, Some, None}
+-- Assigns that copy a bit.
+use Rattle.std.specs.Prelude.{◌≡◌, ℕ, ◌<◌, Bool, false, ◌&&◌, List, [], ◌∷◌, length, take, ◌==◌, if◌then◌else◌, Option, Some, None, option_and_then}
 use Rattle.std.specs.List.{list_any}
-use Rattle.vs_design.specs.Expressions.{Signal, signal_length}
-use Rattle.vs_design.specs.Statements.{Whole}
-use Rattle.vs_design.specs.Designs.{InputPort, Process, Continuous, Design}
+use Rattle.vs_design.specs.Expressions.{Signal, signal_length, Expression}
+use Rattle.vs_design.specs.Statements.{Target, Whole}
+use Rattle.vs_design.specs.Designs.{Process, Continuous, Design}
 use Rattle.vs_design.specs.Footprints.{contains}
 use Rattle.vs_design.specs.Clocks.{name_of}
-use Rattle.vs_flat.specs.declared.processes.Port.{Port}
-use Rattle.vs_flat.specs.declared.processes.Port.TheVariants.{Input}
+use Rattle.vs_flat.specs.declared.expressions.Node.{Node}
+use Rattle.vs_flat.specs.declared.expressions.Node.TheVariants.{Join}
+use Rattle.vs_flat.specs.Targets.{target_of}
 use Rattle.vs_clock.specs.Spread.{targets_at}
 
 -- the bit of a signal that has one
@@ -22,24 +23,33 @@ abbrev pub both_bits : Option ℕ → Option ℕ → Option (ℕ × ℕ)
 both_bits (Some from) (Some to) = Some (from, to)
 both_bits _ _ = None
 
--- the bit that an input port copies, and the one that it copies it to
-abbrev pub port_bits : Process → Option (ℕ × ℕ)
-port_bits (Continuous place InputPort target_place (Whole signal) e) = both_bits (bit_of (name_of e)) (one_bit signal)
-port_bits _ = None
+-- of a target that is the whole of one
+abbrev pub whole_bit : Target → Option ℕ
+whole_bit (Whole signal) = one_bit signal
+whole_bit _ = None
 
--- of a flat design's assign
-abbrev pub assign_bits : Port → Option Signal → Option Signal → Option (ℕ × ℕ)
-assign_bits Input target e = both_bits (bit_of e) (bit_of target)
-assign_bits _ target e = None
+-- the same of the target that an expression is
+abbrev pub target_bit : Expression → Option ℕ
+target_bit e = option_and_then whole_bit (target_of e)
+
+-- the only part of a concatenation that has one
+abbrev pub only_part : Node → Option ℕ
+only_part (Join (part ∷ [])) = Some part
+only_part _ = None
+
+-- the bit that an assign copies, and the one that it copies it to
+abbrev pub port_bits : Process → Option (ℕ × ℕ)
+port_bits (Continuous place port target_place (Whole signal) e) = both_bits (bit_of (name_of e)) (one_bit signal)
+port_bits _ = None
 
 abbrev pub is_copy : ℕ → ℕ → Option (ℕ × ℕ) → Bool
 is_copy b t None = false
 is_copy b t (Some (from, to)) = (b == from) && (t == to)
 
--- an input port copies bit b to bit t
+-- an assign copies bit b to bit t
 abbrev pub copies : List Process → ℕ → ℕ → Bool
 copies ps b t = list_any (λ x. is_copy b t (port_bits x)) ps
 
--- the ports among the processes before p
+-- the copies of the processes before p
 abbrev pub AreTargets : Design → ℕ → List (List ℕ) → Type 0
 AreTargets d p targets = (b t : ℕ) → b < length targets → contains (targets_at targets b) t ≡ copies (take p d.processes) b t

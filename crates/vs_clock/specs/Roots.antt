@@ -6,7 +6,7 @@ use Rattle.vs_design.specs.Clocks.{clock_nets}
 use Rattle.vs_clock.specs.Ports.{copies}
 use Rattle.vs_clock.specs.Spread.{targets_at, label_at}
 
--- all ports of the design
+-- all copies of the design
 abbrev pub AreAllTargets : Design → List (List ℕ) → Type 0
 AreAllTargets d targets = (b t : ℕ) → contains (targets_at targets b) t ≡ copies d.processes b t
 

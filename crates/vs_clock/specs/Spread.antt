@@ -1,4 +1,4 @@
--- How labels spread from a bit along input ports.
+-- How labels spread from a bit along assigns that copy it.
 use Rattle.std.specs.Prelude.{◌≡◌, ℕ, ◌+◌, ◌*◌, ◌≤◌, Bool, true, false, ◌&&◌, ◌||◌, List, [], length, sum_by, slice_index_or, is_some, is_none, Option, Some, None}
 use Rattle.vs_design.specs.Footprints.{contains}
 

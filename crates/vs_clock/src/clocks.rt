@@ -68,7 +68,7 @@ impl Clocks {
         self.nets.is_clock(bit)
     }
 
-    /// The bit of the data input of the top that this bit copies through input ports, where it is one that may be a reset.
+    /// The bit of the data input of the top that this bit copies through assigns, where it is one that may be a reset.
     pub fn root(&self, bit: u32) -> Option<u32>
         ensures { result ≡ root_at self.now.nets bit }
     {

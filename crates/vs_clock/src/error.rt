@@ -9,7 +9,7 @@ pub enum ClockError {
     /// The top has no one-bit input of this name.
     #[error("the top has no such clock")]
     NoClock,
-    /// The process reads or waits on a clock net, and isn't the assign of an input port that hands it on.
+    /// The process reads or waits on a clock net, and isn't an assign that hands it on.
     #[error("process {process} reads the clock")]
     ClockRead { process: u32, at: u32 },
     /// The events of this clocked block are others than one posedge of a clock net, or that and one edge of a reset net (IEEE 1364-2005, 9.7.2).

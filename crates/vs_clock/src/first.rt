@@ -13,7 +13,7 @@ use crate::rules::{is_other, is_reading};
 use vs_flat::{Flat, trees_law};
 use vs_reads::Footprints;
 
-/// The first process that reads or waits on a clock net and isn't an input port's assign that hands it on.
+/// The first process that reads or waits on a clock net and isn't an assign that hands it on.
 pub(crate) fn first_reading(flat: &Flat, footprints: &Footprints, nets: &Nets) -> Option<u32>
     requires lawful { IsLawful flat.now }
     requires footprints { footprints.now ≡ footprints_of (design_of flat.now) }

@@ -1,4 +1,4 @@
-//! Input ports that copy a bit (IEEE 1364-2005, 12.3.9).
+//! Assigns that copy a bit, those of ports and written ones (IEEE 1364-2005, 6.1 and 12.3.9).
 
 ghost use Rattle.std.specs.Prelude.{◌≡◌, ◌<◌, ℕ, length, slice_get, IfOk, Some};
 ghost use Rattle.vs_design.specs.Clocks.{name_of};
@@ -7,12 +7,12 @@ ghost use Rattle.vs_flat.specs.DesignOf.{arena_signals, arena_trees, design_of};
 ghost use Rattle.vs_flat.specs.Lawful.{IsLawful};
 ghost use Rattle.vs_flat.specs.Trees.{signal_at, signal_of, tree_at};
 ghost use Rattle.vs_clock.specs.Roots.{AreAllTargets};
-ghost use Rattle.vs_clock.specs.Ports.{assign_bits, bit_of, one_bit, port_bits};
+ghost use Rattle.vs_clock.specs.Ports.{bit_of, both_bits, one_bit, only_part, port_bits, target_bit};
 
 use crate::targets::Targets;
 use std::alloc::{AllocError, Global};
 use vs_design::footprint_law;
-use vs_flat::{Flat, Kind, Node, Port, Signal, count_bits, names_law, range_bits, trees_law};
+use vs_flat::{Flat, Kind, Node, Signal, count_bits, lawful_law, names_law, range_bits, trees_law};
 use vs_shape::{local_of, node_of};
 
 /// The bit of this signal, if it has one.
@@ -48,20 +48,46 @@ pub(crate) fn named_bit(flat: &Flat, e: u32) -> Option<u32>
     }
 }
 
-/// The bit that an assign copies, and the bit that it copies it to, where it is an input port's between nets of one bit.
-fn bits_of_assign(flat: &Flat, target: u32, expr: u32, port: Port) -> Option<(u32, u32)>
-    requires lawful { IsLawful flat.now }
-    requires target { target < length flat.now.nodes }
-    requires expr { expr < length flat.now.nodes }
-    ensures { result ≡ assign_bits port (name_of (tree_at (arena_trees flat.now) target)) (name_of (tree_at (arena_trees flat.now) expr)) }
+/// The only part of a concatenation that has one.
+fn only_part(node: &Node) -> Option<u32>
+    ensures { result ≡ only_part node.now }
 {
-    match port {
-        Port::Input => Some((named_bit(flat, expr)?, named_bit(flat, target)?)),
-        Port::Written | Port::Output => None,
+    match node {
+        Node::Join { parts } => {
+            if parts.len() == 1 {
+                Some(parts.as_slice()[0])
+            } else {
+                None
+            }
+        }
+        _ => None,
     }
 }
 
-/// The bit that process p copies, and the bit that it copies it to, where it is an input port's assign between nets of one bit.
+/// The bit that a target is, where it is the whole of a signal with one. A concatenation of one part is the same target as that part.
+fn whole_bit(flat: &Flat, target: u32) -> Option<u32>
+    requires lawful { IsLawful flat.now }
+    requires there { target < length flat.now.nodes }
+    ensures { result ≡ target_bit (tree_at (arena_trees flat.now) target) }
+{
+    let mut e = target;
+    while let Some(part) = only_part(node_of(flat, e)) {
+        e = part;
+    }
+    named_bit(flat, e)
+}
+
+/// The bit that an assign copies, and the bit that it copies it to, where its expression is the name of a signal of one bit and its target the whole of one.
+fn bits_of_assign(flat: &Flat, target: u32, expr: u32) -> Option<(u32, u32)>
+    requires lawful { IsLawful flat.now }
+    requires target { target < length flat.now.nodes }
+    requires expr { expr < length flat.now.nodes }
+    ensures { result ≡ both_bits (bit_of (name_of (tree_at (arena_trees flat.now) expr))) (target_bit (tree_at (arena_trees flat.now) target)) }
+{
+    Some((named_bit(flat, expr)?, whole_bit(flat, target)?))
+}
+
+/// The bit that process p copies, and the bit that it copies it to, where it is an assign between nets of one bit.
 pub(crate) fn copied_bits(flat: &Flat, p: u32) -> Option<(u32, u32)>
     requires lawful { IsLawful flat.now }
     requires there { p < length flat.now.processes }
@@ -69,13 +95,14 @@ pub(crate) fn copied_bits(flat: &Flat, p: u32) -> Option<(u32, u32)>
 {
     trees_law();
     names_law();
+    lawful_law();
     match &flat.process(p).kind {
-        Kind::Assign { target, expr, port } => bits_of_assign(flat, *target, *expr, *port),
+        Kind::Assign { target, expr, .. } => bits_of_assign(flat, *target, *expr),
         Kind::Block { .. } => None,
     }
 }
 
-/// The bits that input ports copy each bit to.
+/// The bits that assigns copy each bit to.
 pub(crate) fn targets_of(alloc: Global, flat: &Flat) -> Result<Targets, AllocError>
     requires { IsLawful flat.now }
     ensures count { IfOk result (λ t. length t ≡ D.bit_count (design_of flat.now)) }

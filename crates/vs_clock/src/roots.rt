@@ -1,4 +1,4 @@
-//! Which input of the top a bit copies through input ports.
+//! Which input of the top a bit copies through assigns.
 
 ghost use Rattle.std.specs.Prelude.{◌≡◌, ℕ, ◌<◌, true, length, IfOk};
 ghost use Rattle.vs_design.specs.Designs.{bit_count};
@@ -13,7 +13,7 @@ use std::alloc::{AllocError, Global};
 use vs_design::{clock_law, footprint_law};
 use vs_flat::{Flat, count_bits, trees_law};
 
-/// For each bit the first of these bits that it copies through input ports, or that it is.
+/// For each bit the first of these bits that it copies through assigns, or that it is.
 pub(crate) fn roots_of(
     alloc: Global,
     flat: &Flat,

@@ -14,7 +14,7 @@ use crate::ports::copied_bits;
 use vs_flat::{Flat, Kind, has_edge, names_law, trees_law};
 use vs_reads::{Footprints, footprint_law};
 
-/// Whether a process is an input port's assign that hands a clock net on.
+/// Whether a process is an assign that hands a clock net on.
 fn is_port(flat: &Flat, nets: &Nets, p: u32) -> bool
     requires lawful { IsLawful flat.now }
     requires process { p < length flat.now.processes }

@@ -1,4 +1,4 @@
-//! How labels spread from a bit along input ports.
+//! How labels spread from a bit along assigns that copy it.
 
 ghost use Rattle.std.specs.Prelude.{◌≡◌, ℕ, ◌<◌, [], true, length, OnOk};
 ghost use Rattle.vs_design.specs.Footprints.{contains};

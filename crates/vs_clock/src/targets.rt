@@ -1,4 +1,4 @@
-//! Where input ports lead.
+//! Where assigns that copy a bit lead.
 
 ghost use Rattle.std.specs.Prelude.{◌≡◌, ◌<◌, [], ◌∷◌, ◌++◌, length, replicate, set, slice_index_or, IfOk, OnOk};
 
@@ -6,7 +6,7 @@ use smallvec::SmallVec;
 use std::alloc::{AllocError, Global};
 use std::marker::Model;
 
-/// For each bit the bits that input ports copy it to, seen as a list of lists.
+/// For each bit the bits that assigns copy it to, seen as a list of lists.
 #[derive(Drop)]
 pub(crate) struct Targets {
     of: Vec<SmallVec<u32, 2>>,
@@ -22,7 +22,7 @@ impl Model for Targets {
 }
 
 impl Targets {
-    /// No ports of so many bits.
+    /// No copies of so many bits.
     pub(crate) fn none(alloc: Global, bits: u32) -> Result<Targets, AllocError>
         ensures { IfOk result (λ t. t ≡ replicate bits []) }
     {
@@ -33,7 +33,7 @@ impl Targets {
         Ok(Targets { of })
     }
 
-    /// Adds a port that copies a bit.
+    /// Adds an assign that copies a bit.
     pub(crate) fn add(&mut self, bit: u32, to: u32) -> Result<(), AllocError>
         requires { bit < length self.old }
         ensures { OnOk result (self.new ≡ set self.old bit (slice_index_or self.old bit [] ++ to ∷ [])) }

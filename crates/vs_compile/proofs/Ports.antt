@@ -1,11 +1,11 @@
--- The ports that copy the clock are those processes that need a clock net.
+-- The assigns that copy the clock are those processes that need a clock net.
 use Rattle.std.proofs.Common.{◌≡◌, ℕ, Bool, true, false, not, ◌&&◌, ◌||◌, ◌==◌, List, [], ◌∷◌, ◌++◌, length, Option, Some, None, if◌then◌else◌, sym, ap, ◌∙◌, refl, eqb-true, eq-eqb}
 use Rattle.std.specs.List.{list_any}
 use Rattle.std.proofs.lemmas.Bool.{both_ways}
 use Rattle.vs_design.specs.Expressions.{Expression, Signal, signal_length, Literal, Name, Select, Word, Unary, Binary, Choice, Join, Repeat, At, Call}
 use Rattle.vs_design.specs.Statements.{Whole, PartOf, WordOf, Both}
 use Rattle.vs_design.specs.Values.{bits_of_signal, count_from}
-use Rattle.vs_design.specs.Designs.{Process, Continuous, Always, Written, InputPort, OutputPort}
+use Rattle.vs_design.specs.Designs.{Process, Continuous, Always}
 use Rattle.vs_design.specs.Footprints.{contains, read_bits}
 use Rattle.vs_design.specs.Clocks.{name_of, is_one_of, is_clock_port, reads_clock}
 use Rattle.vs_design.specs.Levels.{needs}
@@ -31,18 +31,18 @@ name_reads (Call header statement arguments) s h = cc
 one_bit : (s : Signal) → signal_length s ≡ 1 → contains (bits_of_signal s) s.first ≡ true
 one_bit s one = ap (λ n. contains (count_from s.first n) s.first) one ∙ ap (λ c. c || false) (eq-eqb s.first s.first refl)
 
--- a clock port reads a clock net
+-- an assign that copies a clock net reads it
 pub port_needs : (nets : List ℕ) (x : Process) → is_clock_port nets x ≡ true → list_any (contains nets) (needs x) ≡ true
-port_needs nets (Continuous place InputPort target_place (Whole signal) e) h = of_name (name_of e) refl
+port_needs nets (Continuous place way target_place (Whole signal) e) h = of_name (name_of e) refl
   where
     x : Process
-    x = Continuous place InputPort target_place (Whole signal) e
+    x = Continuous place way target_place (Whole signal) e
 
-    none_left : (o : Option Signal) → (is_one_of nets o && (signal_length signal == 1)) ≡ false → name_of e ≡ o → is_clock_port nets (Continuous place InputPort target_place (Whole signal) e) ≡ false
+    none_left : (o : Option Signal) → (is_one_of nets o && (signal_length signal == 1)) ≡ false → name_of e ≡ o → is_clock_port nets (Continuous place way target_place (Whole signal) e) ≡ false
     none_left o k is = ap (λ (c : Bool). not (length (if c then (signal.first ∷ []) else []) == 0)) (ap (λ (z : Option Signal). is_one_of nets z && (signal_length signal == 1)) is ∙ k)
 
     of_name : (o : Option Signal) → name_of e ≡ o → list_any (contains nets) (read_bits e ++ []) ≡ true
-    of_name None is = absurd (both_ways (is_clock_port nets (Continuous place InputPort target_place (Whole signal) e)) (none_left None refl is) h)
+    of_name None is = absurd (both_ways (is_clock_port nets (Continuous place way target_place (Whole signal) e)) (none_left None refl is) h)
     of_name (Some source) is =
         by_test (is_one_of nets (Some source) && (signal_length signal == 1))
         (λ k.
@@ -53,12 +53,10 @@ port_needs nets (Continuous place InputPort target_place (Whole signal) e) h = o
         ∙ ap (λ (bs : List ℕ). contains bs source.first || false) (name_reads e source is)
         ∙ ap (λ c. c || false) (one_bit source (eqb-true (signal_length source) 1 named.0)))
         named.1)
-        (λ k. absurd (both_ways (is_clock_port nets (Continuous place InputPort target_place (Whole signal) e)) (none_left (Some source) k is) h))
-port_needs nets (Continuous place InputPort target_place (PartOf signal part index) e) h = cc
-port_needs nets (Continuous place InputPort target_place (WordOf signal index) e) h = cc
-port_needs nets (Continuous place InputPort target_place (Both high low) e) h = cc
-port_needs nets (Continuous place Written target_place target e) h = cc
-port_needs nets (Continuous place OutputPort target_place target e) h = cc
+        (λ k. absurd (both_ways (is_clock_port nets (Continuous place way target_place (Whole signal) e)) (none_left (Some source) k is) h))
+port_needs nets (Continuous place way target_place (PartOf signal part index) e) h = cc
+port_needs nets (Continuous place way target_place (WordOf signal index) e) h = cc
+port_needs nets (Continuous place way target_place (Both high low) e) h = cc
 port_needs nets (Always place star events statement) h = cc
 
 -- where no other process reads or waits on one

@@ -9,7 +9,7 @@ use Rattle.vs_net.specs.Network.{writes}
 use Rattle.vs_design.specs.Expressions.{Signal, signal_length}
 use Rattle.vs_design.specs.Values.{count_from, bits_of_signal}
 use Rattle.vs_design.specs.Statements.{Whole, PartOf, WordOf, Both}
-use Rattle.vs_design.specs.Designs.{Process, Continuous, Always, Written, InputPort, OutputPort, is_clocked, Design, top_inputs, bit_count}
+use Rattle.vs_design.specs.Designs.{Process, Continuous, Always, is_clocked, Design, top_inputs, bit_count}
 use Rattle.vs_design.specs.Footprints.{contains, without, signals_bits, input_bits, memory_bits, writes_of}
 use Rattle.vs_design.specs.Clocks.{name_of, is_one_of, port_target, port_targets, nets_within, clock_input, clock_nets, own_nets, is_clock_port}
 use Rattle.vs_design.specs.Sizes.{distinct, process_weight, register_bits, sleeper_weight}
@@ -113,18 +113,16 @@ one_of_more nets more sub (Some s) h =
     ap (λ c. c && contains more s.first) parts.0 ∙ sub s.first parts.1
 
 target_same : (nets more : List ℕ) → Sub nets more → (x : Process) → (port_target nets x ≡ []) ⊎ (port_target nets x ≡ port_target more x)
-target_same nets more sub (Continuous place InputPort target_place (Whole signal) e) =
+target_same nets more sub (Continuous place way target_place (Whole signal) e) =
     by_test (is_one_of nets (name_of e) && (signal_length signal == 1))
     (λ h.
     let parts = and_parts (is_one_of nets (name_of e)) (signal_length signal == 1) h in
     let also : (is_one_of more (name_of e) && (signal_length signal == 1)) ≡ true = ap (λ c. c && (signal_length signal == 1)) (one_of_more nets more sub (name_of e) parts.0) ∙ parts.1 in
     inr (ap (λ (c : Bool). if c then (signal.first ∷ []) else []) (h ∙ sym also)))
     (λ h. inl (ap (λ (c : Bool). if c then (signal.first ∷ []) else []) h))
-target_same nets more sub (Continuous place InputPort target_place (PartOf signal part index) e) = inl refl
-target_same nets more sub (Continuous place InputPort target_place (WordOf signal index) e) = inl refl
-target_same nets more sub (Continuous place InputPort target_place (Both high low) e) = inl refl
-target_same nets more sub (Continuous place Written target_place target e) = inl refl
-target_same nets more sub (Continuous place OutputPort target_place target e) = inl refl
+target_same nets more sub (Continuous place way target_place (PartOf signal part index) e) = inl refl
+target_same nets more sub (Continuous place way target_place (WordOf signal index) e) = inl refl
+target_same nets more sub (Continuous place way target_place (Both high low) e) = inl refl
 target_same nets more sub (Always place star events statement) = inl refl
 
 targets_more : (nets more : List ℕ) → Sub nets more → (xs : List Process) → Sub (port_targets nets xs) (port_targets more xs)
@@ -188,17 +186,15 @@ block_bits x = if is_clocked x then distinct (writes_of x) else 0
 -- own stores, a port's bit and a clocked block's stores are within the weight and the clocked block's bits
 each_weighs : (d : Design) (nets : List ℕ) (x : Process) → own_stores d nets x + port_count nets x + block_stores d x ≤ process_weight x + block_bits x + sleeper_weight d x
 unfolding own_stores port_count block_stores block_bits
-each_weighs d nets (Continuous place InputPort target_place (Whole signal) e) =
+each_weighs d nets (Continuous place way target_place (Whole signal) e) =
     by_test (is_one_of nets (name_of e) && (signal_length signal == 1))
     (λ h.
     let one : signal_length signal ≡ 1 = eqb-true (signal_length signal) 1 (and_parts (is_one_of nets (name_of e)) (signal_length signal == 1) h).1 in
     rw h (omega (arith, one)))
     (λ h. rw h (omega arith))
-each_weighs d nets (Continuous place InputPort target_place (PartOf signal part index) e) = omega arith
-each_weighs d nets (Continuous place InputPort target_place (WordOf signal index) e) = omega arith
-each_weighs d nets (Continuous place InputPort target_place (Both high low) e) = omega arith
-each_weighs d nets (Continuous place Written target_place target e) = omega arith
-each_weighs d nets (Continuous place OutputPort target_place target e) = omega arith
+each_weighs d nets (Continuous place way target_place (PartOf signal part index) e) = omega arith
+each_weighs d nets (Continuous place way target_place (WordOf signal index) e) = omega arith
+each_weighs d nets (Continuous place way target_place (Both high low) e) = omega arith
 each_weighs d nets (Always place star events statement) =
     by_test (is_clocked (Always place star events statement))
     (λ h. rw h (omega arith))

@@ -1,5 +1,5 @@
 -- Bits of the design.
-use Rattle.std.proofs.Common.{◌≡◌, ℕ, suc, ◌+◌, ◌≤◌, ◌<◌, Bool, true, false, List, [], ◌∷◌, ◌++◌, ◌&&◌, ◌||◌, not, ◌==◌, if◌then◌else◌, nat_lt, ◌⊎◌, map, Option, Some, None, sym, ap, ◌∙◌, subst, refl, eqb-true, eq-eqb, arith, inl, inr, slice_get}
+use Rattle.std.proofs.Common.{◌≡◌, ℕ, suc, ◌≤◌, ◌<◌, Bool, true, false, List, [], ◌∷◌, ◌++◌, ◌&&◌, ◌||◌, not, ◌==◌, if◌then◌else◌, nat_lt, ◌⊎◌, map, Option, Some, None, sym, ap, ◌∙◌, subst, refl, eqb-true, eq-eqb, arith, inl, inr, slice_get}
 use Rattle.std.specs.Prelude.{find}
 use Rattle.std.specs.List.{filter}
 use Rattle.std.proofs.lemmas.Bool.{and_parts}

@@ -1,6 +1,6 @@
 -- A slot of an accepted design has few steps.
 use Rattle.vs_net.specs.Bound.{written_at_once}
-use Rattle.std.proofs.Common.{◌≡◌, ℕ, ◌+◌, ◌≤◌, Bool, true, false, List, [], ◌∷◌, ◌++◌, ◌||◌, ◌==◌, eqb-true, not, if◌then◌else◌, refl, subst, length, map, Option, Some, None, arith, length-append}
+use Rattle.std.proofs.Common.{◌≡◌, ℕ, ◌+◌, ◌≤◌, Bool, true, false, List, [], ◌∷◌, ◌++◌, ◌||◌, ◌==◌, eqb-true, not, if◌then◌else◌, refl, subst, length, Option, Some, None, arith, length-append}
 use Rattle.std.specs.Prelude.{slice_get}
 use Rattle.std.specs.List.{list_any}
 use Rattle.vs_net.specs.Network.{Reset, reset_of, State, Update, Effect, write_all, Network, Kind, AnInput, TheClock, AnAssign, AComb, AClocked, kind, writes, listens, clock_net, updates, made}
@@ -13,9 +13,9 @@ use Rattle.vs_four.specs.Tables.{is_one}
 use Rattle.vs_design.specs.Values.{own_value, value}
 use Rattle.vs_design.specs.Statements.{CaseKind, Statement, Empty, Assignment, Then, If, Case, Arms, Arm, Default, case_width, case_sign}
 use Rattle.vs_design.specs.Bodies.{assignment_writes, effect_of, is_taken, body, arms_body}
-use Rattle.vs_design.specs.Designs.{Process, Continuous, Always, is_clocked, Design, top_inputs}
+use Rattle.vs_design.specs.Designs.{Process, Continuous, Always, is_clocked, Design}
 use Rattle.vs_design.specs.Footprints.{contains, target_reads, read_bits, waits_of, without, signals_bits, wait_signals, statement_bits}
-use Rattle.vs_design.specs.Networks.{network_of, process_of, writer_of, block_process}
+use Rattle.vs_design.specs.Networks.{network_of, process_of, block_process}
 use Rattle.vs_design.specs.Bounds.{assignments, arms_assignments, wakers, size_of, feeds_of}
 use Rattle.vs_design.specs.Accepted.{IsAcceptedDesign}
 use Rattle.vs_design.specs.Laws.{BoundOfDesign, RunsEndOfDesign}

@@ -2,7 +2,7 @@
 use Rattle.vs_design.proofs.Facts.{block_facts}
 use Rattle.vs_design.proofs.RaceLaws.{body_once, stir_grows, closed_stir, no_race_at}
 use Rattle.vs_design.specs.Races.{blocking_bits, at_once_bits, stirred}
-use Rattle.std.proofs.Common.{◌≡◌, ℕ, Bool, true, false, List, [], ◌∷◌, ◌++◌, ◌||◌, ◌&&◌, ◌==◌, eqb-true, eq-eqb, not, if◌then◌else◌, ◌⊎◌, inl, inr, refl, sym, ap, ◌∙◌, subst, map, length, Option, Some, None, ◌≢◌}
+use Rattle.std.proofs.Common.{◌≡◌, ℕ, Bool, true, false, List, [], ◌∷◌, ◌++◌, ◌||◌, ◌&&◌, ◌==◌, eqb-true, eq-eqb, not, if◌then◌else◌, ◌⊎◌, inl, inr, refl, sym, ap, ◌∙◌, subst, length, Option, Some, None, ◌≢◌}
 use Rattle.std.specs.Prelude.{slice_get, is_some}
 use Rattle.std.specs.List.{list_any}
 use Rattle.vs_net.specs.Network.{State, Update, Effect, Network, Kind, TheClock, AnAssign, AComb, AClocked, kind, writes, listens, clock_net, effects, made, is_written}
@@ -124,8 +124,8 @@ module _ (d : Design) (name : Option (List ℕ)) (a : IsAcceptedDesign d name) w
 
       go : PortFacts nets q.process → contains (writes_of q.process) b ≡ true
       go f =
-          let it : contains (port_target nets (Continuous f.place Rattle.vs_design.specs.Designs.InputPort f.target_place (Rattle.vs_design.specs.Statements.Whole f.signal) f.e)) b ≡ true = subst (λ x. contains (port_target nets x) b ≡ true) f.is q.has_it in
-          let v : port_target nets (Continuous f.place Rattle.vs_design.specs.Designs.InputPort f.target_place (Rattle.vs_design.specs.Statements.Whole f.signal) f.e) ≡ f.signal.first ∷ [] = rw (f.from, f.one_bit) refl in
+          let it : contains (port_target nets (Continuous f.place f.port f.target_place (Rattle.vs_design.specs.Statements.Whole f.signal) f.e)) b ≡ true = subst (λ x. contains (port_target nets x) b ≡ true) f.is q.has_it in
+          let v : port_target nets (Continuous f.place f.port f.target_place (Rattle.vs_design.specs.Statements.Whole f.signal) f.e) ≡ f.signal.first ∷ [] = rw (f.from, f.one_bit) refl in
           let e : b ≡ f.signal.first = one f.signal.first (listed _ _ v it) in
           subst (λ x. contains (writes_of x) b ≡ true) (sym f.is) (subst (λ m. contains (Rattle.vs_design.specs.Values.bits_of_signal f.signal) m ≡ true) (sym e) (Rattle.vs_design.proofs.LawfulParts.first_bit f.signal))
         where

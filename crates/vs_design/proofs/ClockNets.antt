@@ -10,7 +10,7 @@ use Rattle.vs_design.specs.Expressions.{Signal, signal_length, Expression, Liter
 use Rattle.vs_design.specs.Values.{count_from, bits_of_signal, value}
 use Rattle.vs_design.specs.Statements.{Target, Whole, PartOf, WordOf, Both}
 use Rattle.vs_design.specs.Bodies.{assignment_writes, body}
-use Rattle.vs_design.specs.Designs.{Port, Written, InputPort, OutputPort, Process, Continuous, Always, Design, top_inputs, bit_count}
+use Rattle.vs_design.specs.Designs.{Port, Process, Continuous, Always, Design, top_inputs, bit_count}
 use Rattle.vs_design.specs.Footprints.{contains, read_bits, target_reads, target_bits, input_bits}
 use Rattle.vs_design.specs.Clocks.{same_name, spare_clock, clock_input, name_of, is_one_of, port_target, port_targets, nets_within, is_clock_port}
 use Rattle.vs_design.specs.Networks.{network_of}
@@ -96,26 +96,25 @@ one_of_more xs ys (Some s) f h = let p = and_both (signal_length s == 1) (contai
     go true b h k = k
     go false b h k = cc
 
--- an input port's assign of a one-bit net from such a net
+-- an assign of a one-bit net from such a net
 pub record PortFacts (nets : List ℕ) (x : Process) : Type 0 where
   pub place : ℕ
+  pub port : Port
   pub target_place : ℕ
   pub signal : Signal
   pub e : Expression
-  pub is : x ≡ Continuous place InputPort target_place (Whole signal) e
+  pub is : x ≡ Continuous place port target_place (Whole signal) e
   pub from : is_one_of nets (name_of e) ≡ true
   pub one_bit : (signal_length signal == 1) ≡ true
 
 pub port_of : (nets : List ℕ) (x : Process) (b : ℕ) → contains (port_target nets x) b ≡ true → PortFacts nets x
-port_of nets (Continuous place InputPort target_place (Whole signal) e) b h =
+port_of nets (Continuous place port target_place (Whole signal) e) b h =
     by_test (is_one_of nets (name_of e) && (signal_length signal == 1))
-    (λ k. let p = and_both (is_one_of nets (name_of e)) (signal_length signal == 1) k in record { place = place; target_place = target_place; signal = signal; e = e; is = refl; from = p.0; one_bit = p.1 })
+    (λ k. let p = and_both (is_one_of nets (name_of e)) (signal_length signal == 1) k in record { place = place; port = port; target_place = target_place; signal = signal; e = e; is = refl; from = p.0; one_bit = p.1 })
     (λ k. absurd (either_way (contains [] b) (subst (λ (c : Bool). contains (if c then (signal.first ∷ []) else []) b ≡ true) k h) refl))
-port_of nets (Continuous place InputPort target_place (PartOf signal part index) e) b h = cc
-port_of nets (Continuous place InputPort target_place (WordOf signal index) e) b h = cc
-port_of nets (Continuous place InputPort target_place (Both high low) e) b h = cc
-port_of nets (Continuous place Written target_place t e) b h = cc
-port_of nets (Continuous place OutputPort target_place t e) b h = cc
+port_of nets (Continuous place port target_place (PartOf signal part index) e) b h = cc
+port_of nets (Continuous place port target_place (WordOf signal index) e) b h = cc
+port_of nets (Continuous place port target_place (Both high low) e) b h = cc
 port_of nets (Always place star events st) b h = cc
 
 pub port_value : (nets : List ℕ) (x : Process) → (f : PortFacts nets x) → port_target nets x ≡ f.signal.first ∷ []
@@ -124,7 +123,7 @@ port_value nets x f = rw f.is (rw (f.from, f.one_bit) refl)
 pub port_more : (xs ys : List ℕ) (x : Process) (b : ℕ) → ((b : ℕ) → contains xs b ≡ true → contains ys b ≡ true) → contains (port_target xs x) b ≡ true → contains (port_target ys x) b ≡ true
 port_more xs ys x b f h =
     let p = port_of xs x b h in
-    let q : PortFacts ys x = record { place = p.place; target_place = p.target_place; signal = p.signal; e = p.e; is = p.is; from = one_of_more xs ys (name_of p.e) f p.from; one_bit = p.one_bit } in
+    let q : PortFacts ys x = record { place = p.place; port = p.port; target_place = p.target_place; signal = p.signal; e = p.e; is = p.is; from = one_of_more xs ys (name_of p.e) f p.from; one_bit = p.one_bit } in
     subst (λ zs. contains zs b ≡ true) (port_value xs x p ∙ sym (port_value ys x q)) h
 
 ports_more : (xs ys : List ℕ) (ps : List Process) (b : ℕ) → ((b : ℕ) → contains xs b ≡ true → contains ys b ≡ true) → contains (port_targets xs ps) b ≡ true → contains (port_targets ys ps) b ≡ true
@@ -141,7 +140,7 @@ nets_more (suc n) ps c b h =
     (λ e. or_left (b == c) (contains (port_targets (nets_within (suc n) ps c) ps) b) e)
     (λ e. or_right (b == c) (contains (port_targets (nets_within (suc n) ps c) ps) b) (ports_more (nets_within n ps c) (nets_within (suc n) ps c) ps b (λ b h. nets_more n ps c b h) (subst (λ x. (x || contains (port_targets (nets_within n ps c) ps) b) ≡ true) e h)))
 
--- a net is the clock's bit, or some port's target
+-- a net is the clock's bit, or the target of some assign that copies one
 pub net_is : (n : ℕ) (ps : List Process) (c b : ℕ) → contains (nets_within n ps c) b ≡ true → (b ≡ c) ⊎ (contains (port_targets (nets_within n ps c) ps) b ≡ true)
 net_is zero ps c b h = by_test (b == c) (λ e. inl (eqb-true b c e)) (λ e. absurd (either_way (contains [] b) (subst (λ x. (x || false) ≡ true) e h) refl))
 net_is (suc n) ps c b h =
@@ -250,7 +249,7 @@ pub clock_port : (nets : List ℕ) (place target_place : ℕ) (port : Port) (t :
     → ((b : ℕ) → contains (target_bits t) b ≡ true → contains (target_reads t ++ read_bits e) b ≡ true → ⊥)
     → IsClockPort (contains nets) (N.Assign (contains (target_reads t ++ read_bits e)) (contains (target_bits t)) (assignment_writes t e))
 clock_port nets place target_place port t e f to apart =
-    let q = same_assign place f.place target_place f.target_place port InputPort t (Whole f.signal) e f.e f.is in
+    let q = same_assign place f.place target_place f.target_place port f.port t (Whole f.signal) e f.e f.is in
     let to' = to f.signal.first (subst (λ xs. contains xs f.signal.first ≡ true) (sym (port_value nets (Continuous place port target_place t e) f)) (or_left (f.signal.first == f.signal.first) false (eq-eqb f.signal.first f.signal.first refl))) in
     let P : Target → Expression → Type 0 = λ t e. ((b : ℕ) → contains (target_bits t) b ≡ true → contains (target_reads t ++ read_bits e) b ≡ true → ⊥) → IsClockPort (contains nets) (N.Assign (contains (target_reads t ++ read_bits e)) (contains (target_bits t)) (assignment_writes t e)) in
     let base : P (Whole f.signal) f.e = λ apart. port_copies nets f.signal f.e f.from (eqb-true (signal_length f.signal) 1 f.one_bit) to' apart in

@@ -7,7 +7,7 @@ use Rattle.vs_design.specs.Accepted.{IsAcceptedDesign}
 use Rattle.vs_design.specs.Cycles.{IsCycle, Feeds}
 use Rattle.vs_design.specs.ExampleParts.{clk, clk_signal}
 use Rattle.vs_design.specs.ExampleCalls.{CallsComputed, greatest}
-use Rattle.vs_design.specs.ExampleDesigns.{DesignsComputed, and_gate, free_gate, counter, if_and_choice, three_registers, woken, set_once, chain, quiet, sleeper, never_run, resettable, reset_through_port, port, adder, clocked_instance, sum}
+use Rattle.vs_design.specs.ExampleDesigns.{DesignsComputed, and_gate, free_gate, counter, if_and_choice, three_registers, woken, set_once, chain, quiet, sleeper, never_run, resettable, reset_through_port, port, adder, clocked_instance, clock_alias, reset_alias, sum}
 use Rattle.vs_design.specs.ExampleRefusals.{RefusalsComputed, loop}
 
 and_gate_is_accepted : IsAcceptedDesign and_gate clk
@@ -350,6 +350,46 @@ clocked_instance_is_accepted = record {
   awake = refl;
 }
 
+clock_alias_is_accepted : IsAcceptedDesign clock_alias clk
+clock_alias_is_accepted = record {
+  lawful = record { scopes = refl; numbered = refl; bits_numbered = refl; declared = refl; memories = refl; formed = refl; functions = refl; clocked_words = refl; few_bits = lit≤ tt; few_processes = lit≤ tt };
+  fit = refl;
+  small = lit≤ tt;
+  unmixed = refl;
+  sensitive = refl;
+  no_function_latch = refl;
+  no_latch = refl;
+  one_driver = refl;
+  clock = clk_signal;
+  clock_found = refl;
+  clock_unread = refl;
+  one_clock = refl;
+  reset_forms = refl;
+  no_cycle = refl;
+  no_race = refl;
+  awake = refl;
+}
+
+reset_alias_is_accepted : IsAcceptedDesign reset_alias clk
+reset_alias_is_accepted = record {
+  lawful = record { scopes = refl; numbered = refl; bits_numbered = refl; declared = refl; memories = refl; formed = refl; functions = refl; clocked_words = refl; few_bits = lit≤ tt; few_processes = lit≤ tt };
+  fit = refl;
+  small = lit≤ tt;
+  unmixed = refl;
+  sensitive = refl;
+  no_function_latch = refl;
+  no_latch = refl;
+  one_driver = refl;
+  clock = clk_signal;
+  clock_found = refl;
+  clock_unread = refl;
+  one_clock = refl;
+  reset_forms = refl;
+  no_cycle = refl;
+  no_race = refl;
+  awake = refl;
+}
+
 sum_is_accepted : IsAcceptedDesign sum clk
 sum_is_accepted = record {
   lawful = record { scopes = refl; numbered = refl; bits_numbered = refl; declared = refl; memories = refl; formed = refl; functions = refl; clocked_words = refl; few_bits = lit≤ tt; few_processes = lit≤ tt };
@@ -437,6 +477,15 @@ designs_computed = record {
   clocked_instance_accepted = clocked_instance_is_accepted;
   clocked_instance_nets = refl;
   clocked_instance_ends = refl;
+  clock_alias_size = refl;
+  clock_alias_accepted = clock_alias_is_accepted;
+  clock_alias_nets = refl;
+  clock_alias_ends = refl;
+  reset_alias_size = refl;
+  reset_alias_accepted = reset_alias_is_accepted;
+  reset_alias_nets = refl;
+  reset_alias_root = refl;
+  reset_alias_ends = refl;
   sum_size = refl;
   sum_accepted = sum_is_accepted;
   sum_ends = refl;
@@ -457,6 +506,8 @@ refusals_computed = record {
   loop_refused = refl;
   loop_is_one = loop_is_cycle;
   gated_refused = refl;
+  alias_read_refused = refl;
+  joined_alias_refused = refl;
   other_clock_refused = refl;
   no_clock_refused = refl;
   free_counter_refused = refl;

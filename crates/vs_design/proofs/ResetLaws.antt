@@ -13,14 +13,14 @@ use Rattle.vs_design.specs.Expressions.{Signal, signal_length, Expression, Liter
 use Rattle.vs_design.specs.Values.{bits_of_signal, count_from, own_value, value}
 use Rattle.vs_design.specs.Statements.{Target, Whole, Statement, Empty, Assignment, Then, If, Case}
 use Rattle.vs_design.specs.Bodies.{body}
-use Rattle.vs_design.specs.Designs.{Edge, Any, Posedge, Negedge, Event, Port, InputPort, Process, Continuous, Always, Design, top_inputs}
+use Rattle.vs_design.specs.Designs.{Edge, Any, Posedge, Negedge, Event, Port, Process, Continuous, Always, Design, top_inputs}
 use Rattle.vs_design.specs.Footprints.{contains, read_bits, target_reads, target_bits, statement_signals, writes_of, signals_bits}
 use Rattle.vs_design.specs.Elaborated.{is_formed, is_formed_statement, is_formed_process, are_formed_events}
 use Rattle.vs_design.specs.Clocks.{name_of, is_one_of, port_target, clock_nets, is_clock_port, may_reset, first_of, one_bit_inputs, root_of, Events, ByClock, ByBoth}
 use Rattle.vs_design.specs.Resets.{is_signal, inverted, is_condition, has_none, is_fixed, reset_branch, branch_writes, branch_updates, net_edge, reset_with, reset_by, are_constant}
 use Rattle.vs_design.specs.Calls.{statement_calls}
 use Rattle.vs_design.specs.Levels.{level_order}
-use Rattle.vs_design.specs.Networks.{network_of, process_of, writer_of, events_in}
+use Rattle.vs_design.specs.Networks.{network_of, process_of, events_in}
 use Rattle.vs_design.specs.Accepted.{IsAcceptedDesign}
 use Rattle.vs_design.proofs.Lists.{by_test, and_both, or_left, or_right, contains-left, contains-right}
 use Rattle.vs_design.proofs.Writes.{either_way}
@@ -398,7 +398,7 @@ module _ (d : Design) (name : Option (List ℕ)) (a : IsAcceptedDesign d name) w
         same_assign place' target_place' port' t' e' q = (cc, cc)
 
         parts : (target ≡ Whole f.signal) × (e ≡ f.e)
-        parts = same_assign f.place f.target_place InputPort (Whole f.signal) f.e f.is
+        parts = same_assign f.place f.target_place f.port (Whole f.signal) f.e f.is
 
         named : (nets : List ℕ) → is_one_of nets (name_of e) ≡ true → (s : Signal) × (name_of e ≡ Some s) × (s.first ≡ (a_port i k).from) × (contains nets s.first ≡ true)
         named nets q =
@@ -415,7 +415,7 @@ module _ (d : Design) (name : Option (List ℕ)) (a : IsAcceptedDesign d name) w
             let n = named (clock_nets d i) (subst (λ y. is_one_of (clock_nets d i) (name_of y) ≡ true) (sym parts.1) f.from) in
             let o = one_net (clock_nets d i) (name_of e) (subst (λ y. is_one_of (clock_nets d i) (name_of y) ≡ true) (sym parts.1) f.from) in
             let from_z : is_one_of (clock_nets d z) (name_of f.e) ≡ true = subst (λ y. is_one_of (clock_nets d z) (name_of y) ≡ true) parts.1 (one_in (name_of e) o.0 o.1 o.2 (subst (λ m. contains (clock_nets d z) m ≡ true) (sym ((a_port i k).reads_one o.0.first (contains-right (target_reads target) (read_bits e) o.0.first (subst (λ xs. contains xs o.0.first ≡ true) (sym (name_facts e o.0 o.1).reads_is) (first_bit o.0))))) q)) in
-            let facts : PortFacts (clock_nets d z) x = record { place = f.place; target_place = f.target_place; signal = f.signal; e = f.e; is = f.is; from = from_z; one_bit = f.one_bit } in
+            let facts : PortFacts (clock_nets d z) x = record { place = f.place; port = f.port; target_place = f.target_place; signal = f.signal; e = f.e; is = f.is; from = from_z; one_bit = f.one_bit } in
             closed d.processes z (a_port i k).to (port_listed (clock_nets d z) d.processes p x (a_port i k).to h
             (subst (λ xs. contains xs (a_port i k).to ≡ true) (sym (port_value (clock_nets d z) x facts)) (or_left ((a_port i k).to == f.signal.first) false (eq-eqb (a_port i k).to f.signal.first to_is))))
           where
@@ -425,7 +425,7 @@ module _ (d : Design) (name : Option (List ℕ)) (a : IsAcceptedDesign d name) w
         backward : contains (clock_nets d z) (a_port i k).to ≡ true → contains (clock_nets d z) (a_port i k).from ≡ true
         backward t =
             let g = port_of (clock_nets d z) x (a_port i k).to (port_of_root z (a_port i k).to (input_at z m) t (a_port i k).writes_it) in
-            let other = same_assign g.place g.target_place InputPort (Whole g.signal) g.e g.is in
+            let other = same_assign g.place g.target_place g.port (Whole g.signal) g.e g.is in
             let n = named (clock_nets d z) (subst (λ y. is_one_of (clock_nets d z) (name_of y) ≡ true) (sym other.1) g.from) in
             subst (λ m. contains (clock_nets d z) m ≡ true) n.2 n.3
 

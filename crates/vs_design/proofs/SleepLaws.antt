@@ -1,6 +1,6 @@
 -- Sleeping blocks of an accepted design.
 use Rattle.vs_net.proofs.Basics.{flat_cons}
-use Rattle.std.proofs.Common.{◌≡◌, ℕ, zero, suc, ◌≤◌, Bool, true, false, List, [], ◌∷◌, ◌++◌, ◌||◌, ◌&&◌, ◌==◌, not, if◌then◌else◌, nat_lt, max, map, refl, sym, ap, ◌∙◌, subst, eqb-true, Option, Some, None, arith, ◌+◌}
+use Rattle.std.proofs.Common.{◌≡◌, ℕ, zero, suc, ◌≤◌, Bool, true, false, List, [], ◌∷◌, ◌++◌, ◌||◌, ◌&&◌, ◌==◌, not, if◌then◌else◌, nat_lt, max, refl, sym, ap, ◌∙◌, subst, eqb-true, Option, Some, None, arith, ◌+◌}
 use Rattle.std.specs.Prelude.{slice_get}
 use Rattle.std.specs.List.{list_all}
 use Rattle.vs_four.specs.Logic.{BitList, truth}
@@ -16,7 +16,7 @@ use Rattle.vs_design.specs.Bodies.{last_of_each, assignment_writes, body, arms_b
 use Rattle.vs_design.specs.Designs.{Event, Process, Continuous, Always, is_clocked, is_combinational, Design, top_inputs}
 use Rattle.vs_design.specs.Footprints.{contains, target_bits, statement_bits, writes_of, waits_of, net_bits, variable_bits, is_variable}
 use Rattle.vs_design.specs.Fits.{fits_target, is_fit, fits_statement, fits_arms, fit_items}
-use Rattle.vs_design.specs.Networks.{network_of, writer_of, block_process}
+use Rattle.vs_design.specs.Networks.{network_of, block_process}
 use Rattle.vs_design.specs.Accepted.{IsAcceptedDesign}
 use Rattle.vs_design.specs.Sleepers.{most_writes, arms_most, process_most, is_once, comb_bits, is_still, stays_x, is_sleeping, sleeper_if, sleeper_of, sleeper_at}
 use Rattle.vs_design.specs.Values.{bits_of_signal}

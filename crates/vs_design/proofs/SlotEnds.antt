@@ -1,6 +1,6 @@
 -- The equations of a slot on a design are those of its network.
 use Rattle.vs_net.specs.Lawful.{Settles}
-use Rattle.std.proofs.Common.{◌≡◌, ℕ, ◌+◌, Bool, true, false, List, [], ◌∷◌, ◌++◌, ◌||◌, ◌&&◌, ◌==◌, if◌then◌else◌, refl, sym, ap, ◌∙◌, subst, map, length, Some, eqb-true, eq-eqb, None, Option}
+use Rattle.std.proofs.Common.{◌≡◌, ℕ, ◌+◌, Bool, true, false, List, [], ◌∷◌, ◌++◌, ◌||◌, ◌==◌, if◌then◌else◌, refl, sym, ap, ◌∙◌, subst, map, length, Some, eqb-true, eq-eqb, None, Option}
 use Rattle.std.specs.Prelude.{slice_get}
 use Rattle.vs_four.specs.declared.Bit4.{Bit4}
 use Rattle.vs_net.specs.Network.{State, Write, Update, put, write_all, is_written, flatten, Network, Kind, AnInput, TheClock, AnAssign, AComb, AClocked, kind, writes, made}

@@ -1,8 +1,8 @@
 -- A clock that isn't a bit of the design has no other net, nothing reads it, and no clocked block is on it.
-use Rattle.std.proofs.Common.{◌≡◌, ℕ, zero, suc, ◌+◌, ◌≤◌, ◌<◌, Bool, true, false, List, [], ◌∷◌, ◌++◌, ◌||◌, ◌&&◌, ◌==◌, not, if◌then◌else◌, refl, sym, ap, ◌∙◌, subst, length, Option, Some, None, arith, eqb-true}
+use Rattle.std.proofs.Common.{◌≡◌, ℕ, zero, suc, ◌≤◌, ◌<◌, Bool, true, false, List, [], ◌∷◌, ◌++◌, ◌&&◌, ◌==◌, not, if◌then◌else◌, refl, sym, ap, ◌∙◌, subst, length, Option, Some, None, arith}
 use Rattle.std.specs.Prelude.{slice_get, is_some}
 use Rattle.std.specs.List.{list_any, list_all}
-use Rattle.vs_design.specs.Expressions.{Signal, signal_length}
+use Rattle.vs_design.specs.Expressions.{signal_length}
 use Rattle.vs_design.specs.Designs as D
 use Rattle.vs_design.specs.Designs.{Event, Process, Continuous, Always, is_clocked, is_combinational, Design, bit_count}
 use Rattle.vs_design.specs.Footprints.{contains, without, all_reads, reads_of, writes_of, waits_of}
@@ -16,7 +16,7 @@ use Rattle.vs_design.proofs.Within.{signal_below}
 use Rattle.vs_design.proofs.Named.{bits_of_design}
 use Rattle.vs_design.proofs.Parts.{all_at}
 use Rattle.vs_design.proofs.LawfulParts.{positive, first_bit}
-use Rattle.vs_design.proofs.ClockNets.{PortFacts, port_of, port_listed, PortAt, port_at, one_net, name_facts, one_listed}
+use Rattle.vs_design.proofs.ClockNets.{PortFacts, port_at, one_net, name_facts, one_listed}
 
 empty : (xs : List ℕ) → ((b : ℕ) → contains xs b ≡ true → ⊥) → xs ≡ []
 empty [] f = refl

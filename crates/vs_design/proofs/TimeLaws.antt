@@ -1,5 +1,5 @@
 -- The sets A and E of an accepted design, and the rule of time zero.
-use Rattle.std.proofs.Common.{◌≡◌, ℕ, zero, suc, ◌+◌, Bool, true, false, List, [], ◌∷◌, ◌++◌, ◌||◌, ◌&&◌, ◌==◌, eqb-true, eq-eqb, not, if◌then◌else◌, ◌⊎◌, inl, inr, refl, sym, ap, ◌∙◌, subst, map, length, Option, Some, None, arith, ◌≤◌, ◌<◌, nat_lt}
+use Rattle.std.proofs.Common.{◌≡◌, ℕ, zero, suc, ◌+◌, Bool, true, false, List, [], ◌∷◌, ◌++◌, ◌||◌, ◌&&◌, ◌==◌, eqb-true, eq-eqb, not, if◌then◌else◌, ◌⊎◌, inl, inr, refl, sym, ap, ◌∙◌, subst, length, Option, Some, None, arith, ◌≤◌, ◌<◌, nat_lt}
 use Rattle.std.specs.Prelude.{slice_get, nat_le}
 use Rattle.vs_four.specs.declared.Bit4.{Bit4}
 use Rattle.vs_four.specs.Tables.{same}
@@ -22,7 +22,7 @@ use Rattle.vs_net.proofs.Basics.{write_all_covered, write_all_other}
 use Rattle.vs_net.proofs.Nets.{reset_clocked}
 use Rattle.vs_design.specs.Sleepers.{is_sleeping, sleeper_at}
 use Rattle.vs_design.specs.TimeZero.{Families, families, early_source, late_source, block_sets, early_end, late_end, is_quiet, wakes, is_uncertain}
-use Rattle.vs_design.specs.Networks.{network_of, process_of, writer_of, block_process, idle_value}
+use Rattle.vs_design.specs.Networks.{network_of, process_of, block_process, idle_value}
 use Rattle.vs_design.specs.Accepted.{IsAcceptedDesign}
 use Rattle.vs_design.proofs.Lists.{by_test, and_both, or_left, or_right, contains-left, contains-right}
 use Rattle.vs_design.proofs.Writes.{either_way}

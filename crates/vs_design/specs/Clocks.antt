@@ -3,7 +3,7 @@ use Rattle.std.specs.Prelude.{ℕ, zero, suc, Bool, true, false, not, ◌&&◌, 
 use Rattle.std.specs.List.{list_any}
 use Rattle.vs_design.specs.Expressions.{Signal, signal_length, Expression, Name, At}
 use Rattle.vs_design.specs.Statements.{Whole}
-use Rattle.vs_design.specs.Designs.{Edge, Posedge, Event, InputPort, Process, Continuous, Always, is_clocked, has_edge, Design, top_inputs, bit_count}
+use Rattle.vs_design.specs.Designs.{Edge, Posedge, Event, Process, Continuous, Always, is_clocked, has_edge, Design, top_inputs, bit_count}
 use Rattle.vs_design.specs.Footprints.{contains, reads_of, waits_of}
 
 abbrev pub same_name : List ℕ → List ℕ → Bool
@@ -34,16 +34,16 @@ abbrev pub is_one_of : List ℕ → Option Signal → Bool
 is_one_of nets (Some s) = (signal_length s == 1) && contains nets s.first
 is_one_of nets None = false
 
--- the bit of the one-bit net that is the target of this input port's assign, where the expression is the name of a clock net alone; these are clock nets
+-- the bit of the one-bit net that is the whole target of an assign, a port's or a written one, where the expression is the name of a clock net alone; these are clock nets
 abbrev pub port_target : List ℕ → Process → List ℕ
-port_target nets (Continuous place InputPort target_place (Whole signal) e) = if is_one_of nets (name_of e) && (signal_length signal == 1) then (signal.first ∷ []) else []
+port_target nets (Continuous place port target_place (Whole signal) e) = if is_one_of nets (name_of e) && (signal_length signal == 1) then (signal.first ∷ []) else []
 port_target nets _ = []
 
 abbrev pub port_targets : List ℕ → List Process → List ℕ
 port_targets nets [] = []
 port_targets nets (p ∷ ps) = port_target nets p ++ port_targets nets ps
 
--- the clock nets that are at most so many ports away from the input
+-- the clock nets that are at most so many assigns away from the input
 abbrev pub nets_within : ℕ → List Process → ℕ → List ℕ
 nets_within zero ps clock = clock ∷ []
 nets_within (suc n) ps clock = clock ∷ port_targets (nets_within n ps clock) ps
@@ -63,7 +63,7 @@ own_nets d clock = if nat_lt clock (bit_count d) then clock_nets d clock else []
 abbrev pub is_clock_port : List ℕ → Process → Bool
 is_clock_port nets p = not (length (port_target nets p) == 0)
 
--- the rule ClockRead: the process reads or waits on a clock net and isn't such a port's assign
+-- the rule ClockRead: the process reads or waits on a clock net and isn't such an assign
 abbrev pub reads_clock : List ℕ → Process → Bool
 reads_clock nets p = not (is_clock_port nets p) && list_any (contains nets) (reads_of p ++ waits_of p)
 
@@ -88,7 +88,7 @@ first_of s = s.first
 abbrev pub one_bit_inputs : Design → ℕ → List ℕ
 one_bit_inputs d clock = map first_of (filter (may_reset clock) (top_inputs d))
 
--- The reset input that a bit copies. Reset nets are found as clock nets are: the input, and each one-bit net that is the target of an input port's assign whose expression is the name of a reset net alone.
+-- The reset input that a bit copies. Reset nets are found as clock nets are: the input, and each one-bit net that is the whole target of an assign whose expression is the name of a reset net alone.
 abbrev pub root_of : Design → ℕ → ℕ → Option ℕ
 root_of d clock b = find (λ i. contains (clock_nets d i) b) (one_bit_inputs d clock)
 

@@ -8,7 +8,7 @@ use Rattle.vs_design.specs.Designs.{Posedge, Negedge, InputPort, OutputPort, Pro
 use Rattle.vs_design.specs.Footprints.{reads_of, writes_of}
 use Rattle.vs_design.specs.Sizes.{size}
 use Rattle.vs_design.specs.Levels.{level_order}
-use Rattle.vs_design.specs.Clocks.{clock_nets}
+use Rattle.vs_design.specs.Clocks.{clock_nets, root_of}
 use Rattle.vs_design.specs.Sets.{only, union, known_set}
 use Rattle.vs_design.specs.TimeZero.{families}
 use Rattle.vs_design.specs.Accepted.{IsAcceptedDesign}
@@ -243,6 +243,28 @@ reset_through_port = record {
   functions = [];
 }
 
+-- `wire c; assign c = clk; always @(posedge c) q <= d;`: its net c is a clock net too
+abbrev pub c3_net : Signal
+c3_net = wire_of (codes "c") 3 None 3
+
+abbrev pub clock_alias : Design
+clock_alias = design_of (clk_signal ∷ d1 ∷ q2 ∷ c3_net ∷ []) (assign 54 (Whole c3_net) (Name clk_signal) ∷ on_posedge 70 c3_net (nonblocking 90 q2 (Name d1)) ∷ [])
+
+-- `assign e = c; assign c = clk; assign s = r; always @(posedge e or posedge s) if (s) q <= 1'b0; else q <= d;`: a clock net behind another, and a reset net
+abbrev pub c4_net : Signal
+c4_net = wire_of (codes "c") 4 None 4
+
+abbrev pub e5_net : Signal
+e5_net = wire_of (codes "e") 5 None 5
+
+abbrev pub s6_net : Signal
+s6_net = wire_of (codes "s") 6 None 6
+
+abbrev pub reset_alias : Design
+reset_alias = design_of (clk_signal ∷ r1 ∷ d2_input ∷ q3_register ∷ c4_net ∷ e5_net ∷ s6_net ∷ [])
+    (assign 69 (Whole e5_net) (Name c4_net) ∷ assign 83 (Whole c4_net) (Name clk_signal) ∷ assign 99 (Whole s6_net) (Name r1)
+    ∷ Always 113 false (record { signal = e5_net; edge = Posedge } ∷ record { signal = s6_net; edge = Posedge } ∷ []) (If (Name s6_net) (nonblocking 153 q3_register (dec 1 0)) (nonblocking 169 q3_register (Name d2_input))) ∷ [])
+
 pub record DesignsComputed : Type 0 where
   -- a reset by a falling edge, through a port: bits clk, r, d, y of the top, clk, r, d and q within it
   pub reset_through_port_accepted : IsAcceptedDesign reset_through_port clk
@@ -332,6 +354,19 @@ pub record DesignsComputed : Type 0 where
   pub clocked_instance_nets : clock_nets clocked_instance 0 ≡ 0 ∷ 3 ∷ []
   pub clocked_instance_ends : slot_ends clocked_instance (Zero ∷ One ∷ []) ((Zero ∷ Zero ∷ []) ∷ []) ≡
       ((Zero ∷ One ∷ X ∷ Zero ∷ One ∷ X ∷ []) ∷ (One ∷ One ∷ One ∷ One ∷ One ∷ One ∷ []) ∷ (Zero ∷ Zero ∷ One ∷ Zero ∷ Zero ∷ One ∷ []) ∷ (One ∷ Zero ∷ Zero ∷ One ∷ Zero ∷ Zero ∷ []) ∷ [])
+  -- a register on an assign's copy of the clock: bits clk, d, q, c
+  pub clock_alias_size : size clock_alias ≡ 6
+  pub clock_alias_accepted : IsAcceptedDesign clock_alias clk
+  pub clock_alias_nets : clock_nets clock_alias 0 ≡ 0 ∷ 3 ∷ []
+  pub clock_alias_ends : slot_ends clock_alias (Zero ∷ One ∷ []) ((Zero ∷ Zero ∷ []) ∷ []) ≡
+      ((Zero ∷ One ∷ X ∷ Zero ∷ []) ∷ (One ∷ One ∷ One ∷ One ∷ []) ∷ (Zero ∷ Zero ∷ One ∷ Zero ∷ []) ∷ (One ∷ Zero ∷ Zero ∷ One ∷ []) ∷ [])
+  -- copies of a copy, and of a reset: bits clk, r, d, q, c, e, s
+  pub reset_alias_size : size reset_alias ≡ 12
+  pub reset_alias_accepted : IsAcceptedDesign reset_alias clk
+  pub reset_alias_nets : clock_nets reset_alias 0 ≡ 0 ∷ 5 ∷ 4 ∷ []
+  pub reset_alias_root : root_of reset_alias 0 6 ≡ Some 1
+  pub reset_alias_ends : slot_ends reset_alias (Zero ∷ Zero ∷ One ∷ []) ((Zero ∷ One ∷ One ∷ []) ∷ (Zero ∷ Zero ∷ One ∷ []) ∷ []) ≡
+      ((Zero ∷ Zero ∷ One ∷ X ∷ Zero ∷ Zero ∷ Zero ∷ []) ∷ (One ∷ Zero ∷ One ∷ One ∷ One ∷ One ∷ Zero ∷ []) ∷ (Zero ∷ One ∷ One ∷ Zero ∷ Zero ∷ Zero ∷ One ∷ []) ∷ (One ∷ One ∷ One ∷ Zero ∷ One ∷ One ∷ One ∷ []) ∷ (Zero ∷ Zero ∷ One ∷ Zero ∷ Zero ∷ Zero ∷ Zero ∷ []) ∷ (One ∷ Zero ∷ One ∷ One ∷ One ∷ One ∷ Zero ∷ []) ∷ [])
   -- an x bit of one operand makes the whole sum x, and a known vector gives the sum: bits clk, a, b, y
   pub sum_size : size sum ≡ 29
   pub sum_accepted : IsAcceptedDesign sum clk

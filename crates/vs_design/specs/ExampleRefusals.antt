@@ -1,6 +1,6 @@
 -- Worked designs that are refused, and with what.
 use Rattle.std.specs.Prelude.{◌≡◌, false, List, [], ◌∷◌, None, Some, codes, replicate}
-use Rattle.vs_design.specs.Expressions.{Signal, BitNot, Multiply, Divide, BitAnd, BitOr, Name, Unary, Binary, Join, At, items_of}
+use Rattle.vs_design.specs.Expressions.{Signal, BitNot, Multiply, Divide, BitAnd, BitOr, Name, Unary, Binary, Join, Repeat, At, items_of}
 use Rattle.vs_design.specs.Statements.{Whole, Both, Statement, Exact, Empty, If, Then, Case, Arm, Default}
 use Rattle.vs_design.specs.Designs.{Any, Posedge, Always, Process, Design}
 use Rattle.vs_design.specs.Levels.{has_no_cycle}
@@ -57,6 +57,14 @@ gated = design_of (clk_signal ∷ en1 ∷ d2 ∷ q3 ∷ c4_net ∷ []) (assign 6
 
 abbrev pub other_clock : Design
 other_clock = design_of (clk_signal ∷ en1 ∷ d2 ∷ q3 ∷ c4_net ∷ []) (assign 65 (Whole c4_net) (Name en1) ∷ on_posedge 87 c4_net (nonblocking 108 q3 (Name d2)) ∷ [])
+
+-- a register that reads a copy of the clock
+abbrev pub alias_read : Design
+alias_read = design_of (clk_signal ∷ en1 ∷ d2 ∷ q3 ∷ c4_net ∷ []) (assign 65 (Whole c4_net) (Name clk_signal) ∷ on_posedge 82 c4_net (nonblocking 103 q3 (Name c4_net)) ∷ [])
+
+-- `assign c2 = {clk};`
+abbrev pub joined_alias : Design
+joined_alias = design_of (clk_signal ∷ en1 ∷ d2 ∷ q3 ∷ c4_net ∷ []) (assign 65 (Whole c4_net) (Repeat 1 (Name clk_signal)) ∷ on_posedge 84 c4_net (nonblocking 105 q3 (Name d2)) ∷ [])
 
 abbrev pub y65 : Signal
 y65 = wire_of (codes "y") 2 None 65
@@ -118,6 +126,10 @@ pub record RefusalsComputed : Type 0 where
   pub loop_is_one : IsCycle loop (0 ∷ 1 ∷ [])
   -- `assign c2 = clk & en; always @(posedge c2) q <= d;` reads the clock
   pub gated_refused : clock_refusal gated clk ≡ Some (ClockRead 0 65)
+  -- a copy of the clock is a clock net, and no value either
+  pub alias_read_refused : clock_refusal alias_read clk ≡ Some (ClockRead 1 82)
+  -- a concatenation is no name alone
+  pub joined_alias_refused : clock_refusal joined_alias clk ≡ Some (ClockRead 0 65)
   -- a clocked block on another net
   pub other_clock_refused : clock_refusal other_clock clk ≡ Some (NotTheClock 1 87)
   pub no_clock_refused : clock_refusal gated (Some (codes "clock")) ≡ Some NoClock

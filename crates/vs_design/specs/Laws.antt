@@ -43,11 +43,11 @@ AscendingHas = (count : ℕ) (bs : List ℕ) (b : ℕ) → contains (ascending c
 abbrev pub AscendingRises : Type 0
 AscendingRises = (count : ℕ) (bs : List ℕ) → IsStrictlyIncreasing (ascending count bs)
 
--- the clock nets are the clock input, and each one-bit net that is the target of an input port's assign whose expression is the name of a clock net alone
+-- the clock nets are the clock input, and each one-bit net that is the whole target of an assign, written or of any port, whose expression is the name of a clock net alone
 abbrev pub ClockNetsAre : Type 0
 ClockNetsAre = (d : Design) (clock b : ℕ) → (contains (clock_nets d clock) b ≡ true) ↔ ((b ≡ clock) ⊎ (contains (port_targets (clock_nets d clock) d.processes) b ≡ true))
 
--- Without a clock the bit that stands for it is none of the design's: no port copies it, nothing reads it or waits on it, and each clocked block has another clock.
+-- Without a clock the bit that stands for it is none of the design's: no assign copies it, nothing reads it or waits on it, and each clocked block has another clock.
 abbrev pub SpareClockIs : Type 0
 SpareClockIs = (d : Design) → IsLawfulDesign d → (clock : ℕ) → bit_count d ≤ clock
     → (clock_nets d clock ≡ clock ∷ []) × (list_any (reads_clock (clock_nets d clock)) d.processes ≡ false)

@@ -60,7 +60,7 @@ pub fn sets_law()
     ensures body_reads { BodySetsRead }
 {}
 
-/// The clock nets are the clock input and each net that input ports lead to from it.
+/// The clock nets are the clock input and each net that assigns of a name alone lead to from it.
 pub fn clock_law()
     ensures { ClockNetsAre }
 {}

@@ -7,7 +7,7 @@ use Rattle.vs_net.specs.Network.{Reset, to_value, reset_of, Sleeper, State, Writ
 pub use Rattle.vs_net.specs.Solution.{Settles}
 use Rattle.vs_net.specs.Solution.{at_first, all_initial, beginning}
 
--- the assign of an input port that copies one clock net to another (11.6.6)
+-- the assign that copies one clock net to another, as that of an input port does (11.6.6)
 pub record IsClockPort (clock_nets : ℕ → Bool) (process : Process) : Type 0 where
   pub from : ℕ
   pub to : ℕ
@@ -20,7 +20,7 @@ pub record IsClockPort (clock_nets : ℕ → Bool) (process : Process) : Type 0 
   pub writes_it : writes process to ≡ true
   pub copies : (s : State) → made process s ≡ record { bit = to; value = s from } ∷ []
 
--- the assign of an input port that copies one reset net to another
+-- the assign that copies one reset net to another, as that of an input port does
 pub record IsResetPort (roots : ℕ → Option ℕ) (process : Process) : Type 0 where
   pub from : ℕ
   pub to : ℕ

@@ -1,4 +1,4 @@
-use Rattle.std.proofs.Common.{◌≡◌, ◌≤◌, ◌++◌, ◌∷◌, [], ℕ, List, Option, Some, length, sym, ap, ◌∙◌, subst, arith}
+use Rattle.std.proofs.Common.{◌≡◌, ◌≤◌, ℕ, List, Option, length, sym, subst, arith}
 use Rattle.vs_design.specs.Designs.{bit_count}
 use Rattle.vs_design.specs.Footprints.{contains}
 use Rattle.vs_design.specs.Clocks.{clock_nets}

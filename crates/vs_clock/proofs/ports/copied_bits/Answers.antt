@@ -10,4 +10,4 @@ pub bits_of_assign-requires-clause-expr : goal.bits_of_assign-requires-clause-ex
 bits_of_assign-requires-clause-expr c = expr_there c.names_law.ensures.processes c.args.flat.now c.requires.lawful.names c.args.p c.process.result.now _ _ _ c.process.ensures c.in-Assign.is
 
 pub returns-in-Assign : goal.returns-in-Assign
-returns-in-Assign c = λ x e. c.bits_of_assign.ensures ∙ copied_by c.trees_law.ensures.processes c.args.flat.now c.requires.lawful c.args.p c.process.result.now _ _ _ c.process.ensures c.in-Assign.is x e
+returns-in-Assign c = λ x e. c.bits_of_assign.ensures ∙ copied_by c.trees_law.ensures.processes c.lawful_law.ensures.assign_targets c.args.flat.now c.requires.lawful c.args.p c.process.result.now _ _ _ c.process.ensures c.in-Assign.is x e
