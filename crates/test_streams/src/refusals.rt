@@ -110,7 +110,7 @@ const LINE_LINES: [(LineName, u32, u64, &str); 3] = [
 ];
 
 /// Endings, and their lines.
-const ENDING_LINES: [(Ending, &str); 5] = [
+const ENDING_LINES: [(Ending, &str); 6] = [
     (
         Ending::Done {
             lanes: 64,
@@ -129,6 +129,14 @@ const ENDING_LINES: [(Ending, &str); 5] = [
             missed: 2,
         },
         "ok lanes=3 vectors=12 settlings=8 size=5 missed=2\n",
+    ),
+    (
+        Ending::Ordered {
+            vectors: 2,
+            slots: 4,
+            order: 18_446_744_073_709_551_615,
+        },
+        "ok vectors=2 slots=4 order=18446744073709551615\n",
     ),
     (
         Ending::ReadFault { place: 1005 },

@@ -51,6 +51,8 @@ label_text label.Settlings = codes " settlings="
 label_text label.Place = codes " place="
 label_text label.Missed = codes " missed="
 label_text label.Output = codes " output="
+label_text label.Slots = codes " slots="
+label_text label.Order = codes " order="
 
 abbrev pub field : Label → ℕ → Field
 field what value = record { label = what; value = value }

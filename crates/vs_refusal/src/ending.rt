@@ -23,6 +23,13 @@ pub enum Ending {
         size: u64,
         missed: u32,
     },
+    /// A run of the queue is done: the number of vectors, of slots, and the order that its steps were
+    /// taken in.
+    Ordered {
+        vectors: u64,
+        slots: u64,
+        order: u64,
+    },
     /// A call that reads failed at this place.
     ReadFault {
         place: u32,
@@ -43,6 +50,7 @@ impl Ending {
         match self {
             Ending::Done { .. } => "ok",
             Ending::Checked { .. } => "ok",
+            Ending::Ordered { .. } => "ok",
             Ending::ReadFault { .. } => "refused 4 ReadFault",
             Ending::WriteFault { .. } => "refused 5 WriteFault",
             Ending::Memory => "refused 6 Memory",
@@ -66,6 +74,9 @@ impl Fields for Ending {
             (Ending::Checked { settlings, .. }, 2) => (Label::Settlings, *settlings),
             (Ending::Checked { size, .. }, 3) => (Label::Size, *size),
             (Ending::Checked { missed, .. }, 4) => (Label::Missed, *missed as u64),
+            (Ending::Ordered { vectors, .. }, 0) => (Label::Vectors, *vectors),
+            (Ending::Ordered { slots, .. }, 1) => (Label::Slots, *slots),
+            (Ending::Ordered { order, .. }, 2) => (Label::Order, *order),
             (Ending::ReadFault { place }, 0) => (Label::Place, *place as u64),
             (Ending::WriteFault { place }, 0) => (Label::Place, *place as u64),
             _ => return None,

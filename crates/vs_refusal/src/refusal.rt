@@ -74,6 +74,8 @@ pub enum Label {
     Place,
     Missed,
     Output,
+    Slots,
+    Order,
 }
 
 /// A field with one number.
@@ -104,6 +106,8 @@ impl Label {
             Label::Place => " place=",
             Label::Missed => " missed=",
             Label::Output => " output=",
+            Label::Slots => " slots=",
+            Label::Order => " order=",
         }
     }
 }
