@@ -19,11 +19,11 @@ use std::io::Read;
 use std::marker::Brand;
 use std::rt::CpuClock;
 use std::sync::ledger::{Blank, Ledger};
-use vs_accept::{MAX_BYTES, accept};
+use vs_accept::{AcceptError, MAX_BYTES, accept};
 use vs_engine::Engine;
 use vs_four::Bit4;
 use vs_plane::{Lanes, Pair, Steps, Word, Words};
-use vs_setup::load;
+use vs_setup::{engine_of, load};
 
 /// How many rounds are timed.
 const ROUNDS: u32 = 200;
@@ -79,6 +79,15 @@ fn time<W: Lanes, L: Ledger>(
     Ok(())
 }
 
+/// The engine of a text.
+fn loaded<W: Lanes>(alloc: Global, text: &[u8]) -> Result<Engine<W>, AcceptError>
+    requires { length text.now ≤ 4194304 }
+{
+    let loaded = load(alloc, text, b"top", Some(b"clk"), false)?;
+    let engine = engine_of(alloc, &loaded.accepted)?;
+    Ok(engine)
+}
+
 /// Loads a design, and times its rounds over these lanes.
 fn times<W: Lanes>(
     rt: &(impl CpuClock + Print + Alloc<A = Global>),
@@ -86,8 +95,8 @@ fn times<W: Lanes>(
 ) -> Result<()>
     requires { length text.now ≤ 4194304 }
 {
-    if let Ok(mut loaded) = load::<W>(rt.alloc(), text, b"top", Some(b"clk"), false) {
-        time::<W, Brand>(rt, &mut loaded.engine, Blank::new(1))?;
+    if let Ok(mut engine) = loaded::<W>(rt.alloc(), text) {
+        time::<W, Brand>(rt, &mut engine, Blank::new(1))?;
     }
     Ok(())
 }
@@ -110,15 +119,28 @@ fn main(rt: HostRuntime) -> Result<()> {
     if words > 1 {
         return Ok(());
     }
-    let _ = load::<Words<1>>(alloc, &text, b"top", Some(b"clk"), false);
-    let loaded = rt.thread_cpu_time()?;
-    println!(rt; "load={}", loaded.saturating_sub(accepted).as_millis())?;
+    let _ = loaded::<Words<1>>(alloc, &text);
+    let ready = rt.thread_cpu_time()?;
+    println!(rt; "load={}", ready.saturating_sub(accepted).as_millis())?;
     times::<Words<1>>(&rt, &text)?;
     times::<Words<2>>(&rt, &text)?;
     times::<Words<4>>(&rt, &text)
 }
 MAIN
-mkdir -p crates/bench_engine/proofs/times
+mkdir -p crates/bench_engine/proofs/{loaded,times}
+cat > crates/bench_engine/proofs/loaded/Answers.antt <<'PROOF'
+use Rattle.bench_engine.proofs.loaded.Goals as goal
+
+pub engine_of-requires : goal.engine_of-requires
+engine_of-requires g c =
+    let l = c.in_ok-loaded.ensures.loaded in
+    record {
+      accepted = record { name = _; accepted = l.accepted.accepted; clock = l.lent.clock_is };
+      footprints = l.lent.footprints_are;
+      resets = l.lent.resets_are;
+      order = l.lent.in_order;
+    }
+PROOF
 cat > crates/bench_engine/proofs/times/Invariants.antt <<'PROOF'
 use Rattle.bench_engine.proofs.times.Given as goal
 

@@ -41,13 +41,13 @@ use std::io::Read;
 use std::marker::Brand;
 use std::rt::CpuClock;
 use std::sync::ledger::{Blank, Ledger};
-use vs_accept::{AcceptError, MAX_BYTES, accept};
+use vs_accept::{AcceptError, Accepted, MAX_BYTES, accept};
 use vs_desk::{MemoryDesk, attach_law};
 use vs_engine::Engine;
 use vs_flat::Flat;
 use vs_four::Bit4;
 use vs_plane::{Lanes, Pair, Steps, Word, Words};
-use vs_setup::{Loaded, load};
+use vs_setup::{Loaded, engine_of, load};
 use vs_waves::{LaneFault, Waves, attach, rounds_law};
 
 /// A pair for each bit of an engine's inputs.
@@ -100,7 +100,7 @@ fn times<W: Lanes>(
     requires { length text.now ≤ 4194304 }
 {
     let start = rt.thread_cpu_time()?;
-    if let Ok(mut loaded) = load::<W>(rt.alloc(), text, b"top", Some(b"clk"), false) {
+    if let Ok(mut loaded) = loaded::<W>(rt.alloc(), text) {
         let load = rt.thread_cpu_time()?.saturating_sub(start).as_micros();
         let settle = time::<W, Brand>(rt, &mut loaded.engine, rounds, Blank::new(1))?;
         println!(rt; "lanes={} load={load} settle={settle}", W::LANES)?;
@@ -126,12 +126,22 @@ fn stir(pairs: &mut [Pair<Words<1>>], seed: u64, from: usize, to: usize) -> u64
     state
 }
 
+/// A design, and an engine of it.
+#[derive(Drop)]
+struct Ready<W: Lanes> {
+    accepted: Accepted,
+    engine: Engine<W>,
+}
+
 /// The design of a text, and an engine of it.
-fn loaded(alloc: Global, text: &[u8]) -> Result<Loaded<Words<1>>, AcceptError>
+fn loaded<W: Lanes>(alloc: Global, text: &[u8]) -> Result<Ready<W>, AcceptError>
     requires { length text.now ≤ 4194304 }
     ensures { IfOk result (λ l. map (λ (s : Span). s.length) l.engine.program.signals ≡ map signal_length (shown_signals (design_of l.accepted.flat))) }
 {
-    load(alloc, text, b"top", Some(b"clk"), false)
+    let loaded = load(alloc, text, b"top", Some(b"clk"), false)?;
+    let engine = engine_of(alloc, &loaded.accepted)?;
+    let Loaded { accepted, .. } = loaded;
+    Ok(Ready { accepted, engine })
 }
 
 /// One round of all lanes.
@@ -233,7 +243,7 @@ fn measure<L: Ledger>(
 /// Times so many rounds with the waves of 64 lanes of a design.
 fn time_waves<L: Ledger>(
     rt: &(impl CpuClock + Print + Alloc<A = Global>),
-    loaded: &mut Loaded<Words<1>>,
+    loaded: &mut Ready<Words<1>>,
     words: [u32; 3],
     blank: Blank,
 ) -> Result<()>
@@ -258,7 +268,7 @@ fn times_waves(
 ) -> Result<()>
     requires { length text.now ≤ 4194304 }
 {
-    if let Ok(mut loaded) = loaded(rt.alloc(), text) {
+    if let Ok(mut loaded) = loaded::<Words<1>>(rt.alloc(), text) {
         time_waves::<Brand>(rt, &mut loaded, words, Blank::new(1))?;
     }
     Ok(())
@@ -293,13 +303,22 @@ fn main(rt: HostRuntime) -> Result<()> {
 MAIN
 mkdir -p crates/bench_phases/proofs/loaded
 cat > crates/bench_phases/proofs/loaded/Answers.antt <<'PROOF'
-use Rattle.std.proofs.lemmas.Result.{IfOk-weaker}
 use Rattle.vs_flat.specs.DesignOf.{design_of}
 use Rattle.vs_program.proofs.Lengths.{lengths_of_spans}
 use Rattle.bench_phases.proofs.loaded.Goals as goal
 
+pub engine_of-requires : goal.engine_of-requires
+engine_of-requires g c =
+    let l = c.in_ok-loaded.ensures.loaded in
+    record {
+      accepted = record { name = _; accepted = l.accepted.accepted; clock = l.lent.clock_is };
+      footprints = l.lent.footprints_are;
+      resets = l.lent.resets_are;
+      order = l.lent.in_order;
+    }
+
 pub returns : goal.returns
-returns c = IfOk-weaker c.load.result _ _ (λ l h. lengths_of_spans (design_of l.accepted.flat) _ _ h.program) c.load.ensures.loaded
+returns g c = lengths_of_spans (design_of c.in_ok-loaded.loaded.accepted.flat) _ _ c.in_ok-engine.ensures.program
 PROOF
 mkdir -p crates/bench_phases/proofs/run_round
 cat > crates/bench_phases/proofs/run_round/Answers.antt <<'PROOF'

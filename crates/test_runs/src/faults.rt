@@ -11,6 +11,9 @@ use vs_desk::MemoryDesk;
 /// Two lanes, of which the first ends earlier.
 const TWO_LANES: &str = "c run --top top --clock clk d.v s0 s1";
 
+/// One lane, which the event queue runs.
+const QUEUE: &str = "c queue --order 7 --top top --clock clk d.v s1";
+
 /// Six lanes of one vector.
 const SIX_LANES: &str = "c run --top top --clock clk d.v s1 s2 s3 s4 s5 s6";
 
@@ -52,19 +55,20 @@ fn run_failing(
 fn expect_fault(
     rt: &impl Abort,
     alloc: Global,
+    line: &str,
     piece: usize,
     n: u64,
     whole: &MemoryDesk,
 ) -> Result<(), Fail>
     requires { 0 < piece }
 {
-    let (code, desk) = run_failing(alloc, piece, TWO_LANES, &[n])?;
+    let (code, desk) = run_failing(alloc, piece, line, &[n])?;
     let put = if desk.losses() == 1 {
         n.saturating_add(1)
     } else {
         desk.calls().saturating_sub(1)
     };
-    let (again, lost) = run_failing(alloc, piece, TWO_LANES, &[n, put])?;
+    let (again, lost) = run_failing(alloc, piece, line, &[n, put])?;
     assert_eq!(rt; code, again, "call {n}");
     for place in [2000, 2001] {
         assert!(rt;
@@ -104,16 +108,26 @@ fn expect_fault(
     Ok(())
 }
 
-#[test]
-fn each_call_fails_in_turn(rt: HostRuntime) -> Result<(), Fail> {
+/// Each call of the line's run fails in turn.
+fn expect_faults(rt: &impl Abort, alloc: Global, line: &str) -> Result<(), Fail> {
     for piece in [1, 4096] {
-        let (code, whole) = run_failing(rt.alloc(), piece, TWO_LANES, &[])?;
+        let (code, whole) = run_failing(alloc, piece, line, &[])?;
         assert_eq!(rt; code, 0);
         for n in 0..whole.calls() {
-            expect_fault(&rt, rt.alloc(), piece, n, &whole)?;
+            expect_fault(rt, alloc, line, piece, n, &whole)?;
         }
     }
     Ok(())
+}
+
+#[test]
+fn each_call_fails_in_turn(rt: HostRuntime) -> Result<(), Fail> {
+    expect_faults(&rt, rt.alloc(), TWO_LANES)
+}
+
+#[test]
+fn each_call_of_the_queue_fails_in_turn(rt: HostRuntime) -> Result<(), Fail> {
+    expect_faults(&rt, rt.alloc(), QUEUE)
 }
 
 #[test]

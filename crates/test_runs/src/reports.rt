@@ -5,7 +5,7 @@ use std::process::Abort;
 use std::test::Fail;
 use vs_desk::MemoryDesk;
 use vs_refusal::{AtName, BareName, LineName, Refusal};
-use vs_top::{Outcome, Summary, report, status};
+use vs_top::{Course, Outcome, Summary, report, status};
 
 const SUMMARY: Summary = Summary {
     lanes: 1,
@@ -16,7 +16,14 @@ const SUMMARY: Summary = Summary {
     missed: None,
 };
 
-/// The same of a check in which so many lanes missed something.
+const COURSE: Course = Course {
+    vectors: 2,
+    slots: 4,
+    order: 7,
+    steps: 60,
+};
+
+/// The summary of a check in which so many lanes missed something.
 fn checked(missed: u32) -> Outcome {
     Outcome::Done(Summary {
         missed: Some(missed),
@@ -55,6 +62,9 @@ fn reports_of_outcomes(rt: HostRuntime) -> Result<(), Fail> {
     let missed = "ok lanes=1 vectors=2 settlings=4 size=5 missed=1\n";
     expect_report(&rt, a, checked(1), &[], 1, missed)?;
     expect_report(&rt, a, checked(1), &[0], 6, lost)?;
+    let queue = "ok vectors=2 slots=4 order=7\n";
+    expect_report(&rt, a, Outcome::Ordered(COURSE), &[], 0, queue)?;
+    expect_report(&rt, a, Outcome::Ordered(COURSE), &[0], 6, lost)?;
     let usage = Outcome::Refused(Refusal::Bare(BareName::Usage));
     expect_report(&rt, a, usage, &[], 2, "refused 1 Usage\n")?;
     let usage = Outcome::Refused(Refusal::Bare(BareName::Usage));

@@ -16,7 +16,7 @@ fn placed<'a>(alloc: Global, name: &'a str, value: &'a str, help: &'a str) -> Ar
     Arg::new(alloc, name).value_name(value).help(help)
 }
 
-/// The words behind `run` or `check`, and what it is about.
+/// The words behind `run`, `check` or `queue` but for the stimuli, and what it is about.
 fn job<'a>(alloc: Global, name: &'a str, about: &'a str) -> Result<Command<'a>, AllocError> {
     Command::new(alloc, name)
         .disable_help_flag(true)
@@ -40,13 +40,23 @@ fn job<'a>(alloc: Global, name: &'a str, about: &'a str) -> Result<Command<'a>, 
             "A macro that is defined before the design's text, up to 64 of them",
         )
         .action(ArgAction::Append))?
-        .arg(placed(alloc, "design", "DESIGN", "The path of the design").required(true))?
-        .arg(
-            placed(alloc, "stimuli", "STIM", "The paths of 1 to 256 stimuli")
-                .required(true)
-                .num_args(1..=256)
-                .action(ArgAction::Append),
-        )
+        .arg(placed(alloc, "design", "DESIGN", "The path of the design").required(true))
+}
+
+/// The paths of 1 to 256 stimuli.
+fn stimuli<'a>(alloc: Global) -> Arg<'a> {
+    placed(alloc, "stimuli", "STIM", "The paths of 1 to 256 stimuli")
+        .required(true)
+        .num_args(1..=256)
+        .action(ArgAction::Append)
+}
+
+/// `--share`.
+fn share<'a>(alloc: Global) -> Arg<'a> {
+    Arg::new(alloc, "share")
+        .long("share")
+        .help("One identifier code in a waveform for all signals that ports join")
+        .action(ArgAction::SetTrue)
 }
 
 /// The words behind `run`.
@@ -56,21 +66,38 @@ pub fn run<'a>(alloc: Global, name: &'a str) -> Result<Command<'a>, AllocError> 
         name,
         "Runs a design under stimuli, and writes a waveform beside each",
     )?;
-    command.arg(
-        Arg::new(alloc, "share")
-            .long("share")
-            .help("One identifier code in a waveform for all signals that ports join")
-            .action(ArgAction::SetTrue),
-    )
+    command.arg(stimuli(alloc))?.arg(share(alloc))
 }
 
 /// The words behind `check`.
 pub fn check<'a>(alloc: Global, name: &'a str) -> Result<Command<'a>, AllocError> {
-    job(
+    let command = job(
         alloc,
         name,
         "Compares a design's outputs with what stimuli want of them, and writes no file",
-    )
+    )?;
+    command.arg(stimuli(alloc))
+}
+
+/// The words behind `queue`.
+pub fn queue<'a>(alloc: Global, name: &'a str) -> Result<Command<'a>, AllocError> {
+    let command = job(
+        alloc,
+        name,
+        "Runs a design under one stimulus by the event queue, and writes a waveform beside it",
+    )?;
+    command
+        .arg(placed(alloc, "stimuli", "STIM", "The path of the stimulus").required(true))?
+        .arg(
+            named(
+                alloc,
+                "order",
+                "N",
+                "The order of the queue's steps, from 0 to 18446744073709551615",
+            )
+            .required(true)
+            .value_parser(value_parser!(u64)),
+        )
 }
 
 /// The words behind `bench`.
@@ -106,5 +133,6 @@ pub fn cyclesim<'a>(alloc: Global) -> Result<Command<'a>, AllocError> {
         .subcommand(run)?;
     words
         .subcommand(check(alloc, "check")?)?
+        .subcommand(queue(alloc, "queue")?)?
         .subcommand(bench(alloc, "bench")?)
 }

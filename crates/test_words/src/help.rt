@@ -1,6 +1,6 @@
 //! The help that `clap` has for the declared words, which README shows.
 
-use crate::command::{bench, check, run};
+use crate::command::{bench, check, queue, run};
 use std::alloc::{AllocError, Global};
 use std::test::Fail;
 
@@ -39,6 +39,24 @@ Options:
       --define <NAME[=TEXT]>  A macro that is defined before the design's text, up to 64 of them
 ";
 
+/// The help of the words behind `queue`.
+const QUEUE: &str = "\
+Runs a design under one stimulus by the event queue, and writes a waveform beside it
+
+Usage: cyclesim queue [OPTIONS] --top <T> --order <N> <DESIGN> <STIM>
+
+Arguments:
+  <DESIGN>  The path of the design
+  <STIM>    The path of the stimulus
+
+Options:
+      --top <T>               The name of the top module
+      --clock <C>             The name of the top's clock input, if it has one
+      --half <H>              Half a clock period, from 1 to 1000000 [default: 5]
+      --define <NAME[=TEXT]>  A macro that is defined before the design's text, up to 64 of them
+      --order <N>             The order of the queue's steps, from 0 to 18446744073709551615
+";
+
 /// The help of the words behind `bench`.
 const BENCH: &str = "\
 Runs a design and stimuli of its own, in memory
@@ -50,11 +68,12 @@ Arguments:
   [L]  The lanes, from 1 to 256 [default: 64]
 ";
 
-/// The help text of `run`, of `check` or of `bench`.
+/// The help text of `run`, of `check`, of `queue` or of `bench`.
 fn help(alloc: Global, word: &str) -> Result<String, AllocError> {
     let command = match word {
         "run" => run(alloc, "cyclesim run"),
         "check" => check(alloc, "cyclesim check"),
+        "queue" => queue(alloc, "cyclesim queue"),
         _ => bench(alloc, "cyclesim bench"),
     };
     command?.render_help()
@@ -69,6 +88,12 @@ fn help_of_run(rt: HostRuntime) -> Result<(), Fail> {
 #[test]
 fn help_of_check(rt: HostRuntime) -> Result<(), Fail> {
     assert_eq!(&rt; help(rt.alloc(), "check")?.as_str(), CHECK);
+    Ok(())
+}
+
+#[test]
+fn help_of_queue(rt: HostRuntime) -> Result<(), Fail> {
+    assert_eq!(&rt; help(rt.alloc(), "queue")?.as_str(), QUEUE);
     Ok(())
 }
 

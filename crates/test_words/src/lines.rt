@@ -25,6 +25,11 @@ x run --top t --clock c -- d --share
 x check --top t --clock c d s
 x check d s0 --half=7 s1 --clock c --define A --top=t
 x check --top t --clock c -- d --half run
+x queue --order 7 --top t --clock c d s
+x queue d s --half=7 --clock c --define A --top=t --order=0
+x queue --top t d --order 18446744073709551615 s
+x queue --order 10 --top t -- d --order
+x run --top t --clock c d queue
 x bench 1
 x bench 1000 256
 x bench 3 1
@@ -58,6 +63,21 @@ x check --top t --clock c d
 x checks --top t --clock c d s
 x check --top t --clock c --half 0 d s
 x check --share --top t --clock c d s
+x queue
+x queue --top t --clock c d s
+x queue --order 7 --clock c d s
+x queue --order 7 --top t --clock c d
+x queue --order 7 --top t --clock c d s s1
+x queue --order 7 --order 8 --top t --clock c d s
+x queue --order 18446744073709551616 --top t --clock c d s
+x queue --order x --top t --clock c d s
+x queue --order= --top t --clock c d s
+x queue --top t --clock c d s --order
+x queue --share --order 7 --top t --clock c d s
+x queues --order 7 --top t --clock c d s
+x run --order 7 --top t --clock c d s
+x check --order 7 --top t --clock c d s
+x bench --order 7
 x bench --share 1
 x bench
 x bench 0
@@ -127,6 +147,14 @@ fn is_job(matches: &ArgMatches<'_>, job: &Job) -> bool {
         && are_paths(matches.get_strs("stimuli").unwrap_or(&[]), &job.stimuli)
 }
 
+/// Whether the event queue runs the job, in the order of the words.
+fn is_ordered(matches: &ArgMatches<'_>, mode: Mode) -> bool {
+    match mode {
+        Mode::Queue { order } => matches.get_one::<u64>("order") == Some(order),
+        Mode::Run | Mode::Check => false,
+    }
+}
+
 /// Whether these are the words of the bench.
 fn is_bench(matches: &ArgMatches<'_>, bench: Bench) -> bool {
     matches.get_one::<u32>("vectors") == Some(bench.vectors)
@@ -141,6 +169,9 @@ fn are_alike(matches: &ArgMatches<'_>, job: Option<&Job>, bench: Option<Bench>) 
         }
         (Some(("check", check)), Some(job), None) => {
             job.mode == Mode::Check && !job.share && is_job(check, job)
+        }
+        (Some(("queue", queue)), Some(job), None) => {
+            is_ordered(queue, job.mode) && !job.share && is_job(queue, job)
         }
         (Some(("bench", sizes)), None, Some(bench)) => is_bench(sizes, bench),
         _ => false,

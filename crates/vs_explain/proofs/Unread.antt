@@ -5,7 +5,7 @@ use Rattle.vs_job.specs.declared.job.Job.{Job}
 use Rattle.vs_job.specs.Job.{Text, job}
 use Rattle.vs_refusal.specs.declared.ending.Ending.TheVariants as ending
 use Rattle.vs_top.specs.declared.outcome.Outcome.{Outcome}
-use Rattle.vs_top.specs.declared.outcome.Outcome.TheVariants.{Done, Refused, ReadFault, WriteFault, Memory}
+use Rattle.vs_top.specs.declared.outcome.Outcome.TheVariants.{Done, Ordered, Refused, ReadFault, WriteFault, Memory}
 use Rattle.vs_misses.specs.Missed.{Found}
 use Rattle.vs_explainer.specs.Told.{IsPut, ending_text}
 use Rattle.vs_explain.specs.Answered.{ExplainsWords}
@@ -16,6 +16,7 @@ pub unread : {tells : Bool} (words : List Text) (o : Outcome) (found : List (Opt
 unread words o found old new None e some memory others = absurd (some refl)
 unread words Memory found old new (Some j) e some memory others = explained (memory refl)
 unread words (Done s) found old new (Some j) e some memory others = unexplained j e (λ p. cc) (others (λ p. cc))
+unread words (Ordered c) found old new (Some j) e some memory others = unexplained j e (λ p. cc) (others (λ p. cc))
 unread words (Refused r) found old new (Some j) e some memory others = unexplained j e (λ p. cc) (others (λ p. cc))
 unread words (ReadFault place) found old new (Some j) e some memory others = unexplained j e (λ p. cc) (others (λ p. cc))
 unread words (WriteFault place) found old new (Some j) e some memory others = unexplained j e (λ p. cc) (others (λ p. cc))

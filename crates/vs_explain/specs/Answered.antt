@@ -11,14 +11,16 @@ use Rattle.vs_refusal.specs.declared.refusal.Refusal.{Refusal}
 use Rattle.vs_refusal.specs.declared.refusal.Refusal.TheVariants.{Bare}
 use Rattle.vs_refusal.specs.declared.ending.Ending.TheVariants as ending
 use Rattle.vs_top.specs.declared.outcome.Summary.{Summary}
+use Rattle.vs_top.specs.declared.outcome.Course.{Course}
 use Rattle.vs_top.specs.declared.outcome.Outcome.{Outcome}
-use Rattle.vs_top.specs.declared.outcome.Outcome.TheVariants.{Done, Refused, ReadFault, WriteFault, Memory}
+use Rattle.vs_top.specs.declared.outcome.Outcome.TheVariants.{Done, Ordered, Refused, ReadFault, WriteFault, Memory}
 use Rattle.vs_misses.specs.Missed.{Found}
 use Rattle.vs_top.specs.Answered.{IsAnswered, IsKept}
 use Rattle.vs_top.specs.Benched.{IsBenched}
 use Rattle.vs_top.specs.Checked.{IsVerdict}
 use Rattle.vs_top.specs.Ended.{OthersAttached}
-use Rattle.vs_top.specs.Outcomes.{done_ending}
+use Rattle.vs_top.specs.Ordered.{IsOrdered}
+use Rattle.vs_top.specs.Outcomes.{done_ending, ordered_ending}
 use Rattle.vs_top.specs.Causes.{IsDoneOrMemory, IsFaultless, IsLawful, ShowsCause}
 use Rattle.vs_top.specs.Refused.{IsRefusedJob, IsRefusedSo}
 use Rattle.vs_top.specs.Reports.{IsSimulated, IsReported}
@@ -30,6 +32,8 @@ use Rattle.vs_explainer.specs.Told.{ExplainsRefusal, IsPut, ending_text, usage_t
 pub record IsRun {tells : Bool} {D : Type 0} (told : D → Told tells) (words : List Text) (old new : D) (before after : ℕ) (result : Outcome) : Type 0 where
   pub written : IsTrue tells → (j : Job) → job words ≡ Some j → j.mode ≡ modes.Run → (s : Summary) → result ≡ Done s → IsWritten j (told old).contents (told new).contents s
   pub checked : IsTrue tells → (j : Job) → job words ≡ Some j → j.mode ≡ modes.Check → (s : Summary) → result ≡ Done s → IsVerdict j (told old).contents (told new).contents s
+  pub ordered : IsTrue tells → (j : Job) → job words ≡ Some j → (c : Course) → result ≡ Ordered c → IsOrdered j (told old).contents (told new).contents c
+  pub order : (j : Job) → job words ≡ Some j → (c : Course) → result ≡ Ordered c → (j.mode ≡ modes.Queue c.order) × (after ≡ before)
   pub operations : (s : Summary) → result ≡ Done s → (after ≡ before + s.operations) × (s.operations ≤ s.size * s.settlings)
   pub usage : job words ≡ None → bench words ≡ None → (result ≡ Refused (Bare Usage)) × IsReported (told old) (told new) result
   pub usage_only : result ≡ Refused (Bare Usage) → (job words ≡ None) × (bench words ≡ None)
@@ -56,6 +60,7 @@ ExplainsRefused None r old new = IsPut old new usage_text
 abbrev pub Explains : {tells : Bool} → Option Job → Outcome → List (Option Found) → Told tells → Told tells → Type 0
 Explains j (Refused r) found old new = ExplainsRefused j r old new
 Explains j (Done s) found old new = ExplainsDone j found (done_ending s s.missed) old new
+Explains j (Ordered c) found old new = IsPut old new (ending_text j (ordered_ending c))
 Explains j (ReadFault place) found old new = IsPut old new (ending_text j (ending.ReadFault place))
 Explains j (WriteFault place) found old new = IsPut old new (ending_text j (ending.WriteFault place))
 Explains j Memory found old new = IsPut old new (ending_text j ending.Memory)

@@ -6,7 +6,7 @@ ghost use Rattle.std.specs.Option.{ForSome};
 ghost use Rattle.vs_refusal.specs.declared.ending.Ending.TheVariants as ending;
 ghost use Rattle.vs_top.specs.declared.outcome.Outcome.TheVariants.{Memory};
 ghost use Rattle.vs_top.specs.Ended.{IsUnused};
-ghost use Rattle.vs_top.specs.Outcomes.{done_ending};
+ghost use Rattle.vs_top.specs.Outcomes.{done_ending, ordered_ending};
 ghost use Rattle.vs_reread.specs.Again.{AreUnread, most_bytes};
 ghost use Rattle.vs_explainer.specs.Told.{IsPut, ending_text};
 ghost use Rattle.vs_explain.specs.Asked as spec;
@@ -21,7 +21,7 @@ use vs_job::{Job, JobError, read_job};
 use vs_misses::Finding;
 use vs_plane::Steps;
 use vs_refusal::{Ending, Refusal};
-use vs_top::{Answered, Outcome, Summary, answer};
+use vs_top::{Answered, Course, Outcome, Summary, answer};
 
 /// Whether the first word behind the program's own name is `--explain`.
 fn is_asked(words: &[String]) -> bool
@@ -83,6 +83,17 @@ fn done_ending(summary: &Summary) -> Ending
     }
 }
 
+/// How a run of the event queue that is done ended.
+fn ordered_ending(course: &Course) -> Ending
+    ensures { result ≡ ordered_ending course.now }
+{
+    Ending::Ordered {
+        vectors: course.vectors,
+        slots: course.slots,
+        order: course.order,
+    }
+}
+
 /// Puts what an answer says to a person behind its report line.
 fn explain<D: Desk>(alloc: Global, job: Option<&Job>, answered: &Answered, desk: &mut D)
     requires unread { AreUnread (D.told desk.old).register }
@@ -96,6 +107,7 @@ fn explain<D: Desk>(alloc: Global, job: Option<&Job>, answered: &Answered, desk:
             let done = done_ending(summary);
             explain_done(alloc, job, &answered.found, &done, desk);
         }
+        Outcome::Ordered(course) => explain_ending(job, &ordered_ending(course), desk),
         Outcome::ReadFault { place } => {
             let fault = Ending::ReadFault { place: *place };
             explain_ending(job, &fault, desk);

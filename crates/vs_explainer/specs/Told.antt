@@ -5,10 +5,10 @@ use Rattle.vs_desk.specs.Desk.{Told, PutsAll}
 use Rattle.vs_job.specs.declared.job.Job.{Job}
 use Rattle.vs_refusal.specs.declared.refusal.Refusal.{Refusal}
 use Rattle.vs_refusal.specs.declared.ending.Ending.{Ending}
-use Rattle.vs_refusal.specs.declared.ending.Ending.TheVariants.{Done, Checked, ReadFault, WriteFault, Memory}
+use Rattle.vs_refusal.specs.declared.ending.Ending.TheVariants.{Done, Checked, Ordered, ReadFault, WriteFault, Memory}
 use Rattle.vs_explanation.specs.Seen.{Seen}
 use Rattle.vs_explanation.specs.Refused.{refusal_text}
-use Rattle.vs_explanation.specs.Ended.{done_text, checked_text, waves_from, read_fault_text, write_fault_text, output_fault_text, memory_text}
+use Rattle.vs_explanation.specs.Ended.{done_text, checked_text, ordered_text, waves_from, read_fault_text, write_fault_text, output_fault_text, memory_text}
 use Rattle.vs_reread.specs.Again.{OnlyRead}
 use Rattle.vs_explainer.specs.Looks.{IsSeen}
 
@@ -24,7 +24,7 @@ pub data ExplainsRefusal {tells : Bool} (job : Job) (r : Refusal) (old new : Tol
 
 -- what is said of another answer, where the words call for a job and where they call for none, as for a bench, whose one file is standard output
 abbrev pub waves_text : Option Job → List ℕ
-waves_text (Some job) = waves_from 0 job.stimuli
+waves_text (Some job) = waves_from job.mode 0 job.stimuli
 waves_text None = []
 
 abbrev pub read_text : Option Job → ℕ → List ℕ
@@ -38,6 +38,7 @@ write_text None place = output_fault_text
 abbrev pub ending_text : Option Job → Ending → List ℕ
 ending_text job (Done lanes vectors settlings size) = done_text lanes vectors settlings size ++ waves_text job
 ending_text job (Checked lanes vectors settlings size missed) = checked_text lanes vectors settlings size missed
+ending_text job (Ordered vectors slots order) = ordered_text vectors slots order ++ waves_text job
 ending_text job (ReadFault place) = read_text job place
 ending_text job (WriteFault place) = write_text job place
 ending_text job Memory = memory_text
@@ -45,4 +46,4 @@ ending_text job Memory = memory_text
 -- the forms of all words
 abbrev pub usage_text : List ℕ
 usage_text = codes
-    "error: Usage: the words aren't those of the program, or a value of --define is no macro\nnote: cyclesim run [OPTIONS] --top <T> <DESIGN> <STIM>...\nnote: cyclesim check [OPTIONS] --top <T> <DESIGN> <STIM>...\nnote: cyclesim bench <N> [L]\nnote: cyclesim --explain <WORDS>...\nnote: --top <T>: the name of the top module\nnote: --clock <C>: the name of the top's clock input, if it has one\nnote: --half <H>: half a clock period, from 1 to 1000000 [default: 5]\nnote: --define <NAME[=TEXT]>: a macro that is defined before the design's text, up to 64 of them\nnote: --share: one identifier code in the waveform for all signals that ports join, with run alone\nnote: docs/running.md says what each word is (docs/refusals.md)\n"
+    "error: Usage: the words aren't those of the program, or a value of --define is no macro\nnote: cyclesim run [OPTIONS] --top <T> <DESIGN> <STIM>...\nnote: cyclesim check [OPTIONS] --top <T> <DESIGN> <STIM>...\nnote: cyclesim queue --order <N> [OPTIONS] --top <T> <DESIGN> <STIM>\nnote: cyclesim bench <N> [L]\nnote: cyclesim --explain <WORDS>...\nnote: --top <T>: the name of the top module\nnote: --clock <C>: the name of the top's clock input, if it has one\nnote: --half <H>: half a clock period, from 1 to 1000000 [default: 5]\nnote: --define <NAME[=TEXT]>: a macro that is defined before the design's text, up to 64 of them\nnote: --share: one identifier code in the waveform for all signals that ports join, with run alone\nnote: --order <N>: what the order of the event queue's steps is drawn from, from 0 to 18446744073709551615, with queue alone\nnote: docs/running.md says what each word is (docs/refusals.md)\n"

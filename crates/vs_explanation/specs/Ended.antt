@@ -1,8 +1,8 @@
 -- What is said of an answer that isn't a refusal of a job.
 use Rattle.std.specs.Prelude.{ℕ, List, [], ◌∷◌, ◌++◌, ◌==◌, codes, decimal, suc, if◌then◌else◌}
 use Rattle.vs_job.specs.declared.job.Job.{Job}
-use Rattle.vs_excerpt.specs.Escapes.{escaped}
-use Rattle.vs_explanation.specs.Subjects.{path_text}
+use Rattle.vs_job.specs.declared.job.Mode.{Mode}
+use Rattle.vs_explanation.specs.Subjects.{path_text, wave_path}
 
 -- a number between two texts
 abbrev pub numbered : List ℕ → ℕ → List ℕ → List ℕ
@@ -28,14 +28,19 @@ missed_text missed =
 abbrev pub checked_text : ℕ → ℕ → ℕ → ℕ → ℕ → List ℕ
 checked_text lanes vectors settlings size missed = missed_text missed ++ done_text lanes vectors settlings size
 
+-- of a run of the queue that is done
+abbrev pub ordered_text : ℕ → ℕ → ℕ → List ℕ
+ordered_text vectors slots order =
+    counted (codes "note: the order of the event queue's steps: ") order ++ (counted (codes "note: vectors: ") vectors ++ counted (codes "note: time slots: ") slots)
+
 -- `note: waveform of lane 0: s0.vcd`
-abbrev pub wave_line : ℕ → List ℕ → List ℕ
-wave_line lane stimulus = numbered (codes "note: waveform of lane ") lane (codes ": ") ++ (escaped stimulus ++ codes ".vcd\n")
+abbrev pub wave_line : Mode → ℕ → List ℕ → List ℕ
+wave_line mode lane stimulus = numbered (codes "note: waveform of lane ") lane (codes ": ") ++ (wave_path mode stimulus ++ codes "\n")
 
 -- the waveforms' paths, of which the first is of this lane
-abbrev pub waves_from : ℕ → List (List ℕ) → List ℕ
-waves_from lane [] = []
-waves_from lane (stimulus ∷ stimuli) = wave_line lane stimulus ++ waves_from (suc lane) stimuli
+abbrev pub waves_from : Mode → ℕ → List (List ℕ) → List ℕ
+waves_from mode lane [] = []
+waves_from mode lane (stimulus ∷ stimuli) = wave_line mode lane stimulus ++ waves_from mode (suc lane) stimuli
 
 -- of a file that can't be read
 abbrev pub read_fault_text : Job → ℕ → List ℕ

@@ -6,14 +6,22 @@ use Rattle.vs_flat.specs.DesignOf.{design_of}
 use Rattle.vs_names.specs.Names.{bit_text, signal_of_number}
 use Rattle.vs_names.specs.Drawn.{Drawn}
 use Rattle.vs_job.specs.declared.job.Job.{Job}
+use Rattle.vs_job.specs.declared.job.Mode.{Mode}
+use Rattle.vs_job.specs.declared.job.Mode.TheVariants.{Run, Check, Queue}
 use Rattle.vs_refusal.specs.declared.names.BareName.TheVariants.{NoTop, NoClock}
 use Rattle.vs_refusal.specs.declared.refusal.Refusal.{Refusal}
 use Rattle.vs_refusal.specs.declared.refusal.Refusal.TheVariants.{Bare, SamePath, TooLarge, Latch, Sensitivity, TwoDrivers}
 use Rattle.vs_excerpt.specs.Escapes.{escaped}
 
+-- what the path of a stimulus has added in that of its waveform
+abbrev pub wave_suffix : Mode → List ℕ
+wave_suffix Run = codes ".vcd"
+wave_suffix Check = codes ".vcd"
+wave_suffix (Queue order) = codes ".queue.vcd"
+
 -- the path of the waveform of a stimulus, as it is shown
-abbrev pub wave_path : List ℕ → List ℕ
-wave_path stimulus = escaped stimulus ++ codes ".vcd"
+abbrev pub wave_path : Mode → List ℕ → List ℕ
+wave_path mode stimulus = escaped stimulus ++ wave_suffix mode
 
 -- a place of a run in words
 abbrev pub role_text : ℕ → List ℕ
@@ -26,7 +34,7 @@ abbrev pub stimulus_path : Job → ℕ → List ℕ
 stimulus_path job lane = option_map_or escaped (slice_get job.stimuli lane) []
 
 abbrev pub waveform_path : Job → ℕ → List ℕ
-waveform_path job lane = option_map_or wave_path (slice_get job.stimuli lane) []
+waveform_path job lane = option_map_or (wave_path job.mode) (slice_get job.stimuli lane) []
 
 -- the path of a place
 abbrev pub path_text : Job → ℕ → List ℕ

@@ -5,8 +5,9 @@ ghost use Rattle.vs_desk.specs.Desk.{PutsAll};
 ghost use Rattle.vs_explanation.specs.Ended as spec;
 
 use crate::puts::{put_numbered, put_path, put_path_and, put_text};
+use crate::roles::wave_suffix;
 use vs_desk::{Desk, Failed, put_law};
-use vs_job::Job;
+use vs_job::{Job, Mode};
 
 /// Puts a line of a number behind what it counts.
 fn put_counted<D: Desk>(desk: &mut D, what: &str, number: u64) -> Result<(), Failed>
@@ -68,22 +69,38 @@ pub fn put_checked<D: Desk>(
     put_done(desk, lanes, vectors, settlings, size)
 }
 
+/// Puts what a run of the event queue has done.
+pub fn put_ordered<D: Desk>(
+    desk: &mut D,
+    vectors: u64,
+    slots: u64,
+    order: u64,
+) -> Result<(), Failed>
+    ensures { PutsAll (D.told desk.old) (D.told desk.new) 0 (spec.ordered_text vectors slots order) result }
+{
+    put_law();
+    put_counted(desk, "note: the order of the event queue's steps: ", order)?;
+    put_counted(desk, "note: vectors: ", vectors)?;
+    put_counted(desk, "note: time slots: ", slots)
+}
+
 /// Puts the path of a lane's waveform.
-fn put_wave<D: Desk>(desk: &mut D, lane: usize, stimulus: &[u8]) -> Result<(), Failed>
-    ensures { PutsAll (D.told desk.old) (D.told desk.new) 0 (spec.wave_line lane stimulus.now) result }
+fn put_wave<D: Desk>(desk: &mut D, mode: Mode, lane: usize, stimulus: &[u8]) -> Result<(), Failed>
+    ensures { PutsAll (D.told desk.old) (D.told desk.new) 0 (spec.wave_line mode lane stimulus.now) result }
 {
     put_law();
     put_numbered(desk, "note: waveform of lane ", lane as u64, ": ")?;
-    put_path_and(desk, stimulus, ".vcd\n")
+    put_path_and(desk, stimulus, wave_suffix(mode))?;
+    put_text(desk, "\n")
 }
 
 /// Puts the paths of a job's waveforms, by lane.
 pub fn put_waves<D: Desk>(desk: &mut D, job: &Job) -> Result<(), Failed>
-    ensures { PutsAll (D.told desk.old) (D.told desk.new) 0 (spec.waves_from 0 job.now.stimuli) result }
+    ensures { PutsAll (D.told desk.old) (D.told desk.new) 0 (spec.waves_from job.now.mode 0 job.now.stimuli) result }
 {
     put_law();
     for lane in 0..job.stimuli.len() {
-        put_wave(desk, lane, job.stimuli.get(lane).as_bytes())?;
+        put_wave(desk, job.mode, lane, job.stimuli.get(lane).as_bytes())?;
     }
     Ok(())
 }

@@ -17,7 +17,8 @@ mod stimuli;
 mod subjects;
 
 pub use ended::{
-    put_checked, put_done, put_memory, put_output_fault, put_read_fault, put_waves, put_write_fault,
+    put_checked, put_done, put_memory, put_ordered, put_output_fault, put_read_fault, put_waves,
+    put_write_fault,
 };
 pub use heavy::{Heavy, heaviest};
 pub use missed::{Spot, find_spot, put_miss};

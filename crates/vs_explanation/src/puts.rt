@@ -7,6 +7,7 @@ ghost use Rattle.vs_excerpt.specs.Escapes.{is_printable, hex_digit, escaped_byte
 ghost use Rattle.vs_explanation.specs.Ended.{numbered};
 ghost use Rattle.vs_explanation.specs.Subjects as spec;
 
+use crate::roles::wave_suffix;
 use itoa::Buffer;
 use vs_desk::{Desk, FIRST_STIMULUS, FIRST_WAVEFORM, Failed, put_all, put_law};
 use vs_job::Job;
@@ -121,7 +122,11 @@ fn put_waveform<D: Desk>(desk: &mut D, job: &Job, lane: usize) -> Result<(), Fai
     if lane >= job.stimuli.len() {
         return put_text(desk, "");
     }
-    put_path_and(desk, job.stimuli.get(lane).as_bytes(), ".vcd")
+    put_path_and(
+        desk,
+        job.stimuli.get(lane).as_bytes(),
+        wave_suffix(job.mode),
+    )
 }
 
 /// Puts the path of a place.

@@ -6,7 +6,7 @@ ghost use Rattle.vs_explanation.specs.Subjects as spec;
 use std::alloc::AllocError;
 use vs_desk::{FIRST_STIMULUS, FIRST_WAVEFORM};
 use vs_excerpt::Page;
-use vs_job::Job;
+use vs_job::{Job, Mode};
 
 /// Adds a file of a lane in words.
 fn push_of_lane(page: &mut Page, what: &str, lane: u32) -> Result<(), AllocError>
@@ -39,6 +39,16 @@ fn push_stimulus(page: &mut Page, job: &Job, lane: usize) -> Result<(), AllocErr
     page.escaped(job.stimuli.get(lane).as_bytes())
 }
 
+/// What the path of a stimulus has added in that of its waveform.
+pub(crate) fn wave_suffix(mode: Mode) -> &'static str
+    ensures { result.now ≡ spec.wave_suffix mode }
+{
+    match mode {
+        Mode::Run | Mode::Check => ".vcd",
+        Mode::Queue { .. } => ".queue.vcd",
+    }
+}
+
 /// Adds the path of a lane's waveform, or nothing where the job has no such lane.
 fn push_waveform(page: &mut Page, job: &Job, lane: usize) -> Result<(), AllocError>
     ensures { OnOk result (page.new ≡ page.old ++ spec.waveform_path job.now lane) }
@@ -47,7 +57,7 @@ fn push_waveform(page: &mut Page, job: &Job, lane: usize) -> Result<(), AllocErr
         return Ok(());
     }
     page.escaped(job.stimuli.get(lane).as_bytes())?;
-    page.text(".vcd")
+    page.text(wave_suffix(job.mode))
 }
 
 /// Adds the path of a place.

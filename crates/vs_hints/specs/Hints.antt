@@ -153,7 +153,7 @@ closing _ = []
 
 abbrev pub remedy : Refusal → List ℕ
 remedy (Bare kind) = bare_remedy kind
-remedy (SamePath first second) = codes "name each file once; a stimulus's waveform goes to its path with .vcd added"
+remedy (SamePath first second) = codes "name each file once; a waveform has the path of its stimulus with .vcd added, or .queue.vcd of queue"
 remedy (At kind at) = at_remedy kind
 remedy (TooLarge size) = codes "split the design"
 remedy (Latch process bit at) = codes "assign it on every path, as by a default at the top"

@@ -236,7 +236,7 @@ pub fn remedy(refusal: &Refusal) -> &'static str
     match refusal {
         Refusal::Bare(name) => bare_remedy(*name),
         Refusal::SamePath { .. } =>
-            "name each file once; a stimulus's waveform goes to its path with .vcd added",
+            "name each file once; a waveform has the path of its stimulus with .vcd added, or .queue.vcd of queue",
         Refusal::At(name, _) => at_remedy(*name),
         Refusal::TooLarge { .. } => "split the design",
         Refusal::Latch { .. } => "assign it on every path, as by a default at the top",

@@ -7,9 +7,9 @@ use Rattle.std.proofs.lemmas.Slice.Eq.{bytes_eq-Decides}
 use Rattle.vs_desk.specs.Places.{most_lanes}
 use Rattle.vs_job.specs.declared.bench.Bench.{Bench}
 use Rattle.vs_job.specs.declared.job.Job.{Job}
-use Rattle.vs_job.specs.declared.job.Mode.{Mode}
-use Rattle.vs_job.specs.declared.job.Mode.TheVariants.{Run, Check}
-use Rattle.vs_job.specs.Job.{Text, count_value, mode_named, mode_and_words, job}
+use Rattle.vs_job.specs.declared.words.Verb.{Verb}
+use Rattle.vs_job.specs.declared.words.Verb.TheVariants.{Run, Check, Queue}
+use Rattle.vs_job.specs.Job.{Text, count_value, verb_named, verb_and_words, job}
 use Rattle.vs_job.specs.Bench.{most_vectors, sized, bench, IsBench}
 use Rattle.vs_job.proofs.Ranges.{count_value-range}
 
@@ -40,14 +40,15 @@ is_named command name is other =
     rw same other
 
 -- the name of a command that calls for a job isn't that of the bench
-not_bench : (command : Text) (words : List Text) (read : Mode × List Text) → option_map (λ mode. (mode, words)) (mode_named command) ≡ Some read → bytes_eq command (codes "bench") ≡ false
-not_bench command words read e = go (bytes_eq command (codes "run")) (bytes_eq command (codes "check")) refl refl e
+not_bench : (command : Text) (words : List Text) (read : Verb × List Text) → option_map (λ verb. (verb, words)) (verb_named command) ≡ Some read → bytes_eq command (codes "bench") ≡ false
+not_bench command words read e = go (bytes_eq command (codes "run")) (bytes_eq command (codes "check")) (bytes_eq command (codes "queue")) refl refl refl e
   where
-    go : (run check : Bool) → bytes_eq command (codes "run") ≡ run → bytes_eq command (codes "check") ≡ check
-        → option_map (λ mode. (mode, words)) (cond run (Some Run) (cond check (Some Check) None)) ≡ Some read → bytes_eq command (codes "bench") ≡ false
-    go true check is other e = is_named command (codes "run") is refl
-    go false true other is e = is_named command (codes "check") is refl
-    go false false run check e = absurd (cc)
+    go : (run check queue : Bool) → bytes_eq command (codes "run") ≡ run → bytes_eq command (codes "check") ≡ check → bytes_eq command (codes "queue") ≡ queue
+        → option_map (λ verb. (verb, words)) (cond run (Some Run) (cond check (Some Check) (cond queue (Some Queue) None))) ≡ Some read → bytes_eq command (codes "bench") ≡ false
+    go true check queue is _ _ e = is_named command (codes "run") is refl
+    go false true queue _ is _ e = is_named command (codes "check") is refl
+    go false false true _ _ is e = is_named command (codes "queue") is refl
+    go false false false _ _ _ e = absurd (cc)
 
 -- words that call for a job call for no bench
 pub bench-none : (words : List Text) (j : Job) → job words ≡ Some j → bench words ≡ None
@@ -55,7 +56,7 @@ unfolding job bench
 bench-none [] j e = refl
 bench-none (program ∷ []) j e = refl
 bench-none (program ∷ command ∷ words) j e =
-    option_and_then_some _ (mode_and_words (program ∷ command ∷ words)) j e (λ read is_read _.
+    option_and_then_some _ (verb_and_words (program ∷ command ∷ words)) j e (λ read is_read _.
     let other = not_bench command words read is_read in
     rw other refl)
 

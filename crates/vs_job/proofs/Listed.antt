@@ -1,5 +1,5 @@
 -- The places of a job, one by one.
-use Rattle.std.proofs.Common.{◌≡◌, ◌≢◌, ℕ, zero, suc, ◌+◌, ◌*◌, ◌<◌, ◌≤◌, Bool, true, false, cond, List, [], ◌∷◌, ◌++◌, map, length, get_or, take, drop, Option, None, Some, refl, sym, ap, ◌∙◌, subst, arith, add-one, append_assoc}
+use Rattle.std.proofs.Common.{◌≡◌, ◌≢◌, ◌⊎◌, inl, inr, ℕ, zero, suc, ◌+◌, ◌*◌, ◌<◌, ◌≤◌, Bool, true, false, cond, List, [], ◌∷◌, ◌++◌, map, length, get_or, take, drop, Option, None, Some, refl, sym, ap, ◌∙◌, subst, arith, add-one, append_assoc}
 use Rattle.std.specs.List.{slice_get}
 use Rattle.std.specs.Option.{option_map}
 use Rattle.std.specs.Str.{bytes_eq}
@@ -11,8 +11,9 @@ use Rattle.std.proofs.lemmas.Slice.Eq.{bytes_eq-Decides}
 use Rattle.vs_desk.specs.Places.{design_place, stimulus_place, waveform_place}
 use Rattle.vs_job.specs.declared.job.Job.{Job}
 use Rattle.vs_job.specs.declared.job.Mode.{Mode}
-use Rattle.vs_job.specs.declared.job.Mode.TheVariants.{Run, Check}
-use Rattle.vs_job.specs.Places.{Place, place, vcd_path, places_from, waveforms, places, place_with, pair_or, same_from, same_paths, PathsDiffer}
+use Rattle.vs_job.specs.declared.job.Mode.TheVariants.{Run, Check, Queue}
+use Rattle.vs_job.specs.Places.{Place, place, vcd_path, queue_path, places_from, waveforms, places, place_with, pair_or, same_from, same_paths, PathsDiffer}
+use Rattle.vs_job.specs.Paths.{ending}
 
 length-places_from : (n : ℕ) (ps : List (List ℕ)) → length (places_from n ps) ≡ length ps
 length-places_from n [] = refl
@@ -33,28 +34,53 @@ length-by_mode j mode e =
     let c = ap (λ (m : Mode). length (waveforms m j.stimuli)) e in
     omega arith
 
+-- the path of a waveform where this is done with the lanes
+abbrev with_ending : Mode → List ℕ → List ℕ
+with_ending mode stimulus = stimulus ++ ending mode
+
+-- a waveform for each lane
+abbrev by_lane : Mode → List (List ℕ) → List Place
+by_lane mode stimuli = places_from (waveform_place 0) (map (with_ending mode) stimuli)
+
+length-waves : (j : Job) (mode : Mode) → j.mode ≡ mode → waveforms mode j.stimuli ≡ by_lane mode j.stimuli → length (places j) ≡ 1 + 2 * length j.stimuli
+length-waves j mode e waves =
+    let a = length-by_mode j mode e in
+    let b = ap (λ (ps : List Place). length ps) waves in
+    let c = length-places_from (waveform_place 0) (map (with_ending mode) j.stimuli) in
+    let m = length-map j.stimuli (with_ending mode) in
+    omega arith
+
 -- a run has a waveform for each lane
 pub length-run : (j : Job) → j.mode ≡ Run → length (places j) ≡ 1 + 2 * length j.stimuli
-length-run j e =
-    let a = length-by_mode j Run e in
-    let c = length-places_from (waveform_place 0) (map vcd_path j.stimuli) in
-    let m = length-map j.stimuli vcd_path in
-    omega arith
+length-run j e = length-waves j Run e refl
+
+-- and so has a run of the queue
+pub length-queue : (j : Job) (order : ℕ) → j.mode ≡ Queue order → length (places j) ≡ 1 + 2 * length j.stimuli
+length-queue j order e = length-waves j (Queue order) e refl
+
+-- where waveforms are written there is one for each lane
+pub length-written : (j : Job) → (j.mode ≡ Run) ⊎ ((order : ℕ) × (j.mode ≡ Queue order)) → length (places j) ≡ 1 + 2 * length j.stimuli
+length-written j (inl e) = length-run j e
+length-written j (inr e) = length-queue j e.0 e.1
 
 -- and a check has none
 pub length-check : (j : Job) → j.mode ≡ Check → length (places j) ≡ 1 + length j.stimuli
 length-check j e = let a = length-by_mode j Check e in omega arith
 
--- a place behind the stimuli is a waveform's, of a run
+-- a place behind the stimuli is a waveform's
 pub record IsBehind (j : Job) (n : ℕ) : Type 0 where
-  pub run : j.mode ≡ Run
+  pub waves : waveforms j.mode j.stimuli ≡ by_lane j.mode j.stimuli
   pub within : n < 1 + 2 * length j.stimuli
 
 pub behind_stimuli : (j : Job) (n : ℕ) → n < length (places j) → length j.stimuli < n → IsBehind j n
 behind_stimuli j n lt behind = go j.mode refl
   where
+    same_waves : (mode : Mode) → j.mode ≡ mode → waveforms mode j.stimuli ≡ by_lane mode j.stimuli → waveforms j.mode j.stimuli ≡ by_lane j.mode j.stimuli
+    same_waves mode e waves = rw e waves
+
     go : (mode : Mode) → j.mode ≡ mode → IsBehind j n
-    go Run e = let size = length-run j e in record { run = e; within = omega arith }
+    go Run e = let size = length-run j e in record { waves = same_waves Run e refl; within = omega arith }
+    go (Queue order) e = let size = length-queue j order e in record { waves = same_waves (Queue order) e refl; within = omega arith }
     go Check e = let size = length-check j e in absurd (omega arith)
 
 -- there are as many as a run has, or fewer
@@ -63,6 +89,7 @@ few_places j = go j.mode refl
   where
     go : (mode : Mode) → j.mode ≡ mode → length (places j) ≤ 1 + 2 * length j.stimuli
     go Run e = let size = length-run j e in omega arith
+    go (Queue order) e = let size = length-queue j order e in omega arith
     go Check e = let size = length-check j e in omega arith
 
 -- the design and the stimuli have places
@@ -82,15 +109,16 @@ place-stimulus j n i d path e is =
     let size = length-places_from (stimulus_place 0) j.stimuli in
     ap (λ (k : ℕ). get_or (places j) k d) (e ∙ add-one i) ∙ get_or_append_left stimuli vcds d i (omega arith) ∙ get_or-places_from (stimulus_place 0) j.stimuli i d path is
 
-pub place-vcd : (j : Job) (n i : ℕ) (d : Place) (path : List ℕ) → j.mode ≡ Run → n ≡ 1 + (length j.stimuli + i) → slice_get j.stimuli i ≡ Some path → get_or (places j) n d ≡ place (waveform_place i) (vcd_path path)
+pub place-waveform : (j : Job) (n i : ℕ) (d : Place) (path : List ℕ) → waveforms j.mode j.stimuli ≡ by_lane j.mode j.stimuli → n ≡ 1 + (length j.stimuli + i) → slice_get j.stimuli i ≡ Some path
+    → get_or (places j) n d ≡ place (waveform_place i) (path ++ ending j.mode)
 unfolding places
-place-vcd j n i d path run e is =
+place-waveform j n i d path waves e is =
     let stimuli = places_from (stimulus_place 0) j.stimuli in
     let vcds = waveforms j.mode j.stimuli in
-    let of_run : vcds ≡ places_from (waveform_place 0) (map vcd_path j.stimuli) = ap (λ (m : Mode). waveforms m j.stimuli) run in
     let size = length-places_from (stimulus_place 0) j.stimuli in
     let at_vcd : n ≡ suc (length stimuli + i) = omega arith in
-    ap (λ (k : ℕ). get_or (places j) k d) at_vcd ∙ get_or-append-add stimuli vcds i d ∙ ap (λ (ps : List Place). get_or ps i d) of_run ∙ get_or-places_from (waveform_place 0) (map vcd_path j.stimuli) i d (vcd_path path) (slice_get-map vcd_path j.stimuli i ∙ ap (λ (o : Option (List ℕ)). option_map vcd_path o) is)
+    ap (λ (k : ℕ). get_or (places j) k d) at_vcd ∙ get_or-append-add stimuli vcds i d ∙ ap (λ (ps : List Place). get_or ps i d) waves
+    ∙ get_or-places_from (waveform_place 0) (map (with_ending j.mode) j.stimuli) i d (path ++ ending j.mode) (slice_get-map (with_ending j.mode) j.stimuli i ∙ ap (λ (o : Option (List ℕ)). option_map (with_ending j.mode) o) is)
 
 -- a first place that isn't taken
 passed : (b : Bool) (n : ℕ) (o : Option ℕ) → cond b (Some n) o ≡ None → (b ≡ false) × (o ≡ None)
@@ -174,8 +202,16 @@ slice_get-stimulus j i path is =
     let within = slice_get_within j.stimuli i path is in
     slice_get-get_or (places j) (1 + i) (place 0 []) (omega arith) ∙ ap (λ (p : Place). Some p) (place-stimulus j (1 + i) i (place 0 []) path (omega arith) is)
 
+slice_get-waveform : (j : Job) (i : ℕ) (path : List ℕ) → length (places j) ≡ 1 + 2 * length j.stimuli → waveforms j.mode j.stimuli ≡ by_lane j.mode j.stimuli → slice_get j.stimuli i ≡ Some path
+    → slice_get (places j) (1 + length j.stimuli + i) ≡ Some (place (waveform_place i) (path ++ ending j.mode))
+slice_get-waveform j i path size waves is =
+    let within = slice_get_within j.stimuli i path is in
+    slice_get-get_or (places j) (1 + length j.stimuli + i) (place 0 []) (omega arith) ∙ ap (λ (p : Place). Some p) (place-waveform j (1 + length j.stimuli + i) i (place 0 []) path waves (omega arith) is)
+
 pub slice_get-vcd : (j : Job) (i : ℕ) (path : List ℕ) → j.mode ≡ Run → slice_get j.stimuli i ≡ Some path → slice_get (places j) (1 + length j.stimuli + i) ≡ Some (place (waveform_place i) (vcd_path path))
 slice_get-vcd j i path run is =
-    let size = length-run j run in
-    let within = slice_get_within j.stimuli i path is in
-    slice_get-get_or (places j) (1 + length j.stimuli + i) (place 0 []) (omega arith) ∙ ap (λ (p : Place). Some p) (place-vcd j (1 + length j.stimuli + i) i (place 0 []) path run (omega arith) is)
+    slice_get-waveform j i path (length-run j run) (rw run refl) is ∙ ap (λ (m : Mode). Some (place (waveform_place i) (path ++ ending m))) run
+
+pub slice_get-queue : (j : Job) (order i : ℕ) (path : List ℕ) → j.mode ≡ Queue order → slice_get j.stimuli i ≡ Some path → slice_get (places j) (1 + length j.stimuli + i) ≡ Some (place (waveform_place i) (queue_path path))
+slice_get-queue j order i path queue is =
+    slice_get-waveform j i path (length-queue j order queue) (rw queue refl) is ∙ ap (λ (m : Mode). Some (place (waveform_place i) (path ++ ending m))) queue

@@ -8,11 +8,12 @@ use Rattle.vs_job.specs.Lines.{Line}
 
 abbrev pub line_of : Lent → Line
 line_of l = record {
-  mode = l.mode;
+  verb = l.verb;
   next = l.next;
   top = option_map (λ s. s.now) l.top;
   clock = option_map (λ s. s.now) l.clock;
   half = option_map (λ s. s.now) l.half;
+  order = option_map (λ s. s.now) l.order;
   defines = map (λ s. s.now) l.defines.items;
   share = l.share;
   paths = map (λ s. s.now) l.paths.items;

@@ -1,14 +1,16 @@
 -- The words of the command line, and the job that they call for.
-use Rattle.std.specs.Prelude.{ℕ, zero, suc, ◌≤◌, Bool, true, false, not, ◌&&◌, ◌||◌, ◌==◌, nat_le, List, [], ◌∷◌, ◌++◌, length, slice_index, Option, Some, None, option_map, option_and_then, codes, bytes_eq, if◌then◌else◌}
+use Rattle.std.specs.Prelude.{◌≡◌, ℕ, zero, suc, ◌≤◌, Bool, true, false, not, ◌&&◌, ◌||◌, ◌==◌, nat_le, List, [], ◌∷◌, ◌++◌, length, slice_index, Option, Some, None, option_map, option_and_then, codes, bytes_eq, if◌then◌else◌}
 use Rattle.std.specs.List.{list_all, list_any, before_first, after_first, flat_map}
 use Rattle.std.specs.Str.{all_ascii_digits}
 use Rattle.std.specs.Str.Parse.{digits_value}
 use Rattle.vs_desk.specs.Places.{most_lanes}
 use Rattle.vs_job.specs.declared.job.Job.{Job}
 use Rattle.vs_job.specs.declared.job.Mode.{Mode}
-use Rattle.vs_job.specs.declared.job.Mode.TheVariants.{Run, Check}
+use Rattle.vs_job.specs.declared.job.Mode.TheVariants.{Run, Check, Queue}
 use Rattle.vs_job.specs.declared.words.Flag.{Flag}
-use Rattle.vs_job.specs.declared.words.Flag.TheVariants.{Top, Clock, Half, Define}
+use Rattle.vs_job.specs.declared.words.Flag.TheVariants.{Top, Clock, Half, Order, Define}
+use Rattle.vs_job.specs.declared.words.Verb.{Verb}
+use Rattle.vs_job.specs.declared.words.Verb.TheVariants as verbs
 
 infixl 10 ◌>>=◌
 abbrev pub ◌>>=◌ : {A B : Type 0} → Option A → (A → Option B) → Option B
@@ -17,26 +19,29 @@ o >>= f = option_and_then f o
 abbrev pub Text : Type 0
 Text = List ℕ
 
--- what the command of this name does, where it is one that calls for a job
-abbrev pub mode_named : Text → Option Mode
-mode_named command = if bytes_eq command (codes "run") then Some Run else (if bytes_eq command (codes "check") then Some Check else None)
+-- the command of this name, where it is one that calls for a job
+abbrev pub verb_named : Text → Option Verb
+verb_named command =
+    if bytes_eq command (codes "run") then Some verbs.Run
+    else (if bytes_eq command (codes "check") then Some verbs.Check else (if bytes_eq command (codes "queue") then Some verbs.Queue else None))
 
--- what the command does, which stands behind the program's own name, and the words behind it
-abbrev pub mode_and_words : List Text → Option (Mode × List Text)
-mode_and_words (program ∷ command ∷ words) = option_map (λ mode. (mode, words)) (mode_named command)
-mode_and_words _ = None
+-- the command, which stands behind the program's own name, and the words behind it
+abbrev pub verb_and_words : List Text → Option (Verb × List Text)
+verb_and_words (program ∷ command ∷ words) = option_map (λ verb. (verb, words)) (verb_named command)
+verb_and_words _ = None
 
 -- what words say: the values of each option, how often `--share` is among them, and the paths, in order
 pub record Said : Type 0 where
   pub tops : List Text
   pub clocks : List Text
   pub halves : List Text
+  pub orders : List Text
   pub defines : List Text
   pub shares : ℕ
   pub paths : List Text
 
 abbrev pub only_paths : List Text → Said
-only_paths paths = record { tops = []; clocks = []; halves = []; defines = []; shares = 0; paths = paths }
+only_paths paths = record { tops = []; clocks = []; halves = []; orders = []; defines = []; shares = 0; paths = paths }
 
 -- a path, and what the words behind it say
 abbrev pub path_and : Text → Said → Said
@@ -51,6 +56,7 @@ abbrev pub value_and : Flag → Text → Said → Said
 value_and Top value rest = record rest { tops = value ∷ rest.tops }
 value_and Clock value rest = record rest { clocks = value ∷ rest.clocks }
 value_and Half value rest = record rest { halves = value ∷ rest.halves }
+value_and Order value rest = record rest { orders = value ∷ rest.orders }
 value_and Define value rest = record rest { defines = value ∷ rest.defines }
 
 -- the word doesn't begin with `-`
@@ -66,7 +72,8 @@ abbrev pub flag_named : Text → Option Flag
 flag_named name =
     if bytes_eq name (codes "--top") then Some Top
     else (if bytes_eq name (codes "--clock") then Some Clock
-    else (if bytes_eq name (codes "--half") then Some Half else (if bytes_eq name (codes "--define") then Some Define else None)))
+    else (if bytes_eq name (codes "--half") then Some Half
+    else (if bytes_eq name (codes "--order") then Some Order else (if bytes_eq name (codes "--define") then Some Define else None))))
 
 -- `=`
 abbrev pub is_equals : ℕ → Bool
@@ -107,6 +114,21 @@ most_half = 1000000
 
 abbrev pub half_value : List ℕ → Option ℕ
 half_value = count_value most_half
+
+-- the greatest number that chooses an order of steps
+abbrev pub most_order : ℕ
+most_order = 18446744073709551615
+
+-- `0`, or decimal digits without a sign or a leading zero, with a value up to the greatest one
+abbrev pub order_value : Text → Option ℕ
+order_value digits = if bytes_eq digits (codes "0") then Some 0 else count_value most_order digits
+
+-- what is done with the lanes: `queue` has the order of its steps given once, and no other command has one
+abbrev pub mode_given : Verb → List Text → Option Mode
+mode_given verbs.Run [] = Some Run
+mode_given verbs.Check [] = Some Check
+mode_given verbs.Queue (digits ∷ []) = option_map Queue (order_value digits)
+mode_given _ _ = None
 
 -- the value of an option that is given once
 abbrev pub once : List Text → Option Text
@@ -203,26 +225,32 @@ pub record Paths : Type 0 where
   pub design : Text
   pub stimuli : List Text
 
--- the first path is the design, and 1 to 256 stimuli follow
-abbrev pub design_and_stimuli : List Text → Option Paths
-design_and_stimuli [] = None
-design_and_stimuli (design ∷ stimuli) = if nat_le 1 (length stimuli) && nat_le (length stimuli) most_lanes then Some (record { design = design; stimuli = stimuli }) else None
+-- the greatest number of stimuli: the event queue runs one alone
+abbrev pub most_stimuli : Mode → ℕ
+most_stimuli (Queue order) = 1
+most_stimuli _ = most_lanes
+
+-- the first path is the design, and 1 to so many stimuli follow
+abbrev pub design_and_stimuli : ℕ → List Text → Option Paths
+design_and_stimuli most [] = None
+design_and_stimuli most (design ∷ stimuli) = if nat_le 1 (length stimuli) && nat_le (length stimuli) most then Some (record { design = design; stimuli = stimuli }) else None
 
 -- the job of a command, and of what the words behind it say
-abbrev pub called : Mode → Said → Option Job
-called mode s = do
+abbrev pub called : Verb → Said → Option Job
+called verb s = do
+  mode ← mode_given verb s.orders
   top ← once s.tops
   clock ← at_most_once s.clocks
   half ← half_given s.halves
   head ← head_given s.defines
-  paths ← design_and_stimuli s.paths
+  paths ← design_and_stimuli (most_stimuli mode) s.paths
   share ← share_given mode s.shares
   Some (record { mode = mode; top = top; clock = clock; half = half; share = share; head = head; design = paths.design; stimuli = paths.stimuli })
 
 -- the job that the words call for, the program's own name first; none where they call for none
 unfoldable pub job : List Text → Option Job
 job words = do
-  command ← mode_and_words words
+  command ← verb_and_words words
   s ← said None command.1
   called command.0 s
 
@@ -233,3 +261,4 @@ pub record IsJob (j : Job) : Type 0 where
   pub short : length j.head ≤ most_head
   pub some : 1 ≤ length j.stimuli
   pub few : length j.stimuli ≤ most_lanes
+  pub lone : (order : ℕ) → j.mode ≡ Queue order → length j.stimuli ≡ 1

@@ -2,27 +2,28 @@
 use Rattle.std.specs.Prelude.{ℕ, Bool, true, false, not, ◌&&◌, nat_le, List, [], ◌∷◌, ◌++◌, length, Option, Some, None, is_some, codes, bytes_eq, if◌then◌else◌}
 use Rattle.std.specs.List.{before_first}
 use Rattle.vs_desk.specs.Places.{most_lanes}
-use Rattle.vs_job.specs.declared.job.Mode.{Mode}
 use Rattle.vs_job.specs.declared.words.Flag.{Flag}
-use Rattle.vs_job.specs.declared.words.Flag.TheVariants.{Top, Clock, Half, Define}
+use Rattle.vs_job.specs.declared.words.Flag.TheVariants.{Top, Clock, Half, Order, Define}
 use Rattle.vs_job.specs.declared.words.Next.{Next}
 use Rattle.vs_job.specs.declared.words.Next.TheVariants.{Any, Value, Path}
-use Rattle.vs_job.specs.Job.{◌>>=◌, Text, Said, is_plain, is_equals, flag_named, attached, mode_and_words, most_defines}
+use Rattle.vs_job.specs.declared.words.Verb.{Verb}
+use Rattle.vs_job.specs.Job.{◌>>=◌, Text, Said, is_plain, is_equals, flag_named, attached, verb_and_words, most_defines}
 
--- what the command does, what the words behind it say so far, and what the next one may be
+-- the command, what the words behind it say so far, and what the next one may be
 pub record Line : Type 0 where
-  pub mode : Mode
+  pub verb : Verb
   pub next : Next
   pub top : Option Text
   pub clock : Option Text
   pub half : Option Text
+  pub order : Option Text
   pub defines : List Text
   pub share : Bool
   pub paths : List Text
 
 -- before the first word behind the command
-abbrev pub start : Mode → Line
-start mode = record { mode = mode; next = Any; top = None; clock = None; half = None; defines = []; share = false; paths = [] }
+abbrev pub start : Verb → Line
+start verb = record { verb = verb; next = Any; top = None; clock = None; half = None; order = None; defines = []; share = false; paths = [] }
 
 -- one more path: the design and 256 stimuli at most
 abbrev pub with_path : Text → Line → Option Line
@@ -37,12 +38,14 @@ abbrev pub is_given : Flag → Line → Bool
 is_given Top l = is_some l.top
 is_given Clock l = is_some l.clock
 is_given Half l = is_some l.half
+is_given Order l = is_some l.order
 is_given Define l = nat_le most_defines (length l.defines)
 
 abbrev pub given : Flag → Text → Line → Line
 given Top value l = record l { next = Any; top = Some value }
 given Clock value l = record l { next = Any; clock = Some value }
 given Half value l = record l { next = Any; half = Some value }
+given Order value l = record l { next = Any; order = Some value }
 given Define value l = record l { next = Any; defines = l.defines ++ value ∷ [] }
 
 -- the option's value: it doesn't begin with `-`, and the option may have it
@@ -87,7 +90,7 @@ read l (word ∷ words) = do
 -- what the words say
 abbrev pub line : List Text → Option Line
 line words = do
-  command ← mode_and_words words
+  command ← verb_and_words words
   read (start command.0) command.1
 
 -- the values that an option has so far
@@ -101,4 +104,4 @@ shares true = 1
 shares false = 0
 
 abbrev pub said_of : Line → Said
-said_of l = record { tops = values l.top; clocks = values l.clock; halves = values l.half; defines = l.defines; shares = shares l.share; paths = l.paths }
+said_of l = record { tops = values l.top; clocks = values l.clock; halves = values l.half; orders = values l.order; defines = l.defines; shares = shares l.share; paths = l.paths }

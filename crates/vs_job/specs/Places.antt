@@ -3,7 +3,7 @@ use Rattle.std.specs.Prelude.{◌≢◌, ℕ, suc, List, [], ◌∷◌, ◌++◌
 use Rattle.vs_desk.specs.Places.{design_place, stimulus_place, waveform_place}
 use Rattle.vs_job.specs.declared.job.Job.{Job}
 use Rattle.vs_job.specs.declared.job.Mode.{Mode}
-use Rattle.vs_job.specs.declared.job.Mode.TheVariants.{Run, Check}
+use Rattle.vs_job.specs.declared.job.Mode.TheVariants.{Run, Check, Queue}
 
 -- a place's number, and its path
 pub record Place : Type 0 where
@@ -13,9 +13,13 @@ pub record Place : Type 0 where
 abbrev pub place : ℕ → List ℕ → Place
 place number path = record { number = number; path = path }
 
--- the path of the waveform of a stimulus
+-- the path of the waveform of a stimulus in a run
 abbrev pub vcd_path : List ℕ → List ℕ
 vcd_path stimulus = stimulus ++ codes ".vcd"
+
+-- and where the event queue runs it
+abbrev pub queue_path : List ℕ → List ℕ
+queue_path stimulus = stimulus ++ codes ".queue.vcd"
 
 -- places that are numbered from n on, with these paths
 abbrev pub places_from : ℕ → List (List ℕ) → List Place
@@ -26,6 +30,7 @@ places_from n (path ∷ paths) = place n path ∷ places_from (suc n) paths
 abbrev pub waveforms : Mode → List (List ℕ) → List Place
 waveforms Run stimuli = places_from (waveform_place 0) (map vcd_path stimuli)
 waveforms Check stimuli = []
+waveforms (Queue order) stimuli = places_from (waveform_place 0) (map queue_path stimuli)
 
 -- the design, the stimuli by lane, and the waveforms by lane
 unfoldable pub places : Job → List Place

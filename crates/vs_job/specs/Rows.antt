@@ -3,7 +3,7 @@ use Rattle.std.specs.Prelude.{ℕ, true, false, ◌==◌, List, [], ◌∷◌, �
 use Rattle.std.specs.List.{slice_split}
 use Rattle.vs_job.specs.declared.bench.Bench.{Bench}
 use Rattle.vs_job.specs.declared.job.Job.{Job}
-use Rattle.vs_job.specs.declared.job.Mode.TheVariants.{Run, Check}
+use Rattle.vs_job.specs.declared.job.Mode.TheVariants.{Run, Check, Queue}
 use Rattle.vs_job.specs.Job.{Text}
 
 abbrev pub words : Text → List Text
@@ -44,6 +44,10 @@ checked j = record j { mode = Check }
 abbrev shared : Job → Job
 shared j = record j { share = true }
 
+-- the same job, which the event queue runs in the order of this number
+abbrev queued : ℕ → Job → Job
+queued order j = record j { mode = Queue order }
+
 -- options in any order, among the paths too, with their values as words of their own or behind `=`
 abbrev jobs : List Row
 jobs =
@@ -62,6 +66,11 @@ jobs =
     ∷ of_job (codes "x run --top t d s") clockless
     ∷ of_job (codes "x check d s --half 5 --top=t") (checked clockless)
     ∷ of_job (codes "x check d --clock=c run --half 9 --define A --top=t check") (checked (record (a_job 9 (codes "run" ∷ codes "check" ∷ [])) { head = codes "`define A\n" }))
+    ∷ of_job (codes "x run --top t --clock c d queue") (a_job 5 (codes "queue" ∷ []))
+    ∷ of_job (codes "x queue --order 7 --top t --clock c d s") (queued 7 (a_job 5 (codes "s" ∷ [])))
+    ∷ of_job (codes "x queue --top t --clock=c d s --half 9 --order=0") (queued 0 (a_job 9 (codes "s" ∷ [])))
+    ∷ of_job (codes "x queue --top t d --order 18446744073709551615 s") (queued 18446744073709551615 clockless)
+    ∷ of_job (codes "x queue --top t --define A --clock c --order=10 -- d --order") (queued 10 (record (a_job 5 (codes "--order" ∷ [])) { head = codes "`define A\n" }))
     ∷ []
 
 -- vectors for each lane, and the lanes, 64 where they aren't given
@@ -129,6 +138,33 @@ broken =
     ∷ codes "x --share run --top t --clock c d s"
     ∷ codes "x check --share --top t --clock c d s"
     ∷ codes "x check --top t --clock c d s --share"
+    ∷ codes "x queue"
+    ∷ codes "x queue --top t --clock c d s"
+    ∷ codes "x queue --order 7 --clock c d s"
+    ∷ codes "x queue --order 7 --top t --clock c"
+    ∷ codes "x queue --order 7 --top t --clock c d"
+    ∷ codes "x queue --order 7 --top t --clock c d s u"
+    ∷ codes "x queue --order 7 --order 7 --top t --clock c d s"
+    ∷ codes "x queue --order=7 --top t --clock c d s --order=8"
+    ∷ codes "x queue --top t --clock c d s --order"
+    ∷ codes "x queue --order= --top t --clock c d s"
+    ∷ codes "x queue --order 18446744073709551616 --top t --clock c d s"
+    ∷ codes "x queue --order 00 --top t --clock c d s"
+    ∷ codes "x queue --order=07 --top t --clock c d s"
+    ∷ codes "x queue --order -1 --top t --clock c d s"
+    ∷ codes "x queue --order=-1 --top t --clock c d s"
+    ∷ codes "x queue --order=+1 --top t --clock c d s"
+    ∷ codes "x queue --order 0x7 --top t --clock c d s"
+    ∷ codes "x queue --orders 7 --top t --clock c d s"
+    ∷ codes "x queue --share --order 7 --top t --clock c d s"
+    ∷ codes "x queue --order 7 --top t --clock c d s --share"
+    ∷ codes "x queues --order 7 --top t --clock c d s"
+    ∷ codes "x --order 7 queue --top t --clock c d s"
+    ∷ codes "x run --order 7 --top t --clock c d s"
+    ∷ codes "x run --top t --clock c d s --order=0"
+    ∷ codes "x check --order 7 --top t --clock c d s"
+    ∷ codes "x check --top t --clock c d s --order=0"
+    ∷ codes "x bench --order 7"
     ∷ codes "x bench --share 1"
     ∷ codes "x bench"
     ∷ codes "x bench 0"

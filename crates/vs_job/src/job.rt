@@ -17,12 +17,18 @@ pub enum Mode {
     /// `check`: each lane is compared with what its stimulus wants of the outputs, and no file is
     /// written.
     Check,
+    /// `queue`: one lane is run by the event queue itself (IEEE 1364-2005, clause 11), its steps in the
+    /// order that this number chooses, and its waveform is written.
+    Queue {
+        /// Any number of 64 bits.
+        order: u64,
+    },
 }
 
 /// What to run or to check: one design with one stimulus for each lane.
 #[derive(Debug, Drop)]
 pub struct Job {
-    /// Whether waveforms are written, or outputs compared.
+    /// Whether waveforms are written, or outputs compared, or the event queue runs the lane.
     pub mode: Mode,
     /// The name of the top module.
     pub top: Text,
@@ -38,7 +44,8 @@ pub struct Job {
     pub head: Text,
     /// The path of the design.
     pub design: Text,
-    /// The path of each lane's stimulus, for 1 to 256 lanes.
+    /// The path of each lane's stimulus, for 1 to 256 lanes, and for one alone where the event queue
+    /// runs it.
     pub stimuli: Texts,
 }
 
@@ -74,14 +81,16 @@ impl From<AllocError> for JobError {
 }
 
 /// Reads the words of the command line, the program's own name first:
-/// `cyclesim run --top T [--clock C] [--half H] [--define NAME[=TEXT]].. [--share] DESIGN STIM..`, or the
-/// same with `check` in the place of `run` and without `--share`.
+/// `cyclesim run --top T [--clock C] [--half H] [--define NAME[=TEXT]].. [--share] DESIGN STIM..`, the
+/// same with `check` in the place of `run` and without `--share`, or
+/// `cyclesim queue --order N --top T [--clock C] [--half H] [--define NAME[=TEXT]].. DESIGN STIM`.
 ///
 /// The options stand anywhere behind the command, each once but for `--define`, all but `--share` with
 /// the value in the next word or, as in `--top=T`, behind the first `=`. `--` ends them: each word behind it is a path.
 /// Before it no value and no path begins with `-`. H is a decimal number from 1 to 1,000,000 without a
-/// sign or a leading zero, and 5 where it isn't given. Without `--clock` the design has no clock. The first path is the design, and 1 to 256
-/// stimuli follow.
+/// sign or a leading zero, and 5 where it isn't given. N is a decimal number from 0 to
+/// 18,446,744,073,709,551,615 without a sign or a leading zero. Without `--clock` the design has no clock.
+/// The first path is the design, and 1 to 256 stimuli follow, with `queue` one alone.
 ///
 /// A value of `--define` is a simple identifier (IEEE 1364-2005, 3.7), or one with `=` and a text of
 /// printable characters of ASCII, which has neither `\` nor `/*`. There are 64 at most, and their

@@ -13,6 +13,6 @@ mod words;
 pub use bench::{Bench, read_bench};
 pub use job::{Job, JobError, Mode, read_job};
 pub use laws::{apart_law, bench_law, job_law, places_law, rows_law, same_paths_law};
-pub use paths::{stimulus_paths, vcd_paths};
+pub use paths::{queue_paths, stimulus_paths, vcd_paths};
 pub use places::same_paths;
 pub use text::{Text, Texts};

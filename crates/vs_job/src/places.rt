@@ -1,23 +1,27 @@
 //! The places of a job, and two of them that have one path.
 
-ghost use Rattle.std.specs.Prelude.{◌≡◌, ◌<◌, ◌≤◌, take, length, slice_index_or, bytes_eq};
+ghost use Rattle.std.specs.Prelude.{◌≡◌, ◌<◌, ◌≤◌, ◌++◌, take, length, slice_index_or, bytes_eq};
 ghost use Rattle.vs_desk.specs.Places.{most_lanes};
 ghost use Rattle.vs_job.specs.Places as spec;
+ghost use Rattle.vs_job.specs.Paths as paths;
 ghost use Rattle.vs_job.specs.Paths.{path_of, place_of};
 
 use crate::job::{Job, Mode};
 use vs_desk::{DESIGN_PLACE, FIRST_STIMULUS, FIRST_WAVEFORM};
 
-/// What is added to a stimulus's path.
+/// What is added to a stimulus's path in a run.
 const VCD: &[u8] = b".vcd";
+
+/// What is added to a stimulus's path where the event queue runs it.
+const QUEUE_VCD: &[u8] = b".queue.vcd";
 
 /// A path of a job.
 #[derive(Clone, Copy)]
 enum Path<'a> {
     /// This word.
     Word(&'a str),
-    /// This word with `.vcd` added.
-    Vcd(&'a str),
+    /// This word with that added which the job's waveforms have.
+    Waveform(&'a str),
 }
 
 /// A place, and its path.
@@ -27,25 +31,35 @@ struct Place<'a> {
     path: Path<'a>,
 }
 
-/// Whether the text is the word with `.vcd` added.
-fn is_vcd(text: &str, word: &str) -> bool
-    ensures { result ≡ bytes_eq text.now (spec.vcd_path word.now) }
+/// What is added to a stimulus's path for that of its waveform.
+fn ending(mode: Mode) -> &'static [u8]
+    ensures { result.now ≡ paths.ending mode }
 {
-    match text.as_bytes().strip_suffix(VCD) {
+    match mode {
+        Mode::Queue { .. } => QUEUE_VCD,
+        Mode::Run | Mode::Check => VCD,
+    }
+}
+
+/// Whether the text is the word with this added.
+fn is_longer(text: &str, word: &str, added: &[u8]) -> bool
+    ensures { result ≡ bytes_eq text.now (word.now ++ added.now) }
+{
+    match text.as_bytes().strip_suffix(added) {
         None => false,
         Some(front) => front == word.as_bytes(),
     }
 }
 
-/// Whether two paths are equal texts.
-fn is_same(a: Path<'_>, b: Path<'_>) -> bool
-    ensures { result ≡ bytes_eq (path_of a.entry) (path_of b.entry) }
+/// Whether two paths are equal texts, where this is added for waveforms.
+fn is_same(a: Path<'_>, b: Path<'_>, added: &[u8]) -> bool
+    ensures { result ≡ bytes_eq (path_of added.now a.entry) (path_of added.now b.entry) }
 {
     match (a, b) {
         (Path::Word(a), Path::Word(b)) => a == b,
-        (Path::Word(a), Path::Vcd(b)) => is_vcd(a, b),
-        (Path::Vcd(a), Path::Word(b)) => is_vcd(b, a),
-        (Path::Vcd(a), Path::Vcd(b)) => a == b,
+        (Path::Word(a), Path::Waveform(b)) => is_longer(a, b, added),
+        (Path::Waveform(a), Path::Word(b)) => is_longer(b, a, added),
+        (Path::Waveform(a), Path::Waveform(b)) => a == b,
     }
 }
 
@@ -56,7 +70,7 @@ fn place_count(job: &Job) -> usize
 {
     let lanes = job.stimuli.len();
     match job.mode {
-        Mode::Run => 1 + 2 * lanes,
+        Mode::Run | Mode::Queue { .. } => 1 + 2 * lanes,
         Mode::Check => 1 + lanes,
     }
 }
@@ -66,7 +80,7 @@ fn place_count(job: &Job) -> usize
 fn place_at(job: &Job, n: usize) -> Place<'_>
     requires few { length job.now.stimuli ≤ most_lanes }
     requires place { n < length (spec.places job.now) }
-    ensures { (d : spec.Place) → slice_index_or (spec.places job.now) n d ≡ place_of result }
+    ensures { (d : spec.Place) → slice_index_or (spec.places job.now) n d ≡ place_of (paths.ending job.now.mode) result }
 {
     let lanes = job.stimuli.len();
     if n == 0 {
@@ -85,7 +99,7 @@ fn place_at(job: &Job, n: usize) -> Place<'_>
     let lane = n - 1 - lanes;
     Place {
         number: FIRST_WAVEFORM + lane as u32,
-        path: Path::Vcd(job.stimuli.get(lane).as_str()),
+        path: Path::Waveform(job.stimuli.get(lane).as_str()),
     }
 }
 
@@ -93,11 +107,12 @@ fn place_at(job: &Job, n: usize) -> Place<'_>
 fn place_with(job: &Job, n: usize, path: Path<'_>) -> Option<u32>
     requires few { length job.now.stimuli ≤ most_lanes }
     requires places { n ≤ length (spec.places job.now) }
-    ensures { result ≡ spec.place_with (path_of path.entry) (take n (spec.places job.now)) }
+    ensures { result ≡ spec.place_with (path_of (paths.ending job.now.mode) path.entry) (take n (spec.places job.now)) }
 {
+    let added = ending(job.mode);
     for i in 0..n {
         let place = place_at(job, i);
-        if is_same(place.path, path) {
+        if is_same(place.path, path, added) {
             return Some(place.number);
         }
     }

@@ -23,6 +23,17 @@ const MOST_HALF: u32 = 1_000_000;
 /// How many paths there are at most: the design and 256 stimuli.
 const MOST_PATHS: usize = MOST_LANES + 1;
 
+/// A command that calls for a job.
+#[derive(Clone, Copy)]
+pub(crate) enum Verb {
+    /// `run`.
+    Run,
+    /// `check`.
+    Check,
+    /// `queue`.
+    Queue,
+}
+
 /// An option.
 #[derive(Clone, Copy)]
 pub(crate) enum Flag {
@@ -32,6 +43,8 @@ pub(crate) enum Flag {
     Clock,
     /// `--half`.
     Half,
+    /// `--order`.
+    Order,
     /// `--define`, which may be given again.
     Define,
 }
@@ -50,11 +63,12 @@ pub(crate) enum Next {
 /// What the words so far say, and what the next one may be.
 #[derive(Drop)]
 pub(crate) struct Line<'a> {
-    mode: Mode,
+    verb: Verb,
     next: Next,
     top: Option<&'a str>,
     clock: Option<&'a str>,
     half: Option<&'a str>,
+    order: Option<&'a str>,
     defines: ArrayVec<&'a str, MOST_DEFINES>,
     share: bool,
     paths: ArrayVec<&'a str, MOST_PATHS>,
@@ -83,27 +97,29 @@ fn is_plain(word: &str) -> bool
     }
 }
 
-/// What the command of this name does.
-fn mode_named(command: &str) -> Option<Mode>
-    ensures { result ≡ spec.mode_named command.now }
+/// The command of this name.
+fn verb_named(command: &str) -> Option<Verb>
+    ensures { result ≡ spec.verb_named command.now }
 {
     if command == "run" {
-        Some(Mode::Run)
+        Some(Verb::Run)
     } else if command == "check" {
-        Some(Mode::Check)
+        Some(Verb::Check)
+    } else if command == "queue" {
+        Some(Verb::Queue)
     } else {
         None
     }
 }
 
-/// What the command does, which stands behind the program's own name, and the words behind it.
-fn mode_and_words(words: &[String]) -> Option<(Mode, &[String])>
-    ensures { option_map (λ read. (read.0, map string_bytes read.1.now)) result ≡ spec.mode_and_words (map string_bytes words.now) }
+/// The command, which stands behind the program's own name, and the words behind it.
+fn verb_and_words(words: &[String]) -> Option<(Verb, &[String])>
+    ensures { option_map (λ read. (read.0, map string_bytes read.1.now)) result ≡ spec.verb_and_words (map string_bytes words.now) }
 {
     let (_, words) = words.split_first()?;
     let (command, words) = words.split_first()?;
-    let mode = mode_named(command.as_str())?;
-    Some((mode, words))
+    let verb = verb_named(command.as_str())?;
+    Some((verb, words))
 }
 
 /// The option of this name.
@@ -116,6 +132,8 @@ fn flag_named(name: &str) -> Option<Flag>
         Some(Flag::Clock)
     } else if name == "--half" {
         Some(Flag::Half)
+    } else if name == "--order" {
+        Some(Flag::Order)
     } else if name == "--define" {
         Some(Flag::Define)
     } else {
@@ -136,15 +154,16 @@ pub(crate) fn name_and_value(word: &str) -> (&str, Option<&str>)
 
 impl<'a> Line<'a> {
     /// Before the first word behind the command.
-    fn start(mode: Mode) -> Line<'a>
-        ensures { line_of result ≡ lines.start mode }
+    fn start(verb: Verb) -> Line<'a>
+        ensures { line_of result ≡ lines.start verb }
     {
         Line {
-            mode,
+            verb,
             next: Next::Any,
             top: None,
             clock: None,
             half: None,
+            order: None,
             defines: ArrayVec::new(),
             share: false,
             paths: ArrayVec::new(),
@@ -181,6 +200,7 @@ impl<'a> Line<'a> {
             Flag::Top => self.top.is_some(),
             Flag::Clock => self.clock.is_some(),
             Flag::Half => self.half.is_some(),
+            Flag::Order => self.order.is_some(),
             Flag::Define => self.defines.is_full(),
         }
     }
@@ -197,6 +217,7 @@ impl<'a> Line<'a> {
             Flag::Top => self.top = Some(value),
             Flag::Clock => self.clock = Some(value),
             Flag::Half => self.half = Some(value),
+            Flag::Order => self.order = Some(value),
             Flag::Define => self.defines.push(value),
         }
         Some(())
@@ -257,8 +278,9 @@ impl<'a> Line<'a> {
     /// The job that the line calls for.
     #[tactic(auto, using(crate::proofs::Once::at_most_once_values))]
     pub(crate) fn called(&self) -> Option<Command<'_, 'a>>
-        ensures { option_map job_of result ≡ spec.called self.now.mode (said_of (line_of self.now)) }
+        ensures { option_map job_of result ≡ spec.called self.now.verb (said_of (line_of self.now)) }
     {
+        let mode = mode_given(self.verb, self.order)?;
         let top = self.top?;
         let clock = self.clock;
         let half = half_given(self.half)?;
@@ -267,12 +289,12 @@ impl<'a> Line<'a> {
             return None;
         }
         let (design, stimuli) = self.paths.as_slice().split_first()?;
-        if stimuli.is_empty() {
+        if stimuli.is_empty() || most_stimuli(mode) < stimuli.len() {
             return None;
         }
-        let share = share_given(self.mode, self.share)?;
+        let share = share_given(mode, self.share)?;
         Some(Command {
-            mode: self.mode,
+            mode,
             top,
             clock,
             half,
@@ -285,10 +307,10 @@ impl<'a> Line<'a> {
 }
 
 /// The words behind the command, one after the other.
-fn read_words(mode: Mode, words: &[String]) -> Option<Line<'_>>
-    ensures { option_map line_of result ≡ lines.read (lines.start mode) (map string_bytes words.now) }
+fn read_words(verb: Verb, words: &[String]) -> Option<Line<'_>>
+    ensures { option_map line_of result ≡ lines.read (lines.start verb) (map string_bytes words.now) }
 {
-    let mut line = Line::start(mode);
+    let mut line = Line::start(verb);
     for word in words {
         line.read_word(word.as_str())?;
     }
@@ -299,12 +321,12 @@ fn read_words(mode: Mode, words: &[String]) -> Option<Line<'_>>
 pub(crate) fn read_line(words: &[String]) -> Option<Line<'_>>
     ensures { option_map line_of result ≡ lines.line (map string_bytes words.now) }
 {
-    let (mode, words) = mode_and_words(words)?;
-    read_words(mode, words)
+    let (verb, words) = verb_and_words(words)?;
+    read_words(verb, words)
 }
 
 /// The number from 1 to the greatest one that the digits write.
-pub(crate) fn count_value(digits: &str, most: u32) -> Option<u32>
+fn number_value(digits: &str, most: u64) -> Option<u64>
     ensures { result ≡ spec.count_value most digits.now }
 {
     let (first, _) = digits.as_bytes().split_first()?;
@@ -316,6 +338,48 @@ pub(crate) fn count_value(digits: &str, most: u32) -> Option<u32>
         Some(count)
     } else {
         None
+    }
+}
+
+/// The number from 1 to the greatest one that the digits write, where that one has 32 bits.
+pub(crate) fn count_value(digits: &str, most: u32) -> Option<u32>
+    ensures { result ≡ spec.count_value most digits.now }
+{
+    let count = number_value(digits, u64::from(most))?;
+    Some(count as u32)
+}
+
+/// The order that the digits write: any number of 64 bits.
+fn order_value(digits: &str) -> Option<u64>
+    ensures { result ≡ spec.order_value digits.now }
+{
+    if digits == "0" {
+        return Some(0);
+    }
+    number_value(digits, u64::MAX)
+}
+
+/// What is done with the lanes: the order is given with `queue`, and with no other command.
+fn mode_given(verb: Verb, order: Option<&str>) -> Option<Mode>
+    ensures { result ≡ spec.mode_given verb (values (option_map (λ s. s.now) order.entry)) }
+{
+    match (verb, order) {
+        (Verb::Run, None) => Some(Mode::Run),
+        (Verb::Check, None) => Some(Mode::Check),
+        (Verb::Queue, Some(digits)) => Some(Mode::Queue {
+            order: order_value(digits)?,
+        }),
+        _ => None,
+    }
+}
+
+/// How many stimuli there are at most.
+fn most_stimuli(mode: Mode) -> usize
+    ensures { result ≡ spec.most_stimuli mode }
+{
+    match mode {
+        Mode::Queue { .. } => 1,
+        Mode::Run | Mode::Check => MOST_LANES,
     }
 }
 
@@ -334,7 +398,7 @@ fn share_given(mode: Mode, share: bool) -> Option<bool>
     ensures { result ≡ spec.share_given mode (lines.shares share) }
 {
     match (mode, share) {
-        (Mode::Check, true) => None,
+        (Mode::Check | Mode::Queue { .. }, true) => None,
         (_, share) => Some(share),
     }
 }

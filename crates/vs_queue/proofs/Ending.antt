@@ -84,9 +84,6 @@ still_under_way d clock e now seed next ends values steps count slots u is comes
   later = u.later;
   order = u.order;
   slots = slots;
-  begun = u.begun;
-  known = u.known;
-  resets = u.resets;
   reached = comes (Q.start (network_of d clock) u.first u.vector u.later) u.order (subst (λ (ss : List Slot). IsReached (network_of d clock) (Q.start (network_of d clock) u.first u.vector u.later) u.order (queue_of e ss) seed ends steps) is u.reached);
 }
 

@@ -49,23 +49,23 @@ seed_more : (bs : List ℕ) (b seed : ℕ) → seed_after (bs ++ b ∷ []) seed 
 seed_more [] b seed = refl
 seed_more (c ∷ bs) b seed = seed_more bs b (next_seed seed)
 
-at_last : (vs : List Bit4) (v : Bit4) (j : ℕ) → j ≡ length vs → get_or (vs ++ v ∷ []) j X ≡ v
+pub at_last : (vs : List Bit4) (v : Bit4) (j : ℕ) → j ≡ length vs → get_or (vs ++ v ∷ []) j X ≡ v
 at_last [] v zero h = refl
 at_last [] v (suc j) h = absurd (omega (arith, h))
 at_last (w ∷ vs) v zero h = absurd (omega (arith, h))
 at_last (w ∷ vs) v (suc j) h = at_last vs v j (omega (arith, h))
 
-at_before : (vs : List Bit4) (v : Bit4) (j : ℕ) → j < length vs → get_or (vs ++ v ∷ []) j X ≡ get_or vs j X
+pub at_before : (vs : List Bit4) (v : Bit4) (j : ℕ) → j < length vs → get_or (vs ++ v ∷ []) j X ≡ get_or vs j X
 at_before [] v j h = absurd (omega (arith, h))
 at_before (w ∷ vs) v zero h = refl
 at_before (w ∷ vs) v (suc j) h = at_before vs v j (omega (arith, h))
 
-beyond : {A : Type 0} (vs : List A) (j : ℕ) (d : A) → length vs ≤ j → get_or vs j d ≡ d
+pub beyond : {A : Type 0} (vs : List A) (j : ℕ) (d : A) → length vs ≤ j → get_or vs j d ≡ d
 beyond [] j d h = refl
 beyond (w ∷ vs) zero d h = absurd (omega (arith, h))
 beyond (w ∷ vs) (suc j) d h = beyond vs j d (omega (arith, h))
 
-order_of : (j b : ℕ) → (j < b) ⊎ (b ≤ j)
+pub order_of : (j b : ℕ) → (j < b) ⊎ (b ≤ j)
 order_of j zero = inr (omega arith)
 order_of zero (suc b) = inl (omega arith)
 order_of (suc j) (suc b) = elim (order_of j b) [ inl h ↦ inl (omega (arith, h)) | inr h ↦ inr (omega (arith, h)) ]

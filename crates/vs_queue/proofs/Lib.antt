@@ -29,3 +29,12 @@ pub mod Vectors
 pub mod Signals
 pub mod Driving
 pub mod Spares
+pub mod Owning
+pub mod Limits
+pub mod Wholes
+pub mod Spending
+pub mod Taken
+pub mod LevelTurns
+pub mod Plainly
+pub mod Calming
+pub mod Levelling

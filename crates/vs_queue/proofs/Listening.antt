@@ -32,7 +32,7 @@ use Rattle.vs_queue.proofs.Listened.{both_listen, listens_length, one_process_mo
 some_is : {A : Type 0} (x y : A) → Some x ≡ Some y → x ≡ y
 some_is x y h = cc
 
-edges_are : (signal : ℕ → E.Signal) (es : List Event) → list_any is_edge_event es ≡ list_any D.has_edge (map (event_of signal) es)
+pub edges_are : (signal : ℕ → E.Signal) (es : List Event) → list_any is_edge_event es ≡ list_any D.has_edge (map (event_of signal) es)
 edges_are signal [] = refl
 edges_are signal (e ∷ es) = ap (λ c. is_edge e.edge || c) (edges_are signal es)
 

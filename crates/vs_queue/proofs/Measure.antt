@@ -6,8 +6,7 @@ use Rattle.std.proofs.lemmas.Bool.{and_parts}
 use Rattle.vs_four.specs.declared.Bit4.{Bit4}
 use Rattle.vs_four.specs.Tables.{same}
 use Rattle.vs_net.specs.Network.{State, Write, Update, put, Input, Network, senses, made, updates}
-use Rattle.vs_net.specs.Queue.{Waiting, Slot, Queue, Choice, Start, Evaluate, Apply, Run, Take, Activate, Next, after, change, changes, woken, took, start, IsFirst}
-use Rattle.vs_net.specs.Laws.{IsKnownVector, AreKnownResets}
+use Rattle.vs_net.specs.Queue.{Waiting, Slot, Queue, Choice, Start, Evaluate, Apply, Run, Take, Activate, Next, after, change, changes, woken, took, start}
 use Rattle.vs_net.specs.Bound.{bound, IsPartOfRun, HasNoNext}
 use Rattle.vs_design.specs.Expressions.{Signal}
 use Rattle.vs_design.specs.Designs.{Design, bit_count}
@@ -22,7 +21,9 @@ use Rattle.vs_design.specs.TimeZero.{families, is_uncertain}
 use Rattle.vs_design.specs.Elaborated.{are_scopes, are_numbered, have_bits_from, is_declared, is_lawful_memory, is_formed_process, is_formed_function, has_clocked_words, IsLawfulDesign}
 use Rattle.vs_design.specs.Networks.{network_of, all_processes}
 use Rattle.vs_design.specs.Accepted.{IsAcceptedDesign, is_empty}
+use Rattle.vs_design.specs.Bounds.{size_of, feeds_of}
 use Rattle.vs_design.proofs.Bounded.{bound_of}
+use Rattle.vs_design.proofs.Lawful.{lawful}
 use Rattle.vs_design.proofs.Parts.{beyond_count}
 use Rattle.vs_queue.specs.Chosen.{open_steps, or_else, activation, beginning, possible_steps}
 use Rattle.vs_queue.specs.Longest.{begins_slot, greatest, longest, IsWithinSlot}
@@ -30,6 +31,7 @@ use Rattle.vs_queue.specs.Reached.{IsReached}
 use Rattle.vs_queue.proofs.Choosing.{first_waits}
 use Rattle.vs_queue.proofs.Tested.{rests_first, drawn_part}
 use Rattle.vs_queue.proofs.Lasting.{each_step_shortens}
+use Rattle.vs_queue.proofs.Limits.{few_steps}
 
 -- ---- the slots to come
 
@@ -210,15 +212,16 @@ module _ (d : Design) (name : Option (List ℕ)) (a : IsAcceptedDesign d name) w
   beyond : (p : ℕ) → n.count ≤ p → n.process p ≡ Input []
   beyond p h = beyond_count (all_processes d a.clock.first) p h
 
-  -- few in every acceptance by this clock
-  few_by : (b : IsAcceptedDesign d name) → b.clock ≡ a.clock → (first v : State) (vs : List State) → IsFirst n first → IsKnownVector n v → AreKnownResets n vs
-      → (earlier steps : List Choice) → IsPartOfRun n (start n first v vs) (earlier ++ steps) → HasNoNext steps → length steps ≤ bound_by d name b
+  -- few in every acceptance by this clock, on whatever vectors
+  few_by : (b : IsAcceptedDesign d name) → b.clock ≡ a.clock → (first v : State) (vs : List State) (earlier steps : List Choice) → IsPartOfRun n (start n first v vs) (earlier ++ steps) → HasNoNext steps → length steps ≤ bound_by d name b
   unfolding bound_by
-  few_by b is = subst (λ (m : Network). (first v : State) (vs : List State) → IsFirst m first → IsKnownVector m v → AreKnownResets m vs → (earlier steps : List Choice) → IsPartOfRun m (start m first v vs) (earlier ++ steps) → HasNoNext steps → length steps ≤ bound_by d name b)
-      (ap (λ (s : Signal). network_of d s.first) is) (bound_of d name b).3
+  few_by b is =
+      let weighed = bound_of d name b in
+      subst (λ (m : Network). (first v : State) (vs : List State) (earlier steps : List Choice) → IsPartOfRun m (start m first v vs) (earlier ++ steps) → HasNoNext steps → length steps ≤ bound_by d name b)
+      (ap (λ (s : Signal). network_of d s.first) is) (few_steps (network_of d b.clock.first) (lawful d name b) (feeds_of d b.clock.first) (size_of d) weighed.0 weighed.1 weighed.2)
 
   abbrev pub Few : ℕ → Type 0
-  Few most = (first v : State) (vs : List State) → IsFirst n first → IsKnownVector n v → AreKnownResets n vs → (earlier steps : List Choice) → IsPartOfRun n (start n first v vs) (earlier ++ steps) → HasNoNext steps → length steps ≤ most
+  Few most = (first v : State) (vs : List State) (earlier steps : List Choice) → IsPartOfRun n (start n first v vs) (earlier ++ steps) → HasNoNext steps → length steps ≤ most
 
   few_for : (clock : Signal) (found : clock_input d name ≡ Some clock) → clock ≡ a.clock → (l r : Bool) (e : lawful_tests d ≡ l) (f : rule_tests d clock ≡ r) → l ≡ true → r ≡ true → Few (most_for d name clock found l r e f)
   unfolding most_for accepted_by
@@ -238,12 +241,11 @@ module _ (d : Design) (name : Option (List ℕ)) (a : IsAcceptedDesign d name) w
   few = few_of (clock_input d name) refl a.clock_found
 
   -- so at each moment of a run
-  pub few_left : (first v : State) (vs : List State) → IsFirst n first → IsKnownVector n v → AreKnownResets n vs
-      → (order : ℕ) (q : Queue) (seed : ℕ) (values : List (List Bit4)) (steps : ℕ) → IsReached n (start n first v vs) order q seed values steps → AreFew n (most_steps d name) q
-  few_left first v vs f k r order q seed values steps reached cs h =
+  pub few_left : (first v : State) (vs : List State) (order : ℕ) (q : Queue) (seed : ℕ) (values : List (List Bit4)) (steps : ℕ) → IsReached n (start n first v vs) order q seed values steps → AreFew n (most_steps d name) q
+  few_left first v vs order q seed values steps reached cs h =
       let from = start n first v vs in
       let part = drawn_part n beyond reached.done cs from order (λ p e. first_waits _ e) (rests_first n beyond (λ p e. (refl, refl)) first v vs) reached.drawn (subst (λ (x : Queue). IsWithinSlot n x cs) (sym reached.queue) h) in
-      few first v vs f k r reached.done cs part.0 part.1
+      few first v vs reached.done cs part.0 part.1
 
 -- each step within a slot makes the measure smaller, whatever slots are to come
 pub shorter : (n : Network) (most : ℕ) (q : Queue) (c : Choice) (i : ℕ) (slots : List Slot) → AreFew n most q → slice_get (possible_steps n q) i ≡ Some c → begins_slot c ≡ false

@@ -49,18 +49,15 @@ none_left d clock k xs vs h l = all k vs (let c = same_count d clock xs vs h in 
     all (suc k) (v ∷ vs) h = all k vs (omega (arith, h))
 
 -- a run that has come somewhere is under way
-pub under_way : DrawnIsFirst → (d : Design) (clock order : ℕ) (first : State) (later : List State) (e : Events) (slots : List Slot) (seed : ℕ) (ends : List (List Bit4)) (steps : ℕ) → IsKnownVector (network_of d clock) first → AreKnownResets (network_of d clock) later
+pub under_way : (d : Design) (clock order : ℕ) (first : State) (later : List State) (e : Events) (slots : List Slot) (seed : ℕ) (ends : List (List Bit4)) (steps : ℕ)
     → HasCome d clock order first later e slots seed ends steps → (u : IsUnderWay d clock e seed ends steps) × (u.slots ≡ slots)
-under_way law d clock order first later e slots seed ends steps k r h = (
+under_way d clock order first later e slots seed ends steps h = (
   record {
     first = drawn_values (driven_bits d) order (idle_value d);
     vector = first;
     later = later;
     order = seed_after (driven_bits d) order;
     slots = slots;
-    begun = (law d clock order).0;
-    known = k;
-    resets = r;
     reached = h;
   },
   refl,

@@ -4,8 +4,7 @@ use Rattle.std.specs.Prelude.{slice_get, slice_index_or, option_map, IfSome, is_
 use Rattle.std.proofs.lemmas.Bool.{and_parts}
 use Rattle.vs_four.specs.declared.Bit4.{Bit4}
 use Rattle.vs_net.specs.Network.{State, Network}
-use Rattle.vs_net.specs.Queue.{Slot, Queue, start, IsFirst}
-use Rattle.vs_net.specs.Laws.{IsKnownVector, AreKnownResets}
+use Rattle.vs_net.specs.Queue.{Slot, Queue, start}
 use Rattle.vs_design.specs.Expressions.{Signal, signal_length}
 use Rattle.vs_design.specs.Designs.{Design}
 use Rattle.vs_design.specs.Clocks.{same_name, clock_input}
@@ -67,14 +66,13 @@ module _ (d : Design) (c : Clocked) (b : IsAcceptedBy d c) where
   name_is = named d b.name c.input b.clock.signal b.clock.named b.clock.there b.clock.is
 
   abbrev Few : ℕ → Option (List ℕ) → Type 0
-  Few clock name = (first v : State) (vs : List State) → IsFirst (network_of d clock) first → IsKnownVector (network_of d clock) v → AreKnownResets (network_of d clock) vs
-      → (order : ℕ) (q : Queue) (seed : ℕ) (values : List (List Bit4)) (steps : ℕ) → IsReached (network_of d clock) (start (network_of d clock) first v vs) order q seed values steps → AreFew (network_of d clock) (most_steps d name) q
+  Few clock name = (first v : State) (vs : List State) (order : ℕ) (q : Queue) (seed : ℕ) (values : List (List Bit4)) (steps : ℕ) → IsReached (network_of d clock) (start (network_of d clock) first v vs) order q seed values steps → AreFew (network_of d clock) (most_steps d name) q
 
   few_here : Few c.bit (clock_name d c)
   few_here = subst (λ k. Few k (clock_name d c)) (sym (bit_is d c b)) (subst (λ name. Few b.accepted.clock.first name) name_is (few_left d b.name b.accepted))
 
   pub few_now : (e : Events) (seed : ℕ) (ends : List (List Bit4)) (steps : ℕ) (u : IsUnderWay d c.bit e seed ends steps) → AreFew (network_of d c.bit) (most_by d c) (queue_of e u.slots)
-  few_now e seed ends steps u = few_here u.first u.vector u.later u.begun u.known u.resets u.order (queue_of e u.slots) seed ends steps u.reached
+  few_now e seed ends steps u = few_here u.first u.vector u.later u.order (queue_of e u.slots) seed ends steps u.reached
 
 -- ---- one turn
 

@@ -5,7 +5,7 @@ use Rattle.std.proofs.lemmas.List.{length-map, length-replicate}
 use Rattle.vs_four.specs.declared.Bit4.{Bit4}
 use Rattle.vs_net.specs.Network.{State, Update, is_written, flatten, Kind, kind}
 use Rattle.vs_net.specs.Network as N
-use Rattle.vs_net.specs.Queue.{Slot, Fall, Rise, Queue, Choice, Next, start, slots_of}
+use Rattle.vs_net.specs.Queue.{Slot, Fall, Rise, Queue, Choice, Next, after, start, slots_of}
 use Rattle.vs_net.proofs.Basics.{none_written}
 use Rattle.vs_design.specs.Expressions.{Signal}
 use Rattle.vs_design.specs.Designs.{Design, Process, Continuous, Always, is_clocked, bit_count, top_inputs}
@@ -28,6 +28,7 @@ use Rattle.vs_queue.specs.Reached.{IsReached, counted}
 use Rattle.vs_queue.specs.Running.{IsRunning, IsInside}
 use Rattle.vs_queue.specs.Runs.{IsCopied, IsEnded}
 use Rattle.vs_queue.specs.Sound.{BeginningIsSound, DrivesKeep}
+use Rattle.vs_queue.specs.Turns.{IsRested}
 use Rattle.vs_queue.proofs.Drives.{each_given, are_driven, all_driven, drives_run, drives_values, below_sum, AllDriven}
 use Rattle.vs_queue.proofs.Inputs.{few_inputs}
 use Rattle.vs_queue.proofs.Reaching.{next_more, reached_first}
@@ -158,14 +159,18 @@ module _ (d : Design) (c : Clocked) (b : IsAcceptedBy d c) where
         long = ap length (same ∙ sym stays);
       }
 
-  pub begun_reached : BeginningIsStart → (first v : State) (later : List State) (seed : ℕ) (values : List Bit4) → state_of values ≡ first
-      → IsReached (network_of d c.bit) (start (network_of d c.bit) first v later) seed (queue_of (after_drives (first_events (all_roles d c.bit) values) (slot_drives d c.bit (Fall v))) (Rise ∷ slots_of later)) seed [] 0
-  begun_reached law first v later seed values is =
+  pub begun_start : BeginningIsStart → (v : State) (later : List State) (values : List Bit4)
+      → queue_of (after_drives (first_events (all_roles d c.bit) values) (slot_drives d c.bit (Fall v))) (Rise ∷ slots_of later) ≡ start (network_of d c.bit) (state_of values) v later
+  begun_start law v later values =
       let n = network_of d c.bit in
       let ds = slot_drives d c.bit (Fall v) in
-      subst (λ (q : Queue). IsReached n (start n first v later) seed q seed [] 0)
-      (sym (law n (all_roles d c.bit) values v later ds (roles_are d c.bit) (λ p. refl) (subst (λ k. AreDriven k ds) (sym (roles_count d c.bit)) (are_driven n.count (value_count d c.bit) ds (driven (Fall v)))) (each_given d c.bit (Fall v)) ∙ ap (λ s. start n s v later) is))
-      (reached_first n (start n first v later) seed)
+      law n (all_roles d c.bit) values v later ds (roles_are d c.bit) (λ p. refl) (subst (λ k. AreDriven k ds) (sym (roles_count d c.bit)) (are_driven n.count (value_count d c.bit) ds (driven (Fall v)))) (each_given d c.bit (Fall v))
+
+  pub begun_reached : (first v : State) (later : List State) (seed : ℕ) (values : List Bit4) → state_of values ≡ first → (e : Events) → queue_of e (Rise ∷ slots_of later) ≡ start (network_of d c.bit) (state_of values) v later
+      → IsReached (network_of d c.bit) (start (network_of d c.bit) first v later) seed (queue_of e (Rise ∷ slots_of later)) seed [] 0
+  begun_reached first v later seed values is e begins =
+      let n = network_of d c.bit in
+      subst (λ (q : Queue). IsReached n (start n first v later) seed q seed [] 0) (sym (begins ∙ ap (λ s. start n s v later) is)) (reached_first n (start n first v later) seed)
 
   -- ---- the next slot
 
@@ -175,12 +180,18 @@ module _ (d : Design) (c : Clocked) (b : IsAcceptedBy d c) where
       let stays = drives_values ds e in
       subst (λ x. IsCopied d c.bit x shadow) (sym is) (record { running = drives_run keep d c.bit ds e r.running (driven slot); shadow_is = r.shadow_is ∙ ap state_of (sym stays); long = r.long ∙ ap length (sym stays) })
 
+  -- where nothing waits, the slot begins with what it drives
+  pub next_is : DrivingIsNext → (e now : Events) (slot : Slot) → IsRunning d c.bit e → IsRested e → now ≡ after_drives e (slot_drives d c.bit slot) → (slots : List Slot) → queue_of now slots ≡ after (network_of d c.bit) (queue_of e (slot ∷ slots)) Next
+  next_is law e now slot r rested is slots =
+      let n = network_of d c.bit in
+      let ds = slot_drives d c.bit slot in
+      ap (λ x. queue_of x slots) is
+      ∙ law n e slot slots ds r.sound.held rested (subst (λ k. AreDriven k ds) (sym r.sound.count) (are_driven n.count (value_count d c.bit) ds (driven slot))) (each_given d c.bit slot)
+
   pub next_reached : DrivingIsNext → (e now : Events) (shadow : List Bit4) (slot : Slot) → IsCopied d c.bit e shadow → IsEnded d c.bit e → now ≡ after_drives e (slot_drives d c.bit slot)
       → (from : Queue) (order : ℕ) (slots : List Slot) (seed : ℕ) (ends : List (List Bit4)) (steps : ℕ) → IsReached (network_of d c.bit) from order (queue_of e (slot ∷ slots)) seed ends steps
       → IsReached (network_of d c.bit) from order (queue_of now slots) (next_seed seed) (ends ++ e.values ∷ []) (counted (suc steps))
   next_reached law e now shadow slot r ended is from order slots seed ends steps reached =
       let n = network_of d c.bit in
-      let ds = slot_drives d c.bit slot in
-      let is_next = law n e slot slots ds r.running.sound.held ended.rested (subst (λ k. AreDriven k ds) (sym r.running.sound.count) (are_driven n.count (value_count d c.bit) ds (driven slot))) (each_given d c.bit slot) in
-      subst (λ (q : Queue). IsReached n from order q (next_seed seed) (ends ++ e.values ∷ []) (counted (suc steps))) (sym (ap (λ x. queue_of x slots) is ∙ is_next))
+      subst (λ (q : Queue). IsReached n from order q (next_seed seed) (ends ++ e.values ∷ []) (counted (suc steps))) (sym (next_is law e now slot r.running ended.rested is slots))
       (next_more n from order (queue_of e (slot ∷ slots)) seed ends steps reached e.values refl (ap (λ (cs : List Choice). slice_get cs (drawn seed % length cs)) (ended.over (slot ∷ slots)) ∙ ap (λ k. slice_get (Next ∷ []) k) (mod_one (drawn seed))))

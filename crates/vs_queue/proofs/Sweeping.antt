@@ -13,7 +13,7 @@ use Rattle.vs_queue.specs.Reached.{ends_so_far}
 
 -- ---- lists of steps
 
-append_nil : {A : Type 0} (xs : List A) → xs ++ [] ≡ xs
+pub append_nil : {A : Type 0} (xs : List A) → xs ++ [] ≡ xs
 append_nil [] = refl
 append_nil (x ∷ xs) = ap (λ ys. x ∷ ys) (append_nil xs)
 
@@ -26,7 +26,7 @@ after_both n [] ds q = refl
 after_both n (c ∷ cs) ds q = after_both n cs ds (after n q c)
 
 -- one process more has its turn
-each_more : (turn : Queue → ℕ → List Choice) (n : Network) (ps : List ℕ) (p : ℕ) (q : Queue) → each_in turn n q (ps ++ p ∷ []) ≡ each_in turn n q ps ++ turn (after_all n q (each_in turn n q ps)) p
+pub each_more : (turn : Queue → ℕ → List Choice) (n : Network) (ps : List ℕ) (p : ℕ) (q : Queue) → each_in turn n q (ps ++ p ∷ []) ≡ each_in turn n q ps ++ turn (after_all n q (each_in turn n q ps)) p
 each_more turn n [] p q = append_nil (turn q p)
 each_more turn n (x ∷ ps) p q =
     let next = after_all n q (turn q x) in

@@ -68,7 +68,7 @@ any_filter test (p ∷ ps) = go (test p) (any_filter test ps)
         some k = grind arith
     go false h = h
 
-waits_is : (n : Network) (e : Events) → IsSound n e → list_any (λ p. not (is_empty (get_or e.waiting p []))) (below n.count) ≡ nat_lt 0 (length (members e.lates))
+pub waits_is : (n : Network) (e : Events) → IsSound n e → list_any (λ p. not (is_empty (get_or e.waiting p []))) (below n.count) ≡ nat_lt 0 (length (members e.lates))
 waits_is n e sound =
     any_filter (λ p. not (is_empty (get_or e.waiting p []))) (below n.count)
     ∙ ap (λ ps. nat_lt 0 (length ps)) (sym (members_passing n e.lates (λ p. not (is_empty (get_or e.waiting p []))) (sound.held.lates ∙ sound.count) (λ p. sym (sound.lates p))))
@@ -79,6 +79,17 @@ none_of (x ∷ xs) h = absurd (omega (arith, h))
 
 pub mod_one : (k : ℕ) → k % 1 ≡ 0
 mod_one k = omega arith
+
+-- nothing waits where no writer has a waiting update
+pub rested_by : (n : Network) (e : Events) → IsSound n e → nat_lt 0 (length (members e.lates)) ≡ false → IsRested e
+rested_by n e sound h p = empty_of (get_or e.waiting p []) (sym (sound.lates p) ∙ no_member e.lates 0 p (none_of (members e.lates) (few (length (members e.lates)) h)))
+  where
+    some : (k : ℕ) → nat_lt 0 (suc k) ≡ true
+    some k = grind arith
+
+    few : (k : ℕ) → nat_lt 0 k ≡ false → k ≡ 0
+    few zero h = refl
+    few (suc k) h = absurd (let z = some k in cc)
 
 module _ (d : Design) (clock : ℕ) (e : Events) (r : IsRunning d clock e) (none : length (steps_of e) ≡ 0) where
   abbrev n : Network
@@ -106,12 +117,5 @@ module _ (d : Design) (clock : ℕ) (e : Events) (r : IsRunning d clock e) (none
   pub over_turn : (seed : ℕ) → nat_lt 0 (length (members e.lates)) ≡ false → (slots : List Slot) → IsTurn n (queue_of e slots) seed false (queue_of e slots)
   over_turn seed h slots = record { over = left slots false h; same = refl }
 
-  few : (k : ℕ) → nat_lt 0 k ≡ false → k ≡ 0
-  few zero h = refl
-  few (suc k) h = absurd (let z = some k in cc)
-    where
-      some : (k : ℕ) → nat_lt 0 (suc k) ≡ true
-      some k = grind arith
-
   pub rests : nat_lt 0 (length (members e.lates)) ≡ false → IsRested e
-  rests h p = empty_of (get_or e.waiting p []) (sym (r.sound.lates p) ∙ no_member e.lates 0 p (none_of (members e.lates) (few (length (members e.lates)) h)))
+  rests h = rested_by n e r.sound h

@@ -3,7 +3,6 @@ use Rattle.std.specs.Prelude.{ℕ, List, ◌∷◌, drop}
 use Rattle.vs_four.specs.declared.Bit4.{Bit4}
 use Rattle.vs_net.specs.Network.{State}
 use Rattle.vs_net.specs.Queue.{Slot, start, slots_of}
-use Rattle.vs_net.specs.Laws.{IsKnownVector, AreKnownResets}
 use Rattle.vs_design.specs.Designs.{Design}
 use Rattle.vs_design.specs.Networks.{network_of, idle_value}
 use Rattle.vs_events.specs.Held.{Events, queue_of}
@@ -19,4 +18,4 @@ HasCome d clock order first later e slots seed ends steps =
 -- so many vectors are over
 abbrev pub ComesTo : Design → ℕ → ℕ → List Vector → ℕ → Events → ℕ → List (List Bit4) → ℕ → Type 0
 ComesTo d clock order vectors k e seed ends steps =
-    (first : State) (later : List State) → AreVectors d clock vectors (first ∷ later) → IsKnownVector (network_of d clock) first → AreKnownResets (network_of d clock) later → HasCome d clock order first later e (slots_of (drop k (first ∷ later))) seed ends steps
+    (first : State) (later : List State) → AreVectors d clock vectors (first ∷ later) → HasCome d clock order first later e (slots_of (drop k (first ∷ later))) seed ends steps

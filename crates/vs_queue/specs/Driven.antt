@@ -3,11 +3,10 @@ use Rattle.std.specs.Prelude.{◌≡◌, ℕ, suc, not, ◌==◌, ◌+◌, if◌
 use Rattle.vs_four.specs.declared.Bit4.{Bit4}
 use Rattle.vs_net.specs.Network.{State, Update, Clock}
 use Rattle.vs_net.specs.Queue.{Slot, Fall, Rise, drive}
-use Rattle.vs_net.specs.Laws.{IsKnownVector, AreKnownResets}
 use Rattle.vs_design.specs.Expressions.{Signal}
 use Rattle.vs_design.specs.Values.{bits_of_signal, read}
 use Rattle.vs_design.specs.Designs.{Design, top_inputs}
-use Rattle.vs_design.specs.Networks.{network_of, writer_of}
+use Rattle.vs_design.specs.Networks.{writer_of}
 use Rattle.vs_queue.specs.Spare.{is_spare}
 use Rattle.vs_events.specs.Beginning.{Drive}
 
@@ -37,13 +36,9 @@ AreVectors d clock [] [] = Unit {0}
 AreVectors d clock (x ∷ xs) (v ∷ vs) = AreGiven (data_inputs clock (top_inputs d)) x v × AreVectors d clock xs vs
 AreVectors d clock _ _ = ⊥
 
--- the vectors have a value of its length for each data input; in the first one all is known, and in the others the inputs of resets
-pub record IsKnownDrive (d : Design) (clock : ℕ) (vectors : List Vector) : Type 0 where
-  pub first : State
-  pub later : List State
-  pub given : AreVectors d clock vectors (first ∷ later)
-  pub known : IsKnownVector (network_of d clock) first
-  pub resets : AreKnownResets (network_of d clock) later
+-- the vectors have a value of its length for each data input
+abbrev pub IsDrive : Design → ℕ → List Vector → Type 0
+IsDrive d clock vectors = (states : List State) × AreVectors d clock vectors states
 
 -- the updates of one writer
 abbrev pub each_drive : ℕ → List Update → List Drive

@@ -1,5 +1,5 @@
 -- Flags of bits, and the values that bits begin with by them.
-use Rattle.std.specs.Prelude.{ℕ, Bool, true, false, ◌&&◌, List, filter, length, slice_index_or, if◌then◌else◌}
+use Rattle.std.specs.Prelude.{ℕ, Bool, true, false, not, ◌&&◌, List, filter, length, slice_index_or, if◌then◌else◌}
 use Rattle.vs_four.specs.declared.Bit4.{Bit4}
 use Rattle.vs_four.specs.declared.Bit4.TheVariants.{X, Z}
 use Rattle.vs_net.specs.Network.{State}
@@ -28,6 +28,10 @@ first_value true false seed = Z
 
 abbrev pub first_seed : (net driven : Bool) → ℕ → ℕ
 first_seed net driven seed = if net && driven then next_seed seed else seed
+
+-- what it begins with in a run in level order
+abbrev pub plain_value : (net driven : Bool) → Bit4
+plain_value net driven = if net && not driven then Z else X
 
 -- whether a process of this kind is an assign
 abbrev pub is_assign_kind : Kind → Bool

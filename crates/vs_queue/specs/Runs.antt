@@ -2,8 +2,7 @@
 use Rattle.std.specs.Prelude.{◌≡◌, ℕ, List, length}
 use Rattle.vs_four.specs.declared.Bit4.{Bit4}
 use Rattle.vs_net.specs.Network.{State}
-use Rattle.vs_net.specs.Queue.{Slot, start, IsFirst}
-use Rattle.vs_net.specs.Laws.{IsKnownVector, AreKnownResets}
+use Rattle.vs_net.specs.Queue.{Slot, start}
 use Rattle.vs_design.specs.Designs.{Design}
 use Rattle.vs_design.specs.Networks.{network_of}
 use Rattle.vs_writes.specs.Held.{state_of}
@@ -19,16 +18,13 @@ pub record IsCopied (d : Design) (clock : ℕ) (e : Events) (shadow : List Bit4)
   pub shadow_is : state_of shadow ≡ state_of e.values
   pub long : length shadow ≡ length e.values
 
--- a run of the design on a drive that is known as far as it has to be has come to these lists
+-- a run of the design on some vectors has come to these lists
 pub record IsUnderWay (d : Design) (clock : ℕ) (e : Events) (seed : ℕ) (ends : List (List Bit4)) (steps : ℕ) : Type 0 where
   pub first : State
   pub vector : State
   pub later : List State
   pub order : ℕ
   pub slots : List Slot
-  pub begun : IsFirst (network_of d clock) first
-  pub known : IsKnownVector (network_of d clock) vector
-  pub resets : AreKnownResets (network_of d clock) later
   pub reached : IsReached (network_of d clock) (start (network_of d clock) first vector later) order (queue_of e slots) seed ends steps
 
 -- nothing is left in the slot

@@ -22,6 +22,10 @@ abbrev pub IsTurn : Network → Queue → ℕ → Bool → Queue → Type 0
 IsTurn n q seed true now = IsDrawnStep n q seed now
 IsTurn n q seed false now = IsSlotOver n q now
 
+-- nothing is active
+abbrev pub IsSpent : Events → Type 0
+IsSpent e = (p : ℕ) → slice_index_or e.active p [] ≡ []
+
 -- nothing waits
 abbrev pub IsRested : Events → Type 0
 IsRested e = (p : ℕ) → slice_index_or e.waiting p [] ≡ []

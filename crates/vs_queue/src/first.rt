@@ -10,9 +10,9 @@ ghost use Rattle.vs_flat.specs.DesignOf.{design_of};
 ghost use Rattle.vs_reads.specs.Footprint.{footprints_of};
 ghost use Rattle.vs_writes.specs.Held.{state_of};
 ghost use Rattle.vs_queue.specs.Beginnings.{all_roles, role_of_kind, roles_of};
-ghost use Rattle.vs_queue.specs.Spare.{is_spare, value_count};
-ghost use Rattle.vs_queue.specs.First.{first_seed, first_value, flag_at, flagged, idle_by, is_assign_kind};
-ghost use Rattle.vs_queue.specs.Ordered.{driven_bits, drawn_values, drives, seed_after, x_or_z};
+ghost use Rattle.vs_queue.specs.Spare.{is_spare, spare_count, value_count};
+ghost use Rattle.vs_queue.specs.First.{first_seed, first_value, flag_at, flagged, idle_by, is_assign_kind, plain_value};
+ghost use Rattle.vs_queue.specs.Ordered.{driven_bits, drawn_values, drives, seed_after, x_or_z, x_values};
 
 use crate::seeds::{drawn, next_seed};
 use std::alloc::{AllocError, Global};
@@ -67,6 +67,13 @@ pub(crate) fn is_spare(flat: &Flat, clock: u32) -> bool
 {
     trees_law();
     clock >= count_bits(flat)
+}
+
+/// How many clocks are none of the design's bits.
+pub(crate) fn spare_count(flat: &Flat, clock: u32) -> u32
+    ensures { result ≡ spare_count (design_of flat.now) clock }
+{
+    if is_spare(flat, clock) { 1 } else { 0 }
 }
 
 /// The roles of the processes, of the inputs of the top, and of a clock that is none of the design's bits. The only error is that there is no memory.
@@ -245,4 +252,42 @@ pub(crate) fn all_values(
     let (mut values, seed) = first_values(alloc, typed, footprints, order)?;
     add_spare(&mut values, is_spare(typed.flat(), clock))?;
     Ok((values, seed))
+}
+
+/// The value that a bit begins with in a run in level order: z in a net that no assign drives, else x.
+fn plain_value(net: bool, driven: bool) -> Bit4
+    ensures { result ≡ plain_value net driven }
+{
+    if net && !driven { Bit4::Z } else { Bit4::X }
+}
+
+/// The values that bits begin with in a run in level order, where these are nets' and these are driven.
+fn plain_by(alloc: Global, nets: &[bool], driven: &[bool]) -> Result<Vec<Bit4>, AllocError>
+    requires { length driven.now ≡ length nets.now }
+    ensures count { IfOk result (λ r. length r.items ≡ length nets.now) }
+    ensures values { IfOk result (λ r. state_of r.items ≡ x_values (flagged nets.now driven.now) (idle_by nets.now)) }
+{
+    let mut values = Vec::new(alloc);
+    for b in 0..nets.len() {
+        values.push(plain_value(nets[b], driven[b]))?;
+    }
+    Ok(values)
+}
+
+/// The values that a run in level order begins with: x for nets that assigns drive. The only error is that there is no memory.
+pub(crate) fn plain_values(
+    alloc: Global,
+    typed: &Typed,
+    footprints: &Footprints,
+    clock: u32,
+) -> Result<Vec<Bit4>, AllocError>
+    requires { footprints.now ≡ footprints_of (design_of typed.now) }
+    ensures count { IfOk result (λ r. length r.items ≡ value_count (design_of typed.now) clock) }
+    ensures values { IfOk result (λ r. state_of r.items ≡ x_values (driven_bits (design_of typed.now)) (idle_value (design_of typed.now))) }
+{
+    let nets = net_flags(alloc, typed)?;
+    let driven = driven_flags(alloc, typed, footprints)?;
+    let mut values = plain_by(alloc, nets.as_slice(), driven.as_slice())?;
+    add_spare(&mut values, is_spare(typed.flat(), clock))?;
+    Ok(values)
 }

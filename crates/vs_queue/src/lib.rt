@@ -5,9 +5,13 @@ mod drive;
 mod first;
 mod laws;
 mod machine;
+mod opening;
 mod ordered;
+mod parts;
+mod plain;
 mod run;
 mod seeds;
+mod turns;
 mod vector;
 mod wires;
 
@@ -16,4 +20,6 @@ pub use laws::{
     running_law,
 };
 pub use ordered::ordered_run;
-pub use vector::{Ends, Vector};
+pub use plain::plain_run;
+pub use vector::Vector;
+pub use vs_writes::Ends;

@@ -103,7 +103,12 @@ impl Machine<'_> {
     }
 
     /// One of the possible steps of processes.
-    fn step(&self, events: &mut Events, shadow: &mut [Bit4], step: Step) -> Result<(), AllocError>
+    pub(crate) fn step(
+        &self,
+        events: &mut Events,
+        shadow: &mut [Bit4],
+        step: Step,
+    ) -> Result<(), AllocError>
         requires machine { IsMachine self.now.typed.now self.now.clocks.now self.now.wiring.now }
         requires running { IsRunning (design_of self.now.typed.now) self.now.clocks.now.bit events.old }
         requires shadow { state_of shadow.old ≡ state_of events.old.values }

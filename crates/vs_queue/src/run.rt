@@ -1,6 +1,6 @@
 //! A run of a design's queue, slot by slot.
 
-ghost use Rattle.std.specs.Prelude.{◌≡◌, ◌∷◌, ℕ, List, option_map, OnOk};
+ghost use Rattle.std.specs.Prelude.{◌≡◌, ◌+◌, ◌∷◌, ℕ, List, option_map, OnOk};
 ghost use Rattle.vs_four.specs.declared.Bit4.{Bit4};
 ghost use Rattle.vs_net.specs.Network.{State};
 ghost use Rattle.vs_net.specs.Queue.{Queue, Slot, Fall, Rise};
@@ -12,14 +12,16 @@ ghost use Rattle.vs_queue.specs.Driven.{AreGiven, IsSlotOf, data_inputs};
 ghost use Rattle.vs_queue.specs.Machines.{IsMachine};
 ghost use Rattle.vs_queue.specs.Reached.{IsReached};
 ghost use Rattle.vs_queue.specs.Runs.{IsCopied, IsEnded, IsUnderWay};
+ghost use Rattle.vs_queue.specs.Whole.{AreWhole};
 
 use crate::laws::keeping_law;
 use crate::machine::Machine;
 use crate::seeds::next_seed;
-use crate::vector::{Ends, Vector};
+use crate::vector::Vector;
 use std::alloc::AllocError;
 use vs_events::{Events, slot_law};
 use vs_four::Bit4;
+use vs_writes::Ends;
 
 /// How far a run has come: the state of the queue with a second copy of the values, the generator, the values at the ends of the slots that are over, and how many steps it has taken.
 #[derive(Drop)]
@@ -41,6 +43,7 @@ impl Machine<'_> {
         ensures reached { OnOk result ((from : Queue) (order : ℕ) (slots : List Slot) → IsReached (network_of (design_of self.now.typed.now) self.now.clocks.now.bit) from order (queue_of run.old.events slots) run.old.seed run.old.ends run.old.steps
             → IsReached (network_of (design_of self.now.typed.now) self.now.clocks.now.bit) from order (queue_of run.new.events slots) run.new.seed run.new.ends run.new.steps) }
         ensures ended { OnOk result (IsEnded (design_of self.now.typed.now) self.now.clocks.now.bit run.new.events) }
+        ensures ends { OnOk result (run.new.ends ≡ run.old.ends) }
     {
         'turns: while self.turn(&mut run.events, run.shadow.as_mut_slice(), run.seed)? {
             run.seed = next_seed(run.seed);
@@ -63,6 +66,7 @@ impl Machine<'_> {
         ensures reached { OnOk result ((from : Queue) (order : ℕ) (slot : Slot) (slots : List Slot) → IsSlotOf (design_of self.now.typed.now) self.now.clocks.now.bit (option_map (λ v. v.now) vector.entry) slot
             → IsReached (network_of (design_of self.now.typed.now) self.now.clocks.now.bit) from order (queue_of run.old.events (slot ∷ slots)) run.old.seed run.old.ends run.old.steps
             → IsReached (network_of (design_of self.now.typed.now) self.now.clocks.now.bit) from order (queue_of run.new.events slots) run.new.seed run.new.ends run.new.steps) }
+        ensures whole { (count : ℕ) → AreWhole (design_of self.now.typed.now) self.now.clocks.now.bit count run.old.ends → OnOk result (AreWhole (design_of self.now.typed.now) self.now.clocks.now.bit (count + 1) run.new.ends) }
     {
         slot_law();
         keeping_law();
@@ -82,6 +86,7 @@ impl Machine<'_> {
         ensures reached { OnOk result ((from : Queue) (order : ℕ) (slots : List Slot) → IsReached (network_of (design_of self.now.typed.now) self.now.clocks.now.bit) from order (queue_of run.old.events (Rise ∷ slots)) run.old.seed run.old.ends run.old.steps
             → IsReached (network_of (design_of self.now.typed.now) self.now.clocks.now.bit) from order (queue_of run.new.events slots) run.new.seed run.new.ends run.new.steps) }
         ensures ended { OnOk result (IsEnded (design_of self.now.typed.now) self.now.clocks.now.bit run.new.events) }
+        ensures whole { (count : ℕ) → AreWhole (design_of self.now.typed.now) self.now.clocks.now.bit count run.old.ends → OnOk result (AreWhole (design_of self.now.typed.now) self.now.clocks.now.bit (count + 1) run.new.ends) }
     {
         self.settle(run)?;
         self.begin_slot(run, None)?;

@@ -1,13 +1,10 @@
 -- What is loaded of a text, put together.
-use Rattle.std.proofs.Common.{◌≡◌, ℕ, ◌<◌, Bool, false, Some, List, length, sym, subst, ap, ◌∙◌, All, Option}
+use Rattle.std.proofs.Common.{◌≡◌, ℕ, Bool, Some, List, sym, subst, ap, ◌∙◌, All, Option}
 use Rattle.vs_design.specs.Expressions.{Signal}
 use Rattle.vs_design.specs.Designs.{Design}
-use Rattle.vs_design.specs.Networks.{network_of}
 use Rattle.vs_design.specs.Accepted.{IsAcceptedDesign}
 use Rattle.vs_flat.specs.DesignOf.{design_of}
 use Rattle.vs_clock.specs.Clocked.{Clocked, IsClockOf}
-use Rattle.vs_program.specs.Compiled.{IsProgramOf}
-use Rattle.vs_engine.specs.Lanes.{Running, state}
 use Rattle.vs_stim.specs.Header.{PortLists, IsInput, IsOutput}
 use Rattle.vs_accept.specs.Lent.{Acceptance, IsAcceptance}
 use Rattle.vs_grammar.specs.Trees.{Source}
@@ -24,12 +21,6 @@ some_is x y e = cc
 -- what is told of the clock is told of the signal by which the design is accepted
 pub clock_first : (d : Design) (name : Option (List ℕ)) (c : Clocked) (a : IsAcceptedDesign d name) → IsClockOf d name c → a.clock.first ≡ c.bit
 clock_first d name c a h = ap (λ (s : Signal). s.first) (some_is a.clock h.signal (sym a.clock_found ∙ h.is)) ∙ sym h.bit_is
-
--- what is known of an engine that was made of a design's program
-pub record IsMade {W : Type 0} (lane : W → ℕ → Bool) (lanes : ℕ) (d : Design) (clock : ℕ) (engine : Running W) : Type 0 where
-  pub program : IsProgramOf d clock engine.program
-  pub begun : engine.begun ≡ false
-  pub idle : (i : ℕ) → i < lanes → state lane engine i ≡ (network_of d clock).idle
 
 -- the outputs of a text that was read are those of its tree
 outputs_named : OneReading → {text top : List ℕ} {clock : Option (List ℕ)} {d : Design} (accepted : IsAcceptedText text top clock d) (a : Acceptance) → HaveOutputs text top a → a.outputs ≡ top_outputs accepted.source top
@@ -57,32 +48,22 @@ ports_named demanded text top clock a ports one accepted have lent inputs_are ou
     outputs_is : ports.outputs ≡ outputs d (top_outputs accepted.source top)
     outputs_is = outputs_are ∙ ap (λ (names : List (List ℕ)). outputs_among names d.signals) (outputs_named one accepted a have)
 
-pub loaded : {W : Type 0} (lane : W → ℕ → Bool) (lanes : ℕ) (demanded : Bool) (text top : List ℕ) (clock : Option (List ℕ)) (a : Acceptance) (ports : PortLists) (engine : Running W)
-    → InputBitsFit → OneReading → IsAcceptedText text top clock (design_of a.flat) → HaveOutputs text top a → IsAcceptance clock a → IsMade lane lanes (design_of a.flat) a.clocks.bit engine
+pub loaded : (demanded : Bool) (text top : List ℕ) (clock : Option (List ℕ)) (a : Acceptance) (ports : PortLists)
+    → InputBitsFit → OneReading → IsAcceptedText text top clock (design_of a.flat) → HaveOutputs text top a → IsAcceptance clock a
     → ports.inputs ≡ inputs_among a.clocks.reset_inputs a.clocks.bit (design_of a.flat).signals → ports.outputs ≡ outputs_among a.outputs (design_of a.flat).signals
-    → ports.demanded ≡ demanded → IsLoaded lane lanes demanded text top clock a ports engine
-loaded lane lanes demanded text top clock a ports engine fit one accepted have lent made inputs_are outputs_are demanded_is = record {
+    → ports.demanded ≡ demanded → IsLoaded demanded text top clock a ports
+loaded demanded text top clock a ports fit one accepted have lent inputs_are outputs_are demanded_is = record {
   accepted = accepted;
-  program = ends;
-  idle = λ i h. made.idle i h ∙ ap (λ n. (network_of d n).idle) (sym first);
-  begun = made.begun;
+  lent = lent;
+  bit_is = clock_first d clock a.clocks accepted.accepted lent.clock_is;
   ports_are = ports_is;
   names_are = outputs_named one accepted a have;
   are_ports = record { inputs = each; outputs = each_output };
-  bits = fit d clock accepted.accepted ports.inputs (record { each = each; inputs_are = named }) ∙ ap length (sym ends.inputs);
+  bits = fit d clock accepted.accepted ports.inputs (record { each = each; inputs_are = named });
 }
   where
     d : Design
     d = design_of a.flat
-
-    bit : ℕ
-    bit = a.clocks.bit
-
-    first : accepted.accepted.clock.first ≡ bit
-    first = clock_first d clock a.clocks accepted.accepted lent.clock_is
-
-    ends : IsProgramOf d accepted.accepted.clock.first engine.program
-    ends = subst (λ n. IsProgramOf d n engine.program) (sym first) made.program
 
     ports_is : ports ≡ ports_with demanded accepted
     ports_is = ports_named demanded text top clock a ports one accepted have lent inputs_are outputs_are demanded_is
@@ -91,7 +72,7 @@ loaded lane lanes demanded text top clock a ports engine fit one accepted have l
     named = ap (λ (p : PortLists). p.inputs) ports_is
 
     each : All IsInput ports.inputs
-    each = subst (All IsInput) (sym inputs_are) (are_inputs a.clocks.reset_inputs a.flat bit lent.lawful)
+    each = subst (All IsInput) (sym inputs_are) (are_inputs a.clocks.reset_inputs a.flat a.clocks.bit lent.lawful)
 
     each_output : All IsOutput ports.outputs
     each_output = subst (All IsOutput) (sym outputs_are) (are_outputs a.outputs a.flat lent.lawful)

@@ -12,7 +12,6 @@ use Rattle.vs_stim.specs.Source.{IsHeaderError}
 use Rattle.vs_feed.specs.Opened.{path_at, with_lanes, AreFree, HaveHeaders, StopsOpening}
 use Rattle.vs_design.specs.Designs.{Design}
 use Rattle.vs_flat.specs.DesignOf.{design_of}
-use Rattle.vs_engine.specs.Lanes.{Running}
 use Rattle.vs_accept.specs.declared.error.AcceptError.{AcceptError}
 use Rattle.vs_accept.specs.declared.error.AcceptError.TheVariants as A
 use Rattle.vs_accept.specs.Lent.{Acceptance}
@@ -111,12 +110,12 @@ pub record IsWhole (tells : Bool) (job : Job) (old new : Contents) (text : List 
   pub taken : IsTrue tells → new.left design_place ≡ []
 
 -- it is loaded
-pub loaded_behind : {W : Type 0} (lane : W → ℕ → Bool) (lanes : ℕ) (tells : Bool) (job : Job) (old : Contents) (text : List ℕ) (a : Acceptance) (ports : PortLists) (engine : Running W)
-    → IsBehind tells job.head (old.files job.design) text → IsLoaded lane lanes (demands job.mode) text job.top job.clock a ports engine → IsDesignLoaded lane lanes tells job old a ports engine
-loaded_behind lane lanes tells job old text a ports engine b l = record {
+pub loaded_behind : (tells : Bool) (job : Job) (old : Contents) (text : List ℕ) (a : Acceptance) (ports : PortLists)
+    → IsBehind tells job.head (old.files job.design) text → IsLoaded (demands job.mode) text job.top job.clock a ports → IsDesignLoaded tells job old a ports
+loaded_behind tells job old text a ports b l = record {
   file = b.taken;
   file_is = b.taken_is;
-  loaded = subst (λ (xs : List ℕ). IsLoaded lane lanes (demands job.mode) xs job.top job.clock a ports engine) b.text_is l;
+  loaded = subst (λ (xs : List ℕ). IsLoaded (demands job.mode) xs job.top job.clock a ports) b.text_is l;
 }
 
 -- it can't be loaded
@@ -162,11 +161,11 @@ with_text top clock d text other e a = record {
 }
 
 -- a stimulus that can't be opened, behind a loaded design
-pub unprepared : {W : Type 0} {tells : Bool} (lane : W → ℕ → Bool) (lanes : ℕ) (job : Job) (old mid new : Told tells) (a : Acceptance) (ports : PortLists) (engine : Running W)
-    → IsDesignLoaded lane lanes tells job old.contents a ports engine → (IsTrue tells → mid.contents.files ≡ old.contents.files)
+pub unprepared : {tells : Bool} (job : Job) (old mid new : Told tells) (a : Acceptance) (ports : PortLists)
+    → IsDesignLoaded tells job old.contents a ports → (IsTrue tells → mid.contents.files ≡ old.contents.files)
     → (e : SetupError) → IsUnopened ports job.stimuli (record mid { register = with_design old.register job.design }) new e → IsUnprepared job old new e
 unfolding with_text
-unprepared {W} {tells} lane lanes job old mid new a ports engine l same e u = by_error e u
+unprepared {tells} job old mid new a ports l same e u = by_error e u
   where
     accepted : (t : IsTrue tells) → IsDesignOf job old.contents (design_of a.flat)
     accepted t =

@@ -19,7 +19,8 @@ use Rattle.vs_rounds.specs.Missed.{output_spans, OutputsHaveSpans, SpansHaveLeng
 use Rattle.vs_rounds.specs.Checked.{Checking, AreCheckParts, AreWatched}
 use Rattle.vs_job.specs.declared.job.Job.{Job}
 use Rattle.vs_setup.specs.Loaded.{watched}
-use Rattle.vs_setup.proofs.Lanes.{HasLanes, runs, program_is, bits_are, reading_is, has_given, idle_is}
+use Rattle.vs_setup.specs.Prepared.{runs}
+use Rattle.vs_setup.proofs.Lanes.{HasLanes, HasEngine, program_is, bits_are, reading_is, has_given, idle_is}
 use Rattle.vs_setup.proofs.Signals.{are_inside}
 
 -- the outputs that are watched are those that stimuli name
@@ -36,9 +37,9 @@ watched_lengths law lengths text top clock a accepted names_are os is =
     ap span_lengths (watches law text top clock a accepted names_are) ∙ lengths (design_of a.flat) (top_outputs accepted.source top) ∙ sym (ap output_lengths is)
 
 -- the stimuli want as many digits of each
-pub all_fit : {W : Type 0} (lane : W → ℕ → Bool) (lanes : ℕ) (tells : Bool) (job : Job) (old mid new : Contents) (a : Acceptance) (ports : PortLists) (engine now : Running W) (ks : List Known)
-    → OutputsHaveSpans → SpansHaveLengths → HasLanes lane lanes tells job old mid new a ports engine now ks → AllFit (watched a) ks
-all_fit lane lanes tells job old mid new a ports engine now ks law lengths p = record {
+pub all_fit : (tells : Bool) (job : Job) (old mid new : Contents) (a : Acceptance) (ports : PortLists) (ks : List Known)
+    → OutputsHaveSpans → SpansHaveLengths → HasLanes tells job old mid new a ports ks → AllFit (watched a) ks
+all_fit tells job old mid new a ports ks law lengths p = record {
   each = λ i h.
       let o = p.opened.each i h in
       let k = lane_at ks i in
@@ -53,32 +54,32 @@ all_fit lane lanes tells job old mid new a ports engine now ks law lengths p = r
     same = watched_lengths law lengths (job.head ++ p.loaded.file) job.top job.clock a p.loaded.loaded.accepted p.loaded.loaded.names_are ports.outputs (ap (λ (is : PortLists). is.outputs) p.loaded.loaded.ports_are)
 
 -- they are parts of a check
-pub are_parts : {W : Type 0} (lane : W → ℕ → Bool) (lanes : ℕ) (tells : Bool) (job : Job) (old mid new : Contents) (a : Acceptance) (ports : PortLists) (engine now : Running W) (ks : List Known)
-    → (p : HasLanes lane lanes tells job old mid new a ports engine now ks) → AreCheckParts (design_of a.flat) p.loaded.loaded.accepted.accepted.clock.first ks now.program (watched a)
-are_parts lane lanes tells job old mid new a ports engine now ks p =
-    let program = program_is lane lanes tells job old mid new a ports engine now ks p in
+pub are_parts : {W : Type 0} (lane : W → ℕ → Bool) (lanes : ℕ) (tells : Bool) (job : Job) (old mid new : Contents) (a : Acceptance) (ports : PortLists) (engine : Running W) (ks : List Known)
+    → (p : HasEngine lane lanes tells job old mid new a ports engine ks) → AreCheckParts (design_of a.flat) p.behind.loaded.loaded.accepted.accepted.clock.first ks engine.program (watched a)
+are_parts lane lanes tells job old mid new a ports engine ks p =
+    let program = program_is lane lanes tells job old mid new a ports engine ks p in
     record {
       program = program;
-      lanes = p.numbered;
-      bits = bits_are lane lanes tells job old mid new a ports engine now ks p;
-      inside = are_inside (design_of a.flat) a.outputs now.program.bits p.loaded.loaded.accepted.accepted.lawful program.bits;
+      lanes = p.behind.numbered;
+      bits = bits_are lane lanes tells job old mid new a ports engine ks p;
+      inside = are_inside (design_of a.flat) a.outputs engine.program.bits p.behind.loaded.loaded.accepted.accepted.lawful program.bits;
     }
 
 -- the parts of a check
-pub record HasWatch {W : Type 0} (lane : W → ℕ → Bool) (lanes : ℕ) (tells : Bool) (job : Job) (old mid new : Contents) (a : Acceptance) (ports : PortLists) (engine : Running W) (m : Checking W) : Type 0 where
-  pub lanes_are : HasLanes lane lanes tells job old mid new a ports engine m.engine m.stimuli
+pub record HasWatch {W : Type 0} (lane : W → ℕ → Bool) (lanes : ℕ) (tells : Bool) (job : Job) (old mid new : Contents) (a : Acceptance) (ports : PortLists) (m : Checking W) : Type 0 where
+  pub lanes_are : HasEngine lane lanes tells job old mid new a ports m.engine m.stimuli
   pub outputs_are : m.misses.outputs ≡ watched a
   pub none : (i : ℕ) → found_at m.misses.found i ≡ None
 
 -- Which lane is opened, whatever text of the design the desk told.
-pub is_watched : {W : Type 0} (lane : W → ℕ → Bool) (lanes : ℕ) (tells : Bool) (job : Job) (old mid new : Contents) (a : Acceptance) (ports : PortLists) (engine : Running W) (m : Checking W)
-    → OutputsHaveSpans → (p : HasWatch lane lanes tells job old mid new a ports engine m) → IsTrue tells → AreWatched lane (runs p.lanes_are) m new
-is_watched lane lanes tells job old mid new a ports engine m law p t = record {
-  program = program_is lane lanes tells job old mid new a ports engine m.engine m.stimuli p.lanes_are;
-  outputs = p.outputs_are ∙ watches law (job.head ++ p.lanes_are.loaded.file) job.top job.clock a p.lanes_are.loaded.loaded.accepted p.lanes_are.loaded.loaded.names_are;
-  live = λ i h. (p.lanes_are.opened.each i h).live;
-  reading = reading_is lane lanes tells job old mid new a ports engine m.engine m.stimuli p.lanes_are t;
-  read = has_given lane lanes tells job old mid new a ports engine m.engine m.stimuli p.lanes_are t;
+pub is_watched : {W : Type 0} (lane : W → ℕ → Bool) (lanes : ℕ) (tells : Bool) (job : Job) (old mid new : Contents) (a : Acceptance) (ports : PortLists) (m : Checking W)
+    → OutputsHaveSpans → (p : HasWatch lane lanes tells job old mid new a ports m) → IsTrue tells → AreWatched lane (runs p.lanes_are.behind.loaded) m new
+is_watched lane lanes tells job old mid new a ports m law p t = record {
+  program = program_is lane lanes tells job old mid new a ports m.engine m.stimuli p.lanes_are;
+  outputs = p.outputs_are ∙ watches law (job.head ++ p.lanes_are.behind.loaded.file) job.top job.clock a p.lanes_are.behind.loaded.loaded.accepted p.lanes_are.behind.loaded.loaded.names_are;
+  live = λ i h. (p.lanes_are.behind.opened.each i h).live;
+  reading = reading_is tells job old mid new a ports m.stimuli p.lanes_are.behind t;
+  read = has_given tells job old mid new a ports m.stimuli p.lanes_are.behind t;
   none = λ i h. p.none i;
-  idle = idle_is lane lanes tells job old mid new a ports engine m.engine m.stimuli p.lanes_are;
+  idle = idle_is lane lanes tells job old mid new a ports m.engine m.stimuli p.lanes_are;
 }

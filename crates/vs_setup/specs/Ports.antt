@@ -6,13 +6,14 @@ use Rattle.vs_accept.specs.Accepted.{IsAcceptedText, IsRefusedText}
 use Rattle.vs_accept.specs.Outputs.{top_outputs}
 use Rattle.vs_stim.specs.Header.{PortLists}
 use Rattle.vs_job.specs.declared.job.Mode.{Mode}
-use Rattle.vs_job.specs.declared.job.Mode.TheVariants.{Run, Check}
+use Rattle.vs_job.specs.declared.job.Mode.TheVariants.{Run, Check, Queue}
 use Rattle.vs_rounds.specs.Inputs.{data_inputs, outputs}
 
 -- whether a header has to name outputs: that of a check has to, for else there is nothing to compare
 abbrev pub demands : Mode → Bool
 demands Run = false
 demands Check = true
+demands (Queue order) = false
 
 -- the data inputs and the outputs of the design as which a text is accepted, where this says whether a header has to name outputs
 abbrev pub ports_with : Bool → {text top : List ℕ} {clock : Option (List ℕ)} {d : Design} → IsAcceptedText text top clock d → PortLists

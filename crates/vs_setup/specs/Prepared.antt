@@ -4,8 +4,8 @@ use Rattle.vs_desk.specs.Desk.{Contents, Told}
 use Rattle.vs_desk.specs.Places.{design_place}
 use Rattle.vs_design.specs.Designs.{Design}
 use Rattle.vs_design.specs.Sizes.{size as size_of}
+use Rattle.vs_flat.specs.DesignOf.{design_of}
 use Rattle.vs_program.specs.Compiled.{IsProgramOf}
-use Rattle.vs_engine.specs.Lanes.{Running}
 use Rattle.vs_accept.specs.Accepted.{IsAcceptedText}
 use Rattle.vs_accept.specs.Lent.{Acceptance}
 use Rattle.vs_stim.specs.Header.{PortLists, ArePorts}
@@ -14,7 +14,7 @@ use Rattle.vs_feed.specs.Lanes.{AreLanes, AreAttached}
 use Rattle.vs_feed.specs.Opened.{path_at, HaveHeaders, AreOpened as AreLanesOpened}
 use Rattle.vs_job.specs.declared.job.Job.{Job}
 use Rattle.vs_job.specs.Places.{vcd_path}
-use Rattle.vs_rounds.specs.Lanes.{Run, Simulation, AreOpened}
+use Rattle.vs_rounds.specs.Lanes.{Run, Simulation, AreOpened, HaveNext}
 use Rattle.vs_rounds.specs.Ready.{IsReady}
 use Rattle.vs_rounds.specs.Checked.{Checking, IsCheckable, AreWatched}
 use Rattle.vs_setup.specs.Loaded.{IsLoaded}
@@ -79,21 +79,27 @@ pub record IsCheckPrepared {W : Type 0} (lane : W → ℕ → Bool) {tells : Boo
   pub readable : AreAttached new.register m.stimuli
   pub kept : IsTrue tells → AreTextsKept old.contents new.contents
 
--- the design's file was loaded behind the head, where the desk told this
-pub record IsDesignLoaded {W : Type 0} (lane : W → ℕ → Bool) (lanes : ℕ) (tells : Bool) (job : Job) (old : Contents) (a : Acceptance) (ports : PortLists) (engine : Running W) : Type 0 where
+-- the design's file is accepted behind the head, where the desk told this
+pub record IsDesignLoaded (tells : Bool) (job : Job) (old : Contents) (a : Acceptance) (ports : PortLists) : Type 0 where
   pub file : List ℕ
   pub file_is : IsTrue tells → file ≡ old.files job.design
-  pub loaded : IsLoaded lane lanes (demands job.mode) (job.head ++ file) job.top job.clock a ports engine
+  pub loaded : IsLoaded (demands job.mode) (job.head ++ file) job.top job.clock a ports
 
--- The design's file was taken to its end and loaded behind the head as this design with its engine, and each lane's stimulus is about to give its first
--- vector, where the desk told this before and tells that now.
-pub record IsJobOpened {W : Type 0} (lane : W → ℕ → Bool) (lanes : ℕ) {tells : Bool} (job : Job) (old new : Told tells) (a : Acceptance) (ports : PortLists) (engine : Running W) (ks : List Known) : Type 0 where
-  pub loaded : IsDesignLoaded lane lanes tells job old.contents a ports engine
+-- what the job runs, where the files have these bytes
+abbrev pub runs : {tells : Bool} {job : Job} {old : Contents} {a : Acceptance} {ports : PortLists} → IsDesignLoaded tells job old a ports → Run
+runs {job = job} {old = old} {a = a} l = run_of job old.files (design_of a.flat) l.loaded.accepted.accepted.clock.first (ports_of job.mode l.loaded.accepted)
+
+-- The design's file was taken to its end and accepted behind the head as this design, and each lane's stimulus is about to give its first vector, where the
+-- desk told this before and tells that now.
+pub record IsJobOpened {tells : Bool} (job : Job) (old new : Told tells) (a : Acceptance) (ports : PortLists) (ks : List Known) : Type 0 where
+  -- the design
+  pub loaded : IsDesignLoaded tells job old.contents a ports
   pub taken : IsTrue tells → new.contents.left design_place ≡ []
-  -- behind the design's file
+  -- the desk behind the design's file, and the lanes from there on
   pub middle : Contents
   pub files : IsTrue tells → middle.files ≡ old.contents.files
   pub opened : AreLanesOpened tells ports middle new.contents job.stimuli ks
-  pub headers : IsTrue tells → HaveHeaders ports middle.files job.stimuli (length job.stimuli)
+  pub headers : IsTrue tells → HaveHeaders (ports_of job.mode loaded.loaded.accepted) old.contents.files job.stimuli (length job.stimuli)
+  pub next : IsTrue tells → HaveNext (runs loaded) 0 ks new.contents
   pub numbered : AreLanes ks
   pub readable : AreAttached new.register ks

@@ -14,9 +14,11 @@ ghost use Rattle.vs_setup.specs.Unprepared.{IsUnprepared};
 
 use crate::SetupError;
 use crate::inputs::output_spans;
+use crate::loading::engine_of;
 use crate::setup::{Opened, open_job};
 use std::alloc::{AllocError, Global};
 use vs_desk::Desk;
+use vs_engine::Engine;
 use vs_job::Job;
 use vs_plane::Lanes;
 use vs_rounds::{Checker, outputs_law};
@@ -30,7 +32,7 @@ pub struct PreparedCheck<W: Lanes> {
     pub size: u64,
 }
 
-/// Prepares a check: reads the design at place 1 and loads it behind the lines of the job's macros, opens the stimulus of lane i at place
+/// Prepares a check: reads the design at place 1 and accepts it behind the lines of the job's macros, opens the stimulus of lane i at place
 /// 1000 + i by lane, and takes all the memory that the check needs. Whether the header of a stimulus has to name an output says the job's mode.
 pub fn prepare_check<W: Lanes, D: Desk>(
     alloc: Global,
@@ -45,30 +47,32 @@ pub fn prepare_check<W: Lanes, D: Desk>(
     ensures kept { IsTrue D.tells → AreTextsKept (D.told desk.old).contents (D.told desk.new).contents }
 {
     outputs_law();
-    let opened = open_job::<W, D>(alloc, job, desk)?;
-    let prepared = assemble_check(alloc, opened)?;
+    let opened = open_job(alloc, job, desk)?;
+    let engine = engine_of::<W>(alloc, &opened.accepted)?;
+    let prepared = assemble_check(alloc, opened, engine)?;
     Ok(prepared)
 }
 
 /// Puts the parts of a check together.
 fn assemble_check<W: Lanes>(
     alloc: Global,
-    opened: Opened<W>,
+    opened: Opened,
+    engine: Engine<W>,
 ) -> Result<PreparedCheck<W>, AllocError>
-    requires fit { AllFit (watched opened.loaded.accepted) opened.drive }
+    requires fit { AllFit (watched opened.accepted) opened.drive }
     ensures stimuli { IfOk result (λ p. p.checker.stimuli ≡ opened.drive) }
-    ensures engine { IfOk result (λ p. p.checker.engine ≡ opened.loaded.engine) }
-    ensures outputs { IfOk result (λ p. p.checker.misses.outputs ≡ watched opened.loaded.accepted) }
+    ensures engine { IfOk result (λ p. p.checker.engine ≡ engine) }
+    ensures outputs { IfOk result (λ p. p.checker.misses.outputs ≡ watched opened.accepted) }
     ensures none { IfOk result (λ p. (i : ℕ) → found_at p.checker.misses.found i ≡ None) }
-    ensures ready { (d : Design) (clock : ℕ) → AreCheckParts d clock opened.drive opened.loaded.engine.program (watched opened.loaded.accepted)
+    ensures ready { (d : Design) (clock : ℕ) → AreCheckParts d clock opened.drive engine.program (watched opened.accepted)
         → IfOk result (λ p. IsCheckable p.checker) }
-    ensures size { IfOk result (λ p. p.size ≡ size_of (design_of opened.loaded.accepted.flat)) }
+    ensures size { IfOk result (λ p. p.size ≡ size_of (design_of opened.accepted.flat)) }
 {
-    let accepted = &opened.loaded.accepted;
+    let accepted = &opened.accepted;
     let typed = accepted.typed();
     let size = typed.size();
     let outputs = output_spans(alloc, typed.flat(), accepted.outputs())?;
-    let Opened { loaded, drive } = opened;
-    let checker = Checker::new(alloc, drive, loaded.into_engine(), outputs)?;
+    let Opened { drive, .. } = opened;
+    let checker = Checker::new(alloc, drive, engine, outputs)?;
     Ok(PreparedCheck { checker, size })
 }

@@ -1,4 +1,4 @@
-//! What stands before the first vector of a run or a check: the design is read and loaded, the stimuli are opened, and all memory is taken.
+//! What stands before the first vector of a run or a check: the design is read and accepted, the stimuli are opened, the engine is made, and all memory is taken.
 #![tactic(auto)]
 
 mod checking;
@@ -10,5 +10,5 @@ mod setup;
 
 pub use checking::{PreparedCheck, prepare_check};
 pub use error::SetupError;
-pub use loading::{Loaded, load, read_ports};
-pub use setup::{Prepared, prepare};
+pub use loading::{Loaded, engine_of, load, read_ports};
+pub use setup::{Opened, Prepared, open_job, prepare};

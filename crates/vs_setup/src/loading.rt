@@ -1,4 +1,4 @@
-//! The loading of a design text.
+//! The loading of a design text, and the engine of what is loaded.
 
 ghost use Rattle.std.specs.Prelude.{◌≡◌, ◌<◌, ◌≤◌, ℕ, false, true, IfOk, IfErr, length, option_map};
 ghost use Rattle.vs_design.specs.Levels.{is_level_order};
@@ -20,49 +20,43 @@ use std::alloc::{AllocError, Global};
 use vs_accept::{AcceptError, Accepted, accept, answer_law};
 use vs_compile::compile;
 use vs_engine::Engine;
-use vs_plane::{Lanes, Word};
+use vs_plane::Lanes;
 use vs_rounds::inputs_law;
 use vs_stim::Ports;
 
-/// A design that is ready to run.
+/// A design that is accepted, and what stimuli name of it.
 #[derive(Drop)]
-pub struct Loaded<W: Word> {
+pub struct Loaded {
     /// The design.
     pub accepted: Accepted,
-    /// What runs it, with each bit idle in every lane.
-    pub engine: Engine<W>,
     /// The inputs of the top but the clock, if there is one, and its outputs, in order of declaration.
     pub ports: Ports,
 }
 
-/// Loads the design of a text of at most 4,194,304 bytes whose top module and whose clock input have these names, or that has no clock where none is named: it is accepted and compiled.
+/// Loads the design of a text of at most 4,194,304 bytes whose top module and whose clock input have these names, or that has no clock where none is named.
 /// Where outputs are demanded, the header of a stimulus has to name one at least.
-/// All memory that an engine needs is taken here. Otherwise the text is refused, by the first rule that it breaks, or there is no memory.
-pub fn load<W: Lanes>(
+/// Otherwise the text is refused, by the first rule that it breaks, or there is no memory.
+pub fn load(
     alloc: Global,
     text: &[u8],
     top: &[u8],
     clock: Option<&[u8]>,
     demanded: bool,
-) -> Result<Loaded<W>, AcceptError>
+) -> Result<Loaded, AcceptError>
     requires { length text.now ≤ most_bytes }
-    ensures loaded { IfOk result (λ l. IsLoaded W.lane W.LANES demanded text.now top.now (option_map (λ c. c.now) clock.entry) l.accepted l.ports l.engine) }
+    ensures loaded { IfOk result (λ l. IsLoaded demanded text.now top.now (option_map (λ c. c.now) clock.entry) l.accepted l.ports) }
     ensures refused { IfErr result (IsRefusalOf text.now top.now (option_map (λ c. c.now) clock.entry)) }
 {
     inputs_law();
     answer_law();
     let accepted = accept(alloc, text, top, clock)?;
-    let engine = engine_of(alloc, &accepted)?;
     let ports = ports_of(alloc, &accepted, demanded)?;
-    Ok(Loaded {
-        accepted,
-        engine,
-        ports,
-    })
+    Ok(Loaded { accepted, ports })
 }
 
-/// The engine of an accepted design.
-fn engine_of<W: Lanes>(alloc: Global, accepted: &Accepted) -> Result<Engine<W>, AllocError>
+/// The engine of an accepted design, in which no slot was run and each bit is idle in every lane. All memory that it needs is taken here; the only
+/// error is that memory ran out.
+pub fn engine_of<W: Lanes>(alloc: Global, accepted: &Accepted) -> Result<Engine<W>, AllocError>
     requires accepted { IsAcceptedBy (design_of accepted.now.flat) accepted.now.clocks }
     requires footprints { accepted.now.footprints ≡ footprints_of (design_of accepted.now.flat) }
     requires resets { AreResets accepted.now.flat accepted.now.clocks }
@@ -112,21 +106,5 @@ pub fn read_ports(
         Ok(accepted) => Ok(Some(ports_of(alloc, &accepted, demanded)?)),
         Err(AcceptError::Refused(_)) => Ok(None),
         Err(AcceptError::Memory) => Err(AllocError),
-    }
-}
-
-impl<W: Word> Loaded<W> {
-    /// What runs it, without the rest.
-    pub(crate) fn into_engine(self) -> Engine<W>
-        ensures { result ≡ self.engine }
-    {
-        let Loaded {
-            accepted,
-            engine,
-            ports,
-        } = self;
-        let _ = accepted;
-        let _ = ports;
-        engine
     }
 }

@@ -21,9 +21,11 @@ ghost use Rattle.vs_setup.specs.Unprepared.{error_of, IsLoadError, IsUnopened, I
 
 use crate::SetupError;
 use crate::design_text::read_design;
-use crate::loading::{Loaded, load};
+use crate::loading::{Loaded, engine_of, load};
 use std::alloc::{AllocError, Global};
+use vs_accept::Accepted;
 use vs_desk::{Desk, FIRST_STIMULUS};
+use vs_engine::Engine;
 use vs_feed::{Drive, Stopped, open};
 use vs_job::{Job, Mode, stimulus_paths, vcd_paths};
 use vs_plane::Lanes;
@@ -42,16 +44,18 @@ pub struct Prepared<W: Lanes> {
     pub wave_paths: Vec<String>,
 }
 
-/// A loaded design, and the stimuli that were opened behind it.
+/// An accepted design, and the stimuli that were opened behind it.
 #[derive(Drop)]
-pub(crate) struct Opened<W: Lanes> {
-    /// The design, and its engine.
-    pub(crate) loaded: Loaded<W>,
-    /// The stimuli, each about to give its first vector.
-    pub(crate) drive: Drive,
+pub struct Opened {
+    /// The design.
+    pub accepted: Accepted,
+    /// The inputs of the top but the clock, if there is one, and its outputs, in order of declaration.
+    pub ports: Ports,
+    /// The stimuli by lane, each about to give its first vector.
+    pub drive: Drive,
 }
 
-/// Prepares a run: reads the design at place 1 and loads it behind the lines of the job's macros, opens the stimulus of lane i at place
+/// Prepares a run: reads the design at place 1 and accepts it behind the lines of the job's macros, opens the stimulus of lane i at place
 /// 1000 + i by lane, and takes all the memory that the run needs.
 pub fn prepare<W: Lanes, D: Desk>(
     alloc: Global,
@@ -65,40 +69,37 @@ pub fn prepare<W: Lanes, D: Desk>(
     ensures unprepared { IfErr result (IsUnprepared job.now (D.told desk.old) (D.told desk.new)) }
     ensures kept { IsTrue D.tells → AreTextsKept (D.told desk.old).contents (D.told desk.new).contents }
 {
-    let opened = open_job::<W, D>(alloc, job, desk)?;
-    let prepared = assemble(alloc, job, opened)?;
+    let opened = open_job(alloc, job, desk)?;
+    let engine = engine_of::<W>(alloc, &opened.accepted)?;
+    let prepared = assemble(alloc, job, opened, engine)?;
     Ok(prepared)
 }
 
-/// Reads the design and loads it, and opens the stimuli.
-pub(crate) fn open_job<W: Lanes, D: Desk>(
-    alloc: Global,
-    job: &Job,
-    desk: &mut D,
-) -> Result<Opened<W>, SetupError>
-    requires lanes { length job.now.stimuli ≤ W.LANES }
+/// Reads the design at place 1 and accepts it behind the lines of the job's macros, and opens the stimulus of lane i at place 1000 + i by lane.
+/// Nothing is compiled. Whether the header of a stimulus has to name an output says the job's mode.
+pub fn open_job<D: Desk>(alloc: Global, job: &Job, desk: &mut D) -> Result<Opened, SetupError>
     requires job { IsJob job.now }
     requires fresh { IsFresh (D.told desk.old).register (length job.now.stimuli) }
-    ensures opened { IfOk result (λ o. IsJobOpened W.lane W.LANES job.now (D.told desk.old) (D.told desk.new)
-        o.loaded.accepted o.loaded.ports o.loaded.engine o.drive) }
+    ensures opened { IfOk result (λ o. IsJobOpened job.now (D.told desk.old) (D.told desk.new) o.accepted o.ports o.drive) }
     ensures register { OnOk result ((D.told desk.new).register ≡ with_texts (D.told desk.old).register job.now job.now.stimuli) }
     ensures unprepared { IfErr result (IsUnprepared job.now (D.told desk.old) (D.told desk.new)) }
     ensures kept { IsTrue D.tells → AreTextsKept (D.told desk.old).contents (D.told desk.new).contents }
 {
-    let loaded = read_and_load::<W, D>(alloc, job, desk)?;
+    let loaded = read_and_load(alloc, job, desk)?;
     let drive = open_stimuli(alloc, job, desk, &loaded.ports)?;
-    Ok(Opened { loaded, drive })
+    let Loaded { accepted, ports } = loaded;
+    Ok(Opened {
+        accepted,
+        ports,
+        drive,
+    })
 }
 
 /// Reads the design and loads it.
-fn read_and_load<W: Lanes, D: Desk>(
-    alloc: Global,
-    job: &Job,
-    desk: &mut D,
-) -> Result<Loaded<W>, SetupError>
+fn read_and_load<D: Desk>(alloc: Global, job: &Job, desk: &mut D) -> Result<Loaded, SetupError>
     requires free { IsNone ((D.told desk.old).register.attached design_place) }
     requires head { length job.now.head ≤ most_head }
-    ensures loaded { IfOk result (λ l. IsDesignLoaded W.lane W.LANES D.tells job.now (D.told desk.old).contents l.accepted l.ports l.engine) }
+    ensures loaded { IfOk result (λ l. IsDesignLoaded D.tells job.now (D.told desk.old).contents l.accepted l.ports) }
     ensures register { OnOk result ((D.told desk.new).register ≡ with_design (D.told desk.old).register job.now.design) }
     ensures unprepared { IfErr result (IsUnprepared job.now (D.told desk.old) (D.told desk.new)) }
     ensures taken { IsTrue D.tells → OnOk result ((D.told desk.new).contents.left design_place ≡ []) }
@@ -110,10 +111,10 @@ fn read_and_load<W: Lanes, D: Desk>(
 }
 
 /// Loads the design's text, whose places are told behind the head.
-fn load_text<W: Lanes>(alloc: Global, job: &Job, text: &[u8]) -> Result<Loaded<W>, SetupError>
+fn load_text(alloc: Global, job: &Job, text: &[u8]) -> Result<Loaded, SetupError>
     requires text { length text.now ≤ most_bytes }
     requires head { length job.now.head ≤ most_head }
-    ensures loaded { IfOk result (λ l. IsLoaded W.lane W.LANES (demands job.now.mode) text.now job.now.top job.now.clock l.accepted l.ports l.engine) }
+    ensures loaded { IfOk result (λ l. IsLoaded (demands job.now.mode) text.now job.now.top job.now.clock l.accepted l.ports) }
     ensures refused { IfErr result (IsLoadError (length job.now.head) text.now job.now.top job.now.clock) }
 {
     let demanded = demands(job.mode);
@@ -128,7 +129,7 @@ fn demands(mode: Mode) -> bool
     ensures { result ≡ demands mode }
 {
     match mode {
-        Mode::Run => false,
+        Mode::Run | Mode::Queue { .. } => false,
         Mode::Check => true,
     }
 }
@@ -179,21 +180,22 @@ fn stopped_at(stopped: Stopped) -> SetupError
 fn assemble<W: Lanes>(
     alloc: Global,
     job: &Job,
-    opened: Opened<W>,
+    opened: Opened,
+    engine: Engine<W>,
 ) -> Result<Prepared<W>, AllocError>
     ensures stimuli { IfOk result (λ p. p.machine.stimuli ≡ opened.drive) }
-    ensures engine { IfOk result (λ p. p.machine.engine ≡ opened.loaded.engine) }
+    ensures engine { IfOk result (λ p. p.machine.engine ≡ engine) }
     ensures lanes { IfOk result (λ p. length p.machine.waves ≡ length opened.drive) }
-    ensures waves { IfOk result (λ p. All (IsNewWave job.now.share (design_of opened.loaded.accepted.flat) job.now.half) p.machine.waves) }
-    ensures size { IfOk result (λ p. p.size ≡ size_of (design_of opened.loaded.accepted.flat)) }
+    ensures waves { IfOk result (λ p. All (IsNewWave job.now.share (design_of opened.accepted.flat) job.now.half) p.machine.waves) }
+    ensures size { IfOk result (λ p. p.size ≡ size_of (design_of opened.accepted.flat)) }
     ensures paths { IfOk result (λ p. map string_bytes p.wave_paths.items ≡ map vcd_path job.now.stimuli) }
 {
-    let typed = opened.loaded.accepted.typed();
+    let typed = opened.accepted.typed();
     let size = typed.size();
     let half = job.half as u64;
     let waves = Waves::new(alloc, typed.flat(), half, opened.drive.lanes(), job.share)?;
-    let Opened { loaded, drive } = opened;
-    let machine = Machine::new(alloc, drive, waves, loaded.into_engine())?;
+    let Opened { drive, .. } = opened;
+    let machine = Machine::new(alloc, drive, waves, engine)?;
     let wave_paths = vcd_paths(alloc, job)?;
     Ok(Prepared {
         machine,

@@ -3,6 +3,7 @@ use Rattle.std.proofs.Common.{◌≡◌, ◌≢◌, ◌⊎◌, ℕ, zero, suc, B
 use Rattle.vs_desk.specs.Desk.{Told, Register, Contents, no_register}
 use Rattle.vs_job.specs.declared.bench.Bench.{Bench}
 use Rattle.vs_job.specs.declared.job.Job.{Job}
+use Rattle.vs_job.specs.declared.job.Mode.TheVariants as modes
 use Rattle.vs_job.specs.Bench.{IsBench}
 use Rattle.vs_job.specs.Job.{IsJob}
 use Rattle.vs_bench.specs.Bench as bench
@@ -10,7 +11,7 @@ use Rattle.vs_refusal.specs.declared.refusal.Refusal.TheVariants.{Bare}
 use Rattle.vs_refusal.specs.declared.names.BareName.TheVariants.{Usage}
 use Rattle.vs_top.specs.declared.outcome.Summary.{Summary}
 use Rattle.vs_top.specs.declared.outcome.Outcome.{Outcome}
-use Rattle.vs_top.specs.declared.outcome.Outcome.TheVariants.{Done, Refused, ReadFault, WriteFault, Memory}
+use Rattle.vs_top.specs.declared.outcome.Outcome.TheVariants.{Done, Ordered, Refused, ReadFault, WriteFault, Memory}
 use Rattle.vs_top.specs.Outcomes.{outcome_line}
 use Rattle.vs_top.specs.Reported.{ReportsDone, ReportsLine, OnStopped}
 use Rattle.vs_top.specs.Ended.{IsEnd, IsStopped, IsUnused}
@@ -18,6 +19,7 @@ use Rattle.vs_top.specs.Benched.{of_bench, IsBenchEnd}
 use Rattle.vs_top.specs.Causes.{ShowsCause}
 use Rattle.vs_top.proofs.Ends.{end_usage}
 use Rattle.vs_top.proofs.Causes.{on_stopped, report_keeps}
+use Rattle.vs_top.proofs.Queued.{run_queue}
 
 pub paths_long : (lanes : ℕ) → length (bench.lane_paths lanes) ≡ lanes
 paths_long zero = refl
@@ -29,7 +31,7 @@ paths_long (suc lane) =
 pub bench_job_is : (b : Bench) → IsBench b → IsJob (bench.job b.lanes)
 bench_job_is b h =
     let long = paths_long b.lanes in
-    record { half_from = omega arith; half_to = omega arith; short = omega arith; some = omega (arith, long, h.lanes_from); few = omega (arith, long, h.lanes_to) }
+    record { half_from = omega arith; half_to = omega arith; short = omega arith; some = omega (arith, long, h.lanes_from); few = omega (arith, long, h.lanes_to); lone = λ order e. absurd (run_queue modes.Run order refl e) }
 
 pub all_unused : (lanes : ℕ) → IsUnused no_register lanes
 all_unused lanes = record { texts = record { design = refl; stimuli = λ i h. refl }; waves = λ i h. refl }
@@ -50,6 +52,7 @@ bench_ended b j old new inner o job_is register_is contents_are ended is = recor
 
 inner_usage : (inner : Outcome) → Refused (Bare Usage) ≡ of_bench inner → inner ≡ Refused (Bare Usage)
 inner_usage (Done s) h = cc
+inner_usage (Ordered c) h = cc
 inner_usage (Refused r) h = sym h
 inner_usage (ReadFault place) h = cc
 inner_usage (WriteFault place) h = cc
@@ -70,6 +73,7 @@ no_fault old new o inner is stopped same = subst (ShowsCause old new) (sym is) (
   where
     go : (i : Outcome) → IsStopped (of_bench i) → ShowsCause old new (of_bench i)
     go (Done s) h = absurd h
+    go (Ordered c) h = absurd h
     go (Refused r) h = same
     go (ReadFault place) h = same
     go (WriteFault place) h = same

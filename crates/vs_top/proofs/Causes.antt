@@ -18,13 +18,13 @@ use Rattle.vs_setup.specs.DesignText.{with_design, DesignFails}
 use Rattle.vs_setup.specs.Places.{with_texts}
 use Rattle.vs_setup.specs.Ports.{demands}
 use Rattle.vs_setup.specs.Unprepared.{IsUnprepared, IsTextRefusal, IsDesignFault, IsStimulusFault, StimulusFails}
-use Rattle.vs_top.specs.declared.outcome.Summary.{Summary}
 use Rattle.vs_top.specs.declared.outcome.Outcome.{Outcome}
-use Rattle.vs_top.specs.declared.outcome.Outcome.TheVariants.{Done, Refused, ReadFault, WriteFault, Memory}
+use Rattle.vs_top.specs.declared.outcome.Outcome.TheVariants.{Done, Ordered, Refused, ReadFault, WriteFault, Memory}
 use Rattle.vs_top.specs.Answers.{stimulus_outcome, setup_outcome, stop_outcome}
 use Rattle.vs_refusal.specs.declared.refusal.Refusal.TheVariants.{SamePath}
-use Rattle.vs_top.specs.Ended.{IsEnd, IsRoundEnd, IsWholeEnd, IsCheckedEnd, IsStopped, with_waves, wave_paths}
-use Rattle.vs_top.specs.Ended.IsEnd.{same, setup, first, attached, stopped, whole, unflushed, check_stopped, checked}
+use Rattle.vs_top.specs.Ended.{IsEnd, IsRoundEnd, IsWholeEnd, IsCheckedEnd, IsPartEnd, IsOrderedEnd, IsQueueEnd, IsStopped, with_waves, wave_paths, queue_paths}
+use Rattle.vs_top.specs.Ended.IsEnd.{same, setup, first, attached, stopped, whole, unflushed, check_stopped, checked, queued}
+use Rattle.vs_top.specs.Ended.IsQueueEnd.{unread, no_memory, unattached, part, ordered, unwritten}
 use Rattle.vs_top.specs.Outcomes.{outcome_line}
 use Rattle.vs_top.specs.Reported.{ReportsLine, ReportsDone, OnDone, OnStopped}
 use Rattle.vs_top.specs.Reports.{IsSimulated}
@@ -78,6 +78,7 @@ unlost old mid new place asked q other f = f.no_loss other ∙ q.losses
 -- what the counts say then
 abbrev ShowsFault : Register → Register → Outcome → Type 0
 ShowsFault old new (Done s) = new.faults ≡ old.faults
+ShowsFault old new (Ordered c) = new.faults ≡ old.faults
 ShowsFault old new (Refused r) = new.faults ≡ old.faults
 ShowsFault old new Memory = new.faults ≡ old.faults
 ShowsFault old new (ReadFault place) = IsFaultAt old new place
@@ -157,6 +158,7 @@ more_fault old mid new o place other h f = record { other = other; rose = rose o
 
     rose : (o : Outcome) → ShowsFault old mid o → Rose old.faults new.faults
     rose (Done s) e = rose_from old.faults mid.faults new.faults e later
+    rose (Ordered c) e = rose_from old.faults mid.faults new.faults e later
     rose (Refused r) e = rose_from old.faults mid.faults new.faults e later
     rose Memory e = rose_from old.faults mid.faults new.faults e later
     rose (ReadFault p) e = Rose-trans old.faults mid.faults new.faults e.rose later
@@ -183,6 +185,35 @@ checked_ends job old new lines o e =
     let q = quiet_at old.register (with_texts old.register job job.stimuli) new.register (texts old.register job job.stimuli) e.register_is in
     of_outcome old.register new.register o (Done e.summary) e.outcome_is (record { fault = q.faults; losses = q.losses })
 
+part_ends : {tells : Bool} (job : Job) (old new : Told tells) (o : Outcome) → IsPartEnd job old new o → Ends old.register new.register o
+part_ends job old new o e =
+    let paths = queue_paths job in
+    of_outcome old.register new.register o (WriteFault (wave_place 0)) e.outcome_is
+    (write_ends old.register (with_waves old.register job paths) new.register (wave_place 0) (with_waves old.register job paths).asked (waves old.register job paths) (λ z. omega arith) e.fails)
+
+ordered_ends : {tells : Bool} (job : Job) (order : ℕ) (old new : Told tells) (o : Outcome) → IsOrderedEnd job order old new o → Ends old.register new.register o
+ordered_ends job order old new o e =
+    let q = quiet_at old.register (with_waves old.register job (queue_paths job)) new.register (waves old.register job (queue_paths job)) e.register_is in
+    of_outcome old.register new.register o (Ordered e.course) e.outcome_is (record { fault = q.faults; losses = q.losses })
+
+queue_ends : {tells : Bool} (job : Job) (order : ℕ) (old new : Told tells) (o : Outcome) → IsQueueEnd job order old new o → Ends old.register new.register o
+queue_ends job order old new o (unread e) = of_outcome old.register new.register o (stop_outcome e.stop) e.outcome_is (stop_ends old.register (with_texts old.register job job.stimuli) new.register e.stop (texts old.register job job.stimuli) e.cause)
+queue_ends job order old new o (no_memory e) =
+    let q = quiet_at old.register (with_texts old.register job job.stimuli) new.register (texts old.register job job.stimuli) e.register_is in
+    of_outcome old.register new.register o Memory e.outcome_is (record { fault = q.faults; losses = q.losses })
+queue_ends job order old new o (unattached e) =
+    of_outcome old.register new.register o (WriteFault (wave_place 0)) e.outcome_is
+    (write_ends old.register (with_texts old.register job job.stimuli) new.register (wave_place 0) (path_at (queue_paths job) 0) (texts old.register job job.stimuli) (λ z. omega arith) e.fails)
+queue_ends job order old new o (part e) = part_ends job old new o e
+queue_ends job order old new o (ordered e) = ordered_ends job order old new o e
+queue_ends job order old new o (unwritten e) =
+    of_outcome old.register new.register o (WriteFault (wave_place 0)) e.outcome_is
+    (unflushed_ends old.register e.before.register new.register e.answer (wave_place 0) (λ z. omega arith) (before e.ended) e.fails.fails)
+  where
+    before : IsPartEnd job old e.before e.answer ⊎ IsOrderedEnd job order old e.before e.answer → Ends old.register e.before.register e.answer
+    before (inl p) = part_ends job old e.before e.answer p
+    before (inr w) = ordered_ends job order old e.before e.answer w
+
 ends : {tells : Bool} (job : Job) (old new : Told tells) (lines : List ℕ) (o : Outcome) → IsEnd job old new lines o → Ends old.register new.register o
 ends job old new lines o (same l e) =
     let q = quiet_at old.register old.register new.register (quiet old.register) e.register_is in
@@ -204,6 +235,7 @@ ends job old new lines o (unflushed l m d e) =
     before (inr w) = whole_ends job old e.before e.answer w
 ends job old new lines o (check_stopped m d e) = of_outcome old.register new.register o (stop_outcome e.stop) e.outcome_is (stop_ends old.register (with_texts old.register job job.stimuli) new.register e.stop (texts old.register job job.stimuli) e.cause)
 ends job old new lines o (checked m d e) = checked_ends job old new lines o e
+ends job old new lines o (queued l d order m e) = queue_ends job order old new o e
 
 -- ---- the report
 
@@ -223,6 +255,7 @@ fault_kept old mid new place h k = record {
 stopped_shows : {tells : Bool} (old mid new : Told tells) (o : Outcome) → IsStopped o → Ends old.register mid.register o
     → (new.register.faults ≡ mid.register.faults) × (new.register.failed ≡ mid.register.failed) → ShowsCause old new o
 stopped_shows old mid new (Done s) h e k = absurd h
+stopped_shows old mid new (Ordered c) h e k = absurd h
 stopped_shows old mid new (Refused r) h e k = k.0 ∙ e.fault
 stopped_shows old mid new (ReadFault place) h e k = fault_kept old.register mid.register new.register place e.fault k
 stopped_shows old mid new (WriteFault place) h e k = inl (fault_kept old.register mid.register new.register place e.fault k)
@@ -231,6 +264,7 @@ stopped_shows old mid new Memory h e k = k.0 ∙ e.fault
 -- the fact, of what stopped
 pub on_stopped : (o : Outcome) (P : Type 0) → IsStopped o → OnStopped o P → P
 on_stopped (Done s) P h p = absurd h
+on_stopped (Ordered c) P h p = absurd h
 on_stopped (Refused r) P h p = p
 on_stopped (ReadFault place) P h p = p
 on_stopped (WriteFault place) P h p = p
@@ -243,23 +277,27 @@ stopped_cause job old middle new lines o result halted end is line =
     subst (ShowsCause old new) (sym is)
     (stopped_shows old middle new o halted (ends job old middle lines o end) (report_keeps middle new (lines ++ outcome_line o) line))
 
-done_cause : {tells : Bool} (job : Job) (old middle new : Told tells) (lines : List ℕ) (s : Summary) (result : Outcome)
-    → IsEnd job old middle lines (Done s) → ReportsDone middle new lines (Done s) result → ShowsCause old new result
-done_cause job old middle new lines s result end (inl r) =
-    let e = ends job old middle lines (Done s) end in
+-- what is done, where the counts are those of before, and its report
+done_cause : {tells : Bool} (old middle new : Told tells) (lines : List ℕ) (o result : Outcome) → Quiet old.register middle.register → (Quiet old.register new.register → ShowsCause old new o)
+    → ReportsDone middle new lines o result → ShowsCause old new result
+done_cause old middle new lines o result q shows (inl r) =
     subst (ShowsCause old new) (sym r.0)
-    (ap (λ (r : Register). r.faults) r.1.same ∙ e.fault, ap (λ (r : Register). r.losses) r.1.same ∙ e.losses)
-done_cause job old middle new lines s result end (inr r) =
-    let e = ends job old middle lines (Done s) end in
+    (shows (record { faults = ap (λ (r : Register). r.faults) r.1.same ∙ q.faults; losses = ap (λ (r : Register). r.losses) r.1.same ∙ q.losses }))
+done_cause old middle new lines o result q shows (inr r) =
     subst (ShowsCause old new) (sym r.0)
-    (inr (refl, record { rose = rose_from old.register.losses middle.register.losses new.register.losses e.losses (r.1.failed.loss refl); no_fault = r.1.failed.no_fault refl ∙ e.fault }))
+    (inr (refl, record { rose = rose_from old.register.losses middle.register.losses new.register.losses q.losses (r.1.failed.loss refl); no_fault = r.1.failed.no_fault refl ∙ q.faults }))
 
 pub simulated_cause : {tells : Bool} {D : Type 0} (told : D → Told tells) (job : Job) (old new : D) (result : Outcome) → IsSimulated told job old new result → ShowsCause (told old) (told new) result
 simulated_cause told job old new result s = go s.outcome s.ended s.done s.stopped s.stopped_line
   where
     go : (o : Outcome) → IsEnd job (told old) (told s.middle) s.lines o → OnDone o (ReportsDone (told s.middle) (told new) s.lines o result) → OnStopped o (result ≡ o)
         → OnStopped o (ReportsLine (told s.middle) (told new) (s.lines ++ outcome_line o)) → ShowsCause (told old) (told new) result
-    go (Done t) e d is line = done_cause job (told old) (told s.middle) (told new) s.lines t result e d
+    go (Done t) e d is line =
+        let counts = ends job (told old) (told s.middle) s.lines (Done t) e in
+        done_cause (told old) (told s.middle) (told new) s.lines (Done t) result (record { faults = counts.fault; losses = counts.losses }) (λ q. (q.faults, q.losses)) d
+    go (Ordered c) e d is line =
+        let counts = ends job (told old) (told s.middle) s.lines (Ordered c) e in
+        done_cause (told old) (told s.middle) (told new) s.lines (Ordered c) result (record { faults = counts.fault; losses = counts.losses }) (λ q. (q.faults, q.losses)) d
     go (Refused r) e d is line = stopped_cause job (told old) (told s.middle) (told new) s.lines (Refused r) result tt e is line
     go (ReadFault p) e d is line = stopped_cause job (told old) (told s.middle) (told new) s.lines (ReadFault p) result tt e is line
     go (WriteFault p) e d is line = stopped_cause job (told old) (told s.middle) (told new) s.lines (WriteFault p) result tt e is line

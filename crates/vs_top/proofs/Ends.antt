@@ -8,6 +8,7 @@ use Rattle.vs_feed.specs.Opened.{path_at}
 use Rattle.vs_setup.specs.Ports.{ports_of}
 use Rattle.vs_job.specs.declared.job.Job.{Job}
 use Rattle.vs_top.specs.declared.outcome.Summary.{Summary}
+use Rattle.vs_top.specs.declared.outcome.Course.{Course}
 use Rattle.vs_top.specs.declared.outcome.Outcome.{Outcome}
 use Rattle.vs_stim.specs.declared.error.StimError.{StimError}
 use Rattle.vs_stim.specs.declared.error.StimError.TheVariants as E
@@ -28,10 +29,11 @@ use Rattle.vs_rounds.specs.declared.stop.Stop.TheVariants as R
 use Rattle.vs_setup.specs.declared.error.SetupError.{SetupError}
 use Rattle.vs_setup.specs.declared.error.SetupError.TheVariants as S
 use Rattle.vs_setup.specs.Unprepared.{IsUnprepared}
-use Rattle.vs_top.specs.declared.outcome.Outcome.TheVariants.{Done, Refused, ReadFault, WriteFault, Memory}
+use Rattle.vs_top.specs.declared.outcome.Outcome.TheVariants.{Done, Ordered, Refused, ReadFault, WriteFault, Memory}
 use Rattle.vs_top.specs.Answers.{stimulus_outcome, setup_outcome, stop_outcome}
-use Rattle.vs_top.specs.Ended.{IsEnd}
-use Rattle.vs_top.specs.Ended.IsEnd.{same, setup, first, attached, stopped, whole, unflushed, check_stopped, checked}
+use Rattle.vs_top.specs.Ended.{IsEnd, IsQueueEnd}
+use Rattle.vs_top.specs.Ended.IsEnd.{same, setup, first, attached, stopped, whole, unflushed, check_stopped, checked, queued}
+use Rattle.vs_top.specs.Ended.IsQueueEnd.{unread, no_memory, unattached, part, ordered, unwritten}
 use Rattle.vs_top.specs.Reports.{IsSimulated}
 use Rattle.vs_top.specs.Reported.{OnDone, OnStopped, ReportsDone}
 use Rattle.vs_top.specs.Headline.{IsWritten, IsLaneWritten}
@@ -144,6 +146,20 @@ fault_usage p h = cc
 done_usage : (s : Summary) → Done s ≡ Refused (Bare Usage) → ⊥
 done_usage s h = cc
 
+ordered_usage : (c : Course) → Ordered c ≡ Refused (Bare Usage) → ⊥
+ordered_usage c h = cc
+
+memory_usage : Memory ≡ Refused (Bare Usage) → ⊥
+memory_usage h = cc
+
+queue_usage : {tells : Bool} (job : Job) (order : ℕ) (old new : Told tells) (o : Outcome) → IsQueueEnd job order old new o → o ≡ Refused (Bare Usage) → ⊥
+queue_usage job order old new o (unread e) h = stop_usage e.stop (sym e.outcome_is ∙ h)
+queue_usage job order old new o (no_memory e) h = memory_usage (sym e.outcome_is ∙ h)
+queue_usage job order old new o (unattached e) h = fault_usage (wave_place 0) (sym e.outcome_is ∙ h)
+queue_usage job order old new o (part e) h = fault_usage (wave_place 0) (sym e.outcome_is ∙ h)
+queue_usage job order old new o (ordered e) h = ordered_usage e.course (sym e.outcome_is ∙ h)
+queue_usage job order old new o (unwritten e) h = fault_usage (wave_place 0) (sym e.outcome_is ∙ h)
+
 pub end_usage : {tells : Bool} (job : Job) (old new : Told tells) (lines : List ℕ) (o : Outcome) → IsEnd job old new lines o → o ≡ Refused (Bare Usage) → ⊥
 end_usage job old new lines o (same l e) h = same_usage e.first e.second (sym e.outcome_is ∙ h)
   where
@@ -157,6 +173,7 @@ end_usage job old new lines o (whole l m d e) h = done_usage e.summary (sym e.ou
 end_usage job old new lines o (unflushed l m d e) h = fault_usage (wave_place e.lane) (sym e.outcome_is ∙ h)
 end_usage job old new lines o (check_stopped m d e) h = stop_usage e.stop (sym e.outcome_is ∙ h)
 end_usage job old new lines o (checked m d e) h = done_usage e.summary (sym e.outcome_is ∙ h)
+end_usage job old new lines o (queued l d order m e) h = queue_usage job order old new o e h
 
 pub simulated_usage : {tells : Bool} {D : Type 0} (told : D → Told tells) (job : Job) (old new : D) (result : Outcome) → IsSimulated told job old new result → result ≢ Refused (Bare Usage)
 simulated_usage told job old new result s = λ h. by_outcome s.outcome s.ended s.done s.stopped h
@@ -168,6 +185,8 @@ simulated_usage told job old new result s = λ h. by_outcome s.outcome s.ended s
         → OnDone o (ReportsDone (told s.middle) (told new) s.lines o result) → OnStopped o (result ≡ o) → result ≡ Refused (Bare Usage) → ⊥
     by_outcome (Done t) e (inl r) is h = done_usage t (sym r.0 ∙ h)
     by_outcome (Done t) e (inr r) is h = fault_usage 0 (sym r.0 ∙ h)
+    by_outcome (Ordered c) e (inl r) is h = ordered_usage c (sym r.0 ∙ h)
+    by_outcome (Ordered c) e (inr r) is h = fault_usage 0 (sym r.0 ∙ h)
     by_outcome (Refused r) e d is h = by_end (Refused r) e is h
     by_outcome (ReadFault p) e d is h = by_end (ReadFault p) e is h
     by_outcome (WriteFault p) e d is h = by_end (WriteFault p) e is h

@@ -33,24 +33,24 @@ pub are_data_inputs : (d : Design) (clock : ℕ) → All IsInput (data_inputs d 
 are_data_inputs d clock all = record { each = all; inputs_are = refl }
 
 -- a valid text gives its vectors
-abbrev gives : (ports : PortLists) (text : List ℕ) → (reading ports text).refusal ≡ None → (vs : List Vector) → (reading ports text).vectors ≡ vs
+abbrev pub gives : (ports : PortLists) (text : List ℕ) → (reading ports text).refusal ≡ None → (vs : List Vector) → (reading ports text).vectors ≡ vs
     → reading ports text ≡ record { vectors = vs; wanted = (reading ports text).wanted; refusal = None }
 gives ports text whole vs e = λ i. record { vectors = e i; wanted = (reading ports text).wanted; refusal = whole i }
 
-abbrev lawful : (d : Design) (name : Option (List ℕ)) (a : IsAcceptedDesign d name) (ports : PortLists) → AreDataInputs d a.clock.first ports.inputs → (text : List ℕ) → (reading ports text).refusal ≡ None
+abbrev pub lawful : (d : Design) (name : Option (List ℕ)) (a : IsAcceptedDesign d name) (ports : PortLists) → AreDataInputs d a.clock.first ports.inputs → (text : List ℕ) → (reading ports text).refusal ≡ None
     → (first : Vector) (later : List Vector) → (reading ports text).vectors ≡ first ∷ later → IsLawfulLane d name ports text first later
 lawful d name a ports driven text whole first later e =
     record { accepted = a; inputs_are = driven; wanted = (reading ports text).wanted; valid = gives ports text whole (first ∷ later) e }
 
 -- it has a vector
-no_vectors : WholeHasVector → (ports : PortLists) (text : List ℕ) → (reading ports text).refusal ≡ None → (reading ports text).vectors ≡ [] → ⊥
+pub no_vectors : WholeHasVector → (ports : PortLists) (text : List ℕ) → (reading ports text).refusal ≡ None → (reading ports text).vectors ≡ [] → ⊥
 no_vectors has_vector ports text whole e =
     let some = has_vector ports text whole in
     let none : length (reading ports text).vectors ≡ 0 = ap length e in
     absurd (omega (arith, some, none))
 
 -- and there is a run of the queue on these
-run_on : SomeRun → (d : Design) (name : Option (List ℕ)) (ports : PortLists) (text : List ℕ) (v : Vector) (vs : List Vector) (h : IsLawfulLane d name ports text v vs) → (values : List State) × IsRunOn d h.accepted.clock.first (v ∷ vs) values
+pub run_on : SomeRun → (d : Design) (name : Option (List ℕ)) (ports : PortLists) (text : List ℕ) (v : Vector) (vs : List Vector) (h : IsLawfulLane d name ports text v vs) → (values : List State) × IsRunOn d h.accepted.clock.first (v ∷ vs) values
 run_on some_run d name ports text v vs h =
     let one = some_run d name ports text v vs h in
     let clock = h.accepted.clock.first in
@@ -59,7 +59,7 @@ run_on some_run d name ports text v vs h =
     (ends n q one.1.0, record { first = v; later = vs; vectors_are = refl; idle = n.idle; is_first = one.0; choices = one.1.0; completed = one.1.1; values_are = refl })
 
 -- ports that aren't demanded
-plain : (ports : PortLists) → ports.demanded ≡ false → ports ≡ record { inputs = ports.inputs; outputs = ports.outputs; demanded = false }
+pub plain : (ports : PortLists) → ports.demanded ≡ false → ports ≡ record { inputs = ports.inputs; outputs = ports.outputs; demanded = false }
 plain ports e = λ i. record { inputs = ports.inputs; outputs = ports.outputs; demanded = e i }
 
 -- a lane that has got all is written

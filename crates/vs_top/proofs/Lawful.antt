@@ -23,6 +23,7 @@ use Rattle.vs_accept.specs.Accepted.{IsAcceptedText, NotBoth, OneRefusal}
 use Rattle.vs_job.specs.declared.job.Job.{Job}
 use Rattle.vs_job.specs.declared.job.Mode.{Mode}
 use Rattle.vs_job.specs.declared.job.Mode.TheVariants as modes
+use Rattle.vs_job.specs.Job.{IsJob}
 use Rattle.vs_job.specs.Places.{same_paths}
 use Rattle.vs_setup.specs.DesignText.{design_text}
 use Rattle.vs_setup.specs.declared.error.SetupError.{SetupError}
@@ -31,19 +32,23 @@ use Rattle.vs_setup.specs.Ports.{ports_of}
 use Rattle.vs_setup.specs.Prepared.{run_of}
 use Rattle.vs_setup.specs.Unprepared.{IsHeaderRefusal}
 use Rattle.vs_top.specs.declared.outcome.Summary.{Summary}
+use Rattle.vs_top.specs.declared.outcome.Course.{Course}
 use Rattle.vs_top.specs.declared.outcome.Outcome.{Outcome}
-use Rattle.vs_top.specs.declared.outcome.Outcome.TheVariants.{Done, Refused, ReadFault, WriteFault, Memory}
-use Rattle.vs_top.specs.Answers.{stimulus_outcome, setup_outcome, stop_outcome}
+use Rattle.vs_top.specs.declared.outcome.Outcome.TheVariants.{Done, Ordered, Refused, ReadFault, WriteFault, Memory}
+use Rattle.vs_top.specs.Answers.{setup_outcome, stop_outcome}
 use Rattle.vs_top.specs.Headline.{IsWritten}
 use Rattle.vs_top.specs.Checked.{IsChecked}
 use Rattle.vs_top.specs.Ended.{IsEnd, IsStopped, IsRunOf}
-use Rattle.vs_top.specs.Ended.IsEnd.{same, setup, first, attached, stopped, whole, unflushed, check_stopped, checked}
+use Rattle.vs_top.specs.Ended.IsEnd.{same, setup, first, attached, stopped, whole, unflushed, check_stopped, checked, queued}
+use Rattle.vs_top.specs.Ordered.{IsOrderedText}
 use Rattle.vs_top.specs.Reported.{ReportsDone, OnDone, OnStopped}
 use Rattle.vs_top.specs.Reports.{IsSimulated}
 use Rattle.vs_top.specs.Causes.{ShowsCause, IsLawful, IsFaultless, IsDoneOrMemory}
 use Rattle.vs_top.specs.Refused.{IsRefusedJob, ByPaths, ByLength, ByDesign, ByHeader, ByLine, IsRefusedSo}
 use Rattle.vs_top.proofs.Causes.{simulated_cause}
 use Rattle.vs_top.proofs.Refusals.{some_none, refused_job, no_fault, OneText, one_ports, alike}
+use Rattle.vs_top.proofs.Stopped.{not_done, not_ordered, queue_undone, setup_stops, stop_stops}
+use Rattle.vs_top.proofs.Queued.{ordered_end}
 
 -- ---- a valid stimulus is nowhere refused
 
@@ -98,6 +103,14 @@ refuses l is p (line ∷ later) e h =
 
 no_header_refusal : (text : List ℕ) (is : PortLists) (e : StimError) → (reading is text).refusal ≡ None → header_refusal is text ≡ Some e → ⊥
 no_header_refusal text is e valid h = some_none (reading is text).refusal e (refuses limits is first_place (all_lines (lines text)) e h) valid
+
+-- nor is its header
+header_whole : (text : List ℕ) (is : PortLists) → (reading is text).refusal ≡ None → header_refusal is text ≡ None
+header_whole text is valid = go (header_refusal is text) refl
+  where
+    go : (o : Option StimError) → header_refusal is text ≡ o → header_refusal is text ≡ None
+    go None e = e
+    go (Some error) e = absurd (no_header_refusal text is error valid e)
 
 -- ---- no refusal of a lawful job
 
@@ -154,34 +167,46 @@ checked_lawful one job old new found s paths w = record {
       subst (λ (is : PortLists). (reading is text).refusal ≡ None) (one_ports one job old w.design w.accepted d a) (ap (λ (r : Reading). r.refusal) lane.valid);
 }
 
--- no answer of what stopped is one of what is done
-pub stimulus_stops : (i : ℕ) (e : StimError) → IsStopped (stimulus_outcome i e)
-stimulus_stops i E.BadHeader = tt
-stimulus_stops i E.NoExpectation = tt
-stimulus_stops i (E.BadVector n) = tt
-stimulus_stops i E.FirstUnknown = tt
-stimulus_stops i (E.UnknownReset n) = tt
-stimulus_stops i E.NoVector = tt
-stimulus_stops i E.TooManyVectors = tt
-stimulus_stops i E.StimulusTooLong = tt
-stimulus_stops i (E.LineTooLong n) = tt
-stimulus_stops i E.ReadFault = tt
-stimulus_stops i E.Memory = tt
+-- the header of a run of the queue has to name no output either
+pub queue_free : (mode : Mode) (order : ℕ) {text top : List ℕ} {clock : Option (List ℕ)} {d : Design} (a : IsAcceptedText text top clock d) → mode ≡ modes.Queue order → (ports_of mode a).demanded ≡ false
+queue_free mode order a e = subst (λ (m : Mode). (ports_of m a).demanded ≡ false) (sym e) refl
 
-pub setup_stops : (e : SetupError) → IsStopped (setup_outcome e)
-setup_stops S.TooLong = tt
-setup_stops (S.Refused r) = tt
-setup_stops (S.Stimulus i e) = stimulus_stops i e
-setup_stops (S.ReadFault place) = tt
-setup_stops S.Memory = tt
+-- the stimulus of a run of the queue is valid
+pub text_whole : (job : Job) (order : ℕ) (old : Contents) (text : List ℕ) → job.mode ≡ modes.Queue order → (w : IsOrderedText job old text)
+    → (reading (ports_of job.mode w.accepted) (old.files (path_at job.stimuli 0))).refusal ≡ None
+text_whole job order old text mode w =
+    stimulus_whole (ports_of job.mode w.accepted) (old.files (path_at job.stimuli 0)) w.lane.vectors w.lane.wanted (queue_free job.mode order w.accepted mode) w.lane.valid
 
-pub stop_stops : (s : Stop) → IsStopped (stop_outcome s)
-stop_stops (R.Refused i e) = stimulus_stops i e
-stop_stops (R.ReadFault i) = tt
-stop_stops (R.WriteFault i) = tt
+-- so this is its run
+pub ordered_run : (job : Job) (order : ℕ) (old : Contents) (text : List ℕ) → length job.stimuli ≡ 1 → job.mode ≡ modes.Queue order → IsOrderedText job old text
+    → (run : Run) × IsRunOf job old run × ((reading_of run 0).refusal ≡ None)
+ordered_run job order old text lone mode w =
+    let is = ports_of job.mode w.accepted in
+    let whole = text_whole job order old text mode w in (
+      run_of job old.files w.design w.accepted.accepted.clock.first is,
+      record {
+        design = w.design;
+        accepted = w.accepted;
+        run_is = refl;
+        headers = record {
+          each = λ i lt.
+              let at : i ≡ 0 = omega (arith, lt, lone) in
+              subst (λ (n : ℕ). header_refusal is (old.files (path_at job.stimuli n)) ≡ None) (sym at) (header_whole (old.files (path_at job.stimuli 0)) is whole);
+        };
+      },
+      whole,
+    )
 
-pub not_done : (s : Summary) (o : Outcome) → Done s ≡ o → IsStopped o → ⊥
-not_done s o e h = subst IsStopped (sym e) h
+ordered_lawful : OneText → (job : Job) (order : ℕ) (old : Contents) (text : List ℕ) → length job.stimuli ≡ 1 → job.mode ≡ modes.Queue order → same_paths job ≡ None → IsOrderedText job old text → IsLawful job old
+ordered_lawful one job order old text lone mode paths w = record {
+  paths = paths;
+  design = w.design;
+  accepted = w.accepted;
+  valid = λ d a i lt.
+      let at : i ≡ 0 = omega (arith, lt, lone) in
+      subst (λ (n : ℕ). (reading (ports_of job.mode a) (old.files (path_at job.stimuli n))).refusal ≡ None) (sym at)
+      (subst (λ (is : PortLists). (reading is (old.files (path_at job.stimuli 0))).refusal ≡ None) (one_ports one job old w.design w.accepted d a) (text_whole job order old text mode w));
+}
 
 done_lawful : {tells : Bool} → OneText → (job : Job) (old new : Told tells) (lines : List ℕ) (s : Summary) → IsTrue tells → IsEnd job old new lines (Done s) → IsLawful job old.contents
 done_lawful one job old new lines s told (same l e) = absurd (not_done s (Refused (SamePath e.first e.second)) e.outcome_is tt)
@@ -193,18 +218,20 @@ done_lawful one job old new lines s told (whole l m d e) = written_lawful one jo
 done_lawful one job old new lines s told (unflushed l m d e) = absurd (not_done s (WriteFault (wave_place e.lane)) e.outcome_is tt)
 done_lawful one job old new lines s told (check_stopped m d e) = absurd (not_done s (stop_outcome e.stop) e.outcome_is (stop_stops e.stop))
 done_lawful one job old new lines s told (checked m d e) = checked_lawful one job old.contents new.contents e.found e.summary d (e.checked told)
+done_lawful one job old new lines s told (queued l d order m e) = absurd (queue_undone job order old new s e)
 
 -- ---- an answer of a desk without a fault
 
 -- it is a refusal, or the job is done, or there was no memory
 on_answer : {tells : Bool} (old new : Told tells) (result : Outcome) (P : Outcome → Type 0) → IsFaultless old new → ShowsCause old new result
-    → ((s : Summary) → result ≡ Done s → P (Done s)) → ((r : Refusal) → result ≡ Refused r → P (Refused r)) → P Memory → P result
-on_answer old new (Done s) P f cause done refused memory = done s refl
-on_answer old new (Refused r) P f cause done refused memory = refused r refl
-on_answer old new (ReadFault p) P f cause done refused memory = absurd (f.no_fault cause.rose)
-on_answer old new (WriteFault p) P f (inl c) done refused memory = absurd (f.no_fault c.rose)
-on_answer old new (WriteFault p) P f (inr c) done refused memory = absurd (f.no_loss c.1.rose)
-on_answer old new Memory P f cause done refused memory = memory
+    → ((s : Summary) → result ≡ Done s → P (Done s)) → ((c : Course) → result ≡ Ordered c → P (Ordered c)) → ((r : Refusal) → result ≡ Refused r → P (Refused r)) → P Memory → P result
+on_answer old new (Done s) P f cause done ordered refused memory = done s refl
+on_answer old new (Ordered c) P f cause done ordered refused memory = ordered c refl
+on_answer old new (Refused r) P f cause done ordered refused memory = refused r refl
+on_answer old new (ReadFault p) P f cause done ordered refused memory = absurd (f.no_fault cause.rose)
+on_answer old new (WriteFault p) P f (inl c) done ordered refused memory = absurd (f.no_fault c.rose)
+on_answer old new (WriteFault p) P f (inr c) done ordered refused memory = absurd (f.no_loss c.1.rose)
+on_answer old new Memory P f cause done ordered refused memory = memory
 
 -- a refusal is that of a job which ended so
 refused_by : {tells : Bool} {D : Type 0} (told : D → Told tells) (job : Job) (old new : D) (result : Outcome) → IsTrue tells → IsSimulated told job old new result
@@ -214,32 +241,38 @@ refused_by told job old new result tells s r is = go s.outcome s.ended s.done s.
     go : (o : Outcome) → IsEnd job (told old) (told s.middle) s.lines o → OnDone o (ReportsDone (told s.middle) (told new) s.lines o result) → OnStopped o (result ≡ o) → IsRefusedJob job (told old).contents r
     go (Done t) e (inl h) answer = absurd (not_done t (Refused r) (sym h.0 ∙ is) tt)
     go (Done t) e (inr h) answer = absurd (no_fault r 0 (sym is ∙ h.0))
+    go (Ordered c) e (inl h) answer = absurd (not_ordered c (Refused r) (sym h.0 ∙ is) tt)
+    go (Ordered c) e (inr h) answer = absurd (no_fault r 0 (sym is ∙ h.0))
     go (Refused q) e d answer = refused_job job (told old) (told s.middle) s.lines tells (Refused q) r (sym is ∙ answer) e
     go (ReadFault p) e d answer = refused_job job (told old) (told s.middle) s.lines tells (ReadFault p) r (sym is ∙ answer) e
     go (WriteFault p) e d answer = refused_job job (told old) (told s.middle) s.lines tells (WriteFault p) r (sym is ∙ answer) e
     go Memory e d answer = refused_job job (told old) (told s.middle) s.lines tells Memory r (sym is ∙ answer) e
 
 -- a job that is done is lawful
-lawful_by : {tells : Bool} {D : Type 0} → OneText → (told : D → Told tells) (job : Job) (old new : D) (result : Outcome) → IsTrue tells → IsSimulated told job old new result
-    → (t : Summary) → result ≡ Done t → IsLawful job (told old).contents
-lawful_by one told job old new result tells s t is = go s.outcome s.ended s.stopped
+lawful_by : {tells : Bool} {D : Type 0} → OneText → (told : D → Told tells) (job : Job) (old new : D) (result : Outcome) → IsJob job → IsTrue tells → IsSimulated told job old new result
+    → (IsStopped result → ⊥) → IsLawful job (told old).contents
+lawful_by one told job old new result is_job tells s undone = go s.outcome s.ended s.stopped
   where
     go : (o : Outcome) → IsEnd job (told old) (told s.middle) s.lines o → OnStopped o (result ≡ o) → IsLawful job (told old).contents
     go (Done u) e answer = done_lawful one job (told old) (told s.middle) s.lines u tells e
-    go (Refused q) e answer = absurd (not_done t (Refused q) (sym is ∙ answer) tt)
-    go (ReadFault p) e answer = absurd (not_done t (ReadFault p) (sym is ∙ answer) tt)
-    go (WriteFault p) e answer = absurd (not_done t (WriteFault p) (sym is ∙ answer) tt)
-    go Memory e answer = absurd (not_done t Memory (sym is ∙ answer) tt)
+    go (Ordered c) e answer =
+        let w = ordered_end job (told old) (told s.middle) s.lines c e in
+        ordered_lawful one job c.order (told old).contents ((told s.middle).contents.put (wave_place 0)) (is_job.lone c.order w.mode) w.mode w.different (w.written tells).whole
+    go (Refused q) e answer = absurd (undone (subst IsStopped (sym answer) tt))
+    go (ReadFault p) e answer = absurd (undone (subst IsStopped (sym answer) tt))
+    go (WriteFault p) e answer = absurd (undone (subst IsStopped (sym answer) tt))
+    go Memory e answer = absurd (undone (subst IsStopped (sym answer) tt))
 
 pub simulated_complete : {tells : Bool} {D : Type 0} → NotBoth → (told : D → Told tells) (job : Job) (old new : D) (result : Outcome) → IsTrue tells → IsSimulated told job old new result
     → IsLawful job (told old).contents → IsFaultless (told old) (told new) → IsDoneOrMemory result
 simulated_complete not_both told job old new result tells s l f =
-    on_answer (told old) (told new) result IsDoneOrMemory f (simulated_cause told job old new result s) (λ t e. tt)
+    on_answer (told old) (told new) result IsDoneOrMemory f (simulated_cause told job old new result s) (λ t e. tt) (λ c e. tt)
     (λ r e. no_refusal not_both job (told old).contents l r (refused_by told job old new result tells s r e)) tt
 
-pub simulated_refused : {tells : Bool} {D : Type 0} → OneText → NotBoth → OneRefusal → (told : D → Told tells) (job : Job) (old new : D) (result : Outcome) → IsTrue tells → IsSimulated told job old new result
+pub simulated_refused : {tells : Bool} {D : Type 0} → OneText → NotBoth → OneRefusal → (told : D → Told tells) (job : Job) (old new : D) (result : Outcome) → IsJob job → IsTrue tells → IsSimulated told job old new result
     → (q : Refusal) → IsRefusedJob job (told old).contents q → IsFaultless (told old) (told new) → IsRefusedSo q result
-simulated_refused one not_both texts told job old new result tells s q job_refused f =
+simulated_refused one not_both texts told job old new result is_job tells s q job_refused f =
     on_answer (told old) (told new) result (IsRefusedSo q) f (simulated_cause told job old new result s)
-    (λ t e. absurd (no_refusal not_both job (told old).contents (lawful_by one told job old new result tells s t e) q job_refused))
+    (λ t e. absurd (no_refusal not_both job (told old).contents (lawful_by one told job old new result is_job tells s (not_done t result (sym e))) q job_refused))
+    (λ c e. absurd (no_refusal not_both job (told old).contents (lawful_by one told job old new result is_job tells s (not_ordered c result (sym e))) q job_refused))
     (λ r e. alike one not_both texts job (told old).contents r q (refused_by told job old new result tells s r e) job_refused) tt

@@ -6,7 +6,11 @@ pub mod Lanes
 pub mod Ends
 pub mod Causes
 pub mod Refusals
+pub mod Stopped
+pub mod Queued
 pub mod Lawful
+pub mod Writing
+pub mod Tracing
 pub mod Simulated
 pub mod Checks
 pub mod Others

@@ -4,7 +4,7 @@ use Rattle.std.proofs.Math.Seq.{take-length}
 use Rattle.vs_desk.specs.Desk.{Told, Register, Contents, with_put, Rose, Fails, PutsAll, PutsPart}
 use Rattle.vs_desk.specs.Laws.{PutsInParts}
 use Rattle.vs_top.specs.declared.outcome.Outcome.{Outcome}
-use Rattle.vs_top.specs.declared.outcome.Outcome.TheVariants.{Done, Refused, ReadFault, WriteFault, Memory}
+use Rattle.vs_top.specs.declared.outcome.Outcome.TheVariants.{Done, Ordered, Refused, ReadFault, WriteFault, Memory}
 use Rattle.vs_top.specs.Outcomes.{outcome_line}
 use Rattle.vs_top.specs.Reported.{PutsLine, LosesLine, ReportsLine, PutsBoth, LosesBoth, OnDone, OnStopped, ReportsDone}
 
@@ -18,6 +18,7 @@ put_part old new line e p = record { failed = p.failed; put = p.part }
 -- all was put
 pub done_put : {tells : Bool} (old new : Told tells) (before : List ℕ) (outcome : Outcome) → PutsLine old new (before ++ outcome_line outcome) → OnDone outcome (ReportsDone old new before outcome outcome)
 done_put old new before (Done s) p = inl (refl, p)
+done_put old new before (Ordered c) p = inl (refl, p)
 done_put old new before (Refused r) p = tt
 done_put old new before (ReadFault place) p = tt
 done_put old new before (WriteFault place) p = tt
@@ -26,6 +27,7 @@ done_put old new before Memory p = tt
 -- the fact, where it holds of each outcome
 pub stopped_of : (outcome : Outcome) (P : Type 0) → P → OnStopped outcome P
 stopped_of (Done s) P p = tt
+stopped_of (Ordered c) P p = tt
 stopped_of (Refused r) P p = p
 stopped_of (ReadFault place) P p = p
 stopped_of (WriteFault place) P p = p
@@ -72,6 +74,7 @@ pub done_lost : {tells : Bool} → PutsInParts → (old now new : Told tells) (b
     → LosesLine old now (before ++ outcome_line outcome) → OnDone outcome (result ≡ WriteFault 0) → OnDone outcome (ReportsLine now new (outcome_line (WriteFault 0)))
     → OnDone outcome (ReportsDone old new before outcome result)
 done_lost parts old now new before (Done s) result a e b = inr (e, loses_both parts old now new (before ++ outcome_line (Done s)) (outcome_line (WriteFault 0)) a b)
+done_lost parts old now new before (Ordered c) result a e b = inr (e, loses_both parts old now new (before ++ outcome_line (Ordered c)) (outcome_line (WriteFault 0)) a b)
 done_lost parts old now new before (Refused r) result a e b = tt
 done_lost parts old now new before (ReadFault p) result a e b = tt
 done_lost parts old now new before (WriteFault p) result a e b = tt
@@ -87,6 +90,7 @@ stopped_lost {tells} {D} told old now new line outcome l e = go outcome e
 
     go : (o : Outcome) → OnStopped o (new ≡ now) → OnStopped o (ReportsLine old (told new) line)
     go (Done s) e = tt
+    go (Ordered c) e = tt
     go (Refused r) e = by e
     go (ReadFault p) e = by e
     go (WriteFault p) e = by e

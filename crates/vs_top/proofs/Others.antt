@@ -15,9 +15,10 @@ use Rattle.vs_setup.specs.DesignText.{with_design, DesignFails}
 use Rattle.vs_setup.specs.Places.{with_texts}
 use Rattle.vs_setup.specs.Unprepared.{IsUnprepared, StimulusFails}
 use Rattle.vs_top.specs.declared.outcome.Outcome.{Outcome}
-use Rattle.vs_top.specs.declared.outcome.Outcome.TheVariants.{Done, Refused, ReadFault, WriteFault, Memory}
+use Rattle.vs_top.specs.declared.outcome.Outcome.TheVariants.{Done, Ordered, Refused, ReadFault, WriteFault, Memory}
 use Rattle.vs_top.specs.Outcomes.{outcome_line}
-use Rattle.vs_top.specs.Ended.{IsEnd, with_waves, wave_paths, IsRoundEnd, IsWholeEnd, OthersAttached}
+use Rattle.vs_top.specs.Ended.{IsEnd, with_waves, wave_paths, queue_paths, IsRoundEnd, IsWholeEnd, IsPartEnd, IsOrderedEnd, IsQueueEnd, OthersAttached}
+use Rattle.vs_top.specs.Ended.IsQueueEnd.{unread, no_memory, unattached, part, ordered, unwritten}
 use Rattle.vs_top.specs.Ended as end
 use Rattle.vs_top.specs.Reported.{OnDone, OnStopped, ReportsLine, ReportsDone}
 use Rattle.vs_top.specs.Reports.{IsSimulated}
@@ -81,6 +82,24 @@ either : (p : ℕ) → IsOther p → {tells : Bool} → OtherPlacesStay → (j :
 either p w law j old new o (inl h) = stopped p w law j old new o h
 either p w law j old new o (inr h) = whole p w law j old new o h
 
+partly : (p : ℕ) → IsOther p → {tells : Bool} → OtherPlacesStay → (j : Job) (old new : Told tells) (o : Outcome) → IsPartEnd j old new o → IsLeft p old.register new.register
+partly p w law j old new o h = fails p w (with_waves old.register j (queue_paths j)) new.register _ _ h.fails ∙ waves p w law old.register j (queue_paths j)
+
+wholly : (p : ℕ) → IsOther p → {tells : Bool} → OtherPlacesStay → (j : Job) (order : ℕ) (old new : Told tells) (o : Outcome) → IsOrderedEnd j order old new o → IsLeft p old.register new.register
+wholly p w law j order old new o h = same p w (with_waves old.register j (queue_paths j)) new.register h.register_is ∙ waves p w law old.register j (queue_paths j)
+
+put : (p : ℕ) → IsOther p → {tells : Bool} → OtherPlacesStay → (j : Job) (order : ℕ) (old new : Told tells) (o : Outcome) → IsPartEnd j old new o ⊎ IsOrderedEnd j order old new o → IsLeft p old.register new.register
+put p w law j order old new o (inl h) = partly p w law j old new o h
+put p w law j order old new o (inr h) = wholly p w law j order old new o h
+
+queued : (p : ℕ) → IsOther p → {tells : Bool} → OtherPlacesStay → (j : Job) (order : ℕ) (old new : Told tells) (o : Outcome) → IsQueueEnd j order old new o → IsLeft p old.register new.register
+queued p w law j order old new o (unread h) = caused p w (with_texts old.register j j.stimuli) new.register h.stop h.cause ∙ texts p w law old.register j j.stimuli
+queued p w law j order old new o (no_memory h) = same p w (with_texts old.register j j.stimuli) new.register h.register_is ∙ texts p w law old.register j j.stimuli
+queued p w law j order old new o (unattached h) = fails p w (with_texts old.register j j.stimuli) new.register _ _ h.fails ∙ texts p w law old.register j j.stimuli
+queued p w law j order old new o (part h) = partly p w law j old new o h
+queued p w law j order old new o (ordered h) = wholly p w law j order old new o h
+queued p w law j order old new o (unwritten h) = fails p w h.before.register new.register _ _ h.fails.fails ∙ put p w law j order old h.before h.answer h.ended
+
 ended : (p : ℕ) → IsOther p → {tells : Bool} → OtherPlacesStay → (j : Job) (old new : Told tells) (lines : List ℕ) (o : Outcome) → IsEnd j old new lines o → IsLeft p old.register new.register
 ended p w law j old new lines o (end.same l h) = same p w old.register new.register h.register_is
 ended p w law j old new lines o (end.setup l n h) = unprepared p w law j old new h.error h.cause
@@ -91,6 +110,7 @@ ended p w law j old new lines o (end.whole l m n h) = whole p w law j old new o 
 ended p w law j old new lines o (end.unflushed l m n h) = fails p w h.before.register new.register _ _ h.fails.fails ∙ either p w law j old h.before h.answer h.ended
 ended p w law j old new lines o (end.check_stopped m n h) = caused p w (with_texts old.register j j.stimuli) new.register h.stop h.cause ∙ texts p w law old.register j j.stimuli
 ended p w law j old new lines o (end.checked m n h) = same p w (with_texts old.register j j.stimuli) new.register h.register_is ∙ texts p w law old.register j j.stimuli
+ended p w law j old new lines o (end.queued l n order m h) = queued p w law j order old new o h
 
 line : (p : ℕ) → IsOther p → {tells : Bool} (old new : Told tells) (text : List ℕ) → ReportsLine old new text → IsLeft p old.register new.register
 line p w old new text (inl h) = same p w old.register new.register h.same
@@ -104,6 +124,7 @@ done p w old new lines outcome result (inr h) = fails p w old.register new.regis
 reported : (p : ℕ) → IsOther p → {tells : Bool} (old new : Told tells) (lines : List ℕ) (outcome result : Outcome) → OnDone outcome (ReportsDone old new lines outcome result)
     → OnStopped outcome (ReportsLine old new (lines ++ outcome_line outcome)) → IsLeft p old.register new.register
 reported p w old new lines (Done s) result d l = done p w old new lines (Done s) result d
+reported p w old new lines (Ordered c) result d l = done p w old new lines (Ordered c) result d
 reported p w old new lines (Refused r) result d l = line p w old new (lines ++ outcome_line (Refused r)) l
 reported p w old new lines (ReadFault place) result d l = line p w old new (lines ++ outcome_line (ReadFault place)) l
 reported p w old new lines (WriteFault place) result d l = line p w old new (lines ++ outcome_line (WriteFault place)) l

@@ -28,11 +28,13 @@ use Rattle.vs_setup.specs.Prepared.{run_of}
 use Rattle.vs_setup.specs.DesignText.{design_text}
 use Rattle.vs_setup.specs.Unprepared.{IsUnprepared, IsDesignOf, IsRefusedBehind, IsHeaderRefusal, text_of}
 use Rattle.vs_top.specs.declared.outcome.Summary.{Summary}
+use Rattle.vs_top.specs.declared.outcome.Course.{Course}
 use Rattle.vs_top.specs.declared.outcome.Outcome.{Outcome}
-use Rattle.vs_top.specs.declared.outcome.Outcome.TheVariants.{Done, Refused, WriteFault}
+use Rattle.vs_top.specs.declared.outcome.Outcome.TheVariants.{Done, Ordered, Refused, WriteFault, Memory}
 use Rattle.vs_top.specs.Answers.{stimulus_outcome, setup_outcome, stop_outcome}
-use Rattle.vs_top.specs.Ended.{IsEnd, IsRunOf}
-use Rattle.vs_top.specs.Ended.IsEnd.{same, setup, first, attached, stopped, whole, unflushed, check_stopped, checked}
+use Rattle.vs_top.specs.Ended.{IsEnd, IsQueueEnd, IsRunOf}
+use Rattle.vs_top.specs.Ended.IsEnd.{same, setup, first, attached, stopped, whole, unflushed, check_stopped, checked, queued}
+use Rattle.vs_top.specs.Ended.IsQueueEnd.{unread, no_memory, unattached, part, ordered, unwritten}
 use Rattle.vs_top.specs.Refused.{IsRefusedJob, ByPaths, ByLength, ByDesign, ByHeader, ByLine}
 use Rattle.vs_top.proofs.Behind.{told_alike}
 
@@ -57,11 +59,11 @@ unprepared job old new told d (S.Stimulus i error) r c e = ByHeader d i error c.
 unprepared job old new told d (S.ReadFault place) r c e = cc
 unprepared job old new told d S.Memory r c e = cc
 
-unread : (job : Job) (old : Contents) → same_paths job ≡ None → (run : Run) → IsRunOf job old run → (k : ℕ) (new : Contents) (stop : Stop) (r : Refusal) → IsLaneOf (length job.stimuli) stop
+read_stop : (job : Job) (old : Contents) → same_paths job ≡ None → (run : Run) → IsRunOf job old run → (k : ℕ) (new : Contents) (stop : Stop) (r : Refusal) → IsLaneOf (length job.stimuli) stop
     → ReadStops run (length job.stimuli) k new stop → Refused r ≡ stop_outcome stop → IsRefusedJob job old r
-unread job old d run is k new (R.Refused i error) r lane s e = ByLine d run k i error lane is s e
-unread job old d run is k new (R.ReadFault i) r lane s e = cc
-unread job old d run is k new (R.WriteFault i) r lane s e = cc
+read_stop job old d run is k new (R.Refused i error) r lane s e = ByLine d run k i error lane is s e
+read_stop job old d run is k new (R.ReadFault i) r lane s e = cc
+read_stop job old d run is k new (R.WriteFault i) r lane s e = cc
 
 unsettled : (job : Job) (old : Contents) → same_paths job ≡ None → (run : Run) → IsRunOf job old run → (k : ℕ) (new : Contents) (stop : Stop) (r : Refusal) → IsLaneOf (length job.stimuli) stop
     → StopsIn run (length job.stimuli) k new stop → Refused r ≡ stop_outcome stop → IsRefusedJob job old r
@@ -76,6 +78,24 @@ no_fault r p h = cc
 not_done : (r : Refusal) (s : Summary) → Refused r ≡ Done s → ⊥
 not_done r s h = cc
 
+not_ordered : (r : Refusal) (c : Course) → Refused r ≡ Ordered c → ⊥
+not_ordered r c h = cc
+
+not_memory : (r : Refusal) → Refused r ≡ Memory → ⊥
+not_memory r h = cc
+
+-- a run of the queue that ended in one
+queue_refused : {tells : Bool} (job : Job) (order : ℕ) (old new : Told tells) → IsTrue tells → same_paths job ≡ None
+    → (o : Outcome) (r : Refusal) → Refused r ≡ o → IsQueueEnd job order old new o → IsRefusedJob job old.contents r
+queue_refused job order old new told d o r is (unread e) =
+    let s = e.stops told in
+    read_stop job old.contents d s.0 s.1 s.2.0 new.contents e.stop r e.lane s.2.1 (is ∙ e.outcome_is)
+queue_refused job order old new told d o r is (no_memory e) = absurd (not_memory r (is ∙ e.outcome_is))
+queue_refused job order old new told d o r is (unattached e) = absurd (no_fault r (wave_place 0) (is ∙ e.outcome_is))
+queue_refused job order old new told d o r is (part e) = absurd (no_fault r (wave_place 0) (is ∙ e.outcome_is))
+queue_refused job order old new told d o r is (ordered e) = absurd (not_ordered r e.course (is ∙ e.outcome_is))
+queue_refused job order old new told d o r is (unwritten e) = absurd (no_fault r (wave_place 0) (is ∙ e.outcome_is))
+
 pub refused_job : {tells : Bool} (job : Job) (old new : Told tells) (lines : List ℕ) → IsTrue tells
     → (o : Outcome) (r : Refusal) → Refused r ≡ o → IsEnd job old new lines o → IsRefusedJob job old.contents r
 refused_job job old new lines told o r is (same l e) =
@@ -84,7 +104,7 @@ refused_job job old new lines told o r is (same l e) =
 refused_job job old new lines told o r is (setup l d e) = unprepared job old new told d e.error r e.cause (is ∙ e.outcome_is)
 refused_job job old new lines told o r is (first l d e) =
     let s = e.stops told in
-    unread job old.contents d s.0 s.1 0 new.contents e.stop r e.lane s.2 (is ∙ e.outcome_is)
+    read_stop job old.contents d s.0 s.1 0 new.contents e.stop r e.lane s.2 (is ∙ e.outcome_is)
 refused_job job old new lines told o r is (attached l m d e) = absurd (no_fault r (wave_place e.lane) (is ∙ e.outcome_is))
 refused_job job old new lines told o r is (unflushed l m d e) = absurd (no_fault r (wave_place e.lane) (is ∙ e.outcome_is))
 refused_job job old new lines told o r is (stopped l m d e) =
@@ -93,8 +113,9 @@ refused_job job old new lines told o r is (stopped l m d e) =
 refused_job job old new lines told o r is (whole l m d e) = absurd (not_done r e.summary (is ∙ e.outcome_is))
 refused_job job old new lines told o r is (check_stopped m d e) =
     let s = e.stops told in
-    unread job old.contents d s.0 s.1 s.2.0 new.contents e.stop r e.lane s.2.1.read (is ∙ e.outcome_is)
+    read_stop job old.contents d s.0 s.1 s.2.0 new.contents e.stop r e.lane s.2.1.read (is ∙ e.outcome_is)
 refused_job job old new lines told o r is (checked m d e) = absurd (not_done r e.summary (is ∙ e.outcome_is))
+refused_job job old new lines told o r is (queued l d order m e) = queue_refused job order old new told d o r is e
 
 -- ---- a job has one design, and so one run
 

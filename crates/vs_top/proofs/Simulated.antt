@@ -9,18 +9,18 @@ use Rattle.vs_job.specs.declared.job.Mode.{Mode}
 use Rattle.vs_job.specs.declared.job.Mode.TheVariants as modes
 use Rattle.vs_top.specs.declared.outcome.Summary.{Summary}
 use Rattle.vs_top.specs.declared.outcome.Outcome.{Outcome}
-use Rattle.vs_top.specs.declared.outcome.Outcome.TheVariants.{Done, Refused, ReadFault, WriteFault, Memory}
+use Rattle.vs_top.specs.declared.outcome.Outcome.TheVariants.{Done, Ordered, Refused, ReadFault, WriteFault, Memory}
 use Rattle.vs_refusal.specs.declared.refusal.Refusal.TheVariants.{SamePath}
 use Rattle.vs_top.specs.Answers.{setup_outcome, stop_outcome}
 use Rattle.vs_top.specs.Outcomes.{done_line}
 use Rattle.vs_top.specs.Headline.{IsWritten}
 use Rattle.vs_top.specs.Checked.{IsChecked, IsVerdict}
 use Rattle.vs_top.specs.Ended.{IsEnd, IsCheckedEnd}
-use Rattle.vs_top.specs.Ended.IsEnd.{same, setup, first, attached, stopped, whole, unflushed, check_stopped, checked}
+use Rattle.vs_top.specs.Ended.IsEnd.{same, setup, first, attached, stopped, whole, unflushed, check_stopped, checked, queued}
 use Rattle.vs_top.specs.Reported.{ReportsDone, OnDone, OnStopped}
 use Rattle.vs_top.specs.Reports.{IsSimulated}
 use Rattle.vs_top.proofs.Ends.{same_summary, written_still}
-use Rattle.vs_top.proofs.Lawful.{not_done, setup_stops, stop_stops}
+use Rattle.vs_top.proofs.Stopped.{not_done, apart, queue_undone, setup_stops, stop_stops}
 
 -- a job isn't both run and checked
 pub one_mode : (m : Mode) → m ≡ modes.Run → m ≡ modes.Check → ⊥
@@ -39,6 +39,7 @@ end_written job old new lines s told run (whole l m d e) = subst (IsWritten job 
 end_written job old new lines s told run (unflushed l m d e) = absurd (not_done s (WriteFault (wave_place e.lane)) e.outcome_is tt)
 end_written job old new lines s told run (check_stopped m d e) = absurd (one_mode job.mode run m)
 end_written job old new lines s told run (checked m d e) = absurd (one_mode job.mode run m)
+end_written job old new lines s told run (queued l d order m e) = absurd (queue_undone job order old new s e)
 
 pub end_checked : {tells : Bool} (job : Job) (old new : Told tells) (lines : List ℕ) (s : Summary) → job.mode ≡ modes.Check → IsEnd job old new lines (Done s) → IsCheckedEnd job old new lines (Done s)
 end_checked job old new lines s check (same l e) = absurd (not_done s (Refused (SamePath e.first e.second)) e.outcome_is tt)
@@ -50,12 +51,15 @@ end_checked job old new lines s check (whole l m d e) = absurd (one_mode job.mod
 end_checked job old new lines s check (unflushed l m d e) = absurd (one_mode job.mode m check)
 end_checked job old new lines s check (check_stopped m d e) = absurd (not_done s (stop_outcome e.stop) e.outcome_is (stop_stops e.stop))
 end_checked job old new lines s check (checked m d e) = e
+end_checked job old new lines s check (queued l d order m e) = absurd (queue_undone job order old new s e)
 
 -- an answer that is done is that of an outcome which was
 pub reported_done : {tells : Bool} (old new : Told tells) (lines : List ℕ) (outcome result : Outcome) → OnDone outcome (ReportsDone old new lines outcome result) → OnStopped outcome (result ≡ outcome)
     → (s : Summary) → result ≡ Done s → outcome ≡ Done s
 reported_done old new lines (Done t) result (inl r) answer s is = sym r.0 ∙ is
 reported_done old new lines (Done t) result (inr r) answer s is = absurd (not_done s (WriteFault 0) (sym is ∙ r.0) tt)
+reported_done old new lines (Ordered c) result (inl r) answer s is = absurd (apart s c (sym is ∙ r.0))
+reported_done old new lines (Ordered c) result (inr r) answer s is = absurd (not_done s (WriteFault 0) (sym is ∙ r.0) tt)
 reported_done old new lines (Refused r) result d answer s is = sym answer ∙ is
 reported_done old new lines (ReadFault p) result d answer s is = sym answer ∙ is
 reported_done old new lines (WriteFault p) result d answer s is = sym answer ∙ is
@@ -70,6 +74,8 @@ on_done {tells} told job old new result s P simulated is by = go simulated.outco
     go : (o : Outcome) → IsEnd job (told old) (told simulated.middle) simulated.lines o → OnDone o (ReportsDone (told simulated.middle) (told new) simulated.lines o result) → OnStopped o (result ≡ o) → P s
     go (Done t) e (inl r) answer = subst P (same_summary t s (sym r.0 ∙ is)) (by (told simulated.middle) simulated.lines t e r.1.put)
     go (Done t) e (inr r) answer = absurd (not_done s (WriteFault 0) (sym is ∙ r.0) tt)
+    go (Ordered c) e (inl r) answer = absurd (apart s c (sym is ∙ r.0))
+    go (Ordered c) e (inr r) answer = absurd (not_done s (WriteFault 0) (sym is ∙ r.0) tt)
     go (Refused r) e d answer = absurd (not_done s (Refused r) (sym is ∙ answer) tt)
     go (ReadFault p) e d answer = absurd (not_done s (ReadFault p) (sym is ∙ answer) tt)
     go (WriteFault p) e d answer = absurd (not_done s (WriteFault p) (sym is ∙ answer) tt)

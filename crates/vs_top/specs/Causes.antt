@@ -9,7 +9,7 @@ use Rattle.vs_job.specs.Places.{same_paths}
 use Rattle.vs_setup.specs.Ports.{ports_of}
 use Rattle.vs_setup.specs.Unprepared.{IsDesignOf}
 use Rattle.vs_top.specs.declared.outcome.Outcome.{Outcome}
-use Rattle.vs_top.specs.declared.outcome.Outcome.TheVariants.{Done, Refused, ReadFault, WriteFault, Memory}
+use Rattle.vs_top.specs.declared.outcome.Outcome.TheVariants.{Done, Ordered, Refused, ReadFault, WriteFault, Memory}
 
 -- A call failed at this place, which isn't place 0, and was the last one that did.
 pub record IsFaultAt (old new : Register) (place : ℕ) : Type 0 where
@@ -26,6 +26,7 @@ pub record IsLoss (old new : Register) : Type 0 where
 -- comes only where a call failed at its place in this run.
 abbrev pub ShowsCause : {tells : Bool} → Told tells → Told tells → Outcome → Type 0
 ShowsCause old new (Done s) = (new.register.faults ≡ old.register.faults) × (new.register.losses ≡ old.register.losses)
+ShowsCause old new (Ordered c) = (new.register.faults ≡ old.register.faults) × (new.register.losses ≡ old.register.losses)
 ShowsCause old new (Refused r) = new.register.faults ≡ old.register.faults
 ShowsCause old new Memory = new.register.faults ≡ old.register.faults
 ShowsCause old new (ReadFault place) = IsFaultAt old.register new.register place
@@ -47,5 +48,6 @@ pub record IsFaultless {tells : Bool} (old new : Told tells) : Type 0 where
 -- the run is done, or there was no memory
 abbrev pub IsDoneOrMemory : Outcome → Type 0
 IsDoneOrMemory (Done s) = Unit {0}
+IsDoneOrMemory (Ordered c) = Unit {0}
 IsDoneOrMemory Memory = Unit {0}
 IsDoneOrMemory _ = ⊥

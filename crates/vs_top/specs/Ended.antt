@@ -9,22 +9,24 @@ use Rattle.vs_misses.specs.Missed.{Found}
 use Rattle.vs_waves.specs.Puts.{wave_place}
 use Rattle.vs_waves.specs.Attached.{AreEmptied, AreFree}
 use Rattle.vs_rounds.specs.declared.stop.Stop.{Stop}
-use Rattle.vs_rounds.specs.Lanes.{Run}
+use Rattle.vs_rounds.specs.Lanes.{Run, reading_of}
 use Rattle.vs_rounds.specs.Stops.{AreUnrefused, ReadStops, StopsIn, IsLaneOf, IsOfStimulus, HasCause}
 use Rattle.vs_rounds.specs.Verdicts.{IsCheckStop}
 use Rattle.vs_refusal.specs.declared.refusal.Refusal.TheVariants.{SamePath}
 use Rattle.vs_job.specs.declared.job.Job.{Job}
 use Rattle.vs_job.specs.declared.job.Mode.TheVariants as modes
-use Rattle.vs_job.specs.Places.{same_paths, vcd_path}
+use Rattle.vs_job.specs.Places.{same_paths, vcd_path, queue_path}
 use Rattle.vs_setup.specs.declared.error.SetupError.{SetupError}
 use Rattle.vs_setup.specs.Places.{IsFresh, with_texts}
 use Rattle.vs_setup.specs.Ports.{ports_of}
 use Rattle.vs_setup.specs.Prepared.{AreTextsKept, run_of}
 use Rattle.vs_setup.specs.Unprepared.{IsUnprepared, IsDesignOf}
 use Rattle.vs_top.specs.declared.outcome.Summary.{Summary}
+use Rattle.vs_top.specs.declared.outcome.Course.{Course}
 use Rattle.vs_top.specs.declared.outcome.Outcome.{Outcome}
-use Rattle.vs_top.specs.declared.outcome.Outcome.TheVariants.{Done, Refused, WriteFault}
+use Rattle.vs_top.specs.declared.outcome.Outcome.TheVariants.{Done, Ordered, Refused, WriteFault, Memory}
 use Rattle.vs_top.specs.Headline.{IsWritten}
+use Rattle.vs_top.specs.Ordered.{IsOrdered, IsOrderedText}
 use Rattle.vs_top.specs.Verdicts.{misses_text, missed_lanes}
 use Rattle.vs_top.specs.Checked.{IsChecked}
 use Rattle.vs_top.specs.Answers.{setup_outcome, stop_outcome}
@@ -148,8 +150,68 @@ pub record IsCheckedEnd {tells : Bool} (job : Job) (old new : Told tells) (lines
   pub checked : IsTrue tells → IsChecked job old.contents new.contents found summary
   pub kept : IsTrue tells → AreTextsKept old.contents new.contents
 
+-- the path of the waveform of a run of the queue, for each stimulus: there is one
+abbrev pub queue_paths : Job → List (List ℕ)
+queue_paths job = map queue_path job.stimuli
+
+-- The stimulus of a run of the queue is refused behind so many vectors, or can't be read on. Its waveform's place isn't attached.
+pub record IsUnreadEnd {tells : Bool} (job : Job) (old new : Told tells) (o : Outcome) : Type 0 where
+  pub stop : Stop
+  pub outcome_is : o ≡ stop_outcome stop
+  pub lane : IsLaneOf (length job.stimuli) stop
+  pub of_stimulus : IsOfStimulus stop
+  pub cause : HasCause (with_texts old.register job job.stimuli) new.register stop
+  pub stops : IsTrue tells → (run : Run) × IsRunOf job old.contents run × ((k : ℕ) × ReadStops run (length job.stimuli) k new.contents stop)
+  pub kept : IsTrue tells → AreTextsKept old.contents new.contents
+
+-- There was no memory for the vectors of a run of the queue, for the run or for its waveform. That one's place isn't attached.
+pub record IsShortEnd {tells : Bool} (job : Job) (old new : Told tells) (o : Outcome) : Type 0 where
+  pub outcome_is : o ≡ Memory
+  pub register_is : new.register ≡ with_texts old.register job job.stimuli
+  pub kept : IsTrue tells → AreTextsKept old.contents new.contents
+
+-- The stimulus of a run of the queue is valid, and its waveform's place can't be attached.
+pub record IsUnattachedEnd {tells : Bool} (job : Job) (old new : Told tells) (o : Outcome) : Type 0 where
+  pub outcome_is : o ≡ WriteFault (wave_place 0)
+  pub fails : Fails (with_texts old.register job job.stimuli) new.register (wave_place 0) (path_at (queue_paths job) 0)
+  pub valid : IsTrue tells → (run : Run) × IsRunOf job old.contents run × ((reading_of run 0).refusal ≡ None)
+  pub kept : IsTrue tells → AreTextsKept old.contents new.contents
+
+-- A put of the waveform of a run of the queue failed: some first bytes of it were put, and not all.
+pub record IsPartEnd {tells : Bool} (job : Job) (old new : Told tells) (o : Outcome) : Type 0 where
+  pub outcome_is : o ≡ WriteFault (wave_place 0)
+  pub fails : Fails (with_waves old.register job (queue_paths job)) new.register (wave_place 0) (with_waves old.register job (queue_paths job)).asked
+  pub part : IsTrue tells → (text : List ℕ) × IsOrderedText job old.contents text × ((n : ℕ) × (n < length text) × (new.contents.put (wave_place 0) ≡ take n text))
+  pub puts : IsTrue tells → OnlyWavesPut 1 old.contents new.contents
+
+-- The queue was run to its end in the order of the number, and its waveform is written.
+pub record IsOrderedEnd {tells : Bool} (job : Job) (order : ℕ) (old new : Told tells) (o : Outcome) : Type 0 where
+  pub course : Course
+  pub outcome_is : o ≡ Ordered course
+  pub order_is : course.order ≡ order
+  pub register_is : new.register ≡ with_waves old.register job (queue_paths job)
+  pub ordered : IsTrue tells → IsOrdered job old.contents new.contents course
+  pub puts : IsTrue tells → OnlyWavesPut 1 old.contents new.contents
+
+-- The waveform of a run of the queue was put, whole or in part, and what the desk had kept back of it couldn't be written out then.
+pub record IsUnwrittenEnd {tells : Bool} (job : Job) (order : ℕ) (old new : Told tells) (o : Outcome) : Type 0 where
+  pub outcome_is : o ≡ WriteFault (wave_place 0)
+  pub before : Told tells
+  pub answer : Outcome
+  pub ended : IsPartEnd job old before answer ⊎ IsOrderedEnd job order old before answer
+  pub fails : FailsAlone before new (wave_place 0) before.register.asked
+
+-- How a run of the queue ended behind the opening of its stimulus.
+pub data IsQueueEnd {tells : Bool} (job : Job) (order : ℕ) (old new : Told tells) (o : Outcome) : Type 0 where
+  unread : IsUnreadEnd job old new o → IsQueueEnd job order old new o
+  no_memory : IsShortEnd job old new o → IsQueueEnd job order old new o
+  unattached : IsUnattachedEnd job old new o → IsQueueEnd job order old new o
+  part : IsPartEnd job old new o → IsQueueEnd job order old new o
+  ordered : IsOrderedEnd job order old new o → IsQueueEnd job order old new o
+  unwritten : IsUnwrittenEnd job order old new o → IsQueueEnd job order old new o
+
 -- How a job ended, and what is to be put before its report line, where the desk told this before and tells that now: two of its paths are equal, or none
--- are and it went on, as a run or as a check. Only a check whose rounds have begun has something to put there.
+-- are and it went on, as a run, as a check or as a run of the queue. Only a check whose rounds have begun has something to put there.
 pub data IsEnd {tells : Bool} (job : Job) (old new : Told tells) (lines : List ℕ) (o : Outcome) : Type 0 where
   same : lines ≡ [] → IsSameEnd job old new o → IsEnd job old new lines o
   setup : lines ≡ [] → same_paths job ≡ None → IsSetupEnd job old new o → IsEnd job old new lines o
@@ -160,8 +222,10 @@ pub data IsEnd {tells : Bool} (job : Job) (old new : Told tells) (lines : List �
   unflushed : lines ≡ [] → job.mode ≡ modes.Run → same_paths job ≡ None → IsUnflushedEnd job old new o → IsEnd job old new lines o
   check_stopped : job.mode ≡ modes.Check → same_paths job ≡ None → IsCheckEnd job old new lines o → IsEnd job old new lines o
   checked : job.mode ≡ modes.Check → same_paths job ≡ None → IsCheckedEnd job old new lines o → IsEnd job old new lines o
+  queued : lines ≡ [] → same_paths job ≡ None → (order : ℕ) → job.mode ≡ modes.Queue order → IsQueueEnd job order old new o → IsEnd job old new lines o
 
 -- the job isn't done
 abbrev pub IsStopped : Outcome → Type 0
 IsStopped (Done summary) = ⊥
+IsStopped (Ordered course) = ⊥
 IsStopped _ = Unit {0}

@@ -1,6 +1,8 @@
 pub mod Outcomes
 pub mod Reported
 pub mod Headline
+pub mod Ordered
+pub mod Traced
 pub mod Verdicts
 pub mod Checked
 pub mod Ended

@@ -2,7 +2,7 @@
 use Rattle.std.specs.Prelude.{◌≡◌, ℕ, ◌<◌, ◌⊎◌, Bool, List, ◌++◌, length, take, IsTrue}
 use Rattle.vs_desk.specs.Desk.{Register, Contents, Told, with_put, Fails, PutsPart}
 use Rattle.vs_top.specs.declared.outcome.Outcome.{Outcome}
-use Rattle.vs_top.specs.declared.outcome.Outcome.TheVariants.{Done, WriteFault}
+use Rattle.vs_top.specs.declared.outcome.Outcome.TheVariants.{Done, Ordered, WriteFault}
 use Rattle.vs_top.specs.Outcomes.{outcome_line}
 
 -- All of it was put at place 0, and nothing failed.
@@ -29,17 +29,19 @@ pub record LosesBoth {tells : Bool} (old new : Told tells) (first second : List 
   pub failed : Fails old.register new.register 0 old.register.asked
   pub put : IsTrue tells → PutsBoth old.register old.contents new.contents first second
 
--- the fact, where the run is done
+-- the fact, where the run is done, or a check, or a run of the queue
 abbrev pub OnDone : Outcome → Type 0 → Type 0
 OnDone (Done summary) P = P
+OnDone (Ordered course) P = P
 OnDone _ P = Unit {0}
 
 -- the fact, where the run stopped in another way
 abbrev pub OnStopped : Outcome → Type 0 → Type 0
 OnStopped (Done summary) P = Unit {0}
+OnStopped (Ordered course) P = Unit {0}
 OnStopped _ P = P
 
--- The report of a run or a check that is done, with what stands before its line: all was put and it stays done, or some of it was lost, the answer is
+-- The report of a run, a check or a run of the queue that is done, with what stands before its line: all was put and it stays done, or some of it was lost, the answer is
 -- a fault at place 0, and that has its line behind.
 abbrev pub ReportsDone : {tells : Bool} → Told tells → Told tells → List ℕ → Outcome → Outcome → Type 0
 ReportsDone old new before outcome result =

@@ -2,7 +2,9 @@
 
 ghost use Rattle.std.specs.Prelude.{◌≡◌, ◌≤◌, [], length};
 ghost use Rattle.vs_desk.specs.Places.{most_lanes};
-ghost use Rattle.vs_top.specs.Reported.{OnDone, OnStopped};
+ghost use Rattle.vs_top.specs.declared.outcome.Summary.{Summary};
+ghost use Rattle.vs_top.specs.declared.outcome.Outcome.TheVariants.{Done};
+ghost use Rattle.vs_top.specs.Reported.{OnStopped};
 
 use crate::outcome::{Answered, Outcome};
 use std::alloc::Global;
@@ -23,7 +25,7 @@ pub(crate) fn nothing_kept(alloc: Global, outcome: Outcome) -> Answered
 /// The outcome of a check, and what was found in its lanes where it is done.
 pub(crate) fn found_kept<W: Lanes>(alloc: Global, outcome: Outcome, checker: Checker<W>) -> Answered
     ensures outcome { result.outcome ≡ outcome }
-    ensures done { OnDone outcome (result.found.items ≡ checker.misses.found) }
+    ensures done { (s : Summary) → outcome ≡ Done s → result.found.items ≡ checker.misses.found }
     ensures stopped { OnStopped outcome (result.found.items ≡ []) }
     ensures few { length result.found.items ≤ most_lanes }
 {
@@ -32,6 +34,6 @@ pub(crate) fn found_kept<W: Lanes>(alloc: Global, outcome: Outcome, checker: Che
             outcome: Outcome::Done(summary),
             found: checker.into_found(),
         },
-        stopped => nothing_kept(alloc, stopped),
+        other => nothing_kept(alloc, other),
     }
 }

@@ -16,6 +16,7 @@ pub fn status(outcome: &Outcome) -> u8
             None | Some(0) => 0,
             Some(_) => 1,
         },
+        Outcome::Ordered(_) => 0,
         Outcome::Refused(refusal) => match refusal.number() {
             0..=2 => 2,
             3..=66 => 3,

@@ -7,6 +7,7 @@ mod checking;
 mod errors;
 mod exit_status;
 mod outcome;
+mod queueing;
 mod report_line;
 mod run_call;
 mod simulation;
@@ -14,6 +15,6 @@ mod verdicts;
 
 pub use bench_call::bench;
 pub use exit_status::status;
-pub use outcome::{Answered, Outcome, Summary};
+pub use outcome::{Answered, Course, Outcome, Summary};
 pub use report_line::report;
 pub use run_call::{answer, run, simulate};

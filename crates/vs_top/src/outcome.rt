@@ -21,11 +21,26 @@ pub struct Summary {
     pub missed: Option<u32>,
 }
 
+/// What a run of the event queue that is done has done.
+#[derive(Clone, Copy, PartialEq, Eq, Debug)]
+pub struct Course {
+    /// The number of vectors.
+    pub vectors: u64,
+    /// The number of slots: two for each vector.
+    pub slots: u64,
+    /// The number that chose the order of its steps.
+    pub order: u64,
+    /// How many steps it took: 2^64 - 1 if there were more.
+    pub steps: u64,
+}
+
 /// How a run ended.
 #[derive(Drop)]
 pub enum Outcome {
     /// Each lane's waveform was written whole, or each lane was checked, and the report was put whole.
     Done(Summary),
+    /// The event queue was run to its end, its waveform was written whole, and the report was put whole.
+    Ordered(Course),
     /// The words, the design or a stimulus was refused.
     Refused(Refusal),
     /// A call that reads failed at this place.

@@ -3,10 +3,10 @@
 ghost use Rattle.std.specs.Prelude.{◌≡◌, []};
 ghost use Rattle.vs_desk.specs.Desk.{PutsAll};
 ghost use Rattle.vs_top.specs.declared.outcome.Outcome.TheVariants.{WriteFault};
-ghost use Rattle.vs_top.specs.Outcomes.{outcome_line, done_ending};
+ghost use Rattle.vs_top.specs.Outcomes.{outcome_line, done_ending, ordered_ending};
 ghost use Rattle.vs_top.specs.Reported.{ReportsLine, ReportsDone, OnDone, OnStopped};
 
-use crate::outcome::{Outcome, Summary};
+use crate::outcome::{Course, Outcome, Summary};
 use vs_desk::{Desk, Failed, put_law};
 use vs_refusal::Ending;
 
@@ -38,12 +38,24 @@ fn done_ending(summary: &Summary) -> Ending
     }
 }
 
+/// How a run of the queue that is done ended.
+fn ordered_ending(course: &Course) -> Ending
+    ensures { result ≡ ordered_ending course.now }
+{
+    Ending::Ordered {
+        vectors: course.vectors,
+        slots: course.slots,
+        order: course.order,
+    }
+}
+
 /// Puts an outcome's line at place 0.
 pub(crate) fn put_line<D: Desk>(desk: &mut D, outcome: &Outcome) -> Result<(), Failed>
     ensures { PutsAll (D.told desk.old) (D.told desk.new) 0 (outcome_line outcome.now) result }
 {
     match outcome {
         Outcome::Done(summary) => done_ending(summary).put_line(desk),
+        Outcome::Ordered(course) => ordered_ending(course).put_line(desk),
         Outcome::Refused(refusal) => refusal.put_line(desk),
         Outcome::ReadFault { place } => Ending::ReadFault { place: *place }.put_line(desk),
         Outcome::WriteFault { place } => Ending::WriteFault { place: *place }.put_line(desk),
@@ -60,7 +72,7 @@ pub(crate) fn after_loss<D: Desk>(desk: &mut D, outcome: Outcome) -> Outcome
     ensures stopped_line { OnStopped outcome (desk.new ≡ desk.old) }
 {
     match outcome {
-        Outcome::Done(_) => {
+        Outcome::Done(_) | Outcome::Ordered(_) => {
             let fault = Outcome::WriteFault { place: 0 };
             let _ = put_line(desk, &fault);
             fault

@@ -10,8 +10,9 @@ ghost use Rattle.vs_job.specs.declared.job.Mode.TheVariants as modes;
 ghost use Rattle.vs_refusal.specs.declared.names.BareName.TheVariants.{Usage};
 ghost use Rattle.vs_refusal.specs.declared.refusal.Refusal.{Refusal};
 ghost use Rattle.vs_refusal.specs.declared.refusal.Refusal.TheVariants.{Bare};
+ghost use Rattle.vs_top.specs.declared.outcome.Course.{Course};
 ghost use Rattle.vs_top.specs.declared.outcome.Summary.{Summary};
-ghost use Rattle.vs_top.specs.declared.outcome.Outcome.TheVariants.{Done, Memory, Refused};
+ghost use Rattle.vs_top.specs.declared.outcome.Outcome.TheVariants.{Done, Memory, Ordered, Refused};
 ghost use Rattle.vs_top.specs.Answered.{IsAnswered, IsKept};
 ghost use Rattle.vs_top.specs.Benched.{IsBenched};
 ghost use Rattle.vs_top.specs.Causes.{IsDoneOrMemory, IsFaultless, IsLawful, ShowsCause};
@@ -19,12 +20,14 @@ ghost use Rattle.vs_top.specs.Ended.{IsUnused, OthersAttached};
 ghost use Rattle.vs_top.specs.Refused.{IsRefusedJob, IsRefusedSo};
 ghost use Rattle.vs_top.specs.Reports.{IsSimulated, IsReported};
 ghost use Rattle.vs_top.specs.Headline.{IsWritten};
+ghost use Rattle.vs_top.specs.Ordered.{IsOrdered};
 ghost use Rattle.vs_top.specs.Checked.{IsVerdict};
 
 use crate::answered::nothing_kept;
 use crate::bench_call::bench;
 use crate::checking::check_job;
 use crate::outcome::{Answered, Outcome};
+use crate::queueing::queue_job;
 use crate::report_line::report;
 use crate::simulation::run_job;
 use std::alloc::Global;
@@ -59,6 +62,8 @@ pub fn simulate<D: Desk, L: Ledger>(
         → IsWritten job.now (D.told desk.old).contents (D.told desk.new).contents s }
     ensures checked { IsTrue D.tells → job.now.mode ≡ modes.Check → (s : Summary) → result ≡ Done s
         → IsVerdict job.now (D.told desk.old).contents (D.told desk.new).contents s }
+    ensures ordered { IsTrue D.tells → (c : Course) → result ≡ Ordered c → IsOrdered job.now (D.told desk.old).contents (D.told desk.new).contents c }
+    ensures order { (c : Course) → result ≡ Ordered c → (job.now.mode ≡ modes.Queue c.order) × (steps.new ≡ steps.old) }
     ensures others { OthersAttached (D.told desk.old).register (D.told desk.new).register }
 {
     let answered = answer_job(alloc, job, desk, steps);
@@ -85,6 +90,8 @@ fn answer_job<D: Desk, L: Ledger>(
         → IsWritten job.now (D.told desk.old).contents (D.told desk.new).contents s }
     ensures checked { IsTrue D.tells → job.now.mode ≡ modes.Check → (s : Summary) → result.outcome ≡ Done s
         → IsVerdict job.now (D.told desk.old).contents (D.told desk.new).contents s }
+    ensures ordered { IsTrue D.tells → (c : Course) → result.outcome ≡ Ordered c → IsOrdered job.now (D.told desk.old).contents (D.told desk.new).contents c }
+    ensures order { (c : Course) → result.outcome ≡ Ordered c → (job.now.mode ≡ modes.Queue c.order) × (steps.new ≡ steps.old) }
     ensures others { OthersAttached (D.told desk.old).register (D.told desk.new).register }
     ensures answered { IsAnswered D.told job.now desk.old desk.new result.outcome result.found.items }
     ensures few { length result.found.items ≤ most_lanes }
@@ -94,6 +101,7 @@ fn answer_job<D: Desk, L: Ledger>(
     match job.mode {
         Mode::Run => answer_run(alloc, job, desk, steps),
         Mode::Check => check_job(alloc, job, desk, steps),
+        Mode::Queue { order } => answer_queue(alloc, job, order, desk),
     }
 }
 
@@ -112,6 +120,18 @@ fn answer_run<D: Desk, L: Ledger>(
     ensures few { length result.found.items ≤ most_lanes }
 {
     nothing_kept(alloc, run_and_report(alloc, job, desk, steps))
+}
+
+/// Runs a job by the event queue, and puts its report line. Nothing is kept of its lane.
+fn answer_queue<D: Desk>(alloc: Global, job: &Job, order: u64, desk: &mut D) -> Answered
+    requires mode { job.now.mode ≡ modes.Queue order }
+    requires job { IsJob job.now }
+    requires unused { IsUnused (D.told desk.old).register (length job.now.stimuli) }
+    ensures answered { IsAnswered D.told job.now desk.old desk.new result.outcome result.found.items }
+    ensures few { length result.found.items ≤ most_lanes }
+{
+    let outcome = queue_job(alloc, job, order, desk);
+    nothing_kept(alloc, report(desk, outcome))
 }
 
 /// Runs a job, and puts its report line.
@@ -148,11 +168,14 @@ pub fn run<D: Desk, L: Ledger>(
 ) -> Outcome
     requires unused { IsUnused (D.told desk.old).register most_lanes }
 
-    // The headline, of a run and of a check.
+    // The headline, of a run, of a check and of a run of the queue.
     ensures written { IsTrue D.tells → (j : Job) → job (map string_bytes words.now) ≡ Some j → j.mode ≡ modes.Run → (s : Summary) → result ≡ Done s
         → IsWritten j (D.told desk.old).contents (D.told desk.new).contents s }
     ensures checked { IsTrue D.tells → (j : Job) → job (map string_bytes words.now) ≡ Some j → j.mode ≡ modes.Check → (s : Summary) → result ≡ Done s
         → IsVerdict j (D.told desk.old).contents (D.told desk.new).contents s }
+    ensures ordered { IsTrue D.tells → (j : Job) → job (map string_bytes words.now) ≡ Some j → (c : Course) → result ≡ Ordered c
+        → IsOrdered j (D.told desk.old).contents (D.told desk.new).contents c }
+    ensures order { (j : Job) → job (map string_bytes words.now) ≡ Some j → (c : Course) → result ≡ Ordered c → (j.mode ≡ modes.Queue c.order) × (steps.new ≡ steps.old) }
     ensures operations { (s : Summary) → result ≡ Done s → (steps.new ≡ steps.old + s.operations) × (s.operations ≤ s.size * s.settlings) }
 
     // Every answer has its cause.
@@ -187,11 +210,14 @@ pub fn answer<D: Desk, L: Ledger>(
 ) -> Answered
     requires unused { IsUnused (D.told desk.old).register most_lanes }
 
-    // The headline, of a run and of a check.
+    // The headline, of a run, of a check and of a run of the queue.
     ensures written { IsTrue D.tells → (j : Job) → job (map string_bytes words.now) ≡ Some j → j.mode ≡ modes.Run → (s : Summary) → result.outcome ≡ Done s
         → IsWritten j (D.told desk.old).contents (D.told desk.new).contents s }
     ensures checked { IsTrue D.tells → (j : Job) → job (map string_bytes words.now) ≡ Some j → j.mode ≡ modes.Check → (s : Summary) → result.outcome ≡ Done s
         → IsVerdict j (D.told desk.old).contents (D.told desk.new).contents s }
+    ensures ordered { IsTrue D.tells → (j : Job) → job (map string_bytes words.now) ≡ Some j → (c : Course) → result.outcome ≡ Ordered c
+        → IsOrdered j (D.told desk.old).contents (D.told desk.new).contents c }
+    ensures order { (j : Job) → job (map string_bytes words.now) ≡ Some j → (c : Course) → result.outcome ≡ Ordered c → (j.mode ≡ modes.Queue c.order) × (steps.new ≡ steps.old) }
     ensures operations { (s : Summary) → result.outcome ≡ Done s → (steps.new ≡ steps.old + s.operations) × (s.operations ≤ s.size * s.settlings) }
 
     // Every answer has its cause.

@@ -12,28 +12,31 @@ pub returns-in_err-put_wave : goal.returns-in_err-put_wave
 returns-in_err-put_wave g c =
     let i = c.loop-lane.invariant in
     let stimuli = c.args.job.now.stimuli in
+    let mode = c.args.job.now.mode in
     let lane = c.loop-lane.lane in
     let path = c.as_bytes.result.now in
     let here : slice_get stimuli lane ≡ Some path = c.get.ensures ∙ ap Some (sym c.as_bytes.ensures) in
-    let behind = waves_from (suc lane) (drop (suc lane) stimuli) in
-    rw (split_at i.0 (waves_from 0 stimuli) lane stimuli path here i.1)
-    (put_then c.put_law.ensures.parts _ _ _ i.0 (wave_line lane path ++ behind) _ _ i.2
-    (failed_before _ _ (wave_line lane path) behind _ _ c.from_residual.ensures.0 c.in_err-put_wave.ensures))
+    let behind = waves_from mode (suc lane) (drop (suc lane) stimuli) in
+    rw (split_at mode i.0 (waves_from mode 0 stimuli) lane stimuli path here i.1)
+    (put_then c.put_law.ensures.parts _ _ _ i.0 (wave_line mode lane path ++ behind) _ _ i.2
+    (failed_before _ _ (wave_line mode lane path) behind _ _ c.from_residual.ensures.0 c.in_err-put_wave.ensures))
 
 pub loop-lane-preserved : goal.loop-lane-preserved
 loop-lane-preserved g c =
     let i = c.loop-lane.invariant in
     let stimuli = c.args.job.now.stimuli in
+    let mode = c.args.job.now.mode in
     let lane = c.loop-lane.lane in
     let path = c.as_bytes.result.now in
     let here : slice_get stimuli lane ≡ Some path = c.get.ensures ∙ ap Some (sym c.as_bytes.ensures) in (
-      i.0 ++ wave_line lane path,
-      one_more i.0 (waves_from 0 stimuli) lane stimuli path here i.1,
-      moved _ _ _ _ (put_then c.put_law.ensures.parts _ _ _ i.0 (wave_line lane path) _ _ i.2 c.in_ok-put_wave.ensures),
+      i.0 ++ wave_line mode lane path,
+      one_more mode i.0 (waves_from mode 0 stimuli) lane stimuli path here i.1,
+      moved _ _ _ _ (put_then c.put_law.ensures.parts _ _ _ i.0 (wave_line mode lane path) _ _ i.2 c.in_ok-put_wave.ensures),
     )
 
 pub returns : goal.returns
 returns g c =
     let i = c.loop-lane.invariant in
     let stimuli = c.args.job.now.stimuli in
-    rw (← none_left i.0 (waves_from 0 stimuli) c.loop-lane.lane stimuli (omega (arith, c.loop-lane-test.false)) i.1) (moved _ _ _ _ i.2)
+    let mode = c.args.job.now.mode in
+    rw (← none_left mode i.0 (waves_from mode 0 stimuli) c.loop-lane.lane stimuli (omega (arith, c.loop-lane-test.false)) i.1) (moved _ _ _ _ i.2)

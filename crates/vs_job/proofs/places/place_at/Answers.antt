@@ -1,6 +1,7 @@
-use Rattle.std.proofs.Common.{ℕ, ◌+◌, ◌-◌, List, get_or, ap, sym, ◌∙◌, arith}
-use Rattle.vs_job.specs.Places.{place, places, vcd_path}
-use Rattle.vs_job.proofs.Listed.{IsBehind, behind_stimuli, place-design, place-stimulus, place-vcd}
+use Rattle.std.proofs.Common.{ℕ, ◌+◌, ◌-◌, List, ◌++◌, get_or, ap, sym, ◌∙◌, arith}
+use Rattle.vs_job.specs.Places.{place, places}
+use Rattle.vs_job.specs.Paths.{ending}
+use Rattle.vs_job.proofs.Listed.{IsBehind, behind_stimuli, place-design, place-stimulus, place-waveform}
 use Rattle.vs_job.proofs.places.place_at.Goals as goal
 
 pub returns-then-n-eq0 : goal.returns-then-n-eq0
@@ -14,4 +15,4 @@ returns-then-n-lanes c = λ d.
 pub returns : goal.returns
 returns c = λ d.
     let behind : IsBehind c.args.job.now c.args.n = behind_stimuli c.args.job.now c.args.n c.requires.place (omega arith) in
-    place-vcd c.args.job.now c.args.n (c.args.n - 1 - c.len-lanes.result) d _ behind.run (omega arith) c.get-2.ensures ∙ ap (λ (path : List ℕ). place (2000 + (c.args.n - 1 - c.len-lanes.result)) (vcd_path path)) (sym c.as_str-2.ensures)
+    place-waveform c.args.job.now c.args.n (c.args.n - 1 - c.len-lanes.result) d _ behind.waves (omega arith) c.get-2.ensures ∙ ap (λ (path : List ℕ). place (2000 + (c.args.n - 1 - c.len-lanes.result)) (path ++ ending c.args.job.now.mode)) (sym c.as_str-2.ensures)

@@ -1,13 +1,8 @@
-use Rattle.std.proofs.Common.{◌≡◌, ℕ, List, get_or, ap, sym, ◌∙◌, arith}
-use Rattle.vs_job.proofs.Counts.{count_value-none, count_value-some}
+use Rattle.std.proofs.Common.{sym, ◌∙◌, arith}
+use Rattle.vs_job.proofs.Ranges.{count_value-range}
 use Rattle.vs_job.proofs.words.count_value.Goals as goal
 
-pub returns-in_err-count : goal.returns-in_err-count
-returns-in_err-count c =
-    let first : get_or c.args.digits.now 0 0 ≡ c.in_ok-first.first.now = ap (λ (xs : List ℕ). get_or xs 0 0) (sym c.as_bytes.ensures.value ∙ c.in_ok-first.ensures.cases.0) in
-    c.from_residual-in_err-count.ensures ∙ count_value-none c.args.most c.args.digits.now c.parse.result (omega arith) c.parse.ensures.value.0 (λ e. c.if-first-eq43.false (sym first ∙ e)) (sym c.ok.ensures.value ∙ c.in_err-count.was)
-
-pub returns-then-count-most : goal.returns-then-count-most
-returns-then-count-most c =
-    let first : get_or c.args.digits.now 0 0 ≡ c.in_ok-first.first.now = ap (λ (xs : List ℕ). get_or xs 0 0) (sym c.as_bytes.ensures.value ∙ c.in_ok-first.ensures.cases.0) in
-    count_value-some c.args.most c.args.digits.now c.parse.result c.in_ok-count.count c.parse.ensures.value.0 (λ e. c.if-first-eq43.false (sym first ∙ e)) (λ e. c.if-first-eq48.false (sym first ∙ e)) (sym c.ok.ensures.value ∙ c.in_ok-count.was) c.if-count-ge1.true c.if-count-most.true
+pub overflow_cast-result : goal.overflow_cast-result
+overflow_cast-result c =
+    let range = count_value-range c.from.result c.args.digits.now c.in_ok-count.count (sym c.number_value.ensures ∙ c.in_ok-count.was) in
+    omega arith

@@ -3,7 +3,6 @@ use Rattle.vs_flat.specs.Arena.{Arena}
 use Rattle.vs_flat.specs.DesignOf.{design_of}
 use Rattle.vs_design.specs.Sizes.{size as size_of}
 use Rattle.vs_program.specs.declared.compiled.Span.{Span}
-use Rattle.vs_engine.specs.Lanes.{Running}
 use Rattle.vs_misses.specs.Watch.{AllFit}
 use Rattle.vs_rounds.specs.Checked.{AreCheckParts}
 use Rattle.vs_setup.specs.Loaded.{watched}
@@ -14,7 +13,7 @@ output_spans-requires g c = rw c.flat.ensures.same c.flat.ensures.lawful
 
 pub new-requires-clause-fit : goal.new-requires-clause-fit
 new-requires-clause-fit g c =
-    let outputs_are : c.in_ok-outputs.outputs.items ≡ watched c.args.opened.loaded.accepted = rw (c.outputs.ensures, c.flat.ensures.same, c.typed-typed.ensures) at c.in_ok-outputs.ensures.spans in
+    let outputs_are : c.in_ok-outputs.outputs.items ≡ watched c.args.opened.accepted = rw (c.outputs.ensures, c.flat.ensures.same, c.typed-typed.ensures) at c.in_ok-outputs.ensures.spans in
     subst (λ (os : List Span). AllFit os c.args.opened.drive) (sym outputs_are) c.requires.fit
 
 pub new-requires-clause-few : goal.new-requires-clause-few
@@ -24,11 +23,11 @@ pub returns-clause-stimuli : goal.returns-clause-stimuli
 returns-clause-stimuli g c = c.in_ok-checker.ensures.stimuli
 
 pub returns-clause-engine : goal.returns-clause-engine
-returns-clause-engine g c = c.in_ok-checker.ensures.engine ∙ c.into_engine.ensures
+returns-clause-engine g c = c.in_ok-checker.ensures.engine
 
 pub returns-clause-outputs : goal.returns-clause-outputs
 returns-clause-outputs g c =
-    let outputs_are : c.in_ok-outputs.outputs.items ≡ watched c.args.opened.loaded.accepted = rw (c.outputs.ensures, c.flat.ensures.same, c.typed-typed.ensures) at c.in_ok-outputs.ensures.spans in
+    let outputs_are : c.in_ok-outputs.outputs.items ≡ watched c.args.opened.accepted = rw (c.outputs.ensures, c.flat.ensures.same, c.typed-typed.ensures) at c.in_ok-outputs.ensures.spans in
     c.in_ok-checker.ensures.outputs ∙ outputs_are
 
 pub returns-clause-none : goal.returns-clause-none
@@ -36,9 +35,8 @@ returns-clause-none g c = c.in_ok-checker.ensures.none
 
 pub returns-clause-ready : goal.returns-clause-ready
 returns-clause-ready g c = λ d clock parts.
-    let outputs_are : c.in_ok-outputs.outputs.items ≡ watched c.args.opened.loaded.accepted = rw (c.outputs.ensures, c.flat.ensures.same, c.typed-typed.ensures) at c.in_ok-outputs.ensures.spans in
-    c.in_ok-checker.ensures.ready d clock (subst (λ (e : Running g.row.W.Denot). AreCheckParts d clock c.args.opened.drive e.program c.in_ok-outputs.outputs.items) (sym c.into_engine.ensures)
-    (subst (λ (os : List Span). AreCheckParts d clock c.args.opened.drive c.args.opened.loaded.engine.program os) (sym outputs_are) parts))
+    let outputs_are : c.in_ok-outputs.outputs.items ≡ watched c.args.opened.accepted = rw (c.outputs.ensures, c.flat.ensures.same, c.typed-typed.ensures) at c.in_ok-outputs.ensures.spans in
+    c.in_ok-checker.ensures.ready d clock (subst (λ (os : List Span). AreCheckParts d clock c.args.opened.drive c.args.engine.program os) (sym outputs_are) parts)
 
 pub returns-clause-size : goal.returns-clause-size
 returns-clause-size g c = c.size-size.ensures.is ∙ ap (λ (f : Arena). size_of (design_of f)) c.typed-typed.ensures

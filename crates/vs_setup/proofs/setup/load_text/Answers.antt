@@ -5,7 +5,7 @@ use Rattle.vs_setup.proofs.Opening.{unaccepted}
 use Rattle.vs_setup.proofs.setup.load_text.Goals as goal
 
 pub returns-in-Err-clause-refused : goal.returns-in-Err-clause-refused
-returns-in-Err-clause-refused g c =
+returns-in-Err-clause-refused c =
     let job = c.args.job.now in
     let told : c.unaccepted.result ≡ accept_error (length job.head) c.in-Err.error =
     c.unaccepted.ensures ∙ ap (λ (head : List ℕ). accept_error (length head) c.in-Err.error) c.as_bytes-in-Err.ensures in

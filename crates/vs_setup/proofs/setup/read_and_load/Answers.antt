@@ -21,8 +21,8 @@ returns-clause-loaded g c =
     let slice = c.as_slice.result.now in
     let behind : IsBehind tells job.head (old.files job.design) slice = rw c.as_slice.ensures.value
     (rw (c.as_bytes.ensures, path) at c.in_ok-text.ensures.text) in
-    on_ok (λ l. IsLoaded g.W.Word.lane g.W.Word.LANES (demands job.mode) slice job.top job.clock l.accepted l.ports l.engine) (λ l. IsDesignLoaded g.W.Word.lane g.W.Word.LANES tells job old l.accepted l.ports l.engine) c.load_text.result c.load_text.ensures.loaded
-    (λ l h. loaded_behind g.W.Word.lane g.W.Word.LANES tells job old slice l.accepted l.ports l.engine behind h)
+    on_ok (λ l. IsLoaded (demands job.mode) slice job.top job.clock l.accepted l.ports) (λ l. IsDesignLoaded tells job old l.accepted l.ports) c.load_text.result c.load_text.ensures.loaded
+    (λ l h. loaded_behind tells job old slice l.accepted l.ports behind h)
 
 pub returns-clause-unprepared : goal.returns-clause-unprepared
 returns-clause-unprepared g c =

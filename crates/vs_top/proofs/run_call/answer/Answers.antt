@@ -1,5 +1,6 @@
 use Rattle.std.proofs.Common.{sym, subst, ◌∙◌}
 use Rattle.vs_job.specs.declared.job.Job.{Job}
+use Rattle.vs_top.specs.Ordered.{IsOrdered}
 use Rattle.vs_top.specs.Refused.{IsRefusedJob}
 use Rattle.vs_top.proofs.Refusals.{some_none, some_same}
 use Rattle.vs_top.proofs.run_call.answer.Goals as goal
@@ -15,3 +16,8 @@ returns-in-Some-clause-checked g c = λ told j called mode s is_done.
 
 pub returns-in-Some-clause-operations : goal.returns-in-Some-clause-operations
 returns-in-Some-clause-operations g c = λ s is. c.bench.ensures.operations s (sym c.nothing_kept.ensures.outcome ∙ is)
+
+pub returns-in-Ok-clause-ordered : goal.returns-in-Ok-clause-ordered
+returns-in-Ok-clause-ordered g c = λ told j called course is.
+    let same = some_same _ j c.in-Ok.job called c.in-Ok.ensures.ok in
+    subst (λ (k : Job). IsOrdered k (g.D.Desk.told c.args.desk.now).contents (g.D.Desk.told c.answer_job.new.desk).contents course) (sym same) (c.answer_job.ensures.ordered told course is)

@@ -1,8 +1,9 @@
-use Rattle.std.proofs.Common.{◌∷◌}
+use Rattle.std.proofs.Common.{◌+◌, ◌∷◌, refl}
 use Rattle.vs_net.specs.Queue.{Rise}
 use Rattle.vs_flat.specs.DesignOf.{design_of}
 use Rattle.vs_queue.proofs.Ending.{still_under_way}
 use Rattle.vs_queue.proofs.Executed.{on_ok}
+use Rattle.vs_queue.proofs.Wholes.{whole_as}
 use Rattle.vs_queue.proofs.machine.Machine.rise.Goals as goal
 
 pub settle-requires-clause-under_way : goal.settle-requires-clause-under_way
@@ -20,3 +21,10 @@ settle-requires-2-clause-under_way c =
 pub returns-clause-reached : goal.returns-clause-reached
 returns-clause-reached c =
     on_ok c.settle-2.result c.settle-2.ensures.reached (λ h from order slots r. h from order slots (c.in_ok-begin_slot.ensures.reached from order Rise slots tt (c.in_ok-settle.ensures.reached from order (Rise ∷ slots) r)))
+
+pub returns-clause-whole : goal.returns-clause-whole
+returns-clause-whole c = λ count w.
+    let d = design_of c.args.self.now.typed.now in
+    let k = c.args.self.now.clocks.now.bit in
+    let first = whole_as d k count count c.args.run.now.ends c.settle.new.run.ends refl c.in_ok-settle.ensures.ends w in
+    on_ok c.settle-2.result c.settle-2.ensures.ends (λ is. whole_as d k (count + 1) (count + 1) c.begin_slot.new.run.ends c.settle-2.new.run.ends refl is (c.in_ok-begin_slot.ensures.whole count first))

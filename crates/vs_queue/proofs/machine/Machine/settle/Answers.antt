@@ -1,4 +1,4 @@
-use Rattle.std.proofs.Common.{true, false, length, sym, ap, ◌∙◌, subst}
+use Rattle.std.proofs.Common.{true, false, length, refl, sym, ap, ◌∙◌, subst}
 use Rattle.vs_writes.specs.Held.{state_of}
 use Rattle.vs_queue.specs.Runs.{IsCopied}
 use Rattle.vs_flat.specs.DesignOf.{design_of}
@@ -12,6 +12,7 @@ turns-init c =
       copied = c.requires.copied;
       few = few_first (design_of c.args.self.now.typed.now) c.args.self.now.clocks.now c.requires.machine.accepted c.args.run.now.events c.args.run.now.seed c.args.run.now.ends c.args.run.now.steps c.requires.under_way;
       reached = λ from order slots r. r;
+      ends = refl;
     }
 
 pub turn-requires-clause-running : goal.turn-requires-clause-running
@@ -33,6 +34,7 @@ turns-preserved c =
           (copied_on d k.bit c.turns.run.events c.turn.new.events c.turns.run.shadow.items c.turn.new.shadow i.copied c.in_ok-turn.ensures.running c.in_ok-turn.ensures.shadow (c.turn.auto.shadow ∙ ap length c.as_mut_slice.ensures.value));
       few = few_turn d k c.turns.run.events c.turn.new.events c.turns.run.seed i.few (turn_is (network_of (design_of c.args.self.now.typed.now) c.args.self.now.clocks.now.bit) c.turns.run.events c.turn.new.events c.turns.run.seed c.in_ok-turn.field-0 true c.if-branch.true c.in_ok-turn.ensures.turn);
       reached = turn_reached (network_of d k.bit) c.args.run.now.events c.turns.run.events c.turn.new.events c.args.run.now.seed c.turns.run.seed c.next_seed-run.result c.args.run.now.ends c.turns.run.ends c.args.run.now.steps c.turns.run.steps c.saturating_add-run.result i.reached (turn_is (network_of (design_of c.args.self.now.typed.now) c.args.self.now.clocks.now.bit) c.turns.run.events c.turn.new.events c.turns.run.seed c.in_ok-turn.field-0 true c.if-branch.true c.in_ok-turn.ensures.turn) c.next_seed-run.ensures (counted_on c.saturating_add-run.result c.turns.run.steps c.saturating_add-run.ensures);
+      ends = i.ends;
     }
 
 pub turns-smaller : goal.turns-smaller
@@ -48,4 +50,5 @@ returns c =
           (copied_on d k.bit c.turns.run.events c.turn.new.events c.turns.run.shadow.items c.turn.new.shadow i.copied c.in_ok-turn.ensures.running c.in_ok-turn.ensures.shadow (c.turn.auto.shadow ∙ ap length c.as_mut_slice.ensures.value));
       reached = over_reached (network_of d k.bit) c.args.run.now.events c.turns.run.events c.turn.new.events c.args.run.now.seed c.turns.run.seed c.args.run.now.ends c.turns.run.ends c.args.run.now.steps c.turns.run.steps i.reached (turn_is (network_of (design_of c.args.self.now.typed.now) c.args.self.now.clocks.now.bit) c.turns.run.events c.turn.new.events c.turns.run.seed c.in_ok-turn.field-0 false c.if-branch.false c.in_ok-turn.ensures.turn);
       ended = over_ended d k.bit c.turns.run.events c.turn.new.events c.turns.run.seed (turn_is (network_of (design_of c.args.self.now.typed.now) c.args.self.now.clocks.now.bit) c.turns.run.events c.turn.new.events c.turns.run.seed c.in_ok-turn.field-0 false c.if-branch.false c.in_ok-turn.ensures.turn) (c.in_ok-turn.ensures.rested c.if-branch.false);
+      ends = i.ends;
     }

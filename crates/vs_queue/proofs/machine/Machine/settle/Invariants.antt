@@ -1,4 +1,4 @@
-use Rattle.std.proofs.Common.{ℕ, List, []}
+use Rattle.std.proofs.Common.{◌≡◌, ℕ, List, []}
 use Rattle.vs_net.specs.Queue.{Queue, Slot}
 use Rattle.vs_design.specs.Networks.{network_of}
 use Rattle.vs_flat.specs.DesignOf.{design_of}
@@ -19,6 +19,7 @@ invariant-turns l =
       copied : IsCopied d clock l.run.events l.run.shadow.items;
       few : (slots : List Slot) × AreFew n (most_by d l.self.clocks.now) (queue_of l.run.events slots);
       reached : (from : Queue) (order : ℕ) (slots : List Slot) → IsReached n from order (queue_of l.initial.run.events slots) l.initial.run.seed l.initial.run.ends l.initial.run.steps → IsReached n from order (queue_of l.run.events slots) l.run.seed l.run.ends l.run.steps;
+      ends : l.run.ends ≡ l.initial.run.ends;
     }
 
 abbrev pub decreases-turns : goal.decreases-turns

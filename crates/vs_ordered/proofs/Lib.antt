@@ -1,0 +1,4 @@
+pub mod Giving
+pub mod Rounds
+pub mod Valid
+pub mod Same

@@ -1,0 +1,123 @@
+-- The vectors of a valid stimulus are what a run asks of them.
+use Rattle.std.proofs.Common.{◌≡◌, ◌≤◌, ◌-◌, ◌∙◌, ◌==◌, ◌&&◌, ◌||◌, ℕ, suc, Bool, true, false, not, if◌then◌else◌, List, [], ◌∷◌, length, map, filter, sym, ap, refl, subst, arith, Option, Some, None, All, nat_lt, nat_le}
+use Rattle.std.specs.Prelude.{is_some}
+use Rattle.std.specs.List.{list_all}
+use Rattle.std.proofs.lemmas.Bool.{and_parts}
+use Rattle.std.proofs.lemmas.Option.{same_Some}
+use Rattle.std.proofs.lemmas.List.Elements.{All-cons, All-nil}
+use Rattle.vs_four.specs.declared.Range.{Range}
+use Rattle.vs_four.specs.Selects.{range_length, is_descending}
+use Rattle.vs_net.specs.Network.{State}
+use Rattle.vs_net.specs.Laws.{IsKnownVector, AreKnownResets}
+use Rattle.vs_design.specs.Expressions.{Signal, range_or_one, words_length, signal_length}
+use Rattle.vs_design.specs.Designs.{Design}
+use Rattle.vs_design.specs.Elaborated.{is_lawful_range, is_declared, are_lawful_words, is_lawful_memory}
+use Rattle.vs_design.specs.Footprints.{is_memory, is_variable}
+use Rattle.vs_design.specs.Networks.{network_of}
+use Rattle.vs_design.specs.Resets.{reset_inputs}
+use Rattle.vs_design.specs.Accepted.{IsAcceptedDesign}
+use Rattle.vs_clock.specs.Clocked.{Clocked}
+use Rattle.vs_queue.specs.Driven.{AreVectors}
+use Rattle.vs_queue.specs.Machines.{IsAcceptedBy}
+use Rattle.vs_stim.specs.declared.input.Input.{Input}
+use Rattle.vs_stim.specs.Header.{IsInput, lengths}
+use Rattle.vs_stim.specs.Laws.{known_in_resets}
+use Rattle.vs_stim.specs.Row.{sizes}
+use Rattle.vs_rounds.specs.Drives.{Vector, vector_state}
+use Rattle.vs_rounds.specs.Inputs.{AreDataInputs, data_inputs, input_of, inputs_among, is_data_input}
+use Rattle.vs_rounds.proofs.Known.{vector_is_known}
+use Rattle.vs_rounds.proofs.Resets.{all_resets_known}
+use Rattle.vs_ordered.specs.Traced.{AreSized, AreValid}
+use Rattle.vs_ordered.proofs.Giving.{vectors_given}
+
+-- ---- data inputs of 1 to 64 bits
+
+one_or_more : (r : Option Range) → 1 ≤ range_or_one r
+one_or_more None = omega arith
+one_or_more (Some r) = by (is_descending r)
+  where
+    by : (down : Bool) → 1 ≤ (if down then suc (r.left - r.right) else suc (r.right - r.left))
+    by true = omega arith
+    by false = omega arith
+
+le_of : (m n : ℕ) → nat_le m n ≡ true → m ≤ n
+le_of m n h = grind arith
+
+at_most_64 : (r : Option Range) → is_lawful_range r ≡ true → range_or_one r ≤ 64
+at_most_64 None h = omega arith
+at_most_64 (Some r) h = le_of (range_length r) 64 (and_parts (nat_le r.left 65535 && nat_le r.right 65535) (nat_le (range_length r) 64) h).1
+
+few_bits : (d : Design) (s : Signal) → is_declared d s ≡ true → range_or_one s.range ≤ 64
+few_bits d s h =
+    let first = (and_parts (nat_lt s.scope (length d.scopes) && is_lawful_range s.range) (not s.input || (s.net && (s.scope == 0))) h).0 in
+    at_most_64 s.range (and_parts (nat_lt s.scope (length d.scopes)) (is_lawful_range s.range) first).1
+
+-- a memory is a variable, so an input is none
+plain_input : (s : Signal) → is_lawful_memory s ≡ true → s.input ≡ true → signal_length s ≡ range_or_one s.range
+plain_input s h e = long s.words (none (is_some s.words) s.net s.input (and_parts (are_lawful_words s.words) (not (is_memory s) || is_variable s) h).1 e)
+  where
+    none : (memory net input : Bool) → (not memory || (not net && not input)) ≡ true → input ≡ true → memory ≡ false
+    none false net input h e = refl
+    none true net false h e = cc
+    none true true true h e = cc
+    none true false true h e = cc
+
+    long : (words : Option Range) → is_some words ≡ false → words_length words (range_or_one s.range) ≡ range_or_one s.range
+    long None e = refl
+    long (Some r) e = cc
+
+an_input : (d : Design) (resets : List ℕ) (clock : ℕ) (s : Signal) → is_declared d s ≡ true → is_lawful_memory s ≡ true → is_data_input clock s ≡ true → IsInput (input_of resets s)
+an_input d resets clock s declared memory input =
+    let long = plain_input s memory (and_parts s.input (not (s.first == clock)) input).0 in
+    record { some = omega (arith, long, one_or_more s.range); at_most_64 = omega (arith, long, few_bits d s declared) }
+
+inputs_of : (d : Design) (resets : List ℕ) (clock : ℕ) (ss : List Signal) → list_all (is_declared d) ss ≡ true → list_all is_lawful_memory ss ≡ true → All IsInput (inputs_among resets clock ss)
+inputs_of d resets clock [] h m = All-nil IsInput
+inputs_of d resets clock (s ∷ ss) h m =
+    let declared = and_parts (is_declared d s) (list_all (is_declared d) ss) h in
+    let memories = and_parts (is_lawful_memory s) (list_all is_lawful_memory ss) m in
+    here (is_data_input clock s) (λ input. an_input d resets clock s declared.0 memories.0 input) (inputs_of d resets clock ss declared.1 memories.1)
+  where
+    here : (c : Bool) → (c ≡ true → IsInput (input_of resets s)) → All IsInput (inputs_among resets clock ss)
+        → All IsInput (map (input_of resets) (if c then (s ∷ filter (is_data_input clock) ss) else filter (is_data_input clock) ss))
+    here true few others = All-cons IsInput (input_of resets s) (inputs_among resets clock ss) (few refl) others
+    here false few others = others
+
+are_inputs : (d : Design) (name : Option (List ℕ)) (a : IsAcceptedDesign d name) → AreDataInputs d a.clock.first (data_inputs d a.clock.first)
+are_inputs d name a = record { each = inputs_of d (reset_inputs d a.clock.first) a.clock.first d.signals a.lawful.declared a.lawful.memories; inputs_are = refl }
+
+-- ---- the clock that was found
+
+pub clock_is : (d : Design) (c : Clocked) (h : IsAcceptedBy d c) → h.accepted.clock.first ≡ c.bit
+clock_is d c h = ap (λ (s : Signal). s.first) (same_Some h.accepted.clock h.clock.signal (sym h.accepted.clock_found ∙ h.clock.is)) ∙ sym h.clock.bit_is
+
+-- vectors of the inputs' lengths can be driven
+abbrev AreDriven : Design → List Vector → ℕ → Type 0
+AreDriven d vectors clock = AreSized d clock vectors → AreVectors d clock vectors (map (vector_state d clock) vectors)
+
+pub all_given : (d : Design) (c : Clocked) → IsAcceptedBy d c → (vectors : List Vector) → AreSized d c.bit vectors → AreVectors d c.bit vectors (map (vector_state d c.bit) vectors)
+all_given d c h vectors = subst (AreDriven d vectors) (clock_is d c h) (vectors_given d h.name h.accepted vectors)
+
+-- those of a valid stimulus give values that are known as a run asks for it
+pub record IsAsked (d : Design) (vectors : List Vector) (first : Vector) (later : List Vector) (clock : ℕ) : Type 0 where
+  pub given : AreVectors d clock vectors (vector_state d clock first ∷ map (vector_state d clock) later)
+  pub known : IsKnownVector (network_of d clock) (vector_state d clock first)
+  pub resets : AreKnownResets (network_of d clock) (map (vector_state d clock) later)
+
+asked : (d : Design) (name : Option (List ℕ)) (a : IsAcceptedDesign d name) (vectors : List Vector) (first : Vector) (later : List Vector)
+    → AreSized d a.clock.first vectors → AreValid d a.clock.first vectors first later → IsAsked d vectors first later a.clock.first
+asked d name a vectors first later sized valid =
+    let clock = a.clock.first in
+    let inputs = data_inputs d clock in
+    let fits : AreSized d clock (first ∷ later) = subst (AreSized d clock) valid.vectors_are sized in
+    record {
+      given = subst (λ (vs : List Vector). AreVectors d clock vs (vector_state d clock first ∷ map (vector_state d clock) later)) (sym valid.vectors_are) (vectors_given d name a (first ∷ later) fits);
+      known = vector_is_known d name a inputs first (are_inputs d name a) (fits 0 first (omega arith)) valid.known;
+      resets = all_resets_known d name a inputs later (are_inputs d name a) (λ k v h. fits (suc k) v (omega (arith, h))) valid.resets;
+    }
+
+abbrev Asks : Design → List Vector → Vector → List Vector → ℕ → Type 0
+Asks d vectors first later clock = AreSized d clock vectors → AreValid d clock vectors first later → IsAsked d vectors first later clock
+
+pub all_asked : (d : Design) (c : Clocked) → IsAcceptedBy d c → (vectors : List Vector) (first : Vector) (later : List Vector) → AreSized d c.bit vectors → AreValid d c.bit vectors first later → IsAsked d vectors first later c.bit
+all_asked d c h vectors first later = subst (Asks d vectors first later) (clock_is d c h) (asked d h.name h.accepted vectors first later)

@@ -1,0 +1,35 @@
+use Rattle.std.proofs.Common.{◌≡◌, ◌+◌, refl, subst, arith}
+use Rattle.vs_net.specs.LevelRun.{below, each_in}
+use Rattle.vs_design.specs.Networks.{network_of}
+use Rattle.vs_flat.specs.DesignOf.{design_of}
+use Rattle.vs_queue.specs.Sweeps.{HasTaken, run_turn}
+use Rattle.vs_queue.proofs.Taken.{taken_none, taken_next}
+use Rattle.vs_queue.proofs.machine.Machine.run_all.Goals as goal
+
+pub loop-p-init : goal.loop-p-init
+loop-p-init c =
+    let d = design_of c.args.self.now.typed.now in
+    let k = c.args.self.now.clocks.now.bit in
+    let n = network_of d k in
+    taken_none d k (λ q. each_in (run_turn n) n q (below 0)) c.args.events.now c.args.shadow.now c.requires.copied (λ slots. refl)
+
+pub run_one-requires-clause-copied : goal.run_one-requires-clause-copied
+run_one-requires-clause-copied c = c.loop-p.invariant.copied
+
+pub loop-p-preserved : goal.loop-p-preserved
+loop-p-preserved c =
+    let d = design_of c.args.self.now.typed.now in
+    let k = c.args.self.now.clocks.now.bit in
+    let n = network_of d k in
+    taken_next d k (run_turn n) c.loop-p.p c.args.events.now c.loop-p.events c.run_one.new.events c.loop-p.shadow c.run_one.new.shadow c.loop-p.invariant c.in_ok-run_one.ensures
+
+pub returns : goal.returns
+returns c = λ order.
+    let d = design_of c.args.self.now.typed.now in
+    let k = c.args.self.now.clocks.now.bit in
+    let n = network_of d k in
+    let l = c.loop-p-test.false in
+    let m = c.loop-p.auto.p-end in
+    let w = c.writer_count-p-end.ensures in
+    let whole : c.loop-p.p ≡ n.count = omega (arith, l, m, w) in
+    subst (λ j. HasTaken d k (λ q. each_in (run_turn n) n q (below j)) c.args.events.now c.loop-p.events c.loop-p.shadow) whole c.loop-p.invariant

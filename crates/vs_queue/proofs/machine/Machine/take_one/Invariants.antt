@@ -1,0 +1,20 @@
+use Rattle.std.proofs.Common.{List, [], length, get_or}
+use Rattle.vs_net.specs.Queue.{Slot}
+use Rattle.vs_design.specs.Networks.{network_of}
+use Rattle.vs_events.specs.Held.{queue_of}
+use Rattle.vs_flat.specs.DesignOf.{design_of}
+use Rattle.vs_queue.specs.Runs.{IsCopied}
+use Rattle.vs_queue.proofs.LevelTurns.{AreLeft}
+use Rattle.vs_queue.proofs.machine.Machine.take_one.Given as goal
+
+abbrev pub invariant-updates : goal.invariant-updates
+invariant-updates l =
+    let d = design_of l.self.typed.now in
+    let clock = l.self.clocks.now.bit in
+    record {
+      copied : IsCopied d clock l.events l.shadow;
+      left : (slots : List Slot) → AreLeft (network_of d clock) l.p (queue_of l.initial.events slots) (queue_of l.events slots);
+    }
+
+abbrev pub decreases-updates : goal.decreases-updates
+decreases-updates l = length (get_or l.events.active l.p [])

@@ -1,0 +1,166 @@
+//! The parts of a slot in a run in level order.
+
+ghost use Rattle.std.specs.Prelude.{◌≡◌, List, ℕ, true, OnOk};
+ghost use Rattle.vs_four.specs.declared.Bit4.{Bit4};
+ghost use Rattle.vs_net.specs.LevelRun.{Activates, Pass, Runs, Starts, Takes, sweep, sweeps};
+ghost use Rattle.vs_design.specs.Levels.{is_level_order};
+ghost use Rattle.vs_design.specs.Networks.{network_of};
+ghost use Rattle.vs_flat.specs.DesignOf.{design_of};
+ghost use Rattle.vs_queue.specs.Machines.{IsMachine};
+ghost use Rattle.vs_queue.specs.Running.{IsRunning};
+ghost use Rattle.vs_queue.specs.Runs.{IsCopied};
+ghost use Rattle.vs_queue.specs.Sweeps.{HasTaken, IsCalm, waiting_parts, first_parts, slot_parts};
+ghost use Rattle.vs_queue.specs.Turns.{IsRested, IsSpent};
+
+use crate::first::spare_count;
+use crate::laws::keeping_law;
+use crate::machine::Machine;
+use std::alloc::AllocError;
+use vs_design::lawful_law;
+use vs_events::{Events, step_law};
+use vs_flat::trees_law;
+use vs_four::Bit4;
+use vs_level::Order;
+
+impl Machine<'_> {
+    /// How many processes there are: those of the design, its inputs, and a clock that is none of its bits.
+    fn writer_count(&self) -> u32
+        requires machine { IsMachine self.now.typed.now self.now.clocks.now self.now.wiring.now }
+        ensures { result ≡ (network_of (design_of self.now.typed.now) self.now.clocks.now.bit).count }
+    {
+        trees_law();
+        let flat = self.typed.flat();
+        let inputs = flat.top_inputs().len() as u32;
+        flat.process_count() + inputs + spare_count(flat, self.clocks.bit())
+    }
+
+    /// Each block starts.
+    fn start_all(&self, events: &mut Events, shadow: &mut [Bit4]) -> Result<(), AllocError>
+        requires machine { IsMachine self.now.typed.now self.now.clocks.now self.now.wiring.now }
+        requires copied { IsCopied (design_of self.now.typed.now) self.now.clocks.now.bit events.old shadow.old }
+        ensures { (order : List ℕ) → OnOk result (HasTaken (design_of self.now.typed.now) self.now.clocks.now.bit (λ q. sweep (network_of (design_of self.now.typed.now) self.now.clocks.now.bit) order q Starts) events.old events.new shadow.new) }
+    {
+        for p in 0..self.writer_count() {
+            self.start_one(events, shadow, p)?;
+        }
+        Ok(())
+    }
+
+    /// The active updates are applied, writer by writer.
+    fn take_all(&self, events: &mut Events, shadow: &mut [Bit4]) -> Result<(), AllocError>
+        requires machine { IsMachine self.now.typed.now self.now.clocks.now self.now.wiring.now }
+        requires copied { IsCopied (design_of self.now.typed.now) self.now.clocks.now.bit events.old shadow.old }
+        ensures { (order : List ℕ) → OnOk result (HasTaken (design_of self.now.typed.now) self.now.clocks.now.bit (λ q. sweep (network_of (design_of self.now.typed.now) self.now.clocks.now.bit) order q Takes) events.old events.new shadow.new) }
+    {
+        for p in 0..self.writer_count() {
+            self.take_one(events, shadow, p)?;
+        }
+        Ok(())
+    }
+
+    /// The due clocked blocks run.
+    fn run_all(&self, events: &mut Events, shadow: &mut [Bit4]) -> Result<(), AllocError>
+        requires machine { IsMachine self.now.typed.now self.now.clocks.now self.now.wiring.now }
+        requires copied { IsCopied (design_of self.now.typed.now) self.now.clocks.now.bit events.old shadow.old }
+        ensures { (order : List ℕ) → OnOk result (HasTaken (design_of self.now.typed.now) self.now.clocks.now.bit (λ q. sweep (network_of (design_of self.now.typed.now) self.now.clocks.now.bit) order q Runs) events.old events.new shadow.new) }
+    {
+        for p in 0..self.writer_count() {
+            self.run_one(events, shadow, p)?;
+        }
+        Ok(())
+    }
+
+    /// A pass over the level order: each assign and combinational block that is due, after all that feed it.
+    fn pass(
+        &self,
+        order: &Order,
+        events: &mut Events,
+        shadow: &mut [Bit4],
+    ) -> Result<(), AllocError>
+        requires machine { IsMachine self.now.typed.now self.now.clocks.now self.now.wiring.now }
+        requires order { is_level_order (design_of self.now.typed.now) order.now ≡ true }
+        requires copied { IsCopied (design_of self.now.typed.now) self.now.clocks.now.bit events.old shadow.old }
+        ensures { OnOk result (HasTaken (design_of self.now.typed.now) self.now.clocks.now.bit (λ q. sweep (network_of (design_of self.now.typed.now) self.now.clocks.now.bit) order.now q Pass) events.old events.new shadow.new) }
+    {
+        let processes = order.list();
+        for k in 0..processes.len() {
+            self.settle_one(events, shadow, processes[k])?;
+        }
+        Ok(())
+    }
+
+    /// What waits becomes active, if anything does. Nothing is active before.
+    fn activate(&self, events: &mut Events)
+        requires machine { IsMachine self.now.typed.now self.now.clocks.now self.now.wiring.now }
+        requires running { IsRunning (design_of self.now.typed.now) self.now.clocks.now.bit events.old }
+        requires spent { IsSpent events.old }
+        ensures taken { (order : List ℕ) (shadow : List Bit4) → IsCopied (design_of self.now.typed.now) self.now.clocks.now.bit events.old shadow
+            → HasTaken (design_of self.now.typed.now) self.now.clocks.now.bit (λ q. sweep (network_of (design_of self.now.typed.now) self.now.clocks.now.bit) order q Activates) events.old events.new shadow }
+        ensures rested { IsRested events.new }
+    {
+        step_law();
+        keeping_law();
+        if events.has_waiting() {
+            events.activate();
+        }
+    }
+
+    /// What waits becomes active and is applied, and a pass settles what hears it. Nothing is active before, and nothing is active or waits after.
+    fn settle_waiting(
+        &self,
+        order: &Order,
+        events: &mut Events,
+        shadow: &mut [Bit4],
+    ) -> Result<(), AllocError>
+        requires machine { IsMachine self.now.typed.now self.now.clocks.now self.now.wiring.now }
+        requires order { is_level_order (design_of self.now.typed.now) order.now ≡ true }
+        requires copied { IsCopied (design_of self.now.typed.now) self.now.clocks.now.bit events.old shadow.old }
+        requires spent { IsSpent events.old }
+        ensures taken { OnOk result (HasTaken (design_of self.now.typed.now) self.now.clocks.now.bit (λ q. sweeps (network_of (design_of self.now.typed.now) self.now.clocks.now.bit) order.now q waiting_parts) events.old events.new shadow.new) }
+        ensures calm { OnOk result (IsCalm events.new) }
+    {
+        lawful_law();
+        self.activate(events);
+        self.take_all(events, shadow)?;
+        self.pass(order, events, shadow)
+    }
+
+    /// All parts of a slot behind its beginning. Nothing is active before, and nothing is active or waits after.
+    pub(crate) fn run_slot(
+        &self,
+        order: &Order,
+        events: &mut Events,
+        shadow: &mut [Bit4],
+    ) -> Result<(), AllocError>
+        requires machine { IsMachine self.now.typed.now self.now.clocks.now self.now.wiring.now }
+        requires order { is_level_order (design_of self.now.typed.now) order.now ≡ true }
+        requires copied { IsCopied (design_of self.now.typed.now) self.now.clocks.now.bit events.old shadow.old }
+        requires spent { IsSpent events.old }
+        ensures taken { OnOk result (HasTaken (design_of self.now.typed.now) self.now.clocks.now.bit (λ q. sweeps (network_of (design_of self.now.typed.now) self.now.clocks.now.bit) order.now q slot_parts) events.old events.new shadow.new) }
+        ensures calm { OnOk result (IsCalm events.new) }
+    {
+        self.settle_waiting(order, events, shadow)?;
+        self.run_all(events, shadow)?;
+        self.pass(order, events, shadow)?;
+        self.settle_waiting(order, events, shadow)
+    }
+
+    /// All parts of the first slot. Nothing is active or waits after.
+    pub(crate) fn run_first_slot(
+        &self,
+        order: &Order,
+        events: &mut Events,
+        shadow: &mut [Bit4],
+    ) -> Result<(), AllocError>
+        requires machine { IsMachine self.now.typed.now self.now.clocks.now self.now.wiring.now }
+        requires order { is_level_order (design_of self.now.typed.now) order.now ≡ true }
+        requires copied { IsCopied (design_of self.now.typed.now) self.now.clocks.now.bit events.old shadow.old }
+        ensures taken { OnOk result (HasTaken (design_of self.now.typed.now) self.now.clocks.now.bit (λ q. sweeps (network_of (design_of self.now.typed.now) self.now.clocks.now.bit) order.now q first_parts) events.old events.new shadow.new) }
+        ensures calm { OnOk result (IsCalm events.new) }
+    {
+        self.start_all(events, shadow)?;
+        self.take_all(events, shadow)?;
+        self.pass(order, events, shadow)?;
+        self.run_slot(order, events, shadow)
+    }
+}
