@@ -35,12 +35,6 @@ last_entry (x ∷ []) zero h = refl
 last_entry (x ∷ (y ∷ ys)) zero h = absurd (let no : ⊥ = omega (arith, h) in no)
 last_entry (x ∷ xs) (suc k) h = last_entry xs k (omega (arith, h))
 
-pub each_of : (p : ℕ → Bool) (n : ℕ) (xs : List ℕ) → all_below n xs ≡ true → ((k : ℕ) → k < n → p k ≡ true) → list_all p xs ≡ true
-each_of p n [] h f = refl
-each_of p n (x ∷ xs) h f =
-    let b = and_both (nat_lt x n) (all_below n xs) h in
-    and_true (p x) (list_all p xs) (f x (ltb-true x n b.0)) (each_of p n xs b.1 f)
-
 pub all_mapped : {A : Type 0} (f : ℕ → A) (p : A → Bool) (xs : List ℕ) → list_all (λ k. p (f k)) xs ≡ true → list_all p (map f xs) ≡ true
 all_mapped f p [] h = refl
 all_mapped f p (x ∷ xs) h = let b = and_both (p (f x)) (list_all (λ k. p (f k)) xs) h in and_true (p (f x)) (list_all p (map f xs)) b.0 (all_mapped f p xs b.1)

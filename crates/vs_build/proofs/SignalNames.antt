@@ -52,7 +52,7 @@ nine a b c d e f g h i k =
     let p1 = and_both a b p2.0 in
     (p1.0, p1.1, p2.1, p3.1, p4.1, p5.1, p6.1, p7.1, p8.1)
 
-same_signals : (s t : Signal) → same_signal s t ≡ true → s ≡ t
+pub same_signals : (s t : Signal) → same_signal s t ≡ true → s ≡ t
 same_signals s t h =
     let p = nine (same_name s.name t.name) (s.scope == t.scope) (s.number == t.number) (same_flag s.net t.net) (same_flag s.input t.input) (same_range s.range t.range) (same_flag s.signed t.signed) (s.first == t.first) (same_range s.words t.words) h in
     ap (λ x. record s { name = x }) (same_bytes s.name t.name p.0)

@@ -20,7 +20,7 @@ use Rattle.vs_elaborated.specs.Elaborated.{port_assign}
 use Rattle.vs_elaborated.specs.Sound.{InstancesHavePorts, IsSoundTask, NamesAreSound, OverridesAreFine}
 use Rattle.vs_scope.specs.declared.frames.Frame.{Frame}
 use Rattle.vs_scope.specs.Frames.{env_at, envs}
-use Rattle.vs_scope.specs.Maps.{Pair, AreDistinct}
+use Rattle.vs_maps.specs.Maps.{Pair, AreDistinct}
 use Rattle.vs_scope.specs.Views.{entries}
 use Rattle.vs_scope.specs.declared.parameters.Override.{Override as CodeOverride}
 use Rattle.vs_items.specs.declared.connections.Connection.{Connection}

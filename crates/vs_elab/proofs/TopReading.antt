@@ -23,13 +23,13 @@ use Rattle.vs_elaborated.specs.Environments.{Env, no_env}
 use Rattle.vs_elaborated.specs.Sound.{IsSoundTask, AreFineOverrides}
 use Rattle.vs_scope.specs.declared.contents.Contents.TheVariants.{Module as OfCode}
 use Rattle.vs_scope.specs.declared.frames.Frame.{Frame}
-use Rattle.vs_scope.specs.declared.maps.NameMap.{NameMap}
+use Rattle.vs_maps.specs.declared.maps.NameMap.{NameMap}
 use Rattle.vs_scope.specs.declared.parameters.Override.{Override}
 use Rattle.vs_scope.specs.Frames.{env_at, envs}
 use Rattle.vs_scope.specs.Overrides.{AreOverrides, EachOverride, override_typed}
 use Rattle.vs_scope.specs.Surveys.{contents_of}
-use Rattle.vs_scope.specs.Maps.{Pair, value_at}
-use Rattle.vs_scope.specs.MapViews.{pairs}
+use Rattle.vs_maps.specs.Maps.{Pair, value_at}
+use Rattle.vs_maps.specs.MapViews.{pairs}
 use Rattle.vs_elab.specs.declared.pending.Part.{Part}
 use Rattle.vs_elab.specs.declared.reading.Text.{Text}
 use Rattle.vs_elab.specs.declared.reading.Reading.{Reading}

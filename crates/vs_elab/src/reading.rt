@@ -3,7 +3,8 @@
 use vs_ast::Source;
 use vs_build::Builder;
 use vs_items::Known;
-use vs_scope::{Contents, Frame, NameMap, Override, Start, Turn};
+use vs_maps::NameMap;
+use vs_scope::{Contents, Frame, Override, Start, Turn};
 
 /// A text: its tree, and its modules by their names.
 #[derive(Drop)]

@@ -26,7 +26,8 @@ use vs_build::{always, assign, wire};
 use vs_const::{Fault, Rule};
 use vs_elaborated::{instance_law, scope_law};
 use vs_items::{Known, connections_of, overrides_of};
-use vs_scope::{BlockItems, Contents, NameMap, Turn, View};
+use vs_maps::NameMap;
+use vs_scope::{BlockItems, Contents, Turn, View};
 
 /// Where a part stands: the number of its scope, the instances around it, and how deep scopes may stand within one another in it.
 #[derive(Clone, Copy)]

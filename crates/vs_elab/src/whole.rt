@@ -25,7 +25,8 @@ use vs_const::{Fault, Rule};
 use vs_elaborated::elaborated_law;
 use vs_flat::Flat;
 use vs_items::{Known, Modules, modules_of};
-use vs_scope::{Contents, NameMap, Start};
+use vs_maps::NameMap;
+use vs_scope::{Contents, Start};
 
 /// How many scopes may stand within one another: the top, and at most 201 for each of 32 instances.
 const SCOPE_DEPTH: u32 = 1 + 32 * 201;

@@ -22,7 +22,8 @@ use crate::statements::block_fault;
 use std::alloc::{AllocError, Global};
 use vs_ast::Item;
 use vs_const::{Fault, first_of};
-use vs_scope::{BlockItems, Contents, NameMap, View};
+use vs_maps::NameMap;
+use vs_scope::{BlockItems, Contents, View};
 
 /// The first rule that an item breaks, but for those of its generate blocks and their heads.
 fn item_fault<'a>(

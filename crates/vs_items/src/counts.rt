@@ -12,7 +12,7 @@ ghost use Rattle.vs_elaborated.specs.Surveys.{piece_place, piece_processes};
 ghost use Rattle.vs_elaborated.specs.Instances as spec;
 ghost use Rattle.vs_elaborated.specs.Ports as spec_ports;
 ghost use Rattle.vs_scope.specs.Contents.{contents_items};
-ghost use Rattle.vs_scope.specs.MapViews.{pairs};
+ghost use Rattle.vs_maps.specs.MapViews.{pairs};
 ghost use Rattle.vs_items.specs.Counts.{HasNames, IsCounted};
 ghost use Rattle.vs_items.specs.Interfaces.{IsInterface};
 ghost use Rattle.vs_items.specs.Modules.{AreOf};
@@ -27,7 +27,8 @@ use crate::ports::{Port, Ports};
 use std::alloc::{AllocError, Global};
 use vs_ast::{Assign, Connections, Declarator, Expr, Instance, Instances, Item, NamedConnection};
 use vs_const::{Fault, Rule};
-use vs_scope::{BlockItems, Contents, NameMap};
+use vs_maps::NameMap;
+use vs_scope::{BlockItems, Contents};
 
 /// A count of processes, which goes up to the most that there may be.
 #[derive(Clone, Copy)]

@@ -3,7 +3,7 @@ use Rattle.std.proofs.Common.{◌≡◌, ℕ, suc, ◌<◌, ◌≤◌, List, [],
 use Rattle.vs_const.specs.declared.faults.Fault.{Fault}
 use Rattle.vs_const.specs.Faults.{least, better}
 use Rattle.vs_const.proofs.Least.{least_append}
-use Rattle.vs_scope.specs.Sets.{IsFirstSoFar}
+use Rattle.vs_scope.specs.SoFar.{IsFirstSoFar}
 use Rattle.vs_scope.proofs.Steps.{from_place, none_left}
 
 assoc_lists : (x y z : List Fault) → better (better (least x) (least y)) (least z) ≡ better (least x) (better (least y) (least z))

@@ -3,7 +3,7 @@ use Rattle.std.proofs.lemmas.Result.{err_from_is_err_and}
 use Rattle.vs_build.specs.Drafts.{Draft}
 use Rattle.vs_scope.specs.declared.frames.Frame.{Frame}
 use Rattle.vs_scope.specs.Frames.{env_at, envs, view_env}
-use Rattle.vs_scope.specs.MapViews.{pairs}
+use Rattle.vs_maps.specs.MapViews.{pairs}
 use Rattle.vs_elab.specs.declared.reading.Reading.{Reading}
 use Rattle.vs_elab.specs.Reading.{source_of}
 use Rattle.vs_elab.proofs.InstanceCalls.{overrides_shaped, depth_few, frame_within, frame_below, frame_all_below, module_shaped, module_shallow, deepest_told, code_sound, broken_told, frame_still, frame_new, depth_within_limit, pending_still, parts_still, ports_room, ports_wirable, all_done}

@@ -1,6 +1,6 @@
 use Rattle.std.proofs.Common.{◌≡◌, Some, None}
 use Rattle.vs_elaborated.specs.Environments.{find_entry}
-use Rattle.vs_scope.specs.MapViews.{pairs}
+use Rattle.vs_maps.specs.MapViews.{pairs}
 use Rattle.vs_scope.specs.Views.{entries, entry_of}
 use Rattle.vs_scope.proofs.Entries.{match_copied, find_value}
 use Rattle.vs_scope.proofs.names.Names.find.Goals as goal
