@@ -7,15 +7,15 @@ ghost use Rattle.vs_elaborated.specs.Declarations as declarations;
 ghost use Rattle.vs_elaborated.specs.Parameters as parameters;
 ghost use Rattle.vs_elaborated.specs.Signals as spec;
 ghost use Rattle.vs_scope.specs.Contents.{contents_declared};
-ghost use Rattle.vs_scope.specs.Complete.{KeepsShapes, IsStill, complete, function_declaration};
+ghost use Rattle.vs_scope.specs.Complete.{IsIncomplete, KeepsShapes, IsStill, complete, function_declaration};
 ghost use Rattle.vs_scope.specs.Counts.{counted};
 ghost use Rattle.vs_scope.specs.Declares.{named_list};
 ghost use Rattle.vs_scope.specs.Functions.{functions_in};
 ghost use Rattle.vs_scope.specs.Frames.{around_env, view_env};
 ghost use Rattle.vs_scope.specs.Overrides.{AreOverrides, overrides_of};
-ghost use Rattle.vs_scope.specs.Scopes.{said_entries, said_signals_of, said_functions_of, said_faults};
-ghost use Rattle.vs_scope.specs.Shaped.{AreShaped, IsShaped};
-ghost use Rattle.vs_scope.specs.Signalled.{placed, placed_of, put_all, start_after, start_of};
+ghost use Rattle.vs_scope.specs.Scopes.{evaluated_entries, said_entries, said_signals_of, said_functions_of, said_faults};
+ghost use Rattle.vs_scope.specs.Shaped.{AreShaped, AreShapedNames, IsShaped};
+ghost use Rattle.vs_scope.specs.Signalled.{faults_of, placed, placed_of, put_all, start_after, start_of};
 ghost use Rattle.vs_scope.specs.Views.{declaration, entries, signal_meaning};
 
 use crate::collect::collect;
@@ -123,6 +123,76 @@ fn array_faults(declarations: &[Declaration<'_>]) -> Option<Fault>
     fault
 }
 
+/// The names of these declarations, with the values of the parameters, and the first fault of both.
+fn evaluated_names<'a>(
+    alloc: Global,
+    overrides: &NameMap<'a, Override<'a>>,
+    around: Around<'_, 'a>,
+    number: u32,
+    counts: Counts,
+    all: &[Declaration<'a>],
+) -> Result<DeclaredNames<'a>, AllocError>
+    requires overrides { AreOverrides around.frames.now overrides.now }
+    requires shaped { AreShaped (map declaration all.now) }
+    ensures named { IfOk result (λ r. named_list r.names ≡ declarations.names_of (map declaration all.now)) }
+    ensures entries { IfOk result (λ r. entries r.names ≡ (evaluated_entries number (around_env around.entry) (overrides_of around.entry.frames.now overrides.now) (map declaration all.now)).entries) }
+    ensures incomplete { IfOk result (λ r. IsIncomplete r.names) }
+    ensures scope { IfOk result (λ r. r.names.scope ≡ number) }
+    ensures counts { IfOk result (λ r. r.names.counts ≡ counts) }
+    ensures fault { IfOk result (λ r. r.fault ≡ least (declarations.repeated_names [] (map declaration all.now) ++ (evaluated_entries number (around_env around.entry) (overrides_of around.entry.frames.now overrides.now) (map declaration all.now)).faults)) }
+{
+    let DeclaredNames {
+        names,
+        fault: repeated,
+    } = declared_names(alloc, number, counts, all)?;
+    let mut names = names;
+    let parameters = evaluate(alloc, around, overrides, all, &mut names)?;
+    Ok(DeclaredNames {
+        names,
+        fault: first_of(repeated, parameters),
+    })
+}
+
+/// The signals of these declarations, by the names and the values of the parameters, and the first fault of ranges and addresses: they are known now.
+fn signal_names<'a>(
+    alloc: Global,
+    around: Around<'_, 'a>,
+    start: Start,
+    all: &[Declaration<'a>],
+    names: &mut Names<'a>,
+) -> Result<SaidSignals<'a>, AllocError>
+    requires shaped { AreShaped (map declaration all.now) }
+    requires named { AreShapedNames (named_list names.old) }
+    requires incomplete { IsIncomplete names.old }
+    ensures entries { IfOk result (λ r. entries names.new ≡ put_all (map signal_meaning r.signals.items) (entries names.old)) }
+    ensures still { OnOk result (IsStill names.old names.new) }
+    ensures signals { IfOk result (λ r. map placed r.signals.items ≡ map placed_of (spec.said_signals (within (around_env around.entry) (complete (around_env around.entry) names.old)) (start_of start) (named_list names.old))) }
+    ensures fault { IfOk result (λ r. r.fault ≡ least (spec.range_faults (within (around_env around.entry) (complete (around_env around.entry) names.old)) (map declaration all.now)
+        ++ (spec.array_faults (map declaration all.now) ++ flat_map faults_of (spec.said_signals (within (around_env around.entry) (complete (around_env around.entry) names.old)) (start_of start) (named_list names.old))))) }
+    ensures next { IfOk result (λ r. start_of r.next ≡ start_after (start_of start) (spec.said_signals (within (around_env around.entry) (complete (around_env around.entry) names.old)) (start_of start) (named_list names.old))) }
+{
+    let here = View {
+        around,
+        names: &*names,
+        inside: None,
+        before: None,
+        in_function: false,
+    };
+    let ranges = range_faults(alloc, &here, all)?;
+    let SaidSignals {
+        signals,
+        fault,
+        next,
+    } = said_signals(alloc, &here, start, &*names)?;
+    put_signals(names, signals.as_slice())?;
+    let arrays = array_faults(all);
+    Ok(SaidSignals {
+        signals,
+        fault: first_of(ranges, first_of(arrays, fault)),
+        next,
+    })
+}
+
 /// What a scope declares, but for its generate blocks: its names with the values of its parameters, its signals and its functions. `around` is what is
 /// around the scope, `overrides` are those of an instance, `start` says where its signals begin, and `counts` are those before it.
 ///
@@ -161,38 +231,22 @@ pub(crate) fn declare_scope<'a>(
     let all = list.as_slice();
     let DeclaredNames {
         names,
-        fault: repeated,
-    } = declared_names(alloc, start.scope, counts, all)?;
+        fault: declared,
+    } = evaluated_names(alloc, overrides, around, start.scope, counts, all)?;
     let mut names = names;
-    let parameters = evaluate(alloc, around, overrides, all, &mut names)?;
-    let here = View {
-        around,
-        names: &names,
-        inside: None,
-        before: None,
-        in_function: false,
-    };
-    let ranges = range_faults(alloc, &here, all)?;
-    let said = said_signals(alloc, &here, start, &names)?;
-    put_signals(&mut names, said.signals.as_slice())?;
     let SaidSignals {
         signals,
         fault,
         next,
-    } = said;
-    let arrays = array_faults(all);
+    } = signal_names(alloc, around, start, all, &mut names)?;
     let SaidFunctions {
         fault: called,
         counts,
     } = said_functions(alloc, around, all, &mut names)?;
-    let plain = first_of(
-        repeated,
-        first_of(parameters, first_of(ranges, first_of(arrays, fault))),
-    );
     Ok(SaidScope {
         names,
         signals,
-        fault: first_of(plain, called),
+        fault: first_of(first_of(declared, fault), called),
         next,
         counts,
     })
