@@ -23,7 +23,7 @@ const BARE_LINES: [(BareName, &str); 4] = [
 ];
 
 /// Refusals at a place, and their lines.
-const AT_LINES: [(AtName, u32, &str); 31] = [
+const AT_LINES: [(AtName, u32, &str); 35] = [
     (NoToken, 0, "refused 10 NoToken at=0\n"),
     (OpenComment, 7, "refused 11 OpenComment at=7\n"),
     (BadLiteral, 22, "refused 12 BadLiteral at=22\n"),
@@ -63,6 +63,10 @@ const AT_LINES: [(AtName, u32, &str); 31] = [
         177,
         "refused 45 TooManyProcesses at=177\n",
     ),
+    (LoopTurns, 180, "refused 46 LoopTurns at=180\n"),
+    (LoopVariable, 182, "refused 47 LoopVariable at=182\n"),
+    (FunctionRule, 184, "refused 48 FunctionRule at=184\n"),
+    (Recursion, 186, "refused 49 Recursion at=186\n"),
     (TooWide, 188, "refused 50 TooWide at=188\n"),
     (Division, 200, "refused 51 Division at=200\n"),
     (MixedAssign, 211, "refused 54 MixedAssign at=211\n"),

@@ -75,6 +75,10 @@ rule_name broken.GenerateTurns = Some name.GenerateTurns
 rule_name broken.WrongKind = Some name.WrongKind
 rule_name broken.TooManyBits = Some name.TooManyBits
 rule_name broken.TooManyProcesses = Some name.TooManyProcesses
+rule_name broken.LoopTurns = Some name.LoopTurns
+rule_name broken.LoopVariable = Some name.LoopVariable
+rule_name broken.FunctionRule = Some name.FunctionRule
+rule_name broken.Recursion = Some name.Recursion
 
 abbrev pub told_by : Option AtName → (at : ℕ) → Refusal
 told_by None at = refusal.Bare NoTop

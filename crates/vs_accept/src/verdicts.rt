@@ -54,6 +54,10 @@ fn rule_name(rule: Rule) -> Option<AtName>
         Rule::WrongKind => Some(AtName::WrongKind),
         Rule::TooManyBits => Some(AtName::TooManyBits),
         Rule::TooManyProcesses => Some(AtName::TooManyProcesses),
+        Rule::LoopTurns => Some(AtName::LoopTurns),
+        Rule::LoopVariable => Some(AtName::LoopVariable),
+        Rule::FunctionRule => Some(AtName::FunctionRule),
+        Rule::Recursion => Some(AtName::Recursion),
     }
 }
 

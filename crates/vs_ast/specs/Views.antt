@@ -8,12 +8,17 @@ use Rattle.vs_ast.specs.declared.expressions.SystemFunction.{SystemFunction}
 use Rattle.vs_ast.specs.declared.expressions.SystemFunction.TheVariants as system
 use Rattle.vs_ast.specs.declared.expressions.SliceKind.{SliceKind}
 use Rattle.vs_ast.specs.declared.expressions.SliceKind.TheVariants as slice
-use Rattle.vs_ast.specs.declared.expressions.Expr.{Expr, Number, Named, Unary', Binary', Choice', Concatenation', Replication', Call', Brackets', Row_of-Expr, end_of-Expr, more_of-Expr}
-use Rattle.vs_ast.specs.declared.expressions.Select.{Select, Whole, Bit', Slice'}
+use Rattle.vs_ast.specs.declared.expressions.Expr.{Expr, Number, Named, Apply', Unary', Binary', Choice', Concatenation', Replication', Call', Brackets', Row_of-Expr, end_of-Expr, more_of-Expr}
+use Rattle.vs_ast.specs.declared.expressions.Select.{Select, Whole, Bit', Slice', Word'}
+use Rattle.vs_ast.specs.declared.types.Range.{Range}
+use Rattle.vs_ast.specs.declared.types.ValueType.{ValueType}
+use Rattle.vs_ast.specs.declared.types.ValueType.TheVariants.{Integer, Ranged}
+use Rattle.vs_ast.specs.declared.types.Variables.{Variables}
+use Rattle.vs_ast.specs.declared.types.BlockScope.{BlockScope}
+use Rattle.vs_ast.specs.declared.types.LoopHead.{LoopHead}
 use Rattle.vs_ast.specs.declared.statements.Target.{Target, Named as NamedTarget, Concatenation' as Targeted', Row_of-Target, end_of-Target, more_of-Target}
-use Rattle.vs_ast.specs.declared.statements.Statement.{Statement, Empty, Assignment, If', Case', Sequence', Held-Statement-If-3, None' as NoOther, Some' as Other', Row_of-CaseArm, end_of-CaseArm, more_of-CaseArm, Row_of-Statement, end_of-Statement, more_of-Statement}
+use Rattle.vs_ast.specs.declared.statements.Statement.{Statement, Empty, Assignment, If', Case', Sequence', For', Held-Statement-If-3, None' as NoOther, Some' as Other', Row_of-CaseArm, end_of-CaseArm, more_of-CaseArm, Row_of-Statement, end_of-Statement, more_of-Statement}
 use Rattle.vs_ast.specs.declared.statements.CaseArm.{CaseArm}
-use Rattle.vs_ast.specs.declared.items.Range.{Range}
 use Rattle.vs_ast.specs.declared.items.SignalKind.{SignalKind}
 use Rattle.vs_ast.specs.declared.items.SignalKind.TheVariants as signal
 use Rattle.vs_ast.specs.declared.items.Declarator.{Declarator}
@@ -30,8 +35,8 @@ use Rattle.vs_ast.specs.declared.items.Connections.TheVariants.{Unconnected, ByO
 use Rattle.vs_ast.specs.declared.items.Instance.{Instance}
 use Rattle.vs_ast.specs.declared.items.AlwaysBlock.{AlwaysBlock}
 use Rattle.vs_ast.specs.declared.items.Instances.{Instances}
-use Rattle.vs_ast.specs.declared.items.GenerateHead.{GenerateHead}
-use Rattle.vs_ast.specs.declared.items.Item.{Item, Signals as SignalsItem, Parameters as ParametersItem, Assigns, Always, Genvars, Instances as InstancesItem, GenerateFor', GenerateIf', GenerateCase', Held-Item-GenerateIf-3, None' as NoOtherBlock, Some' as OtherBlock, Row_of-GenerateArm, end_of-GenerateArm, more_of-GenerateArm}
+use Rattle.vs_ast.specs.declared.items.Function.{Function}
+use Rattle.vs_ast.specs.declared.items.Item.{Item, Signals as SignalsItem, Parameters as ParametersItem, Assigns, Always, Genvars, Integers, Instances as InstancesItem, Function as FunctionItem, GenerateFor', GenerateIf', GenerateCase', Held-Item-GenerateIf-3, None' as NoOtherBlock, Some' as OtherBlock, Row_of-GenerateArm, end_of-GenerateArm, more_of-GenerateArm}
 use Rattle.vs_ast.specs.declared.items.GenerateBlock.{GenerateBlock, Empty as EmptyBlock, Alone', Enclosed', Row_of-Item, end_of-Item, more_of-Item}
 use Rattle.vs_ast.specs.declared.items.GenerateArm.{GenerateArm}
 use Rattle.vs_ast.specs.declared.modules.Header.{Header}
@@ -63,6 +68,7 @@ abbrev mutual
   pub expr : Expr → tree.Expr
   expr (Number n) = tree.Number (literal n)
   expr (Named n s) = tree.Named (name n) (select s)
+  expr (Apply' n shape all) = tree.Apply (name n) (expr_row all)
   expr (Unary' place op p a) = tree.Unary place op (expr a)
   expr (Binary' op p a q b) = tree.Binary op (expr a) (expr b)
   expr (Choice' o c p a q b) = tree.Choice (expr c) (expr a) (expr b)
@@ -79,11 +85,34 @@ abbrev mutual
   select Whole = tree.Whole
   select (Bit' bracket p a) = tree.BitAt bracket (expr a)
   select (Slice' bracket kind p a q b) = tree.Slice bracket (slice_kind kind) (expr a) (expr b)
+  select (Word' bracket p a q s) = tree.OfWord bracket (expr a) (select s)
 
 -- expressions, in order
 abbrev pub exprs : List Expr → tree.Exprs
 exprs [] = tree.NoExpr
 exprs (e ∷ es) = tree.AndExpr (expr e) (exprs es)
+
+-- ---- types, variables and the heads of loops
+
+abbrev pub option : {A B : Type 0} → (A → B) → Option A → Option B
+option f None = None
+option f (Some a) = Some (f a)
+
+abbrev pub range : Range → tree.RangeTree
+range g = record { bracket = g.bracket; left = expr g.left; right = expr g.right }
+
+abbrev pub value_type : ValueType → tree.ValueType
+value_type Integer = tree.IntegerType
+value_type (Ranged signed g) = tree.RangeType signed (option range g)
+
+abbrev pub variables : Variables → tree.Variables
+variables v = record { place = v.place; value_type = value_type v.value_type; names = map name v.names.items }
+
+abbrev pub block_scope : BlockScope → tree.BlockScope
+block_scope s = record { name = name s.name; variables = map variables s.variables.items }
+
+abbrev pub loop_head : LoopHead → tree.LoopHead
+loop_head h = record { place = h.place; variable = name h.variable; first = expr h.first; test = expr h.test; again = name h.again; next = expr h.next }
 
 -- ---- statements
 
@@ -107,7 +136,8 @@ abbrev mutual
   statement (Assignment x e b) = tree.Assignment (target x) (expr e) b
   statement (If' place c p s other) = tree.If place (expr c) (statement s) (other_statement other)
   statement (Case' place k e shape all other) = tree.Case place k (expr e) (arm_row all) (other_statement other)
-  statement (Sequence' place shape all) = tree.Sequence place (statement_row all)
+  statement (Sequence' place scope shape all) = tree.Sequence place (option block_scope scope) (statement_row all)
+  statement (For' head p s) = tree.For (loop_head head) (statement s)
 
   pub other_statement : Held-Statement-If-3 → tree.Fallback
   other_statement NoOther = tree.NoFallback
@@ -138,13 +168,6 @@ arms (a ∷ rest) = tree.AndArm (map expr a.labels.items) (statement a.statement
 
 -- ---- declarations
 
-abbrev pub option : {A B : Type 0} → (A → B) → Option A → Option B
-option f None = None
-option f (Some a) = Some (f a)
-
-abbrev pub range : Range → tree.RangeTree
-range g = record { bracket = g.bracket; left = expr g.left; right = expr g.right }
-
 abbrev pub signal_kind : SignalKind → tree.SignalKind
 signal_kind signal.Input = tree.Input
 signal_kind signal.InputWire = tree.InputWire
@@ -164,7 +187,7 @@ abbrev pub setting : Setting → tree.Setting
 setting s = record { name = name s.name; value = expr s.value }
 
 abbrev pub parameters : Parameters → tree.Parameters
-parameters p = record { place = p.place; is_local = p.is_local; signed = p.signed; range = option range p.range; settings = map setting p.settings.items }
+parameters p = record { place = p.place; is_local = p.is_local; value_type = value_type p.value_type; settings = map setting p.settings.items }
 
 -- ---- items
 
@@ -195,8 +218,16 @@ always_block b = record { place = b.place; control = event_control b.control; st
 abbrev pub instances : Instances → tree.Instances
 instances i = record { of = name i.of; overrides = connections i.overrides; instances = map instance i.instances.items }
 
-abbrev pub generate_head : GenerateHead → tree.GenerateHead
-generate_head h = record { place = h.place; variable = name h.variable; first = expr h.first; test = expr h.test; again = name h.again; next = expr h.next }
+abbrev pub function : Function → tree.Function
+function f =
+    record {
+      place = f.place;
+      name = name f.name;
+      value_type = value_type f.value_type;
+      inputs = map variables f.inputs.items;
+      variables = map variables f.variables.items;
+      statement = statement f.statement;
+    }
 
 abbrev mutual
   pub item : Item → tree.Item
@@ -205,8 +236,10 @@ abbrev mutual
   item (Assigns place all) = tree.AssignsItem place (map assign all.items)
   item (Always b) = tree.AlwaysItem (always_block b)
   item (Genvars place names) = tree.GenvarsItem place (map name names.items)
+  item (Integers place names) = tree.IntegersItem place (map name names.items)
   item (InstancesItem i) = tree.InstancesItem (instances i)
-  item (GenerateFor' head p b) = tree.GenerateFor (generate_head head) (block b)
+  item (FunctionItem f) = tree.FunctionItem (function f)
+  item (GenerateFor' head p b) = tree.GenerateFor (loop_head head) (block b)
   item (GenerateIf' place c p b other) = tree.GenerateIf place (expr c) (block b) (other_block other)
   item (GenerateCase' place e shape all other) = tree.GenerateCase place (expr e) (generate_arm_row all) (other_block other)
 

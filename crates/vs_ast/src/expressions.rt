@@ -2,7 +2,7 @@
 
 ghost use Rattle.std.specs.Prelude.{◌≡◌, IfOk};
 ghost use Rattle.vs_grammar.specs.Trees as tree;
-ghost use Rattle.vs_ast.specs.Views.{expr, exprs, select, slice_kind, system_function};
+ghost use Rattle.vs_ast.specs.Views.{expr, exprs, name, select, slice_kind, system_function};
 
 use crate::names::{Literal, Name};
 use std::alloc::{AllocError, Global};
@@ -31,6 +31,11 @@ pub enum Expr {
     Number(Literal),
     /// A name, with what is selected of it.
     Named(Name, Select),
+    /// A call of a function, `name(a, b, ..)` (10.4.3).
+    Apply {
+        name: Name,
+        arguments: Vec<Expr>,
+    },
     Unary {
         place: u32,
         op: UnaryOp,
@@ -70,7 +75,8 @@ pub enum Expr {
     },
 }
 
-/// All of a name, one bit, or several (5.2.1). `bracket` is the place of the `[`.
+/// All of a name, one bit, or several (5.2.1), or one bit or several of a word of a memory or of an array of nets (5.2.2).
+/// `bracket` is the place of the `[`.
 #[cycle(expressions)]
 #[derive(Drop)]
 pub enum Select {
@@ -85,9 +91,25 @@ pub enum Select {
         left: Box<Expr>,
         right: Box<Expr>,
     },
+    /// `[address]`, and what is selected of the word, which is a bit or several.
+    Word {
+        bracket: u32,
+        address: Box<Expr>,
+        part: Box<Select>,
+    },
 }
 
 impl Expr {
+    /// The call of a function.
+    pub fn new_application(function: Name, arguments: Vec<Expr>) -> Expr
+        ensures { expr result ≡ tree.Apply (name function) (exprs arguments.items) }
+    {
+        Expr::Apply {
+            name: function,
+            arguments,
+        }
+    }
+
     /// The operation on one expression.
     pub fn new_unary(
         alloc: Global,
@@ -206,6 +228,24 @@ impl Select {
             kind,
             left,
             right,
+        })
+    }
+
+    /// One bit or several of a word.
+    pub fn new_word(
+        alloc: Global,
+        bracket: u32,
+        address: Expr,
+        part: Select,
+    ) -> Result<Select, AllocError>
+        ensures { IfOk result (λ s. select s ≡ tree.OfWord bracket (expr address) (select part)) }
+    {
+        let address = Box::new(alloc, address)?;
+        let part = Box::new(alloc, part)?;
+        Ok(Select::Word {
+            bracket,
+            address,
+            part,
         })
     }
 }

@@ -2,21 +2,14 @@
 
 ghost use Rattle.std.specs.Prelude.{◌≡◌, IfOk};
 ghost use Rattle.vs_grammar.specs.Trees as tree;
-ghost use Rattle.vs_ast.specs.Views.{block, block_fallback, expr, generate_arms, generate_head, item, items, name, option};
+ghost use Rattle.vs_ast.specs.Views.{block, block_fallback, expr, generate_arms, item, items, loop_head, name, option};
 
 use crate::expressions::Expr;
 use crate::names::Name;
 use crate::statements::{Statement, Target};
+use crate::types::{LoopHead, Range, ValueType, Variables};
 use std::alloc::{AllocError, Global};
 use vs_base::Edge;
-
-/// `[left:right]`, from its `[` on.
-#[derive(Drop)]
-pub struct Range {
-    pub bracket: u32,
-    pub left: Expr,
-    pub right: Expr,
-}
 
 /// What a declaration of signals begins with.
 #[derive(Clone, Copy, Debug)]
@@ -30,7 +23,8 @@ pub enum SignalKind {
     Wire,
 }
 
-/// A declared name, the addresses of a memory (4.9), and what a `wire` is assigned where it is declared (6.1.1).
+/// A declared name, the addresses of a memory or of an array of nets (4.9), and what a `wire` is assigned where it is declared
+/// (6.1.1).
 #[derive(Drop)]
 pub struct Declarator {
     pub name: Name,
@@ -60,8 +54,7 @@ pub struct Setting {
 pub struct Parameters {
     pub place: u32,
     pub is_local: bool,
-    pub signed: bool,
-    pub range: Option<Range>,
+    pub value_type: ValueType,
     pub settings: Vec<Setting>,
 }
 
@@ -124,15 +117,15 @@ pub struct Instances {
     pub instances: Vec<Instance>,
 }
 
-/// `for (variable = first; test; again = next)` (12.4.1).
+/// A function (10.4.1): the type of its value, its inputs, its own variables, and what it does.
 #[derive(Drop)]
-pub struct GenerateHead {
+pub struct Function {
     pub place: u32,
-    pub variable: Name,
-    pub first: Expr,
-    pub test: Expr,
-    pub again: Name,
-    pub next: Expr,
+    pub name: Name,
+    pub value_type: ValueType,
+    pub inputs: Vec<Variables>,
+    pub variables: Vec<Variables>,
+    pub statement: Statement,
 }
 
 /// An item of a module or of a generate block. `place` is the place of its first token; `generate` and `endgenerate` leave nothing.
@@ -150,10 +143,16 @@ pub enum Item {
         place: u32,
         names: Vec<Name>,
     },
+    /// 4.8
+    Integers {
+        place: u32,
+        names: Vec<Name>,
+    },
     Instances(Instances),
+    Function(Function),
     /// 12.4.1
     GenerateFor {
-        head: GenerateHead,
+        head: LoopHead,
         block: Box<GenerateBlock>,
     },
     /// 12.4.2
@@ -199,12 +198,8 @@ pub struct GenerateArm {
 
 impl Item {
     /// A generate `for`.
-    pub fn new_for(
-        alloc: Global,
-        head: GenerateHead,
-        body: GenerateBlock,
-    ) -> Result<Item, AllocError>
-        ensures { IfOk result (λ i. item i ≡ tree.GenerateFor (generate_head head) (block body)) }
+    pub fn new_for(alloc: Global, head: LoopHead, body: GenerateBlock) -> Result<Item, AllocError>
+        ensures { IfOk result (λ i. item i ≡ tree.GenerateFor (loop_head head) (block body)) }
     {
         let block = Box::new(alloc, body)?;
         Ok(Item::GenerateFor { head, block })

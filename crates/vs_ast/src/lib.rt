@@ -6,13 +6,15 @@ mod items;
 mod modules;
 mod names;
 mod statements;
+mod types;
 
 pub use expressions::{Expr, Select, SliceKind, SystemFunction};
 pub use items::{
-    AlwaysBlock, Assign, Connections, Declarator, Event, EventControl, GenerateArm, GenerateBlock,
-    GenerateHead, Instance, Instances, Item, NamedConnection, Parameters, Range, Setting,
-    SignalKind, Signals,
+    AlwaysBlock, Assign, Connections, Declarator, Event, EventControl, Function, GenerateArm,
+    GenerateBlock, Instance, Instances, Item, NamedConnection, Parameters, Setting, SignalKind,
+    Signals,
 };
 pub use modules::{Header, Module, Source};
 pub use names::{Literal, Name};
 pub use statements::{CaseArm, Statement, Target};
+pub use types::{BlockScope, LoopHead, Range, ValueType, Variables};

@@ -2,10 +2,11 @@
 
 ghost use Rattle.std.specs.Prelude.{◌≡◌, IfOk};
 ghost use Rattle.vs_grammar.specs.Trees as tree;
-ghost use Rattle.vs_ast.specs.Views.{arms, expr, fallback, statement, statements, target, targets};
+ghost use Rattle.vs_ast.specs.Views.{arms, block_scope, expr, fallback, loop_head, option, statement, statements, target, targets};
 
 use crate::expressions::{Expr, Select};
 use crate::names::Name;
+use crate::types::{BlockScope, LoopHead};
 use std::alloc::{AllocError, Global};
 use vs_base::CaseKind;
 
@@ -46,10 +47,16 @@ pub enum Statement {
         arms: Vec<CaseArm>,
         other: Option<Box<Statement>>,
     },
-    /// `begin` to `end` (9.8.1); a name after `begin` has no effect.
+    /// `begin` to `end` (9.8.1), perhaps with a name.
     Sequence {
         place: u32,
+        scope: Option<BlockScope>,
         parts: Vec<Statement>,
+    },
+    /// 9.6
+    For {
+        head: LoopHead,
+        body: Box<Statement>,
     },
 }
 
@@ -134,9 +141,21 @@ impl Statement {
     }
 
     /// The statements between `begin` and `end`.
-    pub fn new_sequence(place: u32, parts: Vec<Statement>) -> Statement
-        ensures { statement result ≡ tree.Sequence place (statements parts.items) }
+    pub fn new_sequence(place: u32, scope: Option<BlockScope>, parts: Vec<Statement>) -> Statement
+        ensures { statement result ≡ tree.Sequence place (option block_scope scope) (statements parts.items) }
     {
-        Statement::Sequence { place, parts }
+        Statement::Sequence {
+            place,
+            scope,
+            parts,
+        }
+    }
+
+    /// A loop.
+    pub fn new_for(alloc: Global, head: LoopHead, body: Statement) -> Result<Statement, AllocError>
+        ensures { IfOk result (λ s. statement s ≡ tree.For (loop_head head) (statement body)) }
+    {
+        let body = Box::new(alloc, body)?;
+        Ok(Statement::For { head, body })
     }
 }

@@ -1,10 +1,11 @@
 -- One more process, scope or signal, and the end: what makes the flat design lawful stays.
-use Rattle.std.proofs.Common.{◌≡◌, ℕ, suc, ◌+◌, ◌-◌, ◌<◌, ◌^◌, true, List, [], ◌∷◌, ◌++◌, length, map, refl, sym, ap, ◌∙◌, subst, arith, length-append}
+use Rattle.std.proofs.Common.{◌≡◌, ℕ, zero, suc, ◌+◌, ◌-◌, ◌<◌, ◌≤◌, ◌^◌, true, Option, Some, None, slice_get, List, [], ◌∷◌, ◌++◌, length, map, refl, sym, ap, ◌∙◌, subst, arith, length-append}
 use Rattle.std.specs.List.{list_all, flat_map}
+use Rattle.vs_design.specs.Expressions as E
 use Rattle.vs_design.specs.Expressions.{Expression}
 use Rattle.vs_design.specs.Statements as T
 use Rattle.vs_design.specs.Designs as D
-use Rattle.vs_design.specs.Elaborated.{is_formed, is_formed_statement, IsLawfulDesign}
+use Rattle.vs_design.specs.Elaborated.{is_formed, is_formed_statement, is_formed_function, IsLawfulDesign}
 use Rattle.vs_flat.specs.declared.placed.Placed.{Placed}
 use Rattle.vs_flat.specs.declared.expressions.Node.{Node}
 use Rattle.vs_flat.specs.declared.processes.Process.{Process}
@@ -12,19 +13,20 @@ use Rattle.vs_flat.specs.declared.processes.Scope.{Scope}
 use Rattle.vs_flat.specs.declared.processes.Signal.{Signal}
 use Rattle.vs_flat.specs.declared.statements.Statement.{Statement}
 use Rattle.vs_flat.specs.declared.functions.Declared.{Declared}
-use Rattle.vs_flat.specs.Arena.{Arena, empty_arena, with_process, with_scope, with_signal}
+use Rattle.vs_flat.specs.Arena.{Arena, empty_arena, declared_at, with_process, with_scope, with_signal}
 use Rattle.vs_flat.specs.Named.{statement_expressions, statement_statements, kind_expressions, kind_statements, covers_process}
 use Rattle.vs_flat.specs.Trees.{tree_at, signal_at, statement_at, signal_of}
-use Rattle.vs_flat.specs.DesignOf.{scope_of, process_of, arena_signals, arena_trees, arena_statements, design_of}
-use Rattle.vs_flat.specs.Lawful.{node_names, named_expressions, named_statements, has_target, assigns_target, node_home, statement_home, at_home, node_design, statement_design, trees_formed, statements_formed, has_locals, IsLawful}
-use Rattle.vs_flat.proofs.Agreeing.{and_both, and_true}
+use Rattle.vs_flat.specs.DesignOf.{header_in, scope_of, process_of, arena_signals, arena_trees, arena_statements, design_of}
+use Rattle.vs_flat.specs.Lawful.{node_names, named_expressions, named_statements, has_target, assigns_target, node_home, statement_home, at_home, node_design, statement_design, trees_formed, statements_formed, IsLawful}
+use Rattle.vs_flat.proofs.Agreeing.{and_true}
 use Rattle.vs_flat.proofs.Different.{once_different}
 use Rattle.vs_flat.proofs.Earlier.{names_empty, names_with_process, names_with_scope, names_with_signal}
-use Rattle.vs_flat.proofs.Growing.{process_added, scope_added, signal_added, trees_with_signal, statements_with_signal}
-use Rattle.vs_build.specs.Drafts.{Root, Body, and_process, and_scope, and_signal}
-use Rattle.vs_build.specs.Growth.{times, IsGrowing, node_levels, statement_levels, root_at, draft_of}
-use Rattle.vs_build.proofs.Counting.{times-append, times-flat, once_less, there_less, all_pushed}
-use Rattle.vs_build.proofs.Wider.{IsWider, all_wider, expression_wider, statement_wider, same_signals, more_signals}
+use Rattle.vs_flat.proofs.Growing.{length-arena_trees, length-arena_statements, process_added, scope_added, signal_added, trees_with_signal, statements_with_signal}
+use Rattle.vs_build.specs.Drafts.{Root, Body, home_in, and_process, and_scope, and_signal}
+use Rattle.vs_build.specs.Growth.{times, open_function, open_header, header_if, header_behind, header_at, first_node, first_statement, expression_header, statement_header, IsGrowing, node_levels, statement_levels, root_at, draft_of}
+use Rattle.vs_build.proofs.Counting.{times-append, times-flat, once_less, there_less, all_pushed, each_parts}
+use Rattle.vs_build.proofs.Homes.{home_wider, home_inside}
+use Rattle.vs_build.proofs.Wider.{IsWider, all_wider, header_wider, function_wider, expression_wider, statement_wider, same_signals, more_signals}
 
 -- ---- nothing
 
@@ -34,10 +36,16 @@ empty_growing = record {
   few_nodes = omega arith;
   few_statements = omega arith;
   names = names_empty;
-  no_functions = refl;
-  no_bodies = refl;
-  expressions = refl;
-  statements = refl;
+  few_functions = omega arith;
+  open_one = omega arith;
+  begun = λ f e. absurd (none_there f e);
+  locals = refl;
+  header = λ h e. absurd (no_header h e);
+  functions = refl;
+  expressions = λ e h. absurd (omega (arith, h));
+  statements = λ s h. absurd (omega (arith, h));
+  rooted = tt;
+  embodied = tt;
   copies = refl;
   assign_targets = refl;
   statement_targets = refl;
@@ -48,6 +56,12 @@ empty_growing = record {
   node_chains = refl;
   statement_chains = refl;
 }
+  where
+    none_there : (f : Declared) → None ≡ Some f → ⊥
+    none_there f e = cc
+
+    no_header : (h : E.Header) → None ≡ Some h → ⊥
+    no_header h e = cc
 
 -- ---- processes
 
@@ -83,10 +97,17 @@ process_kept a rs bs p g covers target =
       few_nodes = g.few_nodes;
       few_statements = g.few_statements;
       names = names_with_process a p g.names covers;
-      no_functions = g.no_functions;
-      no_bodies = g.no_bodies;
-      expressions = all_wider (is_formed (design_of a)) (is_formed (design_of b)) (arena_trees a) (expression_wider (design_of a) (design_of b) (wider_process a p)) g.expressions;
-      statements = all_wider (is_formed_statement (design_of a)) (is_formed_statement (design_of b)) (arena_statements a) (statement_wider (design_of a) (design_of b) (wider_process a p)) g.statements;
+      few_functions = g.few_functions;
+      open_one = g.open_one;
+      begun = g.begun;
+      locals = g.locals;
+      header = λ h e. header_wider (design_of a) (design_of b) (wider_process a p) h (g.header h e);
+      functions = all_wider (is_formed_function (design_of a)) (is_formed_function (design_of b)) (design_of a).functions (function_wider (design_of a) (design_of b) (wider_process a p)) g.functions;
+      expressions = λ e h. expression_wider (home_in (design_of a) (expression_header a e)) (home_in (design_of b) (expression_header a e)) (home_wider (design_of a) (design_of b) (expression_header a e) (wider_process a p)) (tree_at (arena_trees a) e) (g.expressions e h);
+      statements =
+          λ s h. statement_wider (home_in (design_of a) (statement_header a s)) (home_in (design_of b) (statement_header a s)) (home_wider (design_of a) (design_of b) (statement_header a s) (wider_process a p)) (statement_at (arena_statements a) s) (g.statements s h);
+      rooted = (each_parts (λ n. expression_header a n ≡ open_header a) rs (kind_expressions p.kind) g.rooted).0;
+      embodied = (each_parts (λ n. statement_header a n ≡ open_header a) bs (kind_statements p.kind) g.embodied).0;
       copies = g.copies;
       assign_targets = all_pushed (λ (q : Process). has_target (tree_at (arena_trees a)) q.kind) a.processes p g.assign_targets target;
       statement_targets = g.statement_targets;
@@ -113,10 +134,17 @@ scope_kept a rs bs s g room =
       few_nodes = g.few_nodes;
       few_statements = g.few_statements;
       names = names_with_scope a s g.names;
-      no_functions = g.no_functions;
-      no_bodies = g.no_bodies;
-      expressions = all_wider (is_formed (design_of a)) (is_formed (design_of b)) (arena_trees a) (expression_wider (design_of a) (design_of b) wider) g.expressions;
-      statements = all_wider (is_formed_statement (design_of a)) (is_formed_statement (design_of b)) (arena_statements a) (statement_wider (design_of a) (design_of b) wider) g.statements;
+      few_functions = g.few_functions;
+      open_one = g.open_one;
+      begun = g.begun;
+      locals = g.locals;
+      header = λ h e. header_wider (design_of a) (design_of b) wider h (g.header h e);
+      functions = all_wider (is_formed_function (design_of a)) (is_formed_function (design_of b)) (design_of a).functions (function_wider (design_of a) (design_of b) wider) g.functions;
+      expressions = λ e h. expression_wider (home_in (design_of a) (expression_header a e)) (home_in (design_of b) (expression_header a e)) (home_wider (design_of a) (design_of b) (expression_header a e) wider) (tree_at (arena_trees a) e) (g.expressions e h);
+      statements =
+          λ t h. statement_wider (home_in (design_of a) (statement_header a t)) (home_in (design_of b) (statement_header a t)) (home_wider (design_of a) (design_of b) (statement_header a t) wider) (statement_at (arena_statements a) t) (g.statements t h);
+      rooted = g.rooted;
+      embodied = g.embodied;
       copies = g.copies;
       assign_targets = g.assign_targets;
       statement_targets = g.statement_targets;
@@ -141,14 +169,22 @@ signal_kept a rs bs s g =
       few_nodes = g.few_nodes;
       few_statements = g.few_statements;
       names = names_with_signal a s g.names;
-      no_functions = g.no_functions;
-      no_bodies = g.no_bodies;
+      few_functions = g.few_functions;
+      open_one = g.open_one;
+      begun = g.begun;
+      locals = g.locals;
+      header = λ h e. header_wider (design_of a) (design_of b) wider h (g.header h e);
+      functions =
+          subst (λ fs. list_all (is_formed_function (design_of b)) fs ≡ true) (sym (ap (λ (d : D.Design). d.functions) (signal_added a s g.names)))
+          (all_wider (is_formed_function (design_of a)) (is_formed_function (design_of b)) (design_of a).functions (function_wider (design_of a) (design_of b) wider) g.functions);
       expressions =
-          subst (λ ts. list_all (is_formed (design_of b)) ts ≡ true) (sym trees)
-          (all_wider (is_formed (design_of a)) (is_formed (design_of b)) (arena_trees a) (expression_wider (design_of a) (design_of b) wider) g.expressions);
+          λ e h. subst (λ ts. is_formed (home_in (design_of b) (expression_header a e)) (tree_at ts e) ≡ true) (sym trees)
+          (expression_wider (home_in (design_of a) (expression_header a e)) (home_in (design_of b) (expression_header a e)) (home_wider (design_of a) (design_of b) (expression_header a e) wider) (tree_at (arena_trees a) e) (g.expressions e h));
       statements =
-          subst (λ ss. list_all (is_formed_statement (design_of b)) ss ≡ true) (sym (statements_with_signal a s g.names))
-          (all_wider (is_formed_statement (design_of a)) (is_formed_statement (design_of b)) (arena_statements a) (statement_wider (design_of a) (design_of b) wider) g.statements);
+          λ t h. subst (λ ss. is_formed_statement (home_in (design_of b) (statement_header a t)) (statement_at ss t) ≡ true) (sym (statements_with_signal a s g.names))
+          (statement_wider (home_in (design_of a) (statement_header a t)) (home_in (design_of b) (statement_header a t)) (home_wider (design_of a) (design_of b) (statement_header a t) wider) (statement_at (arena_statements a) t) (g.statements t h));
+      rooted = g.rooted;
+      embodied = g.embodied;
       copies = g.copies;
       assign_targets = subst (λ ts. list_all (λ (p : Process). has_target (tree_at ts) p.kind) a.processes ≡ true) (sym trees) g.assign_targets;
       statement_targets = subst (λ ts. list_all (λ (t : Placed Statement). assigns_target (tree_at ts) t.item) a.statements ≡ true) (sym trees) g.statement_targets;
@@ -169,32 +205,55 @@ signal_draft a rs bs s g =
 
 -- ---- the end
 
--- with no function all is formed as in the plain design
-trees_at_home : (a : Arena) (first : ℕ) (es : List Expression) → a.functions ≡ [] → list_all (is_formed (design_of a)) es ≡ true → trees_formed a first es ≡ true
-trees_at_home a first [] none h = refl
-trees_at_home a first (e ∷ es) none h =
-    let b = and_both (is_formed (design_of a) e) (list_all (is_formed (design_of a)) es) h in
-    and_true (is_formed (node_design a first) e) (trees_formed a (suc first) es) (ap (λ fs. is_formed (at_home a (node_home 0 fs a.bodies first)) e) none ∙ b.0) (trees_at_home a (suc first) es none b.1)
+-- where each function has its statement, each is formed in the design or in its function
+closed_home : (a : Arena) (o : Option ℕ) (n : ℕ) (first : Declared → ℕ) → open_function a ≡ None → IsWider (home_in (design_of a) (header_at a o n first)) (at_home a o)
+closed_home a None n first none = subst (λ p. IsWider (home_in (design_of a) (header_behind n first p)) (design_of a)) (sym none) (record { scopes = omega arith; signals = λ s k. k })
+closed_home a (Some f) n first none = home_inside (design_of a) (header_in (declared_at a f))
 
-statements_at_home : (a : Arena) (first : ℕ) (ss : List T.Statement) → a.functions ≡ [] → list_all (is_formed_statement (design_of a)) ss ≡ true → statements_formed a first ss ≡ true
-statements_at_home a first [] none h = refl
-statements_at_home a first (s ∷ ss) none h =
-    let b = and_both (is_formed_statement (design_of a) s) (list_all (is_formed_statement (design_of a)) ss) h in
-    and_true (is_formed_statement (statement_design a first) s) (statements_formed a (suc first) ss) (ap (λ fs. is_formed_statement (at_home a (statement_home 0 fs a.bodies first)) s) none ∙ b.0)
-    (statements_at_home a (suc first) ss none b.1)
+trees_at_home : (a : Arena) (first : ℕ) (es : List Expression) → ((k : ℕ) → k < length es → is_formed (node_design a (first + k)) (tree_at es k) ≡ true) → trees_formed a first es ≡ true
+trees_at_home a first [] h = refl
+trees_at_home a first (e ∷ es) h =
+    and_true (is_formed (node_design a first) e) (trees_formed a (suc first) es) (subst (λ n. is_formed (node_design a n) e ≡ true) (omega arith) (h 0 (omega arith)))
+    (trees_at_home a (suc first) es (λ k l. subst (λ n. is_formed (node_design a n) (tree_at es k) ≡ true) (omega arith) (h (suc k) (omega (arith, l)))))
 
-pub lawful : (a : Arena) (rs bs : List ℕ) → IsGrowing a rs bs → IsLawfulDesign (design_of a) → IsLawful a
-lawful a rs bs g d = record {
+statements_at_home : (a : Arena) (first : ℕ) (ss : List T.Statement) → ((k : ℕ) → k < length ss → is_formed_statement (statement_design a (first + k)) (statement_at ss k) ≡ true) → statements_formed a first ss ≡ true
+statements_at_home a first [] h = refl
+statements_at_home a first (s ∷ ss) h =
+    and_true (is_formed_statement (statement_design a first) s) (statements_formed a (suc first) ss) (subst (λ n. is_formed_statement (statement_design a n) s ≡ true) (omega arith) (h 0 (omega arith)))
+    (statements_at_home a (suc first) ss (λ k l. subst (λ n. is_formed_statement (statement_design a n) (statement_at ss k) ≡ true) (omega arith) (h (suc k) (omega (arith, l)))))
+
+-- no function is open
+none_open : (a : Arena) → open_header a ≡ None → open_function a ≡ None
+none_open a h = by (open_function a) h
+  where
+    by : (o : Option Declared) → header_if o ≡ None → o ≡ None
+    by None k = refl
+    by (Some f) k = cc
+
+past_functions : (ds : List Declared) (n : ℕ) → slice_get ds n ≡ None → length ds ≤ n
+past_functions [] n h = omega arith
+past_functions (d ∷ ds) zero h = cc
+past_functions (d ∷ ds) (suc n) h = omega (arith, past_functions ds n h)
+
+pub lawful : (a : Arena) (rs bs : List ℕ) → IsGrowing a rs bs → open_header a ≡ None → IsLawfulDesign (design_of a) → IsLawful a
+lawful a rs bs g closed d = record {
   design = d;
   few_scopes = g.few_scopes;
   few_nodes = g.few_nodes;
   few_statements = g.few_statements;
   names = g.names;
-  expressions = trees_at_home a 0 (arena_trees a) g.no_functions g.expressions;
-  statements = statements_at_home a 0 (arena_statements a) g.no_functions g.statements;
-  few_functions = omega (arith, ap length g.no_functions);
-  complete = ap length g.no_bodies ∙ sym (ap length g.no_functions);
-  locals = ap (list_all (λ (f : Declared). has_locals f.function)) g.no_functions;
+  expressions =
+      trees_at_home a 0 (arena_trees a)
+      (λ k h. subst (λ n. is_formed (node_design a n) (tree_at (arena_trees a) k) ≡ true) (omega arith)
+      (expression_wider (home_in (design_of a) (expression_header a k)) (node_design a k) (closed_home a (node_home 0 a.functions a.bodies k) k first_node none) (tree_at (arena_trees a) k) (g.expressions k (omega (arith, h, length-arena_trees a)))));
+  statements =
+      statements_at_home a 0 (arena_statements a)
+      (λ k h. subst (λ n. is_formed_statement (statement_design a n) (statement_at (arena_statements a) k) ≡ true) (omega arith)
+      (statement_wider (home_in (design_of a) (statement_header a k)) (statement_design a k) (closed_home a (statement_home 0 a.functions a.bodies k) k first_statement none) (statement_at (arena_statements a) k)
+      (g.statements k (omega (arith, h, length-arena_statements a)))));
+  few_functions = g.few_functions;
+  complete = omega (arith, past_functions a.functions (length a.bodies) none, g.names.matched);
+  locals = g.locals;
   copies = g.copies;
   assign_targets = g.assign_targets;
   statement_targets = g.statement_targets;
@@ -203,3 +262,6 @@ lawful a rs bs g d = record {
   node_chains = g.node_chains;
   statement_chains = g.statement_chains;
 }
+  where
+    none : open_function a ≡ None
+    none = none_open a closed

@@ -1,5 +1,5 @@
 -- The arms of the recursion over an expression.
-use Rattle.std.proofs.Common.{◌≡◌, ℕ, ◌+◌, ◌≤◌, Bool, true, [], ◌∷◌, max, Result, Ok, Err, OnOk, refl, sym, ap, subst, arith}
+use Rattle.std.proofs.Common.{◌≡◌, ℕ, ◌+◌, ◌≤◌, Bool, true, [], ◌∷◌, max, None, Result, Ok, Err, OnOk, refl, sym, ap, ◌∙◌, subst, arith}
 use Rattle.vs_design.specs.Expressions as E
 use Rattle.vs_design.specs.Expressions.{Expression}
 use Rattle.vs_design.specs.Designs.{Design}
@@ -10,11 +10,11 @@ use Rattle.vs_base.specs.declared.operators.BinaryOp.{BinaryOp}
 use Rattle.vs_grammar.specs.Depths.{expr_depth}
 use Rattle.vs_grammar.specs.Trees as tree
 use Rattle.vs_grammar.specs.Trees.{expr_place}
-use Rattle.vs_const.specs.Meanings.{Find}
+use Rattle.vs_const.specs.Meanings.{Find, steady}
 use Rattle.vs_const.specs.Typed.{Typed, begins_at, noted, unary_typed, binary_typed, choice_typed}
-use Rattle.vs_const.specs.Expressions.{typed, selected, typed_parts, replication_typed, call_typed, argument_needed}
+use Rattle.vs_const.specs.Expressions.{typed, selected, typed_parts, typed_arguments, applied, replication_typed, call_typed, argument_needed}
 use Rattle.vs_const.proofs.Formed.{both_nil}
-use Rattle.vs_build.specs.Drafts.{Draft, EndsWith, AddsExpression}
+use Rattle.vs_build.specs.Drafts.{Draft, home, EndsWith, AddsExpression}
 use Rattle.vs_build.specs.Buildable.{IsBuildable}
 use Rattle.vs_build.proofs.Steps.{added_two, added_three}
 
@@ -36,11 +36,12 @@ begins_twice p q (E.Call header statement arguments) = refl
 pub begins_itself : (e : tree.Expr) (find : Find) (needed : Bool) → begins_at (expr_place e) (typed e find needed).expression ≡ (typed e find needed).expression
 begins_itself (tree.Number n) find needed = refl
 begins_itself (tree.Named name select) find needed = begins_twice name.place name.place (selected select name find needed).expression
+begins_itself (tree.Apply name arguments) find needed = begins_twice name.place name.place (applied needed name.place (find name.bytes) (typed_arguments arguments find needed)).expression
 begins_itself (tree.Unary place op a) find needed = refl
 begins_itself (tree.Binary op a b) find needed = refl
 begins_itself (tree.Choice c p q) find needed = refl
 begins_itself (tree.Concatenation place parts) find needed = refl
-begins_itself (tree.Replication place count parts) find needed = begins_twice place place (replication_typed (expr_place count) (typed count find true) (typed_parts parts find needed)).expression
+begins_itself (tree.Replication place count parts) find needed = begins_twice place place (replication_typed (expr_place count) (typed count (steady find) true) (typed_parts parts find needed)).expression
 begins_itself (tree.Call place function a) find needed = begins_twice place place (call_typed function (expr_place a) (typed a find (argument_needed function needed))).expression
 begins_itself (tree.Brackets place e) find needed = begins_twice place place (typed e find needed).expression
 
@@ -65,9 +66,16 @@ ends_three s r q v t u w m n k x y z few more most = record {
 pub same_design : (s v : Draft) (t : Expression) (m : ℕ) → AddsExpression s v t m → s.design ≡ v.design
 same_design s v t m h = sym (ap (λ (d : Draft). d.design) h.is)
 
+pub stays_outside : (s v : Draft) (t : Expression) (m : ℕ) → AddsExpression s v t m → s.function ≡ None → v.function ≡ None
+stays_outside s v t m h e = ap (λ (d : Draft). d.function) h.is ∙ e
+
+-- where the next one stands
+pub same_home : (s v : Draft) (t : Expression) (m : ℕ) → AddsExpression s v t m → home s ≡ home v
+same_home s v t m h = sym (ap home h.is)
+
 -- what can be built can be built after another expression
-pub after : (s v : Draft) (t : Expression) (m : ℕ) (find : Find) (needed : Bool) (e : tree.Expr) → AddsExpression s v t m → IsBuildable s.design find needed e → IsBuildable v.design find needed e
-after s v t m find needed e h b = subst (λ d. IsBuildable d find needed e) (same_design s v t m h) b
+pub after : (s v : Draft) (t : Expression) (m : ℕ) (find : Find) (needed : Bool) (e : tree.Expr) → AddsExpression s v t m → IsBuildable (home s) find needed e → IsBuildable (home v) find needed e
+after s v t m find needed e h b = subst (λ d. IsBuildable d find needed e) (same_home s v t m h) b
 
 -- on at most so many levels
 pub up_to : (s v : Draft) (t : Expression) (m n : ℕ) → AddsExpression s v t m → m ≤ n → AddsExpression s v t n
@@ -79,24 +87,25 @@ pub noted_clean : (needed : Bool) (place : ℕ) (t : Typed) → (noted needed pl
 noted_clean needed place t h = (both_nil t.faults _ h).0
 
 pub unary_operand : (d : Design) (find : Find) (needed : Bool) (place : ℕ) (op : tree.UnaryOp) (a : tree.Expr) → IsBuildable d find needed (tree.Unary place op a) → IsBuildable d find needed a
-unary_operand d find needed place op a b = record { shaped = b.shaped; sound = b.sound; clean = noted_clean needed place (unary_typed op (typed a find needed)) b.clean; shallow = omega (arith, b.shallow) }
+unary_operand d find needed place op a b = record { shaped = b.shaped; sound = b.sound; numbered = b.numbered; clean = noted_clean needed place (unary_typed op (typed a find needed)) b.clean; shallow = omega (arith, b.shallow) }
 
 pub brackets_inner : (d : Design) (find : Find) (needed : Bool) (place : ℕ) (e : tree.Expr) → IsBuildable d find needed (tree.Brackets place e) → IsBuildable d find needed e
-brackets_inner d find needed place e b = record { shaped = b.shaped; sound = b.sound; clean = noted_clean needed place (typed e find needed) b.clean; shallow = omega (arith, b.shallow) }
+brackets_inner d find needed place e b = record { shaped = b.shaped; sound = b.sound; numbered = b.numbered; clean = noted_clean needed place (typed e find needed) b.clean; shallow = omega (arith, b.shallow) }
 
 pub binary_left : (d : Design) (find : Find) (needed : Bool) (op : tree.BinaryOp) (a b : tree.Expr) → IsBuildable d find needed (tree.Binary op a b) → IsBuildable d find needed a
-binary_left d find needed op a b h = record { shaped = h.shaped.0; sound = h.sound; clean = (both_nil _ _ (noted_clean needed (expr_place a) (binary_typed op (typed a find needed) (typed b find needed)) h.clean)).0; shallow = omega (arith, h.shallow) }
+binary_left d find needed op a b h = record { shaped = h.shaped.0; sound = h.sound; numbered = h.numbered; clean = (both_nil _ _ (noted_clean needed (expr_place a) (binary_typed op (typed a find needed) (typed b find needed)) h.clean)).0; shallow = omega (arith, h.shallow) }
 
 pub binary_right : (d : Design) (find : Find) (needed : Bool) (op : tree.BinaryOp) (a b : tree.Expr) → IsBuildable d find needed (tree.Binary op a b) → IsBuildable d find needed b
-binary_right d find needed op a b h = record { shaped = h.shaped.1; sound = h.sound; clean = (both_nil (typed a find needed).faults _ (noted_clean needed (expr_place a) (binary_typed op (typed a find needed) (typed b find needed)) h.clean)).1; shallow = omega (arith, h.shallow) }
+binary_right d find needed op a b h = record { shaped = h.shaped.1; sound = h.sound; numbered = h.numbered; clean = (both_nil (typed a find needed).faults _ (noted_clean needed (expr_place a) (binary_typed op (typed a find needed) (typed b find needed)) h.clean)).1; shallow = omega (arith, h.shallow) }
 
 pub choice_condition : (d : Design) (find : Find) (needed : Bool) (c p q : tree.Expr) → IsBuildable d find needed (tree.Choice c p q) → IsBuildable d find needed c
-choice_condition d find needed c p q h = record { shaped = h.shaped.0; sound = h.sound; clean = (both_nil _ _ (noted_clean needed (expr_place c) (choice_typed (typed c find needed) (typed p find needed) (typed q find needed)) h.clean)).0; shallow = omega (arith, h.shallow) }
+choice_condition d find needed c p q h = record { shaped = h.shaped.0; sound = h.sound; numbered = h.numbered; clean = (both_nil _ _ (noted_clean needed (expr_place c) (choice_typed (typed c find needed) (typed p find needed) (typed q find needed)) h.clean)).0; shallow = omega (arith, h.shallow) }
 
 pub choice_yes : (d : Design) (find : Find) (needed : Bool) (c p q : tree.Expr) → IsBuildable d find needed (tree.Choice c p q) → IsBuildable d find needed p
 choice_yes d find needed c p q h = record {
   shaped = h.shaped.1;
   sound = h.sound;
+  numbered = h.numbered;
   clean = (both_nil (typed p find needed).faults (typed q find needed).faults (both_nil (typed c find needed).faults _ (noted_clean needed (expr_place c) (choice_typed (typed c find needed) (typed p find needed) (typed q find needed)) h.clean)).1).0;
   shallow = omega (arith, h.shallow);
 }
@@ -105,6 +114,7 @@ pub choice_no : (d : Design) (find : Find) (needed : Bool) (c p q : tree.Expr) �
 choice_no d find needed c p q h = record {
   shaped = h.shaped.2;
   sound = h.sound;
+  numbered = h.numbered;
   clean = (both_nil (typed p find needed).faults (typed q find needed).faults (both_nil (typed c find needed).faults _ (noted_clean needed (expr_place c) (choice_typed (typed c find needed) (typed p find needed) (typed q find needed)) h.clean)).1).1;
   shallow = omega (arith, h.shallow);
 }

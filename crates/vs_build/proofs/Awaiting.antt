@@ -1,5 +1,5 @@
 -- Always blocks without a fault, and the events that they wait for.
-use Rattle.std.proofs.Common.{◌≡◌, ℕ, zero, suc, ◌+◌, ◌<◌, ◌≤◌, Bool, true, false, ◌&&◌, nat_lt, List, [], ◌∷◌, ◌++◌, length, get_or, map, take, refl, sym, ap, ◌∙◌, subst, arith}
+use Rattle.std.proofs.Common.{◌≡◌, ℕ, zero, suc, ◌+◌, ◌<◌, ◌≤◌, Bool, true, false, ◌&&◌, nat_lt, List, [], ◌∷◌, ◌++◌, length, get_or, map, take, None, refl, sym, ap, ◌∙◌, subst, arith}
 use Rattle.std.proofs.Math.Seq.{take-suc, take-length}
 use Rattle.std.proofs.lemmas.Bool.{lt-ltb}
 use Rattle.std.proofs.lemmas.List.{map-append}
@@ -11,7 +11,7 @@ use Rattle.vs_grammar.specs.Trees as tree
 use Rattle.vs_ast.specs.declared.items.Event.{Event as TextEvent}
 use Rattle.vs_ast.specs.Views as view
 use Rattle.vs_const.specs.declared.names.Named.{Named}
-use Rattle.vs_const.specs.Meanings.{SignalMeaning, Meaning, AValue, Undefined, ASignal, AMemory, Another, Unknown, Find, Means}
+use Rattle.vs_const.specs.Meanings.{SignalMeaning, Meaning, AValue, Undefined, ASignal, AMemory, AFunction, Incomplete, Another, Barred, Unknown, Find, Means}
 use Rattle.vs_const.specs.Sound.{IsSound, AreSound}
 use Rattle.vs_const.proofs.Formed.{both_nil}
 use Rattle.vs_flat.specs.declared.processes.Event.{Event}
@@ -19,11 +19,14 @@ use Rattle.vs_flat.specs.Named.{all_below}
 use Rattle.vs_flat.specs.Trees.{signal_at}
 use Rattle.vs_flat.specs.DesignOf.{event_of}
 use Rattle.vs_elaborated.specs.Targets.{meant_signal}
-use Rattle.vs_elaborated.specs.Statements.{event_faults, typed_events, typed_control, typed_statement, is_clocked_by, unclocked_faults}
-use Rattle.vs_build.specs.Drafts.{Draft, and_process, AddsStatement, EndsInParts}
+use Rattle.vs_elaborated.specs.Statements.{Body, event_faults, typed_events, typed_control, typed_statement, is_clocked_by}
+use Rattle.vs_elaborated.specs.Surveys.{block_body}
+use Rattle.vs_const.specs.declared.rules.Rule.TheVariants.{WrongKind}
+use Rattle.vs_build.specs.Drafts.{Draft, home, and_process, AddsStatement, EndsInParts}
 use Rattle.vs_build.specs.Executable.{IsExecutable, IsRunnable, Awaited, awaited_of, awaited, block_process}
 use Rattle.vs_build.proofs.SignalNames.{signal_is, signal_within, plain_signal}
 use Rattle.vs_build.proofs.Executed.{one_statement, ends_in_parts}
+use Rattle.vs_build.proofs.AssignFacts.{home_outside}
 
 -- ---- one event
 
@@ -33,11 +36,14 @@ signal_number place edge m t number e f = f ∙ ap (λ x. (meant_signal x).numbe
 
 -- what else a name can mean is at fault
 pub nothing_else : (n : Named) (place : ℕ) (edge : D.Edge) (m : Meaning) → Means n m → event_faults place edge m ≡ [] → (t : SignalMeaning) × (m ≡ ASignal t)
-nothing_else n place edge (AValue v r) h f = cc
+nothing_else n place edge (AValue v r turns) h f = cc
 nothing_else n place edge (Undefined r) h f = cc
 nothing_else n place edge (ASignal t) h f = (t, refl)
 nothing_else n place edge (AMemory t) h f = cc
+nothing_else n place edge (AFunction g) h f = cc
+nothing_else n place edge Incomplete h f = cc
 nothing_else n place edge Another h f = cc
+nothing_else n place edge (Barred rule) h f = cc
 nothing_else n place edge Unknown h f = cc
 
 -- ---- several
@@ -67,11 +73,14 @@ events_all find es i made e h = h ∙ ap (λ n. map (awaited find) (map view.eve
 -- ---- they are signals of the design
 
 sound_signal : (d : Design) (place : ℕ) (edge : D.Edge) (m : Meaning) → IsSound d false m → event_faults place edge m ≡ [] → is_signal d (meant_signal m) ≡ true
-sound_signal d place edge (AValue v r) s h = cc
+sound_signal d place edge (AValue v r turns) s h = cc
 sound_signal d place edge (Undefined r) s h = cc
 sound_signal d place edge (ASignal t) s h = plain_signal d t.signal s.0
 sound_signal d place edge (AMemory t) s h = cc
+sound_signal d place edge (AFunction g) s h = cc
+sound_signal d place edge Incomplete s h = cc
 sound_signal d place edge Another s h = cc
+sound_signal d place edge (Barred rule) s h = cc
 sound_signal d place edge Unknown s h = cc
 
 numbers_of : (vs : List Event) → map (λ (e : Event). e.signal) vs ≡ map (λ (a : Awaited). a.number) (map awaited_of vs)
@@ -117,15 +126,30 @@ not_star (e ∷ es) find = refl
 
 -- ---- the block
 
-pub body_executable : (d : Design) (find : Find) (b : tree.AlwaysBlock) → IsRunnable d find b → IsExecutable d find b.statement
-body_executable d find b r =
-    let fs = (typed_statement b.statement find).faults in
-    let gs = unclocked_faults (is_clocked_by b.control) b.statement find in
-    record { shaped = r.shaped; sound = r.sound; clean = (both_nil fs gs (both_nil (typed_control b.control find).faults (fs ++ gs) r.clean).1).0; shallow = r.shallow }
+-- what it stands in
+abbrev pub alone : (clocked : Bool) → Body
+alone clocked = record { declared = λ place. Barred WrongKind; in_function = false; clocked = clocked; unrolls = true }
+
+alone_is : (b : tree.AlwaysBlock) (clocked : Bool) → clocked ≡ is_clocked_by b.control → alone clocked ≡ block_body b
+alone_is b clocked e = ap alone e
+
+pub body_executable : (d : Design) (find : Find) (b : tree.AlwaysBlock) (clocked : Bool) → clocked ≡ is_clocked_by b.control → IsRunnable d find b → IsExecutable d (alone clocked) find b.statement
+body_executable d find b clocked e r =
+    subst (λ body. IsExecutable d body find b.statement) (sym (alone_is b clocked e))
+    (record { shaped = r.shaped; around = record { unrolls = refl; sound = λ place. tt; numbered = λ place. tt }; sound = r.sound; numbered = r.numbered; clean = r.clean; shallow = r.shallow })
+
+pub body_added : (s v : Draft) (find : Find) (b : tree.AlwaysBlock) (clocked : Bool) (m : ℕ) → clocked ≡ is_clocked_by b.control → AddsStatement s v (typed_statement b.statement (alone clocked) find).statement m
+    → AddsStatement s v (typed_statement b.statement (block_body b) find).statement m
+body_added s v find b clocked m e h = subst (λ body. AddsStatement s v (typed_statement b.statement body find).statement m) (alone_is b clocked e) h
+
+pub runs_outside : (s : Draft) (find : Find) (b : tree.AlwaysBlock) → s.function ≡ None → IsRunnable (home s) find b → IsRunnable s.design find b
+runs_outside s find b e r = subst (λ d. IsRunnable d find b) (home_outside s e) r
+
+pub still_outside : (s v : Draft) (t : T.Statement) (m : ℕ) → AddsStatement s v t m → s.function ≡ None → v.function ≡ None
+still_outside s v t m h e = ap (λ (z : Draft). z.function) h.is ∙ e
 
 pub control_clean : (d : Design) (find : Find) (b : tree.AlwaysBlock) (c : tree.EventControl) → b.control ≡ c → IsRunnable d find b → (typed_control c find).faults ≡ []
-control_clean d find b c e r =
-    subst (λ x. (typed_control x find).faults ≡ []) e (both_nil (typed_control b.control find).faults ((typed_statement b.statement find).faults ++ unclocked_faults (is_clocked_by b.control) b.statement find) r.clean).0
+control_clean d find b c e r = subst (λ x. (typed_control x find).faults ≡ []) e r.control
 
 pub block_ends : (s v : Draft) (t : T.Statement) (m : ℕ) → AddsStatement s v t m → m ≤ 255 → EndsInParts 0 1 v
 block_ends s v t m h le = ends_in_parts s v [] (t ∷ []) m 0 1 (one_statement s v t m h) le refl refl
@@ -134,16 +158,16 @@ pub same_signals : (s v : Draft) (t : T.Statement) (m : ℕ) → AddsStatement s
 same_signals s v t m h = sym (ap (λ (d : Draft). d.design) h.is)
 
 pub star_block : (s : Draft) (find : Find) (b : tree.AlwaysBlock) (at : ℕ) (vs : List Event) (signal : ℕ → _) → vs ≡ [] → b.control ≡ tree.Star → at ≡ b.place
-    → and_process s (D.Always at true (map (event_of signal) vs) (typed_statement b.statement find).statement) ≡ and_process s (block_process b find)
+    → and_process s (D.Always at true (map (event_of signal) vs) (typed_statement b.statement (block_body b) find).statement) ≡ and_process s (block_process b find)
 star_block s find b at vs signal e f p =
-    ap (λ xs. and_process s (D.Always at true (map (event_of signal) xs) (typed_statement b.statement find).statement)) e
-    ∙ ap (λ n. and_process s (D.Always n true [] (typed_statement b.statement find).statement)) p
-    ∙ ap (λ c. and_process s (D.Always b.place (typed_control c find).star (typed_control c find).events (typed_statement b.statement find).statement)) (sym f)
+    ap (λ xs. and_process s (D.Always at true (map (event_of signal) xs) (typed_statement b.statement (block_body b) find).statement)) e
+    ∙ ap (λ n. and_process s (D.Always n true [] (typed_statement b.statement (block_body b) find).statement)) p
+    ∙ ap (λ c. and_process s (D.Always b.place (typed_control c find).star (typed_control c find).events (typed_statement b.statement (block_body b) find).statement)) (sym f)
 
 pub listed_block : (s v : Draft) (find : Find) (b : tree.AlwaysBlock) (at : ℕ) (es : List tree.Event) (vs : List Event) → IsRunnable s.design find b → s.design ≡ v.design → map awaited_of vs ≡ map (awaited find) es → b.control ≡ tree.Listed es → at ≡ b.place
-    → and_process s (D.Always at false (map (event_of (signal_at v.design.signals)) vs) (typed_statement b.statement find).statement) ≡ and_process s (block_process b find)
+    → and_process s (D.Always at false (map (event_of (signal_at v.design.signals)) vs) (typed_statement b.statement (block_body b) find).statement) ≡ and_process s (block_process b find)
 listed_block s v find b at es vs r same e f p =
-    let body = (typed_statement b.statement find).statement in
+    let body = (typed_statement b.statement (block_body b) find).statement in
     ap (λ (d : Design). and_process s (D.Always at false (map (event_of (signal_at d.signals)) vs) body)) (sym same)
     ∙ ap (λ xs. and_process s (D.Always at false xs body)) (events_are s.design find es vs r.sound (control_clean s.design find b (tree.Listed es) f r) e)
     ∙ ap (λ x. and_process s (D.Always at x (typed_events es find).events body)) (sym (not_star es find))

@@ -1,10 +1,10 @@
 -- One more statement: what makes the flat design lawful stays, and what it stands for has the new statement in the place of what it names.
-use Rattle.std.proofs.Common.{◌≡◌, ℕ, suc, ◌+◌, ◌-◌, ◌<◌, ◌≤◌, ◌^◌, true, List, [], ◌∷◌, ◌++◌, length, get_or, map, max, sym, ap, ◌∙◌, subst, arith, length-append}
+use Rattle.std.proofs.Common.{◌≡◌, ℕ, suc, ◌+◌, ◌-◌, ◌<◌, ◌≤◌, ◌^◌, true, nat_lt, List, [], ◌∷◌, ◌++◌, length, get_or, map, max, sym, ap, ◌∙◌, subst, arith, length-append}
 use Rattle.std.specs.List.{list_all, flat_map}
-use Rattle.std.proofs.lemmas.Bool.{le-leb}
+use Rattle.std.proofs.lemmas.Bool.{le-leb, ltb-true, ltb-false}
 use Rattle.std.proofs.lemmas.List.{map-append}
 use Rattle.vs_design.specs.Statements as T
-use Rattle.vs_design.specs.Elaborated.{is_formed, is_formed_statement}
+use Rattle.vs_design.specs.Elaborated.{is_formed, is_formed_statement, is_formed_header, is_formed_function}
 use Rattle.vs_flat.specs.declared.placed.Placed.{Placed}
 use Rattle.vs_flat.specs.declared.expressions.Node.{Node}
 use Rattle.vs_flat.specs.declared.processes.Process.{Process}
@@ -18,9 +18,10 @@ use Rattle.vs_flat.proofs.Agreeing.{EqualBelow, map_agrees}
 use Rattle.vs_flat.proofs.Building.{built-append, length-built}
 use Rattle.vs_flat.proofs.Earlier.{names_with_statement}
 use Rattle.vs_flat.proofs.Growing.{length-arena_statements, trees_with_statement, statements_with_statement, statement_added}
-use Rattle.vs_build.specs.Drafts.{Root, Body, and_body}
-use Rattle.vs_build.specs.Growth.{times, IsGrowing, node_levels, statement_levels, body_at, draft_of}
-use Rattle.vs_build.proofs.Counting.{times-append, times-flat, once_more, there_more, once_less, there_less, none_below, all_pushed, last_at, kept_at}
+use Rattle.vs_build.specs.Drafts.{Root, Body, home_in, and_body}
+use Rattle.vs_build.specs.Growth.{times, open_header, current, expression_header, statement_header, IsGrowing, node_levels, statement_levels, body_at, draft_of}
+use Rattle.vs_build.proofs.Counting.{times-append, times-flat, once_more, there_more, once_less, there_less, none_below, all_pushed, last_at, kept_at, by_test, each_both, each_parts}
+use Rattle.vs_build.proofs.Homes.{next_statement}
 
 statement_more : (a : Arena) (s : Statement) (at : ℕ) → NamesEarlier a → EqualBelow (length a.statements) (statement_at (arena_statements (with_statement a s at))) (statement_at (arena_statements a))
 statement_more a s at e k h =
@@ -63,11 +64,10 @@ statements_named a s at k =
     omega (arith, times-append k (flat_map f (a.statements ++ placed s at ∷ [])) after, times-append k (flat_map f a.statements) after, times-flat f a.statements (placed s at) k)
 
 pub statement_kept : (a : Arena) (rs bs : List ℕ) (s : Statement) (at : ℕ) → IsGrowing a (rs ++ statement_expressions s) (bs ++ statement_statements s) → covers_statement a s ≡ true → length a.statements < 2 ^ 32 - 1
-    → assigns_target (tree_at (arena_trees a)) s ≡ true → is_formed_statement (design_of a) (statement_tree (tree_at (arena_trees a)) (statement_at (arena_statements a)) at s) ≡ true → levels_of a s ≤ 256
+    → assigns_target (tree_at (arena_trees a)) s ≡ true → is_formed_statement (current a) (statement_tree (tree_at (arena_trees a)) (statement_at (arena_statements a)) at s) ≡ true → levels_of a s ≤ 256
     → IsGrowing (with_statement a s at) rs (bs ++ length a.statements ∷ [])
 statement_kept a rs bs s at g covers room target formed few =
     let b : Arena = with_statement a s at in
-    let t : T.Statement = statement_tree (tree_at (arena_trees a)) (statement_at (arena_statements a)) at s in
     let more : length b.statements ≡ suc (length a.statements) = omega (arith, length-append a.statements (placed s at ∷ [])) in
     let design : design_of b ≡ design_of a = statement_added a s at g.names in
     let trees : arena_trees b ≡ arena_trees a = trees_with_statement a s at g.names in
@@ -76,12 +76,20 @@ statement_kept a rs bs s at g covers room target formed few =
       few_nodes = g.few_nodes;
       few_statements = omega (arith, more, room);
       names = names_with_statement a s at g.names covers;
-      no_functions = g.no_functions;
-      no_bodies = g.no_bodies;
-      expressions = subst (λ d. list_all (is_formed d) (arena_trees b) ≡ true) (sym design) (subst (λ ts. list_all (is_formed (design_of a)) ts ≡ true) (sym trees) g.expressions);
-      statements =
-          subst (λ d. list_all (is_formed_statement d) (arena_statements b) ≡ true) (sym design)
-          (subst (λ ss. list_all (is_formed_statement (design_of a)) ss ≡ true) (sym (statements_with_statement a s at g.names)) (all_pushed (is_formed_statement (design_of a)) (arena_statements a) t g.statements formed));
+      few_functions = g.few_functions;
+      open_one = g.open_one;
+      begun = λ f e. let k = g.begun f e in (k.0, omega (arith, k.1, more));
+      locals = g.locals;
+      header = λ h e. subst (λ d. is_formed_header d h ≡ true) (sym design) (g.header h e);
+      functions = subst (λ d. list_all (is_formed_function d) d.functions ≡ true) (sym design) g.functions;
+      expressions =
+          λ k h. subst (λ d. is_formed (home_in d (expression_header a k)) (tree_at (arena_trees b) k) ≡ true) (sym design)
+          (subst (λ ts. is_formed (home_in (design_of a) (expression_header a k)) (tree_at ts k) ≡ true) (sym trees) (g.expressions k h));
+      statements = λ k h. subst (λ d. is_formed_statement (home_in d (statement_header a k)) (statement_at (arena_statements b) k) ≡ true) (sym design) (formed_now k (omega (arith, h, more)));
+      rooted = (each_parts (λ k. expression_header a k ≡ open_header a) rs (statement_expressions s) g.rooted).0;
+      embodied =
+          each_both (λ k. statement_header a k ≡ open_header a) bs (length a.statements ∷ []) (each_parts (λ k. statement_header a k ≡ open_header a) bs (statement_statements s) g.embodied).0
+          (next_statement a g.names (λ f e. (g.begun f e).1), tt);
       copies = g.copies;
       assign_targets = subst (λ ts. list_all (λ (p : Process). has_target (tree_at ts) p.kind) a.processes ≡ true) (sym trees) g.assign_targets;
       statement_targets =
@@ -97,6 +105,22 @@ statement_kept a rs bs s at g covers room target formed few =
           subst (λ ds. are_chains ds ≡ true) (sym (depths_with_statement a s at))
           (all_pushed _ (statement_depths (node_depths a.nodes) a.statements) (levels_of a s) g.statement_chains (le-leb _ 256 few));
     }
+  where
+    -- an earlier one, and the new one
+    formed_now : (k : ℕ) → k ≤ length a.statements → is_formed_statement (home_in (design_of a) (statement_header a k)) (statement_at (arena_statements (with_statement a s at)) k) ≡ true
+    formed_now k h =
+        by_test (nat_lt k (length a.statements))
+        (λ e. let l : k < length a.statements = ltb-true k (length a.statements) e in ap (is_formed_statement (home_in (design_of a) (statement_header a k))) (statement_more a s at g.names k l) ∙ g.statements k l)
+        (λ e.
+        let is : k ≡ length a.statements = omega (arith, h, ltb-false k (length a.statements) e) in
+        subst (λ m. is_formed_statement (home_in (design_of a) (statement_header a m)) (statement_at (arena_statements (with_statement a s at)) m) ≡ true) (sym is) last)
+      where
+        last : is_formed_statement (home_in (design_of a) (statement_header a (length a.statements))) (statement_at (arena_statements (with_statement a s at)) (length a.statements)) ≡ true
+        last =
+            ap (λ o. is_formed_statement (home_in (design_of a) o) (statement_at (arena_statements (with_statement a s at)) (length a.statements))) (next_statement a g.names (λ f e. (g.begun f e).1))
+            ∙ ap (λ ss. is_formed_statement (current a) (statement_at ss (length a.statements))) (statements_with_statement a s at g.names)
+            ∙ ap (is_formed_statement (current a)) (last_at (arena_statements a) (statement_tree (tree_at (arena_trees a)) (statement_at (arena_statements a)) at s) T.Empty (length a.statements) (length-arena_statements a))
+            ∙ formed
 
 pub bodies_below : (a : Arena) (rs bs : List ℕ) → IsGrowing a rs bs → all_below (length a.statements) bs ≡ true
 bodies_below a rs bs g = none_below (length a.statements) bs (λ n h. omega (arith, g.statements_there n h))

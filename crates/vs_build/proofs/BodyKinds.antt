@@ -21,17 +21,18 @@ use Rattle.vs_flat.specs.Arena.{Arena, with_process}
 use Rattle.vs_flat.specs.Named.{all_below, covers_process}
 use Rattle.vs_flat.specs.Targets.{target_of, both_of}
 use Rattle.vs_flat.specs.Trees.{no_signal, tree_at, signal_at, statement_at, statement_tree, target_tree, branch, sequence, arms_tree}
-use Rattle.vs_flat.specs.DesignOf.{arena_signals, arena_trees, arena_statements, design_of, event_of}
-use Rattle.vs_flat.proofs.Agreeing.{and_both, and_true, first_below, rest_below, below_append}
+use Rattle.vs_flat.specs.DesignOf.{arena_signals, arena_trees, arena_statements, event_of}
+use Rattle.vs_flat.proofs.Agreeing.{and_both, and_true}
 use Rattle.vs_flat.proofs.Growing.{length-signals}
 use Rattle.vs_build.specs.Drafts.{Root, Draft, and_process, AddsStatement, Adds, writes_variables, Labelled, arms_with, total, EndsInParts, EndsInAssignment, EndsInCase}
-use Rattle.vs_build.specs.Growth.{Growing, IsGrowing, draft_of, draft}
+use Rattle.vs_build.specs.Growth.{current, Growing, IsGrowing, draft_of, draft}
 use Rattle.vs_build.specs.Cut.{cut}
 use Rattle.vs_build.proofs.Additions.{process_kept, process_draft}
-use Rattle.vs_build.proofs.Steps.{last_one, last_two, formed_at, used_below}
+use Rattle.vs_build.proofs.Counting.{each_parts}
+use Rattle.vs_build.proofs.Steps.{last_one, last_two, AreFormed, used_formed}
 use Rattle.vs_build.proofs.NodeKinds.{nil_right}
-use Rattle.vs_build.proofs.Cutting.{drop_drop, last_entry, each_of, cut_labels, cut_statements, cut_formed, cut_tree}
-use Rattle.vs_build.proofs.BodySteps.{body_formed_at, used_bodies_below, are_last, IsBodyStep, IsBodyAdded, body_adds, adds_in, lengths}
+use Rattle.vs_build.proofs.Cutting.{drop_drop, last_entry, cut_labels, cut_statements, cut_formed, cut_tree}
+use Rattle.vs_build.proofs.BodySteps.{used_bodies_below, AreFormedBodies, used_bodies_formed, are_last, IsBodyStep, IsBodyAdded, body_adds, adds_in, lengths}
 
 -- ---- a lone `;`
 
@@ -133,7 +134,7 @@ assignment_step a rs bs v len n x y blocking at g view h e o f k =
     in
     let all = all_taken_list bs n o in
     let l = are_last a rs bs (take (len - 2) rs) (x ∷ y ∷ []) (take n bs) [] h.before (h.target ∷ h.value ∷ []) [] 255 is all (adds_in a rs bs v h.before (h.target ∷ h.value ∷ []) [] 255 view h.adds) refl refl in
-    let below = used_below a rs (take (len - 2) rs) (x ∷ y ∷ []) bs g is in
+    let here = used_formed a rs (take (len - 2) rs) (x ∷ y ∷ []) bs g is in
     let target : tree_at (arena_trees a) x ≡ h.target = first_is (tree_at (arena_trees a) x) h.target (tree_at (arena_trees a) y ∷ []) (h.value ∷ []) l.expressions in
     let written : is_some (target_of (tree_at (arena_trees a) x)) ≡ true = ap (λ z. is_some (target_of z)) target ∙ h.written in
     record {
@@ -144,9 +145,8 @@ assignment_step a rs bs v len n x y blocking at g view h e o f k =
       parts = refl;
       written = written;
       formed =
-          and_true (is_formed_target (design_of a) is_variable (target_tree (tree_at (arena_trees a) x))) (is_formed (design_of a) (tree_at (arena_trees a) y))
-          (formed_target (design_of a) (tree_at (arena_trees a) x) written (formed_at a rs bs x g (first_below (length a.nodes) x (y ∷ []) below)) (ap (λ z. writes_variables (target_tree z)) target ∙ h.variables))
-          (formed_at a rs bs y g (first_below (length a.nodes) y [] (rest_below (length a.nodes) x (y ∷ []) below)));
+          and_true (is_formed_target (current a) is_variable (target_tree (tree_at (arena_trees a) x))) (is_formed (current a) (tree_at (arena_trees a) y))
+          (formed_target (current a) (tree_at (arena_trees a) x) written here.0 (ap (λ z. writes_variables (target_tree z)) target ∙ h.variables)) here.1.0;
       few = l.few;
       low = l.low;
     }
@@ -186,16 +186,19 @@ branches_are a rs bs v branches len count c first last view some most h e f k m 
       many = ap length (sym is) ∙ length-drop (len - branches) bs ∙ omega (arith, e, enough);
     }
 
-branch_formed : (a : Arena) (rs bs : List ℕ) (last : Option ℕ) → IsGrowing a rs bs → all_below (length a.statements) (option_to_list last) ≡ true → is_formed_statement (design_of a) (branch (statement_at (arena_statements a)) last) ≡ true
-branch_formed a rs bs None g h = refl
-branch_formed a rs bs (Some n) g h = body_formed_at a rs bs n g (first_below (length a.statements) n [] h)
+pub condition_there : (a : Arena) (rs bs : List ℕ) (v : Growing) (branches : ℕ) → (let w : Growing = record { arena = a; roots = rs; bodies = bs } in w) ≡ v → EndsInParts 1 branches (draft v) → 1 ≤ length rs
+condition_there a rs bs v branches view h = let n = lengths a rs bs v h.before h.trees h.parts 255 view h.adds in omega (arith, n.roots, h.many)
+
+branch_formed : (a : Arena) (last : Option ℕ) → AreFormedBodies a (option_to_list last) → is_formed_statement (current a) (branch (statement_at (arena_statements a)) last) ≡ true
+branch_formed a None h = refl
+branch_formed a (Some n) h = h.0
 
 pub conditional_step : (a : Arena) (rs bs : List ℕ) (v : Growing) (branches expressions kept c first : ℕ) (last : Option ℕ) (at : ℕ) → IsGrowing a rs bs → (let w : Growing = record { arena = a; roots = rs; bodies = bs } in w) ≡ v → EndsInParts 1 branches (draft v)
     → AreBranches rs bs expressions kept c first last branches → IsBodyStep a rs bs (take expressions rs) (c ∷ []) (take kept bs) (first ∷ option_to_list last) (S.If c first last) at
 conditional_step a rs bs v branches expressions kept c first last at g view h b =
     let l = are_last a rs bs (take expressions rs) (c ∷ []) (take kept bs) (first ∷ option_to_list last) h.before h.trees h.parts 255 b.roots b.bodies (adds_in a rs bs v h.before h.trees h.parts 255 view h.adds) (sym h.many) (b.many ∙ sym h.several) in
-    let below = used_below a rs (take expressions rs) (c ∷ []) bs g b.roots in
-    let under = used_bodies_below a rs bs (take kept bs) (first ∷ option_to_list last) g b.bodies in
+    let here = used_formed a rs (take expressions rs) (c ∷ []) bs g b.roots in
+    let under = used_bodies_formed a rs bs (take kept bs) (first ∷ option_to_list last) g b.bodies in
     record {
       growing = g;
       roots = b.roots;
@@ -204,10 +207,8 @@ conditional_step a rs bs v branches expressions kept c first last at g view h b 
       parts = refl;
       written = refl;
       formed =
-          and_true (is_formed (design_of a) (tree_at (arena_trees a) c) && is_formed_statement (design_of a) (statement_at (arena_statements a) first)) (is_formed_statement (design_of a) (branch (statement_at (arena_statements a)) last))
-          (and_true (is_formed (design_of a) (tree_at (arena_trees a) c)) (is_formed_statement (design_of a) (statement_at (arena_statements a) first)) (formed_at a rs bs c g (first_below (length a.nodes) c [] below))
-          (body_formed_at a rs bs first g (first_below (length a.statements) first (option_to_list last) under)))
-          (branch_formed a rs bs last g (rest_below (length a.statements) first (option_to_list last) under));
+          and_true (is_formed (current a) (tree_at (arena_trees a) c) && is_formed_statement (current a) (statement_at (arena_statements a) first)) (is_formed_statement (current a) (branch (statement_at (arena_statements a)) last))
+          (and_true (is_formed (current a) (tree_at (arena_trees a) c)) (is_formed_statement (current a) (statement_at (arena_statements a) first)) here.0 under.0) (branch_formed a last under.1);
       few = l.few;
       low = l.low;
     }
@@ -233,12 +234,11 @@ conditional_adds r a b rs after bs bodies v branches expressions kept c first la
 
 -- ---- sequences
 
-sequence_formed : (a : Arena) (rs bs : List ℕ) (xs : List ℕ) → IsGrowing a rs bs → all_below (length a.statements) xs ≡ true → is_formed_statement (design_of a) (sequence (map (statement_at (arena_statements a)) xs)) ≡ true
-sequence_formed a rs bs [] g h = refl
-sequence_formed a rs bs (x ∷ []) g h = body_formed_at a rs bs x g (first_below (length a.statements) x [] h)
-sequence_formed a rs bs (x ∷ (y ∷ ys)) g h =
-    and_true (is_formed_statement (design_of a) (statement_at (arena_statements a) x)) (is_formed_statement (design_of a) (sequence (map (statement_at (arena_statements a)) (y ∷ ys)))) (body_formed_at a rs bs x g (first_below (length a.statements) x (y ∷ ys) h))
-    (sequence_formed a rs bs (y ∷ ys) g (rest_below (length a.statements) x (y ∷ ys) h))
+sequence_formed : (a : Arena) (xs : List ℕ) → AreFormedBodies a xs → is_formed_statement (current a) (sequence (map (statement_at (arena_statements a)) xs)) ≡ true
+sequence_formed a [] h = refl
+sequence_formed a (x ∷ []) h = h.0
+sequence_formed a (x ∷ (y ∷ ys)) h =
+    and_true (is_formed_statement (current a) (statement_at (arena_statements a) x)) (is_formed_statement (current a) (sequence (map (statement_at (arena_statements a)) (y ∷ ys)))) h.0 (sequence_formed a (y ∷ ys) h.1)
 
 pub sequence_enough : (a : Arena) (rs bs : List ℕ) (v : Growing) (count : ℕ) → (let w : Growing = record { arena = a; roots = rs; bodies = bs } in w) ≡ v → EndsInParts 0 count (draft v) → count ≤ length bs
 sequence_enough a rs bs v count view h = omega (arith, (lengths a rs bs v h.before h.trees h.parts 255 view h.adds).bodies, h.several)
@@ -261,7 +261,7 @@ sequence_step a rs bs v count len expressions parts at g view h e f k =
       expressions = refl;
       parts = refl;
       written = refl;
-      formed = sequence_formed a rs bs parts g (used_bodies_below a rs bs (take (len - count) bs) parts g bodies);
+      formed = sequence_formed a parts (used_bodies_formed a rs bs (take (len - count) bs) parts g bodies);
       few = l.few;
       low = l.low;
     }
@@ -321,25 +321,32 @@ arms_are a rs bs first others len n kept of counts arms other most h e c at f k 
       rest = ap length (sym behind) ∙ length-drop (kept + length counts) bs ∙ omega (arith, e, enough, c, at);
     }
 
+all_formed : (a : Arena) (ns : List ℕ) → AreFormed a ns → list_all (λ k. is_formed (current a) (tree_at (arena_trees a) k)) ns ≡ true
+all_formed a [] h = refl
+all_formed a (n ∷ ns) h = and_true (is_formed (current a) (tree_at (arena_trees a) n)) (list_all (λ k. is_formed (current a) (tree_at (arena_trees a) k)) ns) h.0 (all_formed a ns h.1)
+
+all_bodies_formed : (a : Arena) (ns : List ℕ) → AreFormedBodies a ns → list_all (λ k. is_formed_statement (current a) (statement_at (arena_statements a) k)) ns ≡ true
+all_bodies_formed a [] h = refl
+all_bodies_formed a (n ∷ ns) h =
+    and_true (is_formed_statement (current a) (statement_at (arena_statements a) n)) (list_all (λ k. is_formed_statement (current a) (statement_at (arena_statements a) k)) ns) h.0 (all_bodies_formed a ns h.1)
+
 case_formed : (a : Arena) (rs bs : List ℕ) (first kept of others : ℕ) (counts : List ℕ) (arms : List Arm) (other : Option ℕ) (kind : CaseKind) (at : ℕ) → IsGrowing a rs bs → AreArms a rs bs first kept of counts others arms other → list_all (λ n. nat_lt 0 n) counts ≡ true
-    → is_formed_statement (design_of a) (statement_tree (tree_at (arena_trees a)) (statement_at (arena_statements a)) at (S.Case kind of arms other)) ≡ true
+    → is_formed_statement (current a) (statement_tree (tree_at (arena_trees a)) (statement_at (arena_statements a)) at (S.Case kind of arms other)) ≡ true
 case_formed a rs bs first kept of others counts arms other kind at g w some =
-    let d = design_of a in
+    let d = current a in
     let tree = tree_at (arena_trees a) in
     let statement = statement_at (arena_statements a) in
     let labels = drop (first + 1) rs in
     let parts = drop kept bs in
-    let below = used_below a rs (take first rs) (of ∷ labels) bs g w.roots in
-    let under = used_bodies_below a rs bs (take kept bs) parts g (sym (take-append-drop kept bs)) in
-    let last : all_below (length a.statements) (option_to_list other) ≡ true =
-    (below_append (length a.statements) (map (λ (m : Arm). m.statement) arms) (option_to_list other) (ap (all_below (length a.statements)) w.parts ∙ under)).1
+    let here = used_formed a rs (take first rs) (of ∷ labels) bs g w.roots in
+    let under = used_bodies_formed a rs bs (take kept bs) parts g (sym (take-append-drop kept bs)) in
+    let last : AreFormedBodies a (option_to_list other) =
+    (each_parts (λ n. is_formed_statement d (statement n) ≡ true) (map (λ (m : Arm). m.statement) arms) (option_to_list other) (subst (AreFormedBodies a) (sym w.parts) under)).1
     in
     let formed : are_formed_arms d (arms_tree tree statement other (cut counts labels parts)) ≡ true =
-    cut_formed d tree statement other counts labels parts w.few (omega (arith, w.many)) some
-    (each_of (λ k. is_formed d (tree k)) (length a.nodes) labels (rest_below (length a.nodes) of labels below) (λ k h. formed_at a rs bs k g h))
-    (each_of (λ k. is_formed_statement d (statement k)) (length a.statements) parts under (λ k h. body_formed_at a rs bs k g h)) (branch_formed a rs bs other g last)
+    cut_formed d tree statement other counts labels parts w.few (omega (arith, w.many)) some (all_formed a labels here.1) (all_bodies_formed a parts under) (branch_formed a other last)
     in
-    and_true (is_formed d (tree of)) (are_formed_arms d (arms_tree tree statement other arms)) (formed_at a rs bs of g (first_below (length a.nodes) of labels below))
+    and_true (is_formed d (tree of)) (are_formed_arms d (arms_tree tree statement other arms)) here.0
     (ap (λ (ms : List Arm). are_formed_arms d (arms_tree tree statement other ms)) w.is ∙ formed)
 
 pub case_step : (a : Arena) (rs bs : List ℕ) (v : Growing) (first kept of others : ℕ) (counts : List ℕ) (arms : List Arm) (other : Option ℕ) (kind : CaseKind) (at : ℕ) → IsGrowing a rs bs → (let w : Growing = record { arena = a; roots = rs; bodies = bs } in w) ≡ v

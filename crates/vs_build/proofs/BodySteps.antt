@@ -1,7 +1,6 @@
 -- One more statement over the last expressions and statements.
 use Rattle.std.proofs.Common.{◌≡◌, ℕ, ◌+◌, ◌-◌, ◌<◌, ◌≤◌, ◌^◌, true, List, [], ◌∷◌, ◌++◌, length, get_or, map, max, Result, Ok, Err, OnOk, OnErr, refl, sym, ap, ◌∙◌, subst, arith, length-append}
 use Rattle.std.proofs.lemmas.List.{map-append, length-map}
-use Rattle.std.proofs.lemmas.Option.{slice_get-get_or}
 use Rattle.vs_design.specs.Expressions as E
 use Rattle.vs_design.specs.Statements as T
 use Rattle.vs_design.specs.Elaborated.{is_formed_statement}
@@ -11,12 +10,12 @@ use Rattle.vs_flat.specs.Named.{all_below, statement_expressions, statement_stat
 use Rattle.vs_flat.specs.Trees.{tree_at, statement_at, statement_tree}
 use Rattle.vs_flat.specs.DesignOf.{arena_trees, arena_statements, design_of}
 use Rattle.vs_flat.specs.Lawful.{assigns_target, deepest, node_depths, statement_depths}
-use Rattle.vs_flat.proofs.Agreeing.{and_true, below_append}
-use Rattle.vs_flat.proofs.Earlier.{all_at}
-use Rattle.vs_flat.proofs.Growing.{length-arena_statements}
-use Rattle.vs_build.specs.Drafts.{Root, Body, Draft, and_roots, and_body, and_bodies, most_levels, most_body_levels, AddsStatement, Adds}
-use Rattle.vs_build.specs.Growth.{Growing, IsGrowing, root_at, body_at, draft_of, draft}
+use Rattle.vs_flat.proofs.Agreeing.{and_true, below_append, first_below, rest_below}
+use Rattle.vs_grammar.specs.Shapes.{Each}
+use Rattle.vs_build.specs.Drafts.{Root, Body, Draft, home_in, and_roots, and_body, and_bodies, most_levels, most_body_levels, AddsStatement, Adds}
+use Rattle.vs_build.specs.Growth.{open_header, current, statement_header, Growing, IsGrowing, root_at, body_at, draft_of, draft}
 use Rattle.vs_build.proofs.Bodies.{levels_of, statement_kept, bodies_below, statement_draft}
+use Rattle.vs_build.proofs.Counting.{each_parts}
 use Rattle.vs_build.proofs.Steps.{append_same, levels_are, used_below}
 
 -- ---- the statements that stand there
@@ -25,12 +24,21 @@ pub body_levels_are : (a : Arena) (used : List ℕ) → deepest (statement_depth
 body_levels_are a [] = refl
 body_levels_are a (n ∷ ns) = ap (λ x. max (get_or (statement_depths (node_depths a.nodes) a.statements) n 0) x) (body_levels_are a ns)
 
-pub body_formed_at : (a : Arena) (rs bs : List ℕ) (k : ℕ) → IsGrowing a rs bs → k < length a.statements → is_formed_statement (design_of a) (statement_at (arena_statements a) k) ≡ true
-body_formed_at a rs bs k g h =
-    all_at (is_formed_statement (design_of a)) (arena_statements a) k (statement_at (arena_statements a) k) g.statements (slice_get-get_or (arena_statements a) k T.Empty (omega (arith, h, length-arena_statements a)))
-
 pub used_bodies_below : (a : Arena) (rs bs brest bused : List ℕ) → IsGrowing a rs bs → bs ≡ brest ++ bused → all_below (length a.statements) bused ≡ true
 used_bodies_below a rs bs brest bused g e = (below_append (length a.statements) brest bused (subst (λ xs. all_below (length a.statements) xs ≡ true) e (bodies_below a rs bs g))).1
+
+-- each of these is formed where the next one stands
+abbrev pub AreFormedBodies : Arena → List ℕ → Type 0
+AreFormedBodies a ns = Each (λ n. is_formed_statement (current a) (statement_at (arena_statements a) n) ≡ true) ns
+
+bodies_here : (a : Arena) (rs bs ns : List ℕ) → IsGrowing a rs bs → all_below (length a.statements) ns ≡ true → Each (λ n. statement_header a n ≡ open_header a) ns → AreFormedBodies a ns
+bodies_here a rs bs [] g h k = tt
+bodies_here a rs bs (n ∷ ns) g h k =
+    (subst (λ o. is_formed_statement (home_in (design_of a) o) (statement_at (arena_statements a) n) ≡ true) k.0 (g.statements n (first_below (length a.statements) n ns h)), bodies_here a rs bs ns g (rest_below (length a.statements) n ns h) k.1)
+
+pub used_bodies_formed : (a : Arena) (rs bs brest bused : List ℕ) → IsGrowing a rs bs → bs ≡ brest ++ bused → AreFormedBodies a bused
+used_bodies_formed a rs bs brest bused g e =
+    bodies_here a rs bs bused g (used_bodies_below a rs bs brest bused g e) (each_parts (λ n. statement_header a n ≡ open_header a) brest bused (subst (Each (λ n. statement_header a n ≡ open_header a)) e g.embodied)).1
 
 -- what was added stands at the end
 pub record AreLast (a : Arena) (rest used brest bused : List ℕ) (s : Draft) (trees : List E.Expression) (statements : List T.Statement) (most : ℕ) : Type 0 where
@@ -59,8 +67,9 @@ are_last a rs bs rest used brest bused s trees statements most e f h l m =
     record {
       before =
           ap (λ d. record (draft_of a rest brest) { design = d }) (ap (λ (d : Draft). d.design) is)
-          ∙ ap (λ xs. (let r : Draft = record { design = s.design; expressions = xs; statements = map (body_at a) brest } in r)) p.0
-          ∙ ap (λ xs. (let r : Draft = record { design = s.design; expressions = s.expressions; statements = xs } in r)) q.0;
+          ∙ ap (λ xs. (let r : Draft = record { design = s.design; function = open_header a; expressions = xs; statements = map (body_at a) brest } in r)) p.0
+          ∙ ap (λ o. (let r : Draft = record { design = s.design; function = o; expressions = s.expressions; statements = map (body_at a) brest } in r)) (ap (λ (d : Draft). d.function) is)
+          ∙ ap (λ xs. (let r : Draft = record { design = s.design; function = s.function; expressions = s.expressions; statements = xs } in r)) q.0;
       expressions = sym (trees_of a used) ∙ ap (map (λ (r : Root). r.tree)) p.1 ∙ h.trees_are;
       parts = sym (statements_of a bused) ∙ ap (map (λ (b : Body). b.statement)) q.1 ∙ h.statements_are;
       few = omega (arith, levels_are a used, ap most_levels p.1, h.few);
@@ -77,7 +86,7 @@ pub record IsBodyStep (a : Arena) (rs bs rest used brest bused : List ℕ) (s : 
   pub expressions : statement_expressions s ≡ used
   pub parts : statement_statements s ≡ bused
   pub written : assigns_target (tree_at (arena_trees a)) s ≡ true
-  pub formed : is_formed_statement (design_of a) (statement_tree (tree_at (arena_trees a)) (statement_at (arena_statements a)) at s) ≡ true
+  pub formed : is_formed_statement (current a) (statement_tree (tree_at (arena_trees a)) (statement_at (arena_statements a)) at s) ≡ true
   pub few : deepest (node_depths a.nodes) used ≤ 255
   pub low : deepest (statement_depths (node_depths a.nodes) a.statements) bused ≤ 255
 

@@ -17,14 +17,14 @@ use Rattle.vs_flat.specs.declared.expressions.Node.TheVariants as N
 use Rattle.vs_flat.specs.Arena.{Arena, placed}
 use Rattle.vs_flat.specs.Named.{all_below}
 use Rattle.vs_flat.specs.Trees.{first_copy, copy_count, joined, tree_at, placed_tree}
-use Rattle.vs_flat.specs.DesignOf.{arena_names, arena_trees, design_of}
+use Rattle.vs_flat.specs.DesignOf.{arena_names, arena_trees}
 use Rattle.vs_flat.specs.Lawful.{are_different, are_copies, deepest, node_depths}
-use Rattle.vs_flat.proofs.Agreeing.{and_both, and_true, first_below, rest_below}
+use Rattle.vs_flat.proofs.Agreeing.{and_both, and_true}
 use Rattle.vs_flat.proofs.Different.{once_different}
 use Rattle.vs_build.specs.Drafts.{Root, Draft, most_levels, EndsWith, AddsExpression, AddsParts}
-use Rattle.vs_build.specs.Growth.{times, Growing, IsGrowing, root_at, draft_of, draft}
+use Rattle.vs_build.specs.Growth.{times, current, Growing, IsGrowing, root_at, draft_of, draft}
 use Rattle.vs_build.proofs.Counting.{by_test, times-append, times_here, times_elsewhere}
-use Rattle.vs_build.proofs.Steps.{ends_enough, parts_are, levels_are, formed_at, used_below, IsStep, IsAdded, step_adds}
+use Rattle.vs_build.proofs.Steps.{ends_enough, parts_are, levels_are, used_below, AreFormed, used_formed, IsStep, IsAdded, step_adds}
 use Rattle.vs_build.proofs.NodeKinds.{covered, ends_in, few_used}
 
 pub nil_end : {A : Type 0} (ys : List A) → ys ≡ ys ++ []
@@ -120,13 +120,11 @@ copies_are n (p ∷ ps) some h =
 
 -- ---- the step
 
-joined_formed : (a : Arena) (rs bs : List ℕ) (x : ℕ) (xs : List ℕ) → IsGrowing a rs bs → all_below (length a.nodes) (x ∷ xs) ≡ true → is_formed (design_of a) (joined (map (tree_at (arena_trees a)) (x ∷ xs))) ≡ true
-joined_formed a rs bs x [] g h = formed_at a rs bs x g (first_below (length a.nodes) x [] h)
-joined_formed a rs bs x (y ∷ ys) g h =
-    and_true (is_formed (design_of a) (tree_at (arena_trees a) x)) (is_formed (design_of a) (joined (map (tree_at (arena_trees a)) (y ∷ ys)))) (formed_at a rs bs x g (first_below (length a.nodes) x (y ∷ ys) h))
-    (joined_formed a rs bs y ys g (rest_below (length a.nodes) x (y ∷ ys) h))
+joined_formed : (a : Arena) (x : ℕ) (xs : List ℕ) → AreFormed a (x ∷ xs) → is_formed (current a) (joined (map (tree_at (arena_trees a)) (x ∷ xs))) ≡ true
+joined_formed a x [] h = h.0
+joined_formed a x (y ∷ ys) h = and_true (is_formed (current a) (tree_at (arena_trees a) x)) (is_formed (current a) (joined (map (tree_at (arena_trees a)) (y ∷ ys)))) h.0 (joined_formed a y ys h.1)
 
-trees_of : (a : Arena) (used : List ℕ) → map (λ (r : Root). r.tree) (map (root_at a) used) ≡ map (tree_at (arena_trees a)) used
+pub trees_of : (a : Arena) (used : List ℕ) → map (λ (r : Root). r.tree) (map (root_at a) used) ≡ map (tree_at (arena_trees a)) used
 trees_of a [] = refl
 trees_of a (x ∷ xs) = ap (λ ts. tree_at (arena_trees a) x ∷ ts) (trees_of a xs)
 
@@ -151,7 +149,7 @@ join_step a rs rest (x ∷ xs) bs n at g e some most ends =
       names = λ k. ap (times k) (sym (first_of_copies n used different));
       covers = covered (all_below (length a.nodes) (repeat (suc n) used)) (below_copies (length a.nodes) (suc n) used below);
       copies = copies_are n used some different;
-      formed = ap (is_formed (design_of a)) (join_tree a used n at some different) ∙ and_true (fits_64 (suc n)) (is_formed (design_of a) (joined (map (tree_at (arena_trees a)) used))) fits (joined_formed a rs bs x xs g below);
+      formed = ap (is_formed (current a)) (join_tree a used n at some different) ∙ and_true (fits_64 (suc n)) (is_formed (current a) (joined (map (tree_at (arena_trees a)) used))) fits (joined_formed a x xs (used_formed a rs rest used bs g e));
       few = omega (arith, deepest_copies (node_depths a.nodes) (suc n) used, few_used (length used) a rs rest used bs e refl ends);
     }
 
@@ -168,7 +166,7 @@ join_adds r a b rs after rest used bs n at s ts m p d some h l =
 
 -- ---- found at the end of the stack
 
-split_at : (rs : List ℕ) (k : ℕ) → rs ≡ take k rs ++ drop k rs
+pub split_at : (rs : List ℕ) (k : ℕ) → rs ≡ take k rs ++ drop k rs
 split_at rs k = sym (take-append-drop k rs)
 
 pub used_length : (rs : List ℕ) (count : ℕ) → count ≤ length rs → length (drop (length rs - count) rs) ≡ count

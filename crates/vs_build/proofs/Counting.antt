@@ -1,5 +1,5 @@
 -- How often a number stands in a list, and lists with one more at the end.
-use Rattle.std.proofs.Common.{◌≡◌, ℕ, suc, ◌+◌, ◌<◌, ◌≤◌, Bool, true, false, ◌==◌, cond, nat_lt, List, [], ◌∷◌, ◌++◌, length, get_or, refl, sym, ap, ◌∙◌, arith, eqb-true, eq-eqb}
+use Rattle.std.proofs.Common.{◌≡◌, ℕ, suc, ◌+◌, ◌<◌, ◌≤◌, Bool, true, false, ◌==◌, cond, nat_lt, List, [], ◌∷◌, ◌++◌, length, get_or, refl, sym, ap, ◌∙◌, subst, arith, eqb-true, eq-eqb}
 use Rattle.std.specs.List.{list_all, flat_map}
 use Rattle.std.proofs.Math.ListN.{get_or-append}
 use Rattle.std.proofs.Math.Seq.{get_or-append_seam}
@@ -9,6 +9,7 @@ use Rattle.std.proofs.lemmas.List.Folds.{list_all-append}
 use Rattle.std.proofs.lemmas.List.Sums.{sum_by-append}
 use Rattle.vs_flat.specs.Named.{all_below}
 use Rattle.vs_flat.proofs.Agreeing.{and_true}
+use Rattle.vs_grammar.specs.Shapes.{Each}
 use Rattle.vs_build.specs.Growth.{times}
 
 pub by_test : {P : Type 0} (b : Bool) → (b ≡ true → P) → (b ≡ false → P) → P
@@ -74,3 +75,28 @@ last_at xs x d n h = ap (λ k. get_or (xs ++ x ∷ []) k d) (sym h) ∙ get_or-a
 
 pub kept_at : {X : Type 0} (xs ys : List X) (x d : X) (n k : ℕ) → ys ≡ xs ++ x ∷ [] → length xs ≡ n → k < n → get_or ys k d ≡ get_or xs k d
 kept_at xs ys x d n k e h l = ap (λ zs. get_or zs k d) e ∙ get_or-append xs (x ∷ []) d k (omega (arith, h, l))
+
+-- ---- what holds of each number of a list
+
+pub each_at : (P : ℕ → Type 0) (ns : List ℕ) → Each P ns → (k : ℕ) → 1 ≤ times k ns → P k
+each_at P [] h k some = absurd (omega (arith, some))
+each_at P (m ∷ ms) h k some = by_test (m == k) (λ e. subst P (eqb-true m k e) h.0) (λ e. each_at P ms h.1 k (omega (arith, some, times_elsewhere k m ms e)))
+
+pub each_of_times : (P : ℕ → Type 0) (ns : List ℕ) → ((k : ℕ) → 1 ≤ times k ns → P k) → Each P ns
+each_of_times P [] h = tt
+each_of_times P (m ∷ ms) h = (
+  h m (omega (arith, times_here m m ms (eq-eqb m m refl))),
+  each_of_times P ms (λ k some. by_test (m == k) (λ e. h k (omega (arith, times_here k m ms e))) (λ e. h k (omega (arith, some, times_elsewhere k m ms e)))),
+)
+
+-- it holds of those of another list, too, in which each stands as often
+pub each_counted : (P : ℕ → Type 0) (ns ms : List ℕ) → ((k : ℕ) → times k ms ≡ times k ns) → Each P ns → Each P ms
+each_counted P ns ms same h = each_of_times P ms (λ k some. each_at P ns h k (omega (arith, some, same k)))
+
+pub each_both : (P : ℕ → Type 0) (xs ys : List ℕ) → Each P xs → Each P ys → Each P (xs ++ ys)
+each_both P [] ys h k = k
+each_both P (x ∷ xs) ys h k = (h.0, each_both P xs ys h.1 k)
+
+pub each_parts : (P : ℕ → Type 0) (xs ys : List ℕ) → Each P (xs ++ ys) → Each P xs × Each P ys
+each_parts P [] ys h = (tt, h)
+each_parts P (x ∷ xs) ys h = let k = each_parts P xs ys h.1 in ((h.0, k.0), k.1)

@@ -10,7 +10,6 @@ use Rattle.vs_design.specs.Designs.{Design}
 use Rattle.vs_design.specs.Elaborated.{has_items, are_formed, is_formed, is_formed_statement, are_formed_arms}
 use Rattle.vs_ast.specs.declared.statements.CaseArm.{CaseArm}
 use Rattle.vs_flat.specs.declared.statements.Arm.{Arm}
-use Rattle.vs_flat.specs.Named.{all_below}
 use Rattle.vs_flat.specs.Trees.{branch, arms_tree}
 use Rattle.vs_flat.proofs.Agreeing.{and_both, and_true}
 use Rattle.vs_build.specs.Drafts.{Labelled, total, arms_with}
@@ -34,12 +33,6 @@ last_entry [] (suc k) h = refl
 last_entry (x ∷ []) zero h = refl
 last_entry (x ∷ (y ∷ ys)) zero h = absurd (let no : ⊥ = omega (arith, h) in no)
 last_entry (x ∷ xs) (suc k) h = last_entry xs k (omega (arith, h))
-
-pub each_of : (p : ℕ → Bool) (n : ℕ) (xs : List ℕ) → all_below n xs ≡ true → ((k : ℕ) → k < n → p k ≡ true) → list_all p xs ≡ true
-each_of p n [] h f = refl
-each_of p n (x ∷ xs) h f =
-    let b = and_both (nat_lt x n) (all_below n xs) h in
-    and_true (p x) (list_all p xs) (f x (ltb-true x n b.0)) (each_of p n xs b.1 f)
 
 pub all_mapped : {A : Type 0} (f : ℕ → A) (p : A → Bool) (xs : List ℕ) → list_all (λ k. p (f k)) xs ≡ true → list_all p (map f xs) ≡ true
 all_mapped f p [] h = refl

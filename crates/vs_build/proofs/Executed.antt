@@ -1,5 +1,5 @@
 -- Statements without a fault, and what was added one after the other.
-use Rattle.std.proofs.Common.{rules, ◌≡◌, ℕ, zero, suc, ◌+◌, ◌*◌, ◌<◌, ◌≤◌, Bool, true, false, not, ◌&&◌, ◌||◌, List, [], ◌∷◌, ◌++◌, length, get_or, map, max, take, Option, Some, None, Vec, Box, Global, Result, OnOk, refl, sym, ap, ◌∙◌, subst, arith, append_assoc, length-append}
+use Rattle.std.proofs.Common.{rules, ◌≡◌, ℕ, zero, suc, ◌+◌, ◌*◌, ◌<◌, ◌≤◌, Bool, true, false, not, ◌&&◌, ◌||◌, List, [], ◌∷◌, ◌++◌, length, get_or, map, max, take, if◌then◌else◌, Option, Some, None, Vec, Box, Global, Result, OnOk, refl, sym, ap, ◌∙◌, subst, arith, append_assoc, length-append}
 use Rattle.std.specs.Prelude.{option_to_list, unwrap_or, is_some, nat_lt}
 use Rattle.std.specs.List.{list_all, flat_map}
 use Rattle.std.proofs.Math.Seq.{take-suc, take-length}
@@ -14,34 +14,37 @@ use Rattle.vs_design.specs.Footprints.{is_variable}
 use Rattle.vs_grammar.specs.Trees as tree
 use Rattle.vs_grammar.specs.Trees.{target_place}
 use Rattle.vs_grammar.specs.Shapes.{IsExpr, IsTarget, ArePartsOfTarget, IsStatement, IsFallback, AreStatements, AreArms, Each, OneOrMore}
-use Rattle.vs_grammar.specs.Depths.{deepest, expr_depth, target_depth, statement_depth, fallback_depth, statements_depth, arms_depth}
+use Rattle.vs_grammar.specs.Depths.{deepest, option_depth, scope_depth, expr_depth, target_depth, statement_depth, fallback_depth, statements_depth, arms_depth}
 use Rattle.vs_ast.specs.declared.expressions.Expr.{Expr}
-use Rattle.vs_ast.specs.declared.statements.Statement.{Statement, If, Case, Sequence, the_lemmas}
+use Rattle.vs_ast.specs.declared.statements.Statement.{Statement, If, Case, Sequence, For, the_lemmas}
+use Rattle.vs_ast.specs.declared.types.BlockScope.{BlockScope}
+use Rattle.vs_ast.specs.declared.types.LoopHead.{LoopHead}
 use Rattle.vs_ast.specs.declared.statements.CaseArm.{CaseArm}
 use Rattle.vs_base.specs.declared.events.CaseKind.{CaseKind}
 use Rattle.vs_ast.proofs.statements.Statement.TheLaws as statement_laws
 use Rattle.vs_ast.proofs.statements.CaseArm.TheLaws as arm_laws
 use Rattle.vs_ast.proofs.Rows.{statement_rows, arm_rows}
 use Rattle.vs_ast.specs.Views as view
-use Rattle.vs_const.specs.Meanings.{SignalMeaning, Meaning, AValue, Undefined, ASignal, AMemory, Another, Unknown, Find}
+use Rattle.vs_const.specs.Meanings.{SignalMeaning, Meaning, AValue, Undefined, ASignal, AMemory, AFunction, Incomplete, Another, Barred, Unknown, Find, steady}
 use Rattle.vs_const.specs.Sound.{IsSound, AreSound}
 use Rattle.vs_const.specs.Typed.{Typed}
-use Rattle.vs_const.specs.Selects.{is_scalar, taken, slice_taken, first_needed}
+use Rattle.vs_const.specs.Selects.{is_scalar, taken, slice_taken, first_needed, first_names}
 use Rattle.vs_const.specs.Expressions.{typed}
 use Rattle.vs_const.proofs.Formed.{both_nil, no_fault}
 use Rattle.vs_const.specs.Faults.{fault_if}
 use Rattle.vs_flat.specs.Trees.{no_signal, target_tree, sequence}
-use Rattle.vs_elaborated.specs.Targets.{meant_signal, TypedTarget, is_wrong_target, target_base, word_target, bit_target, selected_target, typed_target, typed_targets}
-use Rattle.vs_elaborated.specs.Statements.{TypedStatement, typed_list, typed_fallback, typed_statement, typed_sequence, typed_arms}
-use Rattle.vs_build.specs.Drafts.{Root, Body, Draft, and_roots, and_bodies, most_body_levels, AddsExpression, AddsParts, AddsStatement, Adds, EndsInParts, EndsInAssignment, writes_variables, Labelled, total, arms_with, EndsInCase}
+use Rattle.vs_elaborated.specs.Numbers.{IsNumbered, AreNumbered}
+use Rattle.vs_elaborated.specs.Targets.{meant_signal, TypedTarget, is_wrong_target, target_rule, target_base, word_target, bit_target, selected_target, typed_target, typed_targets}
+use Rattle.vs_elaborated.specs.Statements.{Body as Within, TypedStatement, Local, is_integer, find_local, local_meaning, local_or, delayed_faults, word_faults, scope_locals, local_faults, scoped, not_there, typed_list, typed_fallback, typed_statement, typed_sequence, typed_arms}
+use Rattle.vs_build.specs.Drafts.{Root, Body, Draft, home, and_roots, and_bodies, most_body_levels, AddsExpression, AddsParts, AddsStatement, Adds, EndsInParts, EndsInAssignment, writes_variables, Labelled, total, arms_with, EndsInCase}
 use Rattle.vs_build.specs.Cut.{label_counts}
 use Rattle.vs_build.specs.Buildable.{IsBuildable, part_expressions, memory_of}
 use Rattle.vs_build.specs.Writable.{target_expression, IsWritable}
-use Rattle.vs_build.specs.Executable.{IsExecutable, AreExecutable, AreLabels, AreChoosable, part_statements, labelled}
+use Rattle.vs_build.specs.Executable.{IsSoundBody, IsExecutable, AreExecutable, AreLabels, AreChoosable, part_statements, labelled}
 use Rattle.vs_build.proofs.Lists.{levels-append, taken_more}
 use Rattle.vs_build.proofs.Selects.{memory_is}
 use Rattle.vs_build.proofs.TargetFacts.{written, bit_target_is}
-use Rattle.vs_const.specs.declared.rules.Rule.TheVariants.{WrongKind}
+use Rattle.vs_const.specs.declared.rules.Rule.TheVariants.{WrongKind, LoopVariable}
 
 -- ---- what was added one after the other
 
@@ -120,8 +123,8 @@ adds_at_most s v ts ss m n h le =
 pub adds_these : (s v : Draft) (ts us : List E.Expression) (ss rs : List T.Statement) (m : ℕ) → ts ≡ us → ss ≡ rs → Adds s v ts ss m → Adds s v us rs m
 adds_these s v ts us ss rs m e f h = subst (λ xs. Adds s v xs rs m) e (subst (λ xs. Adds s v ts xs m) f h)
 
-pub same_design : (s v : Draft) (ts : List E.Expression) (ss : List T.Statement) (m : ℕ) → Adds s v ts ss m → s.design ≡ v.design
-same_design s v ts ss m h = sym (ap (λ (d : Draft). d.design) h.is)
+pub same_home : (s v : Draft) (ts : List E.Expression) (ss : List T.Statement) (m : ℕ) → Adds s v ts ss m → home s ≡ home v
+same_home s v ts ss m h = sym (ap home h.is)
 
 -- ---- assignments
 
@@ -131,18 +134,16 @@ variable_kind false true marked h k = cc
 variable_kind false false false h k = refl
 variable_kind false false true h k = let e : false ≡ true = k refl in cc
 
-either_false : (a b : Bool) → (a || b) ≡ false → (a ≡ false) × (b ≡ false)
-either_false true b h = cc
-either_false false b h = (refl, h)
-
 variable_named : (d : Design) (place : ℕ) (selected : Bool) (m : Meaning) → IsSound d false m → (target_base true place selected m).faults ≡ [] → is_variable (meant_signal m) ≡ true
-variable_named d place selected (AValue v r) sound h = cc
+variable_named d place selected (AValue v r turns) sound h = cc
 variable_named d place selected (Undefined r) sound h = cc
 variable_named d place selected (ASignal s) sound h =
-    let n = either_false (is_wrong_target true s) (selected && is_scalar s) (no_fault (is_wrong_target true s || (selected && is_scalar s)) WrongKind place h) in
-    variable_kind s.input s.signal.net s.signal.input n.0 sound.2
+    variable_kind s.input s.signal.net s.signal.input (no_fault (is_wrong_target true s) (target_rule s) place (both_nil (fault_if (is_wrong_target true s) (target_rule s) place) (fault_if (selected && is_scalar s) WrongKind place) h).0) sound.2
 variable_named d place selected (AMemory s) sound h = cc
+variable_named d place selected (AFunction f) sound h = cc
+variable_named d place selected Incomplete sound h = cc
 variable_named d place selected Another sound h = cc
+variable_named d place selected (Barred rule) sound h = cc
 variable_named d place selected Unknown sound h = cc
 
 -- a word of a memory
@@ -169,7 +170,8 @@ variable_selected d find tree.Whole name sound h = variable_named d name.place f
 variable_selected d find (tree.BitAt bracket index) name sound h = variable_bit d name.place (find name.bytes) (typed index find false) (sound name.bytes) h
 variable_selected d find (tree.Slice bracket kind e f) name sound h =
     let b = target_base true name.place true (find name.bytes) in
-    variable_named d name.place true (find name.bytes) (sound name.bytes) (both_nil b.faults (slice_taken b.range bracket kind (tree.expr_place e) (typed e find (first_needed kind false)) (tree.expr_place f) (typed f find true)).faults h).0
+    variable_named d name.place true (find name.bytes) (sound name.bytes) (both_nil b.faults (slice_taken b.range bracket kind (tree.expr_place e) (typed e (first_names kind find) (first_needed kind false)) (tree.expr_place f) (typed f (steady find) true)).faults h).0
+variable_selected d find (tree.OfWord bracket address part) name sound h = cc
 
 both_true : (a b : Bool) → a ≡ true → b ≡ true → (a && b) ≡ true
 both_true true true h k = refl
@@ -192,16 +194,18 @@ pub record IsAssigning (d : Design) (find : Find) (t : tree.Target) (e : tree.Ex
   pub target_is : IsWritable d find true t
   pub value_is : IsBuildable d find false e
 
-pub assigning : (d : Design) (find : Find) (t : tree.Target) (e : tree.Expr) (blocking : Bool) → IsExecutable d find (tree.Assignment t e blocking) → IsAssigning d find t e
-assigning d find t e blocking x =
-    let n = both_nil (typed_target t find true).faults (typed e find false).faults x.clean in
+pub assigning : (d : Design) (around : Within) (find : Find) (t : tree.Target) (e : tree.Expr) (blocking : Bool) → IsExecutable d around find (tree.Assignment t e blocking) → IsAssigning d find t e
+assigning d around find t e blocking x =
+    let own = (typed_target t find true).faults ++ (typed e find false).faults in
+    let words = word_faults around.clocked t find in
+    let n = both_nil (typed_target t find true).faults (typed e find false).faults (both_nil words own (both_nil (delayed_faults around (target_place t) blocking) (words ++ own) x.clean).1).1 in
     record {
-      target_is = record { shaped = x.shaped.0; sound = x.sound; clean = n.0; shallow = omega (arith, x.shallow) };
-      value_is = record { shaped = x.shaped.1; sound = x.sound; clean = n.1; shallow = omega (arith, x.shallow) };
+      target_is = record { shaped = x.shaped.0; sound = x.sound; numbered = x.numbered; clean = n.0; shallow = omega (arith, x.shallow) };
+      value_is = record { shaped = x.shaped.1; sound = x.sound; numbered = x.numbered; clean = n.1; shallow = omega (arith, x.shallow) };
     }
 
-pub value_after : (s v : Draft) (t : E.Expression) (m : ℕ) (find : Find) (needed : Bool) (e : tree.Expr) → AddsExpression s v t m → IsBuildable s.design find needed e → IsBuildable v.design find needed e
-value_after s v t m find needed e h b = subst (λ d. IsBuildable d find needed e) (same_design s v (t ∷ []) [] m (one_tree s v t m h)) b
+pub value_after : (s v : Draft) (t : E.Expression) (m : ℕ) (find : Find) (needed : Bool) (e : tree.Expr) → AddsExpression s v t m → IsBuildable (home s) find needed e → IsBuildable (home v) find needed e
+value_after s v t m find needed e h b = subst (λ d. IsBuildable d find needed e) (same_home s v (t ∷ []) [] m (one_tree s v t m h)) b
 
 assigned_parts : (s r v : Draft) (t u : E.Expression) (m n k : ℕ) → AddsExpression s r t m → AddsExpression r v u n → m ≤ k → n ≤ k → Adds s v (t ∷ u ∷ []) [] k
 assigned_parts s r v t u m n k h g le less = adds_both s r v (t ∷ []) (u ∷ []) [] [] m n k (one_tree s r t m h) (one_tree r v u n g) le less
@@ -209,26 +213,26 @@ assigned_parts s r v t u m n k h g le less = adds_both s r v (t ∷ []) (u ∷ [
 target_tree_is : (d : Design) (find : Find) (t : tree.Target) → IsWritable d find true t → target_tree (target_expression t find true) ≡ (typed_target t find true).target
 target_tree_is d find t w = ap (λ o. unwrap_or o (T.Whole no_signal)) (written d find true t w.shaped w.sound w.clean)
 
-pub assignment_ends : (s r v : Draft) (find : Find) (t : tree.Target) (u : E.Expression) (m n : ℕ) → IsWritable s.design find true t → AddsExpression s r (target_expression t find true) m → AddsExpression r v u n → m ≤ 255 → n ≤ 255 → EndsInAssignment v
+pub assignment_ends : (s r v : Draft) (find : Find) (t : tree.Target) (u : E.Expression) (m n : ℕ) → IsWritable (home s) find true t → AddsExpression s r (target_expression t find true) m → AddsExpression r v u n → m ≤ 255 → n ≤ 255 → EndsInAssignment v
 assignment_ends s r v find t u m n w h g le less = record {
   before = s;
   target = target_expression t find true;
   value = u;
   adds = assigned_parts s r v (target_expression t find true) u m n 255 h g le less;
-  written = ap is_some (written s.design find true t w.shaped w.sound w.clean);
-  variables = ap writes_variables (target_tree_is s.design find t w) ∙ variables_written s.design find t w.shaped w.sound w.clean;
+  written = ap is_some (written (home s) find true t w.shaped w.sound w.clean);
+  variables = ap writes_variables (target_tree_is (home s) find t w) ∙ variables_written (home s) find t w.shaped w.sound w.clean;
 }
 
-pub assignment_arm : {U F : Type 0} (r : Result U F) (s q v new : Draft) (find : Find) (t : tree.Target) (e : tree.Expr) (blocking : Bool) (at : ℕ) → at ≡ target_place t → IsWritable s.design find true t
+pub assignment_arm : {U F : Type 0} (r : Result U F) (s q v new : Draft) (around : Within) (find : Find) (t : tree.Target) (e : tree.Expr) (blocking : Bool) (at : ℕ) → at ≡ target_place t → IsWritable (home s) find true t
     → AddsExpression s q (target_expression t find true) (1 + target_depth t) → AddsExpression q v (typed e find false).expression (1 + expr_depth e)
     → ((w : Draft) (x y : E.Expression) (m : ℕ) → Adds w v (x ∷ y ∷ []) [] m → OnOk r (AddsStatement w new (T.Assignment at (target_tree x) y blocking) (1 + m)))
-    → OnOk r (AddsStatement s new (typed_statement (tree.Assignment t e blocking) find).statement (1 + statement_depth (tree.Assignment t e blocking)))
-assignment_arm r s q v new find t e blocking at place w h g f =
+    → OnOk r (AddsStatement s new (typed_statement (tree.Assignment t e blocking) around find).statement (1 + statement_depth (tree.Assignment t e blocking)))
+assignment_arm r s q v new around find t e blocking at place w h g f =
     let u = (typed e find false).expression in
     let m = 1 + max (target_depth t) (expr_depth e) in
     let made = f s (target_expression t find true) u m (assigned_parts s q v (target_expression t find true) u (1 + target_depth t) (1 + expr_depth e) m h g (omega arith) (omega arith)) in
     subst (λ n. OnOk r (AddsStatement s new (T.Assignment n (typed_target t find true).target u blocking) (1 + m))) place
-    (subst (λ x. OnOk r (AddsStatement s new (T.Assignment at x u blocking) (1 + m))) (target_tree_is s.design find t w) made)
+    (subst (λ x. OnOk r (AddsStatement s new (T.Assignment at x u blocking) (1 + m))) (target_tree_is (home s) find t w) made)
 
 -- ---- labels
 
@@ -254,20 +258,28 @@ label_depth (e ∷ es) (suc i) x k = omega (arith, label_depth es i x (omega (ar
 pub label_levels : (es : List Expr) (i : ℕ) (x : Expr) → i < length es → x ≡ get_or es i x → expr_depth (view.expr x) ≤ deepest expr_depth (map view.expr es)
 label_levels es i x k e = omega (arith, label_depth es i x k, ap (λ y. expr_depth (view.expr y)) e)
 
-pub each_label : (s v : Draft) (ts : List E.Expression) (m : ℕ) (find : Find) (es : List Expr) (i : ℕ) (x : Expr) → AddsParts s v ts m → AreLabels s.design find (map view.expr es) → i < length es → x ≡ get_or es i x → IsBuildable v.design find false (view.expr x)
+pub each_label : (s v : Draft) (ts : List E.Expression) (m : ℕ) (find : Find) (es : List Expr) (i : ℕ) (x : Expr) → AddsParts s v ts m → AreLabels (home s) find (map view.expr es) → i < length es → x ≡ get_or es i x → IsBuildable (home v) find false (view.expr x)
 each_label s v ts m find es i x h l k e =
-    subst (λ d. IsBuildable d find false (view.expr x)) (same_design s v ts [] m (only_trees s v ts m h))
+    subst (λ d. IsBuildable d find false (view.expr x)) (same_home s v ts [] m (only_trees s v ts m h))
     (record {
       shaped = subst (λ y. IsExpr (view.expr y)) (sym e) (label_shaped es i x l.shaped k);
       sound = l.sound;
+      numbered = l.numbered;
       clean = subst (λ y. (typed (view.expr y) find false).faults ≡ []) (sym e) (label_clean find es i x l.clean k);
       shallow = omega (arith, l.shallow, label_levels es i x k e);
     })
 
 -- ---- views
 
-pub sequence_view : (place : ℕ) (list : Vec Statement Global) → view.statement (Sequence place list) ≡ tree.Sequence place (view.statements list.items)
-sequence_view place list = search (rules, statement_rows, the_lemmas)
+-- a named block's
+abbrev pub scope_view : Option BlockScope → Option tree.BlockScope
+scope_view o = view.option view.block_scope o
+
+pub sequence_view : (place : ℕ) (o : Option BlockScope) (list : Vec Statement Global) → view.statement (Sequence place o list) ≡ tree.Sequence place (scope_view o) (view.statements list.items)
+sequence_view place o list = search (rules, statement_rows, the_lemmas)
+
+pub for_view : (head : LoopHead) (p : Box Statement Global) → view.statement (For head p) ≡ tree.For (view.loop_head head) (view.statement p.value)
+for_view head p = search (rules, the_lemmas)
 
 -- what is done otherwise
 abbrev pub other_view : Option (Box Statement Global) → tree.Fallback
@@ -285,56 +297,86 @@ case_view place kind e list (Some q) = search (rules, arm_rows, the_lemmas)
 
 -- ---- conditionals
 
-pub record IsConditional (d : Design) (find : Find) (c : tree.Expr) (taken : tree.Statement) (other : tree.Fallback) : Type 0 where
+pub record IsConditional (d : Design) (around : Within) (find : Find) (c : tree.Expr) (taken : tree.Statement) (other : tree.Fallback) : Type 0 where
   pub test : IsBuildable d find false c
-  pub first : IsExecutable d find taken
-  pub second : (s : tree.Statement) → other ≡ tree.Otherwise s → IsExecutable d find s
+  pub first : IsExecutable d around find taken
+  pub second : (s : tree.Statement) → other ≡ tree.Otherwise s → IsExecutable d around find s
 
-fallback_at : (d : Design) (find : Find) (other : tree.Fallback) → AreSound d false find → IsFallback other → (typed_fallback other find).faults ≡ [] → fallback_depth other ≤ 252 → (s : tree.Statement) → other ≡ tree.Otherwise s → IsExecutable d find s
-fallback_at d find tree.NoFallback sound x h le s e = cc
-fallback_at d find (tree.Otherwise t) sound x h le s e = subst (λ z. IsExecutable d find z) (same e) (record { shaped = x; sound = sound; clean = h; shallow = omega (arith, le) })
+fallback_at : (d : Design) (around : Within) (find : Find) (other : tree.Fallback) → IsSoundBody d around → AreSound d false find → AreNumbered d find → IsFallback other → (typed_fallback other around find).faults ≡ [] → fallback_depth other ≤ 252 → (s : tree.Statement) → other ≡ tree.Otherwise s → IsExecutable d around find s
+fallback_at d around find tree.NoFallback body sound numbered x h le s e = cc
+fallback_at d around find (tree.Otherwise t) body sound numbered x h le s e = subst (λ z. IsExecutable d around find z) (same e) (record { shaped = x; around = body; sound = sound; numbered = numbered; clean = h; shallow = omega (arith, le) })
   where
     same : tree.Otherwise t ≡ tree.Otherwise s → t ≡ s
     same k = cc
 
-pub conditional_parts : (d : Design) (find : Find) (place : ℕ) (c : tree.Expr) (taken : tree.Statement) (other : tree.Fallback) → IsExecutable d find (tree.If place c taken other) → IsConditional d find c taken other
-conditional_parts d find place c taken other x =
-    let n = both_nil (typed c find false).faults ((typed_statement taken find).faults ++ (typed_fallback other find).faults) x.clean in
-    let m = both_nil (typed_statement taken find).faults (typed_fallback other find).faults n.1 in
+pub conditional_parts : (d : Design) (around : Within) (find : Find) (place : ℕ) (c : tree.Expr) (taken : tree.Statement) (other : tree.Fallback) → IsExecutable d around find (tree.If place c taken other) → IsConditional d around find c taken other
+conditional_parts d around find place c taken other x =
+    let n = both_nil (typed c find false).faults ((typed_statement taken around find).faults ++ (typed_fallback other around find).faults) x.clean in
+    let m = both_nil (typed_statement taken around find).faults (typed_fallback other around find).faults n.1 in
     record {
-      test = record { shaped = x.shaped.0; sound = x.sound; clean = n.0; shallow = omega (arith, x.shallow) };
-      first = record { shaped = x.shaped.1; sound = x.sound; clean = m.0; shallow = omega (arith, x.shallow) };
-      second = fallback_at d find other x.sound x.shaped.2 m.1 (omega (arith, x.shallow));
+      test = record { shaped = x.shaped.0; sound = x.sound; numbered = x.numbered; clean = n.0; shallow = omega (arith, x.shallow) };
+      first = record { shaped = x.shaped.1; around = x.around; sound = x.sound; numbered = x.numbered; clean = m.0; shallow = omega (arith, x.shallow) };
+      second = fallback_at d around find other x.around x.sound x.numbered x.shaped.2 m.1 (omega (arith, x.shallow));
     }
 
-pub conditional_of : (d : Design) (find : Find) (s : Statement) (place : ℕ) (c : Expr) (p : Box Statement Global) (o : Option (Box Statement Global)) → s ≡ If place c p o → IsExecutable d find (view.statement s)
-    → IsConditional d find (view.expr c) (view.statement p.value) (other_view o)
-conditional_of d find s place c p o e x = conditional_parts d find place (view.expr c) (view.statement p.value) (other_view o) (subst (λ z. IsExecutable d find z) (ap view.statement e ∙ if_view place c p o) x)
+pub conditional_of : (d : Design) (around : Within) (find : Find) (s : Statement) (place : ℕ) (c : Expr) (p : Box Statement Global) (o : Option (Box Statement Global)) → s ≡ If place c p o → IsExecutable d around find (view.statement s)
+    → IsConditional d around find (view.expr c) (view.statement p.value) (other_view o)
+conditional_of d around find s place c p o e x = conditional_parts d around find place (view.expr c) (view.statement p.value) (other_view o) (subst (λ z. IsExecutable d around find z) (ap view.statement e ∙ if_view place c p o) x)
 
-pub executable_after : (s v : Draft) (ts : List E.Expression) (ss : List T.Statement) (m : ℕ) (find : Find) (e : tree.Statement) → Adds s v ts ss m → IsExecutable s.design find e → IsExecutable v.design find e
-executable_after s v ts ss m find e h x = subst (λ d. IsExecutable d find e) (same_design s v ts ss m h) x
+pub executable_after : (s v : Draft) (ts : List E.Expression) (ss : List T.Statement) (m : ℕ) (around : Within) (find : Find) (e : tree.Statement) → Adds s v ts ss m → IsExecutable (home s) around find e → IsExecutable (home v) around find e
+executable_after s v ts ss m around find e h x = subst (λ d. IsExecutable d around find e) (same_home s v ts ss m h) x
 
-pub executable_is : (d : Design) (find : Find) (x y : Statement) → x ≡ y → IsExecutable d find (view.statement y) → IsExecutable d find (view.statement x)
-executable_is d find x y e h = subst (λ z. IsExecutable d find (view.statement z)) (sym e) h
+pub executable_is : (d : Design) (around : Within) (find : Find) (x y : Statement) → x ≡ y → IsExecutable d around find (view.statement y) → IsExecutable d around find (view.statement x)
+executable_is d around find x y e h = subst (λ z. IsExecutable d around find (view.statement z)) (sym e) h
 
 -- a test and a branch
-pub one_branch : (s q v : Draft) (find : Find) (c : tree.Expr) (x y : Statement) (k : ℕ) → x ≡ y → AddsExpression s q (typed c find false).expression (1 + expr_depth c)
-    → AddsStatement q v (typed_statement (view.statement x) find).statement (1 + statement_depth (view.statement x)) → 1 + expr_depth c ≤ k → 1 + statement_depth (view.statement y) ≤ k
-    → Adds s v ((typed c find false).expression ∷ []) ((typed_statement (view.statement y) find).statement ∷ []) k
-one_branch s q v find c x y k e h g le less =
-    let g2 = subst (λ z. AddsStatement q v (typed_statement (view.statement z) find).statement (1 + statement_depth (view.statement z))) e g in
-    adds_both s q v ((typed c find false).expression ∷ []) [] [] ((typed_statement (view.statement y) find).statement ∷ []) (1 + expr_depth c) (1 + statement_depth (view.statement y)) k
-    (one_tree s q (typed c find false).expression (1 + expr_depth c) h) (one_statement q v (typed_statement (view.statement y) find).statement (1 + statement_depth (view.statement y)) g2) le less
+pub one_branch : (s q v : Draft) (around : Within) (find : Find) (c : tree.Expr) (x y : Statement) (k : ℕ) → x ≡ y → AddsExpression s q (typed c find false).expression (1 + expr_depth c)
+    → AddsStatement q v (typed_statement (view.statement x) around find).statement (1 + statement_depth (view.statement x)) → 1 + expr_depth c ≤ k → 1 + statement_depth (view.statement y) ≤ k
+    → Adds s v ((typed c find false).expression ∷ []) ((typed_statement (view.statement y) around find).statement ∷ []) k
+one_branch s q v around find c x y k e h g le less =
+    let g2 = subst (λ z. AddsStatement q v (typed_statement (view.statement z) around find).statement (1 + statement_depth (view.statement z))) e g in
+    adds_both s q v ((typed c find false).expression ∷ []) [] [] ((typed_statement (view.statement y) around find).statement ∷ []) (1 + expr_depth c) (1 + statement_depth (view.statement y)) k
+    (one_tree s q (typed c find false).expression (1 + expr_depth c) h) (one_statement q v (typed_statement (view.statement y) around find).statement (1 + statement_depth (view.statement y)) g2) le less
 
 -- one statement more
-pub one_more : (s q v : Draft) (ts : List E.Expression) (ss : List T.Statement) (find : Find) (x y : Statement) (k : ℕ) → x ≡ y → Adds s q ts ss k → AddsStatement q v (typed_statement (view.statement x) find).statement (1 + statement_depth (view.statement x))
-    → 1 + statement_depth (view.statement y) ≤ k → Adds s v (ts ++ []) (ss ++ (typed_statement (view.statement y) find).statement ∷ []) k
-one_more s q v ts ss find x y k e h g le =
-    let g2 = subst (λ z. AddsStatement q v (typed_statement (view.statement z) find).statement (1 + statement_depth (view.statement z))) e g in
-    adds_both s q v ts [] ss ((typed_statement (view.statement y) find).statement ∷ []) k (1 + statement_depth (view.statement y)) k h (one_statement q v (typed_statement (view.statement y) find).statement (1 + statement_depth (view.statement y)) g2) (omega arith) le
+pub one_more : (s q v : Draft) (ts : List E.Expression) (ss : List T.Statement) (around : Within) (find : Find) (x y : Statement) (k : ℕ) → x ≡ y → Adds s q ts ss k → AddsStatement q v (typed_statement (view.statement x) around find).statement (1 + statement_depth (view.statement x))
+    → 1 + statement_depth (view.statement y) ≤ k → Adds s v (ts ++ []) (ss ++ (typed_statement (view.statement y) around find).statement ∷ []) k
+one_more s q v ts ss around find x y k e h g le =
+    let g2 = subst (λ z. AddsStatement q v (typed_statement (view.statement z) around find).statement (1 + statement_depth (view.statement z))) e g in
+    adds_both s q v ts [] ss ((typed_statement (view.statement y) around find).statement ∷ []) k (1 + statement_depth (view.statement y)) k h (one_statement q v (typed_statement (view.statement y) around find).statement (1 + statement_depth (view.statement y)) g2) (omega arith) le
 
 pub ends_in_parts : (s v : Draft) (ts : List E.Expression) (ss : List T.Statement) (m a b : ℕ) → Adds s v ts ss m → m ≤ 255 → length ts ≡ a → length ss ≡ b → EndsInParts a b v
 ends_in_parts s v ts ss m a b h le e f = record { before = s; trees = ts; parts = ss; adds = adds_at_most s v ts ss m 255 h le; many = e; several = f }
+
+-- ---- named blocks (9.8.2)
+
+local_sound : (d : Design) (declared : ℕ → Meaning) (v : Local) → ((place : ℕ) → IsSound d false (declared place)) → IsSound d false (local_meaning declared v)
+local_sound d declared v h = of (is_integer v)
+  where
+    of : (b : Bool) → IsSound d false (if b then Barred LoopVariable else declared v.name.place)
+    of true = tt
+    of false = h v.name.place
+
+local_numbered : (d : Design) (declared : ℕ → Meaning) (v : Local) → ((place : ℕ) → IsNumbered d (declared place)) → IsNumbered d (local_meaning declared v)
+local_numbered d declared v h = of (is_integer v)
+  where
+    of : (b : Bool) → IsNumbered d (if b then Barred LoopVariable else declared v.name.place)
+    of true = tt
+    of false = h v.name.place
+
+pub block_sound : (d : Design) (around : Within) (vs : List Local) (find : Find) → IsSoundBody d around → AreSound d false find → AreSound d false (scoped around.declared vs find)
+block_sound d around vs find b s = λ name. of name (find_local vs name)
+  where
+    of : (name : List ℕ) (o : Option Local) → IsSound d false (local_or around.declared o (find name))
+    of name None = s name
+    of name (Some v) = local_sound d around.declared v b.sound
+
+pub block_numbered : (d : Design) (around : Within) (vs : List Local) (find : Find) → IsSoundBody d around → AreNumbered d find → AreNumbered d (scoped around.declared vs find)
+block_numbered d around vs find b n = λ name. of name (find_local vs name)
+  where
+    of : (name : List ℕ) (o : Option Local) → IsNumbered d (local_or around.declared o (find name))
+    of name None = n name
+    of name (Some v) = local_numbered d around.declared v b.numbered
 
 -- ---- sequences
 
@@ -343,12 +385,12 @@ part_shaped [] i d h k = absurd (let no : ⊥ = omega (arith, k) in no)
 part_shaped (s ∷ ss) zero d h k = h.0
 part_shaped (s ∷ ss) (suc i) d h k = part_shaped ss i d h.1 (omega (arith, k))
 
-part_clean : (find : Find) (ss : List Statement) (i : ℕ) (d : Statement) → (typed_sequence (view.statements ss) find).faults ≡ [] → i < length ss → (typed_statement (view.statement (get_or ss i d)) find).faults ≡ []
-part_clean find [] i d h k = absurd (let no : ⊥ = omega (arith, k) in no)
-part_clean find (s ∷ []) zero d h k = h
-part_clean find (s ∷ []) (suc i) d h k = absurd (let no : ⊥ = omega (arith, k) in no)
-part_clean find (s ∷ (t ∷ ss)) zero d h k = (both_nil (typed_statement (view.statement s) find).faults (typed_sequence (view.statements (t ∷ ss)) find).faults h).0
-part_clean find (s ∷ (t ∷ ss)) (suc i) d h k = part_clean find (t ∷ ss) i d (both_nil (typed_statement (view.statement s) find).faults (typed_sequence (view.statements (t ∷ ss)) find).faults h).1 (omega (arith, k))
+part_clean : (around : Within) (find : Find) (ss : List Statement) (i : ℕ) (d : Statement) → (typed_sequence (view.statements ss) around find).faults ≡ [] → i < length ss → (typed_statement (view.statement (get_or ss i d)) around find).faults ≡ []
+part_clean around find [] i d h k = absurd (let no : ⊥ = omega (arith, k) in no)
+part_clean around find (s ∷ []) zero d h k = h
+part_clean around find (s ∷ []) (suc i) d h k = absurd (let no : ⊥ = omega (arith, k) in no)
+part_clean around find (s ∷ (t ∷ ss)) zero d h k = (both_nil (typed_statement (view.statement s) around find).faults (typed_sequence (view.statements (t ∷ ss)) around find).faults h).0
+part_clean around find (s ∷ (t ∷ ss)) (suc i) d h k = part_clean around find (t ∷ ss) i d (both_nil (typed_statement (view.statement s) around find).faults (typed_sequence (view.statements (t ∷ ss)) around find).faults h).1 (omega (arith, k))
 
 part_depth : (ss : List Statement) (i : ℕ) (d : Statement) → i < length ss → statement_depth (view.statement (get_or ss i d)) ≤ statements_depth (view.statements ss)
 part_depth [] i d k = absurd (let no : ⊥ = omega (arith, k) in no)
@@ -358,50 +400,76 @@ part_depth (s ∷ ss) (suc i) d k = omega (arith, part_depth ss i d (omega (arit
 pub part_levels : (ss : List Statement) (i : ℕ) (x : Statement) → i < length ss → x ≡ get_or ss i x → statement_depth (view.statement x) ≤ statements_depth (view.statements ss)
 part_levels ss i x k e = omega (arith, part_depth ss i x k, ap (λ y. statement_depth (view.statement y)) e)
 
-pub each_part : (d : Design) (find : Find) (ss : List Statement) (i : ℕ) (x : Statement) → AreExecutable d find (view.statements ss) → i < length ss → x ≡ get_or ss i x → IsExecutable d find (view.statement x)
-each_part d find ss i x a k e = record {
+pub each_part : (d : Design) (around : Within) (find : Find) (ss : List Statement) (i : ℕ) (x : Statement) → AreExecutable d around find (view.statements ss) → i < length ss → x ≡ get_or ss i x → IsExecutable d around find (view.statement x)
+each_part d around find ss i x a k e = record {
   shaped = subst (λ y. IsStatement (view.statement y)) (sym e) (part_shaped ss i x a.shaped k);
+  around = a.around;
   sound = a.sound;
-  clean = subst (λ y. (typed_statement (view.statement y) find).faults ≡ []) (sym e) (part_clean find ss i x a.clean k);
+  numbered = a.numbered;
+  clean = subst (λ y. (typed_statement (view.statement y) around find).faults ≡ []) (sym e) (part_clean around find ss i x a.clean k);
   shallow = omega (arith, a.shallow, part_levels ss i x k e);
 }
 
-pub part_falls : (ss : List Statement) (i : ℕ) (x : Statement) (t : ℕ) → i < length ss → x ≡ get_or ss i x → 2 * most statement_laws.the_size ss + 1 ≡ t → 2 * statement_laws.the_size x + 0 < t
+pub part_falls : (ss : List Statement) (i : ℕ) (x : Statement) (t : ℕ) → i < length ss → x ≡ get_or ss i x → 3 * most statement_laws.the_size ss + 1 ≡ t → 3 * statement_laws.the_size x + 0 < t
 part_falls ss i x t h k m =
     let b : statement_laws.the_size x ≤ most statement_laws.the_size ss = subst (λ z. statement_laws.the_size z ≤ most statement_laws.the_size ss) (sym k) (at_most statement_laws.the_size ss i x h) in
     omega (arith, b, m)
 
-pub parts_taken : (find : Find) (ss : List Statement) (i : ℕ) (x : Statement) → i < length ss → x ≡ get_or ss i x → part_statements find (take (i + 1) ss) ≡ part_statements find (take i ss) ++ (typed_statement (view.statement x) find).statement ∷ []
-parts_taken find ss i x h e =
-    let f = λ (y : Statement). (typed_statement (view.statement y) find).statement in
+pub parts_taken : (around : Within) (find : Find) (ss : List Statement) (i : ℕ) (x : Statement) → i < length ss → x ≡ get_or ss i x → part_statements around find (take (i + 1) ss) ≡ part_statements around find (take i ss) ++ (typed_statement (view.statement x) around find).statement ∷ []
+parts_taken around find ss i x h e =
+    let f = λ (y : Statement). (typed_statement (view.statement y) around find).statement in
     let next : i + 1 ≡ suc i = omega arith in
     ap (λ n. map f (take n ss)) next ∙ ap (map f) (take-suc ss i x h) ∙ map-append f (take i ss) (get_or ss i x ∷ []) ∙ ap (λ y. map f (take i ss) ++ f y ∷ []) (sym e)
 
-pub parts_all : (find : Find) (ss : List Statement) (i : ℕ) → i ≡ length ss → part_statements find (take i ss) ≡ part_statements find ss
-parts_all find ss i e = ap (λ n. part_statements find (take n ss)) e ∙ ap (part_statements find) (take-length ss)
+pub parts_all : (around : Within) (find : Find) (ss : List Statement) (i : ℕ) → i ≡ length ss → part_statements around find (take i ss) ≡ part_statements around find ss
+parts_all around find ss i e = ap (λ n. part_statements around find (take n ss)) e ∙ ap (part_statements around find) (take-length ss)
 
-pub parts_count : (find : Find) (ss : List Statement) → length (part_statements find ss) ≡ length ss
-parts_count find ss = length-map ss (λ (y : Statement). (typed_statement (view.statement y) find).statement)
+pub parts_count : (around : Within) (find : Find) (ss : List Statement) → length (part_statements around find ss) ≡ length ss
+parts_count around find ss = length-map ss (λ (y : Statement). (typed_statement (view.statement y) around find).statement)
 
-pub sequence_is : (find : Find) (ss : List Statement) → sequence (part_statements find ss) ≡ (typed_sequence (view.statements ss) find).statement
-sequence_is find [] = refl
-sequence_is find (s ∷ []) = refl
-sequence_is find (s ∷ (t ∷ ss)) = ap (λ z. T.Then (typed_statement (view.statement s) find).statement z) (sequence_is find (t ∷ ss))
+pub sequence_is : (around : Within) (find : Find) (ss : List Statement) → sequence (part_statements around find ss) ≡ (typed_sequence (view.statements ss) around find).statement
+sequence_is around find [] = refl
+sequence_is around find (s ∷ []) = refl
+sequence_is around find (s ∷ (t ∷ ss)) = ap (λ z. T.Then (typed_statement (view.statement s) around find).statement z) (sequence_is around find (t ∷ ss))
 
-pub sequence_parts : (d : Design) (find : Find) (s : Statement) (place : ℕ) (list : Vec Statement Global) (xs : List Statement) → s ≡ Sequence place list → xs ≡ list.items → IsExecutable d find (view.statement s) → AreExecutable d find (view.statements xs)
-sequence_parts d find s place list xs e f x =
-    let y = subst (λ z. IsExecutable d find z) (ap view.statement e ∙ sequence_view place list) x in
-    subst (λ z. AreExecutable d find (view.statements z)) (sym f) (record { shaped = y.shaped; sound = y.sound; clean = y.clean; shallow = omega (arith, y.shallow) })
+-- what names mean between its `begin` and its `end`
+abbrev pub block_names : Within → Option BlockScope → Find → Find
+block_names around o find = scoped around.declared (scope_locals (scope_view o)) find
 
-pub sequence_arm : {U F : Type 0} (r : Result U F) (s v new : Draft) (find : Find) (st : Statement) (place n : ℕ) (list : Vec Statement Global) (xs : List Statement) → st ≡ Sequence place list → xs ≡ list.items → n ≡ length list.items
-    → Adds s v [] (part_statements find xs) (1 + statements_depth (view.statements xs))
+pub sequence_parts : (d : Design) (around : Within) (find : Find) (s : Statement) (place : ℕ) (o : Option BlockScope) (list : Vec Statement Global) (xs : List Statement) → s ≡ Sequence place o list → xs ≡ list.items → IsExecutable d around find (view.statement s)
+    → AreExecutable d around (block_names around o find) (view.statements xs)
+sequence_parts d around find s place o list xs e f x =
+    let y = subst (λ z. IsExecutable d around find z) (ap view.statement e ∙ sequence_view place o list) x in
+    let inner = block_names around o find in
+    let locals = scope_locals (scope_view o) in
+    subst (λ z. AreExecutable d around inner (view.statements z)) (sym f)
+    (record {
+      shaped = y.shaped.1;
+      around = y.around;
+      sound = block_sound d around locals find y.around y.sound;
+      numbered = block_numbered d around locals find y.around y.numbered;
+      clean = (both_nil (local_faults around locals) (typed_sequence (view.statements list.items) around inner).faults y.clean).1;
+      shallow = omega (arith, y.shallow);
+    })
+
+pub sequence_arm : {U F : Type 0} (r : Result U F) (s v new : Draft) (around : Within) (find : Find) (st : Statement) (place n : ℕ) (o : Option BlockScope) (list : Vec Statement Global) (xs : List Statement) → st ≡ Sequence place o list → xs ≡ list.items → n ≡ length list.items
+    → Adds s v [] (part_statements around (block_names around o find) xs) (1 + statements_depth (view.statements xs))
     → ((w : Draft) (ss : List T.Statement) (m : ℕ) → Adds w v [] ss m → length ss ≡ n → OnOk r (AddsStatement w new (sequence ss) (1 + m)))
-    → OnOk r (AddsStatement s new (typed_statement (view.statement st) find).statement (1 + statement_depth (view.statement st)))
-sequence_arm r s v new find st place n list xs e f count h g =
-    let made = g s (part_statements find xs) (1 + statements_depth (view.statements xs)) h (parts_count find xs ∙ ap length f ∙ sym count) in
-    subst (λ z. OnOk r (AddsStatement s new (typed_statement z find).statement (1 + statement_depth z))) (sym (ap view.statement e ∙ sequence_view place list))
-    (subst (λ z. OnOk r (AddsStatement s new (typed_sequence (view.statements z) find).statement (1 + (1 + statements_depth (view.statements z))))) f
-    (subst (λ z. OnOk r (AddsStatement s new z (1 + (1 + statements_depth (view.statements xs))))) (sequence_is find xs) made))
+    → OnOk r (AddsStatement s new (typed_statement (view.statement st) around find).statement (1 + statement_depth (view.statement st)))
+sequence_arm r s v new around find st place n o list xs e f count h g =
+    let inner = block_names around o find in
+    let scope = option_depth scope_depth (scope_view o) in
+    let m = 1 + max scope (statements_depth (view.statements xs)) in
+    let made = g s (part_statements around inner xs) m (adds_at_most s v [] (part_statements around inner xs) (1 + statements_depth (view.statements xs)) m h (omega arith)) (parts_count around inner xs ∙ ap length f ∙ sym count) in
+    subst (λ z. OnOk r (AddsStatement s new (typed_statement z around find).statement (1 + statement_depth z))) (sym (ap view.statement e ∙ sequence_view place o list))
+    (subst (λ z. OnOk r (AddsStatement s new (typed_sequence (view.statements z) around inner).statement (1 + (1 + max scope (statements_depth (view.statements z)))))) f
+    (subst (λ z. OnOk r (AddsStatement s new z (1 + m))) (sequence_is around inner xs) made))
+
+-- ---- loops (9.6)
+
+pub loop_of : (d : Design) (around : Within) (find : Find) (s : Statement) (head : LoopHead) (p : Box Statement Global) (x : Statement) → s ≡ For head p → x ≡ p.value → IsExecutable d around find (view.statement s) → IsExecutable d around find (tree.For (view.loop_head head) (view.statement x))
+loop_of d around find s head p x e f h =
+    subst (λ z. IsExecutable d around find (tree.For (view.loop_head head) (view.statement z))) (sym f) (subst (λ z. IsExecutable d around find z) (ap view.statement e ∙ for_view head p) h)
 
 -- ---- arms
 
@@ -411,73 +479,73 @@ labels_of made = flat_map (λ (a : Labelled). a.labels) made
 abbrev pub statements_of : List Labelled → List T.Statement
 statements_of made = map (λ (a : Labelled). a.statement) made
 
-pub arms_are : (find : Find) (arms : tree.CaseArms) (other : TypedStatement) → (typed_arms arms find other).arms ≡ arms_with (labelled find arms) other.statement
-arms_are find tree.NoArm other = refl
-arms_are find (tree.AndArm labels s rest) other = ap (λ z. T.Arm (E.items_of (typed_list labels find).expressions) (typed_statement s find).statement z) (arms_are find rest other)
+pub arms_are : (around : Within) (find : Find) (arms : tree.CaseArms) (other : TypedStatement) → (typed_arms arms around find other).arms ≡ arms_with (labelled around find arms) other.statement
+arms_are around find tree.NoArm other = refl
+arms_are around find (tree.AndArm labels s rest) other = ap (λ z. T.Arm (E.items_of (typed_list labels find).expressions) (typed_statement s around find).statement z) (arms_are around find rest other)
 
-arms_clean : (find : Find) (arms : tree.CaseArms) (other : TypedStatement) → (typed_arms arms find other).faults ≡ [] → ((typed_arms arms find (typed_fallback tree.NoFallback find)).faults ≡ []) × (other.faults ≡ [])
-arms_clean find tree.NoArm other h = (refl, h)
-arms_clean find (tree.AndArm labels s rest) other h =
+arms_clean : (around : Within) (find : Find) (arms : tree.CaseArms) (other : TypedStatement) → (typed_arms arms around find other).faults ≡ [] → ((typed_arms arms around find (not_there [])).faults ≡ []) × (other.faults ≡ [])
+arms_clean around find tree.NoArm other h = (refl, h)
+arms_clean around find (tree.AndArm labels s rest) other h =
     let es = (typed_list labels find).faults in
-    let fs = (typed_statement s find).faults in
-    let n = both_nil es (fs ++ (typed_arms rest find other).faults) h in
-    let m = both_nil fs (typed_arms rest find other).faults n.1 in
-    let k = arms_clean find rest other m.1 in
-    let a : fs ++ (typed_arms rest find (typed_fallback tree.NoFallback find)).faults ≡ [] = ap (λ x. x ++ (typed_arms rest find (typed_fallback tree.NoFallback find)).faults) m.0 ∙ k.0 in
-    (ap (λ x. x ++ (fs ++ (typed_arms rest find (typed_fallback tree.NoFallback find)).faults)) n.0 ∙ a, k.1)
+    let fs = (typed_statement s around find).faults in
+    let n = both_nil es (fs ++ (typed_arms rest around find other).faults) h in
+    let m = both_nil fs (typed_arms rest around find other).faults n.1 in
+    let k = arms_clean around find rest other m.1 in
+    let a : fs ++ (typed_arms rest around find (not_there [])).faults ≡ [] = ap (λ x. x ++ (typed_arms rest around find (not_there [])).faults) m.0 ∙ k.0 in
+    (ap (λ x. x ++ (fs ++ (typed_arms rest around find (not_there [])).faults)) n.0 ∙ a, k.1)
 
-pub record IsCase (d : Design) (find : Find) (subject : tree.Expr) (arms : tree.CaseArms) (other : tree.Fallback) : Type 0 where
+pub record IsCase (d : Design) (around : Within) (find : Find) (subject : tree.Expr) (arms : tree.CaseArms) (other : tree.Fallback) : Type 0 where
   pub subject_is : IsBuildable d find false subject
-  pub arms_are : AreChoosable d find arms
-  pub second : (s : tree.Statement) → other ≡ tree.Otherwise s → IsExecutable d find s
+  pub arms_are : AreChoosable d around find arms
+  pub second : (s : tree.Statement) → other ≡ tree.Otherwise s → IsExecutable d around find s
 
-pub case_of_parts : (d : Design) (find : Find) (s : Statement) (place : ℕ) (kind : CaseKind) (e : Expr) (list : Vec CaseArm Global) (o : Option (Box Statement Global)) → s ≡ Case place kind e list o → IsExecutable d find (view.statement s)
-    → IsCase d find (view.expr e) (view.arms list.items) (other_view o)
-case_of_parts d find s place kind e list o is x =
-    let y = subst (λ z. IsExecutable d find z) (ap view.statement is ∙ case_view place kind e list o) x in
+pub case_of_parts : (d : Design) (around : Within) (find : Find) (s : Statement) (place : ℕ) (kind : CaseKind) (e : Expr) (list : Vec CaseArm Global) (o : Option (Box Statement Global)) → s ≡ Case place kind e list o → IsExecutable d around find (view.statement s)
+    → IsCase d around find (view.expr e) (view.arms list.items) (other_view o)
+case_of_parts d around find s place kind e list o is x =
+    let y = subst (λ z. IsExecutable d around find z) (ap view.statement is ∙ case_view place kind e list o) x in
     let arms = view.arms list.items in
-    let n = both_nil (typed (view.expr e) find false).faults (typed_arms arms find (typed_fallback (other_view o) find)).faults y.clean in
-    let m = arms_clean find arms (typed_fallback (other_view o) find) n.1 in
+    let n = both_nil (typed (view.expr e) find false).faults (typed_arms arms around find (typed_fallback (other_view o) around find)).faults y.clean in
+    let m = arms_clean around find arms (typed_fallback (other_view o) around find) n.1 in
     record {
-      subject_is = record { shaped = y.shaped.0; sound = y.sound; clean = n.0; shallow = omega (arith, y.shallow) };
-      arms_are = record { shaped = y.shaped.1; sound = y.sound; clean = m.0; shallow = omega (arith, y.shallow) };
-      second = fallback_at d find (other_view o) y.sound y.shaped.2 m.1 (omega (arith, y.shallow));
+      subject_is = record { shaped = y.shaped.0; sound = y.sound; numbered = y.numbered; clean = n.0; shallow = omega (arith, y.shallow) };
+      arms_are = record { shaped = y.shaped.1; around = y.around; sound = y.sound; numbered = y.numbered; clean = m.0; shallow = omega (arith, y.shallow) };
+      second = fallback_at d around find (other_view o) y.around y.sound y.numbered y.shaped.2 m.1 (omega (arith, y.shallow));
     }
 
-pub choosable_after : (s v : Draft) (t : E.Expression) (m : ℕ) (find : Find) (xs ys : List CaseArm) → xs ≡ ys → AddsExpression s v t m → AreChoosable s.design find (view.arms ys) → AreChoosable v.design find (view.arms xs)
-choosable_after s v t m find xs ys e h x = subst (λ z. AreChoosable v.design find (view.arms z)) (sym e) (subst (λ d. AreChoosable d find (view.arms ys)) (same_design s v (t ∷ []) [] m (one_tree s v t m h)) x)
+pub choosable_after : (s v : Draft) (t : E.Expression) (m : ℕ) (around : Within) (find : Find) (xs ys : List CaseArm) → xs ≡ ys → AddsExpression s v t m → AreChoosable (home s) around find (view.arms ys) → AreChoosable (home v) around find (view.arms xs)
+choosable_after s v t m around find xs ys e h x = subst (λ z. AreChoosable (home v) around find (view.arms z)) (sym e) (subst (λ d. AreChoosable d around find (view.arms ys)) (same_home s v (t ∷ []) [] m (one_tree s v t m h)) x)
 
 -- the labels and statement of one arm
-pub record IsArm (d : Design) (find : Find) (a : CaseArm) : Type 0 where
+pub record IsArm (d : Design) (around : Within) (find : Find) (a : CaseArm) : Type 0 where
   pub labels_are : AreLabels d find (map view.expr a.labels.items)
-  pub statement_is : IsExecutable d find (view.statement a.statement)
+  pub statement_is : IsExecutable d around find (view.statement a.statement)
   pub deep : (1 + deepest expr_depth (map view.expr a.labels.items) ≤ 253) × (1 + statement_depth (view.statement a.statement) ≤ 253)
 
-arm_get : (d : Design) (find : Find) (list : List CaseArm) (i : ℕ) (x : CaseArm) → AreChoosable d find (view.arms list) → i < length list → IsArm d find (get_or list i x)
-arm_get d find [] i x c k = absurd (let no : ⊥ = omega (arith, k) in no)
-arm_get d find (a ∷ rest) zero x c k =
+arm_get : (d : Design) (around : Within) (find : Find) (list : List CaseArm) (i : ℕ) (x : CaseArm) → AreChoosable d around find (view.arms list) → i < length list → IsArm d around find (get_or list i x)
+arm_get d around find [] i x c k = absurd (let no : ⊥ = omega (arith, k) in no)
+arm_get d around find (a ∷ rest) zero x c k =
     let es = (typed_list (map view.expr a.labels.items) find).faults in
-    let fs = (typed_statement (view.statement a.statement) find).faults in
-    let n = both_nil es (fs ++ (typed_arms (view.arms rest) find (typed_fallback tree.NoFallback find)).faults) c.clean in
-    let m = both_nil fs (typed_arms (view.arms rest) find (typed_fallback tree.NoFallback find)).faults n.1 in
+    let fs = (typed_statement (view.statement a.statement) around find).faults in
+    let n = both_nil es (fs ++ (typed_arms (view.arms rest) around find (not_there [])).faults) c.clean in
+    let m = both_nil fs (typed_arms (view.arms rest) around find (not_there [])).faults n.1 in
     record {
-      labels_are = record { shaped = all_labels (map view.expr a.labels.items) c.shaped.0; sound = c.sound; clean = n.0; shallow = omega (arith, c.shallow) };
-      statement_is = record { shaped = c.shaped.1; sound = c.sound; clean = m.0; shallow = omega (arith, c.shallow) };
+      labels_are = record { shaped = all_labels (map view.expr a.labels.items) c.shaped.0; sound = c.sound; numbered = c.numbered; clean = n.0; shallow = omega (arith, c.shallow) };
+      statement_is = record { shaped = c.shaped.1; around = c.around; sound = c.sound; numbered = c.numbered; clean = m.0; shallow = omega (arith, c.shallow) };
       deep = (omega (arith, c.shallow), omega (arith, c.shallow));
     }
   where
     all_labels : (ls : List tree.Expr) → OneOrMore IsExpr ls → Each IsExpr ls
     all_labels [] h = absurd h
     all_labels (l ∷ ls) h = h
-arm_get d find (a ∷ rest) (suc i) x c k =
+arm_get d around find (a ∷ rest) (suc i) x c k =
     let es = (typed_list (map view.expr a.labels.items) find).faults in
-    let fs = (typed_statement (view.statement a.statement) find).faults in
-    let n = both_nil es (fs ++ (typed_arms (view.arms rest) find (typed_fallback tree.NoFallback find)).faults) c.clean in
-    let m = both_nil fs (typed_arms (view.arms rest) find (typed_fallback tree.NoFallback find)).faults n.1 in
-    arm_get d find rest i x (record { shaped = c.shaped.2; sound = c.sound; clean = m.1; shallow = omega (arith, c.shallow) }) (omega (arith, k))
+    let fs = (typed_statement (view.statement a.statement) around find).faults in
+    let n = both_nil es (fs ++ (typed_arms (view.arms rest) around find (not_there [])).faults) c.clean in
+    let m = both_nil fs (typed_arms (view.arms rest) around find (not_there [])).faults n.1 in
+    arm_get d around find rest i x (record { shaped = c.shaped.2; around = c.around; sound = c.sound; numbered = c.numbered; clean = m.1; shallow = omega (arith, c.shallow) }) (omega (arith, k))
 
-pub arm_at : (d : Design) (find : Find) (list : List CaseArm) (i : ℕ) (x : CaseArm) → AreChoosable d find (view.arms list) → i < length list → x ≡ get_or list i x → IsArm d find x
-arm_at d find list i x c k e = subst (λ y. IsArm d find y) (sym e) (arm_get d find list i x c k)
+pub arm_at : (d : Design) (around : Within) (find : Find) (list : List CaseArm) (i : ℕ) (x : CaseArm) → AreChoosable d around find (view.arms list) → i < length list → x ≡ get_or list i x → IsArm d around find x
+arm_at d around find list i x c k e = subst (λ y. IsArm d around find y) (sym e) (arm_get d around find list i x c k)
 
 arm_depth : (list : List CaseArm) (i : ℕ) (x : CaseArm) → i < length list
     → (deepest expr_depth (map view.expr (get_or list i x).labels.items) ≤ arms_depth (view.arms list)) × (statement_depth (view.statement (get_or list i x).statement) ≤ arms_depth (view.arms list))
@@ -490,32 +558,32 @@ pub arm_levels : (list : List CaseArm) (i : ℕ) (x : CaseArm) → i < length li
 arm_levels list i x k e =
     subst (λ y. (deepest expr_depth (map view.expr y.labels.items) ≤ arms_depth (view.arms list)) × (statement_depth (view.statement y.statement) ≤ arms_depth (view.arms list))) (sym e) (arm_depth list i x k)
 
-pub arms_taken : (find : Find) (list : List CaseArm) (i : ℕ) (x : CaseArm) → i < length list → x ≡ get_or list i x
-    → labelled find (view.arms (take (i + 1) list)) ≡ labelled find (view.arms (take i list)) ++ (let a : Labelled = record { labels = (typed_list (map view.expr x.labels.items) find).expressions; statement = (typed_statement (view.statement x.statement) find).statement } in a) ∷ []
-arms_taken find list i x h e =
+pub arms_taken : (around : Within) (find : Find) (list : List CaseArm) (i : ℕ) (x : CaseArm) → i < length list → x ≡ get_or list i x
+    → labelled around find (view.arms (take (i + 1) list)) ≡ labelled around find (view.arms (take i list)) ++ (let a : Labelled = record { labels = (typed_list (map view.expr x.labels.items) find).expressions; statement = (typed_statement (view.statement x.statement) around find).statement } in a) ∷ []
+arms_taken around find list i x h e =
     let next : i + 1 ≡ suc i = omega arith in
-    let one : CaseArm → Labelled = λ y. record { labels = (typed_list (map view.expr y.labels.items) find).expressions; statement = (typed_statement (view.statement y.statement) find).statement } in
-    ap (λ n. labelled find (view.arms (take n list))) next ∙ ap (λ ys. labelled find (view.arms ys)) (take-suc list i x h) ∙ behind find (take i list) (get_or list i x) ∙ ap (λ y. labelled find (view.arms (take i list)) ++ one y ∷ []) (sym e)
+    let one : CaseArm → Labelled = λ y. record { labels = (typed_list (map view.expr y.labels.items) find).expressions; statement = (typed_statement (view.statement y.statement) around find).statement } in
+    ap (λ n. labelled around find (view.arms (take n list))) next ∙ ap (λ ys. labelled around find (view.arms ys)) (take-suc list i x h) ∙ behind (take i list) (get_or list i x) ∙ ap (λ y. labelled around find (view.arms (take i list)) ++ one y ∷ []) (sym e)
   where
-    behind : (f : Find) (ys : List CaseArm) (y : CaseArm)
-        → labelled f (view.arms (ys ++ y ∷ [])) ≡ labelled f (view.arms ys) ++ (let a : Labelled = record { labels = (typed_list (map view.expr y.labels.items) f).expressions; statement = (typed_statement (view.statement y.statement) f).statement } in a) ∷ []
-    behind f [] y = refl
-    behind f (z ∷ zs) y =
-        ap (λ r. (let a : Labelled = record { labels = (typed_list (map view.expr z.labels.items) f).expressions; statement = (typed_statement (view.statement z.statement) f).statement } in a) ∷ r) (behind f zs y)
+    behind : (ys : List CaseArm) (y : CaseArm)
+        → labelled around find (view.arms (ys ++ y ∷ [])) ≡ labelled around find (view.arms ys) ++ (let a : Labelled = record { labels = (typed_list (map view.expr y.labels.items) find).expressions; statement = (typed_statement (view.statement y.statement) around find).statement } in a) ∷ []
+    behind [] y = refl
+    behind (z ∷ zs) y =
+        ap (λ r. (let a : Labelled = record { labels = (typed_list (map view.expr z.labels.items) find).expressions; statement = (typed_statement (view.statement z.statement) around find).statement } in a) ∷ r) (behind zs y)
 
-pub arms_all : (find : Find) (list : List CaseArm) (i : ℕ) → i ≡ length list → labelled find (view.arms (take i list)) ≡ labelled find (view.arms list)
-arms_all find list i e = ap (λ n. labelled find (view.arms (take n list))) e ∙ ap (λ ys. labelled find (view.arms ys)) (take-length list)
+pub arms_all : (around : Within) (find : Find) (list : List CaseArm) (i : ℕ) → i ≡ length list → labelled around find (view.arms (take i list)) ≡ labelled around find (view.arms list)
+arms_all around find list i e = ap (λ n. labelled around find (view.arms (take n list))) e ∙ ap (λ ys. labelled around find (view.arms ys)) (take-length list)
 
 -- with one arm more
-pub arms_more : (s q r v : Draft) (find : Find) (list : List CaseArm) (i : ℕ) (x : CaseArm) (xs : List Expr) (k : ℕ) → xs ≡ x.labels.items → i < length list → x ≡ get_or list i x → arms_depth (view.arms list) + 1 ≡ k
-    → Adds s q (labels_of (labelled find (view.arms (take i list)))) (statements_of (labelled find (view.arms (take i list)))) k
+pub arms_more : (s q r v : Draft) (around : Within) (find : Find) (list : List CaseArm) (i : ℕ) (x : CaseArm) (xs : List Expr) (k : ℕ) → xs ≡ x.labels.items → i < length list → x ≡ get_or list i x → arms_depth (view.arms list) + 1 ≡ k
+    → Adds s q (labels_of (labelled around find (view.arms (take i list)))) (statements_of (labelled around find (view.arms (take i list)))) k
     → AddsParts q r (typed_list (map view.expr xs) find).expressions (1 + deepest expr_depth (map view.expr xs))
-    → AddsStatement r v (typed_statement (view.statement x.statement) find).statement (1 + statement_depth (view.statement x.statement))
-    → Adds s v (labels_of (labelled find (view.arms (take (i + 1) list)))) (statements_of (labelled find (view.arms (take (i + 1) list)))) k
-arms_more s q r v find list i x xs k e h is kk a b c =
-    let made = labelled find (view.arms (take i list)) in
+    → AddsStatement r v (typed_statement (view.statement x.statement) around find).statement (1 + statement_depth (view.statement x.statement))
+    → Adds s v (labels_of (labelled around find (view.arms (take (i + 1) list)))) (statements_of (labelled around find (view.arms (take (i + 1) list)))) k
+arms_more s q r v around find list i x xs k e h is kk a b c =
+    let made = labelled around find (view.arms (take i list)) in
     let es = (typed_list (map view.expr x.labels.items) find).expressions in
-    let t = (typed_statement (view.statement x.statement) find).statement in
+    let t = (typed_statement (view.statement x.statement) around find).statement in
     let new : Labelled = record { labels = es; statement = t } in
     let n = arm_levels list i x h is in
     let b2 = subst (λ ys. AddsParts q r (typed_list (map view.expr ys) find).expressions (1 + deepest expr_depth (map view.expr ys))) e b in
@@ -523,7 +591,7 @@ arms_more s q r v find list i x xs k e h is kk a b c =
     (one_statement r v t (1 + statement_depth (view.statement x.statement)) c) (omega (arith, n.0, kk)) (omega (arith, n.1, kk))
     in
     let all = adds_both s q v (labels_of made) (es ++ []) (statements_of made) (t ∷ []) k k k a own (omega arith) (omega arith) in
-    subst (λ ms. Adds s v (labels_of ms) (statements_of ms) k) (sym (arms_taken find list i x h is))
+    subst (λ ms. Adds s v (labels_of ms) (statements_of ms) k) (sym (arms_taken around find list i x h is))
     (adds_these s v (labels_of made ++ (es ++ [])) (labels_of (made ++ new ∷ [])) (statements_of made ++ t ∷ []) (statements_of (made ++ new ∷ [])) k
     (sym (flat_map-append (λ (m : Labelled). m.labels) made (new ∷ []))) (sym (map-append (λ (m : Labelled). m.statement) made (new ∷ []))) all)
 
@@ -532,9 +600,9 @@ arm_falls list i x h k = subst (λ z. arm_laws.the_size z ≤ most arm_laws.the_
 
 -- ---- the counts of labels
 
-pub counts_are : (find : Find) (list : List CaseArm) → map (λ (a : Labelled). length a.labels) (labelled find (view.arms list)) ≡ label_counts list
-counts_are find [] = refl
-counts_are find (a ∷ rest) = ap (λ n. n ∷ map (λ (b : Labelled). length b.labels) (labelled find (view.arms rest))) (as_many (map view.expr a.labels.items) ∙ length-map a.labels.items view.expr) ∙ ap (λ ns. length a.labels.items ∷ ns) (counts_are find rest)
+pub counts_are : (around : Within) (find : Find) (list : List CaseArm) → map (λ (a : Labelled). length a.labels) (labelled around find (view.arms list)) ≡ label_counts list
+counts_are around find [] = refl
+counts_are around find (a ∷ rest) = ap (λ n. n ∷ map (λ (b : Labelled). length b.labels) (labelled around find (view.arms rest))) (as_many (map view.expr a.labels.items) ∙ length-map a.labels.items view.expr) ∙ ap (λ ns. length a.labels.items ∷ ns) (counts_are around find rest)
   where
     as_many : (es : List tree.Expr) → length (typed_list es find).expressions ≡ length es
     as_many [] = refl
@@ -552,88 +620,88 @@ total_is : (made : List Labelled) → length (labels_of made) ≡ total (map (λ
 total_is [] = refl
 total_is (a ∷ made) = length-append a.labels (labels_of made) ∙ ap (λ n. length a.labels + n) (total_is made)
 
-pub case_ends : (s v : Draft) (find : Find) (e : E.Expression) (list xs : List CaseArm) (ss : List T.Statement) (first others k : ℕ) → xs ≡ list → AreArms (view.arms list) → first ≡ length s.expressions
-    → Adds s v (e ∷ labels_of (labelled find (view.arms list))) (statements_of (labelled find (view.arms list)) ++ ss) k → length ss ≡ others → k ≤ 255 → EndsInCase first (label_counts xs) others v
-case_ends s v find e list xs ss first others k is shaped at h count le =
+pub case_ends : (s v : Draft) (around : Within) (find : Find) (e : E.Expression) (list xs : List CaseArm) (ss : List T.Statement) (first others k : ℕ) → xs ≡ list → AreArms (view.arms list) → first ≡ length s.expressions
+    → Adds s v (e ∷ labels_of (labelled around find (view.arms list))) (statements_of (labelled around find (view.arms list)) ++ ss) k → length ss ≡ others → k ≤ 255 → EndsInCase first (label_counts xs) others v
+case_ends s v around find e list xs ss first others k is shaped at h count le =
     subst (λ ys. EndsInCase first (label_counts ys) others v) (sym is)
     (record {
       before = s;
       subject = e;
-      labels = labels_of (labelled find (view.arms list));
-      parts = statements_of (labelled find (view.arms list)) ++ ss;
-      adds = adds_at_most s v (e ∷ labels_of (labelled find (view.arms list))) (statements_of (labelled find (view.arms list)) ++ ss) k 255 h le;
+      labels = labels_of (labelled around find (view.arms list));
+      parts = statements_of (labelled around find (view.arms list)) ++ ss;
+      adds = adds_at_most s v (e ∷ labels_of (labelled around find (view.arms list))) (statements_of (labelled around find (view.arms list)) ++ ss) k 255 h le;
       at = sym at;
       some = some_labels list shaped;
-      many = total_is (labelled find (view.arms list)) ∙ ap total (counts_are find list);
-      several = length-append (statements_of (labelled find (view.arms list))) ss ∙ omega (arith, count, length-map (labelled find (view.arms list)) (λ (a : Labelled). a.statement), length-map (labelled find (view.arms list)) (λ (a : Labelled). length a.labels), ap length (counts_are find list));
+      many = total_is (labelled around find (view.arms list)) ∙ ap total (counts_are around find list);
+      several = length-append (statements_of (labelled around find (view.arms list))) ss ∙ omega (arith, count, length-map (labelled around find (view.arms list)) (λ (a : Labelled). a.statement), length-map (labelled around find (view.arms list)) (λ (a : Labelled). length a.labels), ap length (counts_are around find list));
     })
 
 -- the subject, the arms
-pub subject_arms : (s q v : Draft) (find : Find) (e : tree.Expr) (list xs : List CaseArm) (k : ℕ) → xs ≡ list → AddsExpression s q (typed e find false).expression (1 + expr_depth e)
-    → Adds q v (labels_of (labelled find (view.arms xs))) (statements_of (labelled find (view.arms xs))) (1 + arms_depth (view.arms xs)) → 1 + expr_depth e ≤ k → 1 + arms_depth (view.arms list) ≤ k
-    → Adds s v ((typed e find false).expression ∷ labels_of (labelled find (view.arms list))) (statements_of (labelled find (view.arms list))) k
-subject_arms s q v find e list xs k is h g le less =
-    let g2 = subst (λ ys. Adds q v (labels_of (labelled find (view.arms ys))) (statements_of (labelled find (view.arms ys))) (1 + arms_depth (view.arms ys))) is g in
-    adds_both s q v ((typed e find false).expression ∷ []) (labels_of (labelled find (view.arms list))) [] (statements_of (labelled find (view.arms list))) (1 + expr_depth e) (1 + arms_depth (view.arms list)) k
+pub subject_arms : (s q v : Draft) (around : Within) (find : Find) (e : tree.Expr) (list xs : List CaseArm) (k : ℕ) → xs ≡ list → AddsExpression s q (typed e find false).expression (1 + expr_depth e)
+    → Adds q v (labels_of (labelled around find (view.arms xs))) (statements_of (labelled around find (view.arms xs))) (1 + arms_depth (view.arms xs)) → 1 + expr_depth e ≤ k → 1 + arms_depth (view.arms list) ≤ k
+    → Adds s v ((typed e find false).expression ∷ labels_of (labelled around find (view.arms list))) (statements_of (labelled around find (view.arms list))) k
+subject_arms s q v around find e list xs k is h g le less =
+    let g2 = subst (λ ys. Adds q v (labels_of (labelled around find (view.arms ys))) (statements_of (labelled around find (view.arms ys))) (1 + arms_depth (view.arms ys))) is g in
+    adds_both s q v ((typed e find false).expression ∷ []) (labels_of (labelled around find (view.arms list))) [] (statements_of (labelled around find (view.arms list))) (1 + expr_depth e) (1 + arms_depth (view.arms list)) k
     (one_tree s q (typed e find false).expression (1 + expr_depth e) h) g2 le less
 
 pub subject_alone : (s v : Draft) (e : E.Expression) (ts : List E.Expression) (ss : List T.Statement) (k : ℕ) → Adds s v (e ∷ ts) ss k → Adds s v (e ∷ ts) (ss ++ []) k
 subject_alone s v e ts ss k h = adds_these s v (e ∷ ts) (e ∷ ts) ss (ss ++ []) k refl (none_more ss) h
 
-pub subject_default : (s q v : Draft) (e : E.Expression) (ts : List E.Expression) (ss : List T.Statement) (find : Find) (x y : Statement) (k : ℕ) → x ≡ y → Adds s q (e ∷ ts) ss k
-    → AddsStatement q v (typed_statement (view.statement x) find).statement (1 + statement_depth (view.statement x)) → 1 + statement_depth (view.statement y) ≤ k
-    → Adds s v (e ∷ ts) (ss ++ (typed_statement (view.statement y) find).statement ∷ []) k
-subject_default s q v e ts ss find x y k is h g le =
-    let all = one_more s q v (e ∷ ts) ss find x y k is h g le in
-    adds_these s v ((e ∷ ts) ++ []) (e ∷ ts) (ss ++ (typed_statement (view.statement y) find).statement ∷ []) (ss ++ (typed_statement (view.statement y) find).statement ∷ []) k (sym (none_more (e ∷ ts))) refl all
+pub subject_default : (s q v : Draft) (e : E.Expression) (ts : List E.Expression) (ss : List T.Statement) (around : Within) (find : Find) (x y : Statement) (k : ℕ) → x ≡ y → Adds s q (e ∷ ts) ss k
+    → AddsStatement q v (typed_statement (view.statement x) around find).statement (1 + statement_depth (view.statement x)) → 1 + statement_depth (view.statement y) ≤ k
+    → Adds s v (e ∷ ts) (ss ++ (typed_statement (view.statement y) around find).statement ∷ []) k
+subject_default s q v e ts ss around find x y k is h g le =
+    let all = one_more s q v (e ∷ ts) ss around find x y k is h g le in
+    adds_these s v ((e ∷ ts) ++ []) (e ∷ ts) (ss ++ (typed_statement (view.statement y) around find).statement ∷ []) (ss ++ (typed_statement (view.statement y) around find).statement ∷ []) k (sym (none_more (e ∷ ts))) refl all
 
 -- ---- the arms of the recursion
 
-pub conditional_alone : {U F : Type 0} (r : Result U F) (s q v new : Draft) (find : Find) (st x : Statement) (place : ℕ) (c : Expr) (p : Box Statement Global) (o : Option (Box Statement Global)) → st ≡ If place c p o → o ≡ None → x ≡ p.value
-    → AddsExpression s q (typed (view.expr c) find false).expression (1 + expr_depth (view.expr c)) → AddsStatement q v (typed_statement (view.statement x) find).statement (1 + statement_depth (view.statement x))
+pub conditional_alone : {U F : Type 0} (r : Result U F) (s q v new : Draft) (around : Within) (find : Find) (st x : Statement) (place : ℕ) (c : Expr) (p : Box Statement Global) (o : Option (Box Statement Global)) → st ≡ If place c p o → o ≡ None → x ≡ p.value
+    → AddsExpression s q (typed (view.expr c) find false).expression (1 + expr_depth (view.expr c)) → AddsStatement q v (typed_statement (view.statement x) around find).statement (1 + statement_depth (view.statement x))
     → ((w : Draft) (t : E.Expression) (taken : T.Statement) (other : Option T.Statement) (m : ℕ) → Adds w v (t ∷ []) (taken ∷ option_to_list other) m → length (taken ∷ option_to_list other) ≡ 1 → OnOk r (AddsStatement w new (T.If t taken (unwrap_or other T.Empty)) (1 + m)))
-    → OnOk r (AddsStatement s new (typed_statement (view.statement st) find).statement (1 + statement_depth (view.statement st)))
-conditional_alone r s q v new find st x place c p o is none e h g f =
+    → OnOk r (AddsStatement s new (typed_statement (view.statement st) around find).statement (1 + statement_depth (view.statement st)))
+conditional_alone r s q v new around find st x place c p o is none e h g f =
     let k = statement_depth (tree.If place (view.expr c) (view.statement p.value) tree.NoFallback) in
-    subst (λ z. OnOk r (AddsStatement s new (typed_statement z find).statement (1 + statement_depth z))) (sym (ap view.statement is ∙ if_view place c p o ∙ ap (λ z. tree.If place (view.expr c) (view.statement p.value) (other_view z)) none))
-    (f s (typed (view.expr c) find false).expression (typed_statement (view.statement p.value) find).statement None k (one_branch s q v find (view.expr c) x p.value k e h g (omega arith) (omega arith)) refl)
+    subst (λ z. OnOk r (AddsStatement s new (typed_statement z around find).statement (1 + statement_depth z))) (sym (ap view.statement is ∙ if_view place c p o ∙ ap (λ z. tree.If place (view.expr c) (view.statement p.value) (other_view z)) none))
+    (f s (typed (view.expr c) find false).expression (typed_statement (view.statement p.value) around find).statement None k (one_branch s q v around find (view.expr c) x p.value k e h g (omega arith) (omega arith)) refl)
 
-pub conditional_else : {U F : Type 0} (r : Result U F) (s q u v new : Draft) (find : Find) (st x y : Statement) (place : ℕ) (c : Expr) (p b : Box Statement Global) (o : Option (Box Statement Global)) → st ≡ If place c p o → o ≡ Some b → x ≡ p.value → y ≡ b.value
-    → AddsExpression s q (typed (view.expr c) find false).expression (1 + expr_depth (view.expr c)) → AddsStatement q u (typed_statement (view.statement x) find).statement (1 + statement_depth (view.statement x))
-    → AddsStatement u v (typed_statement (view.statement y) find).statement (1 + statement_depth (view.statement y))
+pub conditional_else : {U F : Type 0} (r : Result U F) (s q u v new : Draft) (around : Within) (find : Find) (st x y : Statement) (place : ℕ) (c : Expr) (p b : Box Statement Global) (o : Option (Box Statement Global)) → st ≡ If place c p o → o ≡ Some b → x ≡ p.value → y ≡ b.value
+    → AddsExpression s q (typed (view.expr c) find false).expression (1 + expr_depth (view.expr c)) → AddsStatement q u (typed_statement (view.statement x) around find).statement (1 + statement_depth (view.statement x))
+    → AddsStatement u v (typed_statement (view.statement y) around find).statement (1 + statement_depth (view.statement y))
     → ((w : Draft) (t : E.Expression) (taken : T.Statement) (other : Option T.Statement) (m : ℕ) → Adds w v (t ∷ []) (taken ∷ option_to_list other) m → length (taken ∷ option_to_list other) ≡ 2 → OnOk r (AddsStatement w new (T.If t taken (unwrap_or other T.Empty)) (1 + m)))
-    → OnOk r (AddsStatement s new (typed_statement (view.statement st) find).statement (1 + statement_depth (view.statement st)))
-conditional_else r s q u v new find st x y place c p b o is some e d h g j f =
+    → OnOk r (AddsStatement s new (typed_statement (view.statement st) around find).statement (1 + statement_depth (view.statement st)))
+conditional_else r s q u v new around find st x y place c p b o is some e d h g j f =
     let k = statement_depth (tree.If place (view.expr c) (view.statement p.value) (tree.Otherwise (view.statement b.value))) in
-    subst (λ z. OnOk r (AddsStatement s new (typed_statement z find).statement (1 + statement_depth z))) (sym (ap view.statement is ∙ if_view place c p o ∙ ap (λ z. tree.If place (view.expr c) (view.statement p.value) (other_view z)) some))
-    (f s (typed (view.expr c) find false).expression (typed_statement (view.statement p.value) find).statement (Some (typed_statement (view.statement b.value) find).statement) k
-    (one_more s u v ((typed (view.expr c) find false).expression ∷ []) ((typed_statement (view.statement p.value) find).statement ∷ []) find y b.value k d (one_branch s q u find (view.expr c) x p.value k e h g (omega arith) (omega arith)) j (omega arith)) refl)
+    subst (λ z. OnOk r (AddsStatement s new (typed_statement z around find).statement (1 + statement_depth z))) (sym (ap view.statement is ∙ if_view place c p o ∙ ap (λ z. tree.If place (view.expr c) (view.statement p.value) (other_view z)) some))
+    (f s (typed (view.expr c) find false).expression (typed_statement (view.statement p.value) around find).statement (Some (typed_statement (view.statement b.value) around find).statement) k
+    (one_more s u v ((typed (view.expr c) find false).expression ∷ []) ((typed_statement (view.statement p.value) around find).statement ∷ []) around find y b.value k d (one_branch s q u around find (view.expr c) x p.value k e h g (omega arith) (omega arith)) j (omega arith)) refl)
 
-pub case_arm : {U F : Type 0} (r : Result U F) (s v new : Draft) (find : Find) (st : Statement) (place : ℕ) (kind : CaseKind) (e : Expr) (list : Vec CaseArm Global) (xs : List CaseArm) (o : Option (Box Statement Global)) (other : Option T.Statement) (n : ℕ)
-    → st ≡ Case place kind e list o → xs ≡ list.items → unwrap_or other T.Empty ≡ (typed_fallback (other_view o) find).statement → length (option_to_list other) ≡ n
-    → Adds s v ((typed (view.expr e) find false).expression ∷ labels_of (labelled find (view.arms list.items))) (statements_of (labelled find (view.arms list.items)) ++ option_to_list other) (1 + max (expr_depth (view.expr e)) (max (arms_depth (view.arms list.items)) (fallback_depth (other_view o))))
+pub case_arm : {U F : Type 0} (r : Result U F) (s v new : Draft) (around : Within) (find : Find) (st : Statement) (place : ℕ) (kind : CaseKind) (e : Expr) (list : Vec CaseArm Global) (xs : List CaseArm) (o : Option (Box Statement Global)) (other : Option T.Statement) (n : ℕ)
+    → st ≡ Case place kind e list o → xs ≡ list.items → unwrap_or other T.Empty ≡ (typed_fallback (other_view o) around find).statement → length (option_to_list other) ≡ n
+    → Adds s v ((typed (view.expr e) find false).expression ∷ labels_of (labelled around find (view.arms list.items))) (statements_of (labelled around find (view.arms list.items)) ++ option_to_list other) (1 + max (expr_depth (view.expr e)) (max (arms_depth (view.arms list.items)) (fallback_depth (other_view o))))
     → ((w : Draft) (t : E.Expression) (made : List Labelled) (d : Option T.Statement) (m : ℕ) → Adds w v (t ∷ flat_map (λ (a : Labelled). a.labels) made) (map (λ (a : Labelled). a.statement) made ++ option_to_list d) m
     → map (λ (a : Labelled). length a.labels) made ≡ label_counts xs → length (option_to_list d) ≡ n → OnOk r (AddsStatement w new (T.Case kind t (arms_with made (unwrap_or d T.Empty))) (1 + m)))
-    → OnOk r (AddsStatement s new (typed_statement (view.statement st) find).statement (1 + statement_depth (view.statement st)))
-case_arm r s v new find st place kind e list xs o other n is same default count h f =
+    → OnOk r (AddsStatement s new (typed_statement (view.statement st) around find).statement (1 + statement_depth (view.statement st)))
+case_arm r s v new around find st place kind e list xs o other n is same default count h f =
     let arms = view.arms list.items in
     let t = (typed (view.expr e) find false).expression in
     let m = 1 + max (expr_depth (view.expr e)) (max (arms_depth arms) (fallback_depth (other_view o))) in
-    let made = f s t (labelled find arms) other m h (counts_are find list.items ∙ ap label_counts (sym same)) count in
-    let body : arms_with (labelled find arms) (unwrap_or other T.Empty) ≡ (typed_arms arms find (typed_fallback (other_view o) find)).arms = ap (arms_with (labelled find arms)) default ∙ sym (arms_are find arms (typed_fallback (other_view o) find)) in
-    subst (λ z. OnOk r (AddsStatement s new (typed_statement z find).statement (1 + statement_depth z))) (sym (ap view.statement is ∙ case_view place kind e list o))
+    let made = f s t (labelled around find arms) other m h (counts_are around find list.items ∙ ap label_counts (sym same)) count in
+    let body : arms_with (labelled around find arms) (unwrap_or other T.Empty) ≡ (typed_arms arms around find (typed_fallback (other_view o) around find)).arms = ap (arms_with (labelled around find arms)) default ∙ sym (arms_are around find arms (typed_fallback (other_view o) around find)) in
+    subst (λ z. OnOk r (AddsStatement s new (typed_statement z around find).statement (1 + statement_depth z))) (sym (ap view.statement is ∙ case_view place kind e list o))
     (subst (λ z. OnOk r (AddsStatement s new (T.Case kind t z) (1 + m))) body made)
 
-pub no_default : (find : Find) (o : Option (Box Statement Global)) → o ≡ None → unwrap_or None T.Empty ≡ (typed_fallback (other_view o) find).statement
-no_default find o e = ap (λ z. (typed_fallback (other_view z) find).statement) (sym e)
+pub no_default : (around : Within) (find : Find) (o : Option (Box Statement Global)) → o ≡ None → unwrap_or None T.Empty ≡ (typed_fallback (other_view o) around find).statement
+no_default around find o e = ap (λ z. (typed_fallback (other_view z) around find).statement) (sym e)
 
-pub some_default : (find : Find) (o : Option (Box Statement Global)) (b : Box Statement Global) → o ≡ Some b → unwrap_or (Some (typed_statement (view.statement b.value) find).statement) T.Empty ≡ (typed_fallback (other_view o) find).statement
-some_default find o b e = ap (λ z. (typed_fallback (other_view z) find).statement) (sym e)
+pub some_default : (around : Within) (find : Find) (o : Option (Box Statement Global)) (b : Box Statement Global) → o ≡ Some b → unwrap_or (Some (typed_statement (view.statement b.value) around find).statement) T.Empty ≡ (typed_fallback (other_view o) around find).statement
+some_default around find o b e = ap (λ z. (typed_fallback (other_view z) around find).statement) (sym e)
 
 pub deep_default : (o : Option (Box Statement Global)) (b : Box Statement Global) → o ≡ Some b → statement_depth (view.statement b.value) ≡ fallback_depth (other_view o)
 deep_default o b e = ap (λ z. fallback_depth (other_view z)) (sym e)
 
-pub arm_statement_falls : (list : List CaseArm) (i : ℕ) (x : CaseArm) (t : ℕ) → i < length list → x ≡ get_or list i x → 2 * most arm_laws.the_size list + 1 ≡ t → 2 * statement_laws.the_size x.statement + 0 < t
+pub arm_statement_falls : (list : List CaseArm) (i : ℕ) (x : CaseArm) (t : ℕ) → i < length list → x ≡ get_or list i x → 3 * most arm_laws.the_size list + 1 ≡ t → 3 * statement_laws.the_size x.statement + 0 < t
 arm_statement_falls list i x t h k m =
     let b : arm_laws.the_size x ≤ most arm_laws.the_size list = arm_falls list i x h k in
     let l : statement_laws.the_size x.statement < arm_laws.the_size x = search (rules, the_lemmas) in

@@ -1,21 +1,35 @@
 -- Items without a fault, one after the other.
-use Rattle.std.proofs.Common.{◌≡◌, ℕ, zero, suc, ◌+◌, ◌<◌, ◌≤◌, false, List, [], ◌∷◌, ◌++◌, length, get_or, map, flat_map, take, Option, Some, None, refl, sym, ap, ◌∙◌, subst, arith, append_assoc, length-append}
+use Rattle.std.proofs.Common.{◌≡◌, ℕ, zero, suc, ◌+◌, ◌-◌, ◌<◌, ◌≤◌, false, List, [], ◌∷◌, ◌++◌, length, get_or, map, flat_map, take, Option, Some, None, refl, sym, ap, ◌∙◌, subst, arith, append_assoc, length-append}
 use Rattle.std.proofs.Math.Seq.{take-suc, take-length}
 use Rattle.std.proofs.lemmas.Grind.{flat_map-append}
 use Rattle.std.proofs.lemmas.List.{map-append, append-nil}
-use Rattle.vs_design.specs.Designs.{Process, Design}
+use Rattle.vs_design.specs.Designs.{Process, Always, Design}
+use Rattle.vs_design.specs.Elaborated.{inside}
 use Rattle.vs_grammar.specs.Trees as tree
 use Rattle.vs_grammar.specs.Shapes.{IsDeclarator, Each}
 use Rattle.vs_grammar.specs.Depths.{option_depth, expr_depth}
 use Rattle.vs_const.specs.Meanings.{Find}
 use Rattle.vs_const.specs.Sound.{AreSound}
+use Rattle.vs_const.specs.CallDepths.{calls_in}
 use Rattle.vs_const.proofs.Formed.{both_nil}
-use Rattle.vs_elaborated.specs.Environments.{Env, named}
+use Rattle.vs_elaborated.specs.Environments.{Env, inside_function, named}
+use Rattle.vs_elaborated.specs.Numbers.{IsNumbered, AreNumbered}
 use Rattle.vs_elaborated.specs.Pieces.{Own, all_said}
-use Rattle.vs_elaborated.specs.Surveys.{assign_said, wire_said}
-use Rattle.vs_build.specs.Drafts.{Draft}
+use Rattle.vs_elaborated.specs.Statements.{TypedStatement, repeated_locals, typed_statement, unrolled_within, typed_control}
+use Rattle.vs_elaborated.specs.Heads.{shared_heads}
+use Rattle.vs_elaborated.specs.Functions.{declared_locals, LocalSignal, function_locals, all_locals, header_of, meaning_or, function_names, function_body, size_faults}
+use Rattle.vs_elaborated.specs.Functions.{signal_at as local_at}
+use Rattle.vs_elaborated.specs.Surveys.{assign_said, wire_said, block_body, block_statement, block_heads}
+use Rattle.vs_build.specs.Drafts.{Draft, home_in, home}
 use Rattle.vs_build.specs.Writable.{IsAssignable, wire_assign, assign_process}
-use Rattle.vs_build.specs.Items.{and_processes, value_processes, wire_processes, IsAssigned, IsDeclared, AssignsAreFine, WiresAreFine, BlocksAreFine}
+use Rattle.vs_build.specs.Items.{and_processes, value_processes, wire_processes, IsAssigned, IsDeclared, AssignsAreFine, WiresAreFine, BlocksAreFine, FunctionsAreFine}
+use Rattle.vs_build.proofs.Homes.{inside_home}
+use Rattle.vs_build.proofs.Sounder.{sound_wider, names_wider, numbers_stay, processes_wider, processes_functions}
+use Rattle.vs_build.proofs.Unrolled.{unrolled_is}
+
+-- outside of functions it stays
+pub processes_outside : (s v : Draft) (ps : List Process) → v ≡ and_processes s ps → s.function ≡ None → v.function ≡ None
+processes_outside s v ps e h = ap (λ (z : Draft). z.function) e ∙ h
 
 none_more : {A : Type 0} (xs : List A) → xs ≡ xs ++ []
 none_more [] = refl
@@ -32,14 +46,27 @@ more_processes s q v ps qs e f = f ∙ ap (λ z. and_processes z qs) e ∙ ap (�
 pub these_processes : (s v : Draft) (ps qs : List Process) → ps ≡ qs → v ≡ and_processes s ps → v ≡ and_processes s qs
 these_processes s v ps qs e h = h ∙ ap (and_processes s) e
 
-pub assign_after : (s v : Draft) (ps : List Process) (find : Find) (a : tree.Assign) → v ≡ and_processes s ps → IsAssignable s.design find a → IsAssignable v.design find a
-assign_after s v ps find a e w = subst (λ (z : Draft). IsAssignable z.design find a) (sym e) (record { shaped = w.shaped; sound = w.sound; clean = w.clean; shallow = w.shallow })
+-- ---- what can be built still can
 
-value_after : (s v : Draft) (ps : List Process) (find : Find) (name : tree.Name) (o : Option tree.Expr) → v ≡ and_processes s ps → IsAssigned s.design find name o → IsAssigned v.design find name o
+assign_home : (s : Draft) (ps : List Process) (find : Find) (a : tree.Assign) → IsAssignable (home s) find a → IsAssignable (home (and_processes s ps)) find a
+assign_home s ps find a w =
+    let more = s.design.processes ++ ps in
+    record {
+      shaped = w.shaped;
+      sound = names_wider (home s) (home (and_processes s ps)) false find (processes_wider s.design s.function more) w.sound;
+      numbered = numbers_stay (home s) (home (and_processes s ps)) find (processes_functions s.design s.function more) w.numbered;
+      clean = w.clean;
+      shallow = w.shallow;
+    }
+
+pub assign_after : (s v : Draft) (ps : List Process) (find : Find) (a : tree.Assign) → v ≡ and_processes s ps → IsAssignable (home s) find a → IsAssignable (home v) find a
+assign_after s v ps find a e w = subst (λ (z : Draft). IsAssignable (home z) find a) (sym e) (assign_home s ps find a w)
+
+value_after : (s v : Draft) (ps : List Process) (find : Find) (name : tree.Name) (o : Option tree.Expr) → v ≡ and_processes s ps → IsAssigned (home s) find name o → IsAssigned (home v) find name o
 value_after s v ps find name None e w = tt
 value_after s v ps find name (Some x) e w = assign_after s v ps find (wire_assign name x) e w
 
-pub declared_after : (s v : Draft) (ps : List Process) (find : Find) (d : tree.Declarator) → v ≡ and_processes s ps → IsDeclared s.design find d → IsDeclared v.design find d
+pub declared_after : (s v : Draft) (ps : List Process) (find : Find) (d : tree.Declarator) → v ≡ and_processes s ps → IsDeclared (home s) find d → IsDeclared (home v) find d
 declared_after s v ps find d e w = value_after s v ps find d.name d.value e w
 
 each_get : {A B : Type 0} (P : B → Type 0) (f : A → B) (xs : List A) (i : ℕ) (d : A) → i < length xs → Each P (map f xs) → P (f (get_or xs i d))
@@ -80,34 +107,73 @@ process_count s v ps e = ap (λ (z : Draft). length z.design.processes) e ∙ le
 -- ---- the laws
 
 pub assigns_fine : AssignsAreFine
-assigns_fine d env place [] x sound le h = (tt, refl)
-assigns_fine d env place (a ∷ rest) x sound le h =
+assigns_fine d env place [] x sound numbered le h = (tt, refl)
+assigns_fine d env place (a ∷ rest) x sound numbered le h =
     let n = both_nil (assign_said env place a).faults (all_said (assign_said env place) rest).faults h in
-    let r = assigns_fine d env place rest x.1 sound (omega (arith, le)) n.1 in
-    let first : IsAssignable d (named env) a = record { shaped = x.0; sound = sound; clean = n.0; shallow = omega (arith, le) } in
+    let r = assigns_fine d env place rest x.1 sound numbered (omega (arith, le)) n.1 in
+    let first : IsAssignable d (named env) a = record { shaped = x.0; sound = sound; numbered = numbered; clean = n.0; shallow = omega (arith, le) } in
     ((first, r.0), ap (λ ps. Own (assign_process place a (named env)) ∷ ps) r.1)
 
-value_fine : (d : Design) (env : Env) (place : ℕ) (name : tree.Name) (addresses : Option tree.RangeTree) (o : Option tree.Expr) (shaped : IsDeclarator (record { name = name; addresses = addresses; value = o })) → AreSound d false (named env) → option_depth expr_depth o ≤ 253
+value_fine : (d : Design) (env : Env) (place : ℕ) (name : tree.Name) (addresses : Option tree.RangeTree) (o : Option tree.Expr) (shaped : IsDeclarator (record { name = name; addresses = addresses; value = o })) → AreSound d false (named env) → AreNumbered d (named env) → option_depth expr_depth o ≤ 253
     → (let n : tree.Declarator = record { name = name; addresses = addresses; value = o } in (wire_said env place n).faults ≡ [])
     → IsAssigned d (named env) name o × (let n : tree.Declarator = record { name = name; addresses = addresses; value = o } in (wire_said env place n).pieces ≡ map Own (value_processes place name o (named env)))
-value_fine d env place name addresses None shaped sound le h = (tt, refl)
-value_fine d env place name addresses (Some e) shaped sound le h =
-    let fine : IsAssignable d (named env) (wire_assign name e) = record { shaped = ((shaped.0, tt), shaped.1); sound = sound; clean = h; shallow = omega (arith, le) } in
+value_fine d env place name addresses None shaped sound numbered le h = (tt, refl)
+value_fine d env place name addresses (Some e) shaped sound numbered le h =
+    let fine : IsAssignable d (named env) (wire_assign name e) = record { shaped = ((shaped.0, tt), shaped.1); sound = sound; numbered = numbered; clean = h; shallow = omega (arith, le) } in
     (fine, refl)
 
 pub wires_fine : WiresAreFine
-wires_fine d env place [] x sound le h = (tt, refl)
-wires_fine d env place (n ∷ rest) x sound le h =
+wires_fine d env place [] x sound numbered le h = (tt, refl)
+wires_fine d env place (n ∷ rest) x sound numbered le h =
     let m = both_nil (wire_said env place n).faults (all_said (wire_said env place) rest).faults h in
-    let f = value_fine d env place n.name n.addresses n.value x.0 sound (omega (arith, le)) m.0 in
-    let r = wires_fine d env place rest x.1 sound (omega (arith, le)) m.1 in (
+    let f = value_fine d env place n.name n.addresses n.value x.0 sound numbered (omega (arith, le)) m.0 in
+    let r = wires_fine d env place rest x.1 sound numbered (omega (arith, le)) m.1 in (
       (f.0, r.0),
       ap (λ ps. ps ++ (all_said (wire_said env place) rest).pieces) f.1 ∙ ap (λ ps. map Own (value_processes place n.name n.value (named env)) ++ ps) r.1
           ∙ sym (map-append Own (value_processes place n.name n.value (named env)) (wire_processes place rest (named env))),
     )
 
 pub blocks_fine : BlocksAreFine
-blocks_fine d env b x sound le h = (record { shaped = x; sound = sound; clean = h; shallow = le }, refl)
+blocks_fine d env limits loops b x sound numbered le h =
+    let c = typed_control b.control (named env) in
+    let s = block_statement limits env loops b in
+    let heads = shared_heads loops.headed (block_heads env b) in
+    let n = both_nil c.faults (s.faults ++ heads) h in
+    let clean = (both_nil s.faults heads n.1).0 in
+    let is : s ≡ typed_statement b.statement (block_body b) (named env) = unrolled_is (limits.copies - loops.copies) b.statement (block_body b) (named env) clean in
+    (record { shaped = x; sound = sound; numbered = numbered; control = n.0; clean = sym (ap (λ (t : TypedStatement). t.faults) is) ∙ clean; shallow = le }, ap (λ (t : TypedStatement). Own (Always b.place c.star c.events t.statement) ∷ []) is)
+
+-- the variables of its named blocks are no functions
+blocks_numbered : (d : Design) (o : Option LocalSignal) → IsNumbered d (meaning_or o)
+blocks_numbered d None = tt
+blocks_numbered d (Some s) = tt
+
+pub functions_fine : FunctionsAreFine
+functions_fine d number most scope env f x sees numbered le h =
+    let l = function_locals scope (inside_function env []) f in
+    let header = header_of f l in
+    let names = function_names scope env f in
+    let s = unrolled_within most f.statement (function_body l) names in
+    let ranges = flat_map (λ (v : LocalSignal). v.faults) (all_locals l) in
+    let sizes = size_faults f.place header (suc (calls_in s.statement)) in
+    let clean = (both_nil s.faults sizes (both_nil ranges (s.faults ++ sizes) (both_nil (repeated_locals [] (declared_locals f)) (ranges ++ (s.faults ++ sizes)) h).1).1).0 in
+    let is : s ≡ typed_statement f.statement (function_body l) names = unrolled_is most f.statement (function_body l) names clean in
+    let inner = home_in d (Some header) in
+    record {
+      executable = record {
+        shaped = x.statement;
+        around = record {
+          unrolls = refl;
+          sound = λ place. sound_wider (inside d header) inner false (inside_home d header) ((function_body l).declared place) (sees.declared place);
+          numbered = λ place. blocks_numbered inner (local_at (all_locals l) place);
+        };
+        sound = names_wider (inside d header) inner false names (inside_home d header) sees.names;
+        numbered = numbers_stay d inner names refl numbered;
+        clean = sym (ap (λ (t : TypedStatement). t.faults) is) ∙ clean;
+        shallow = le;
+      };
+      statement = ap (λ (t : TypedStatement). t.statement) is;
+    }
 
 pub length_taken : {A : Type 0} (i : ℕ) (xs : List A) → length (take i xs) ≤ i
 length_taken zero [] = omega arith

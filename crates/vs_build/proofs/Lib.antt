@@ -2,10 +2,15 @@ pub mod Counting
 pub mod Nodes
 pub mod Bodies
 pub mod Wider
+pub mod Homes
+pub mod Sounder
+pub mod Unrolled
 pub mod Additions
 pub mod Steps
 pub mod NodeKinds
 pub mod Copies
+pub mod Calls
+pub mod Begun
 pub mod SignalNames
 pub mod Arms
 pub mod Lists
@@ -18,6 +23,9 @@ pub mod EventFaults
 pub mod BodySteps
 pub mod Cutting
 pub mod BodyKinds
+pub mod Ended
 pub mod Executed
+pub mod Blocking
+pub mod LoopFacts
 pub mod Awaiting
 pub mod ItemFacts

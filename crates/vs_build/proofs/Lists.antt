@@ -1,29 +1,36 @@
 -- The parts of a concatenation, one after the other.
-use Rattle.std.proofs.Common.{rules, ◌≡◌, ℕ, zero, suc, ◌+◌, ◌*◌, ◌<◌, ◌≤◌, Bool, true, List, [], ◌∷◌, ◌++◌, length, get_or, map, max, take, Option, Some, None, Vec, Box, Global, Result, OnOk, refl, sym, ap, ◌∙◌, subst, arith, append_assoc}
+use Rattle.std.proofs.Common.{rules, ◌≡◌, ℕ, zero, suc, ◌+◌, ◌*◌, ◌<◌, ◌≤◌, Bool, true, false, not, ◌&&◌, List, [], ◌∷◌, ◌++◌, length, get_or, map, max, take, Option, Some, None, slice_get, Vec, Box, Global, Result, OnOk, refl, sym, ap, ◌∙◌, subst, arith, append_assoc}
 use Rattle.std.proofs.Math.Seq.{take-suc, take-length}
 use Rattle.std.proofs.lemmas.List.{map-append, length-map}
 use denote.Param.Weighed.{most, at_most}
 use Rattle.vs_design.specs.Expressions as E
-use Rattle.vs_design.specs.Expressions.{Expression}
+use Rattle.vs_design.specs.Expressions.{Header, Expression}
+use Rattle.vs_design.specs.Statements.{Function}
 use Rattle.vs_design.specs.Designs.{Design}
+use Rattle.vs_design.specs.Elaborated.{are_as_many}
 use Rattle.vs_grammar.specs.Trees as tree
 use Rattle.vs_grammar.specs.Trees.{expr_place}
-use Rattle.vs_grammar.specs.Shapes.{IsExpr}
+use Rattle.vs_grammar.specs.Shapes.{IsExpr, AreParts, AreExprs}
 use Rattle.vs_grammar.specs.Depths.{expr_depth, exprs_depth}
 use Rattle.vs_ast.proofs.expressions.Expr.TheLaws.{the_size}
-use Rattle.vs_ast.specs.declared.expressions.Expr.{Expr, Concatenation, Replication, the_lemmas}
-use Rattle.vs_ast.specs.Views.{expr, exprs}
+use Rattle.vs_ast.specs.declared.expressions.Expr.{Expr, Apply, Concatenation, Replication, the_lemmas}
+use Rattle.vs_ast.specs.Views.{expr, exprs, name as name_tree}
+use Rattle.vs_ast.specs.declared.names.Name.{Name}
 use Rattle.vs_ast.proofs.Rows.{expr_rows}
 use Rattle.vs_const.specs.declared.faults.Fault.{Fault}
-use Rattle.vs_const.specs.Meanings.{Meaning, AValue, Undefined, ASignal, AMemory, Another, Unknown, Find, IsFair, IsFairMeaning}
+use Rattle.vs_const.specs.declared.rules.Rule.TheVariants.{FunctionRule}
+use Rattle.vs_const.specs.Faults.{fault_if}
+use Rattle.vs_const.specs.Meanings.{FunctionMeaning, Meaning, AValue, Undefined, ASignal, AMemory, AFunction, Incomplete, Another, Barred, Unknown, Find, steady, IsFair, IsFairMeaning}
 use Rattle.vs_const.specs.Typed.{Typed, begins_at, natural, copies_typed}
-use Rattle.vs_const.specs.Expressions.{constant, unsized_faults, typed, typed_parts, replicated, replication_typed}
-use Rattle.vs_const.specs.Sound.{IsSound, AreSound}
-use Rattle.vs_const.proofs.Formed.{both_nil, sound_needed, typed_fine, natural_fine}
+use Rattle.vs_const.specs.Expressions.{constant, unsized_faults, typed, typed_parts, TypedItems, call_if, applied, typed_arguments, replicated, replication_typed}
+use Rattle.vs_const.specs.Sound.{IsSound, AreSound, IsFine}
+use Rattle.vs_const.proofs.Formed.{both_nil, split, typed_fine, natural_fine}
 use Rattle.vs_const.proofs.Rows.{part_shaped}
+use Rattle.vs_const.proofs.Steady.{sound_needed, steady_sound}
 use Rattle.vs_flat.specs.Trees.{joined}
-use Rattle.vs_build.specs.Drafts.{Root, Draft, and_root, most_levels, EndsWith, AddsExpression, AddsParts}
-use Rattle.vs_build.specs.Buildable.{IsBuildable, AreBuildable, IsNumbered, part_expressions}
+use Rattle.vs_elaborated.specs.Numbers.{IsNumbered, AreNumbered}
+use Rattle.vs_build.specs.Drafts.{Root, Draft, home_in, home, and_root, most_levels, EndsWith, AddsExpression, AddsParts}
+use Rattle.vs_build.specs.Buildable.{IsBuildable, AreArguments, AreBuildable, IsWithin, part_expressions}
 use Rattle.vs_build.proofs.Arms.{begins_twice, noted_clean}
 use Rattle.vs_build.proofs.Copies.{nil_end}
 
@@ -52,6 +59,7 @@ pub each_part : (d : Design) (find : Find) (needed : Bool) (es : List Expr) (i :
 each_part d find needed es i x b k e = record {
   shaped = part_shaped es i x b.shaped k e;
   sound = b.sound;
+  numbered = b.numbered;
   clean = subst (λ y. (typed (expr y) find needed).faults ≡ []) (sym e) (clean_at find needed es i x b.clean k);
   shallow = omega (arith, b.shallow, depth_at es i x k, ap (λ y. expr_depth (expr y)) e);
 }
@@ -98,11 +106,11 @@ parts_are s v ts us m e h = subst (λ xs. AddsParts s v xs m) e h
 pub ends_parts : (s v : Draft) (ts : List Expression) (m n : ℕ) → AddsParts s v ts m → m ≤ 254 → n ≡ length ts → EndsWith n v
 ends_parts s v ts m n h le e = record { before = s; last = h.roots; is = h.is; many = sym (length-map h.roots (λ (r : Root). r.tree)) ∙ ap length h.are ∙ sym e; few = omega (arith, h.few, le) }
 
-pub parts_design : (s v : Draft) (ts : List Expression) (m : ℕ) → AddsParts s v ts m → s.design ≡ v.design
-parts_design s v ts m h = sym (ap (λ (d : Draft). d.design) h.is)
+pub parts_home : (s v : Draft) (ts : List Expression) (m : ℕ) → AddsParts s v ts m → home s ≡ home v
+parts_home s v ts m h = sym (ap home h.is)
 
-pub part_after : (s v : Draft) (ts : List Expression) (m : ℕ) (find : Find) (needed : Bool) (e : tree.Expr) → AddsParts s v ts m → IsBuildable s.design find needed e → IsBuildable v.design find needed e
-part_after s v ts m find needed e h b = subst (λ d. IsBuildable d find needed e) (parts_design s v ts m h) b
+pub part_after : (s v : Draft) (ts : List Expression) (m : ℕ) (find : Find) (needed : Bool) (e : tree.Expr) → AddsParts s v ts m → IsBuildable (home s) find needed e → IsBuildable (home v) find needed e
+part_after s v ts m find needed e h b = subst (λ d. IsBuildable d find needed e) (parts_home s v ts m h) b
 
 -- ---- concatenations
 
@@ -115,7 +123,7 @@ pub part_count : (find : Find) (needed : Bool) (es : List Expr) → length (part
 part_count find needed es = length-map es (λ (y : Expr). (typed (expr y) find needed).expression)
 
 pub concatenation_parts : (d : Design) (find : Find) (needed : Bool) (place : ℕ) (parts : tree.Exprs) → IsBuildable d find needed (tree.Concatenation place parts) → AreBuildable d find needed parts
-concatenation_parts d find needed place parts b = record { shaped = b.shaped; sound = b.sound; clean = noted_clean needed place (copies_typed 1 (typed_parts parts find needed)) b.clean; shallow = omega (arith, b.shallow) }
+concatenation_parts d find needed place parts b = record { shaped = b.shaped; sound = b.sound; numbered = b.numbered; clean = noted_clean needed place (copies_typed 1 (typed_parts parts find needed)) b.clean; shallow = omega (arith, b.shallow) }
 
 -- a concatenation, or a replication, of parts that were built
 pub join_arm : {U F : Type 0} (r : Result U F) (s v new : Draft) (find : Find) (needed : Bool) (at copies n : ℕ) (es xs : List Expr) → xs ≡ es → 1 ≤ length es → n ≡ length es
@@ -129,6 +137,136 @@ join_arm r s v new find needed at copies n es xs e some count h f =
     in
     subst (λ t. OnOk r (AddsExpression s new (E.At at (E.Repeat copies t)) (1 + (1 + exprs_depth (exprs es))))) (parts_joined find needed es some) same
 
+-- ---- calls (10.4.3)
+
+argument_clean : (find : Find) (needed : Bool) (es : List Expr) (i : ℕ) (x : Expr) → (typed_arguments (exprs es) find needed).faults ≡ [] → i < length es → (typed (expr (get_or es i x)) find needed).faults ≡ []
+argument_clean find needed [] i x h k = absurd (omega (arith, k))
+argument_clean find needed (e ∷ es) zero x h k = (both_nil (typed (expr e) find needed).faults (typed_arguments (exprs es) find needed).faults h).0
+argument_clean find needed (e ∷ es) (suc i) x h k = argument_clean find needed es i x (both_nil (typed (expr e) find needed).faults (typed_arguments (exprs es) find needed).faults h).1 (omega (arith, k))
+
+argument_shaped : (es : List Expr) (i : ℕ) (x : Expr) → AreExprs (exprs es) → i < length es → IsExpr (expr (get_or es i x))
+argument_shaped [] i x h k = absurd (omega (arith, k))
+argument_shaped (e ∷ es) zero x h k = h.0
+argument_shaped (e ∷ es) (suc i) x h k = argument_shaped es i x h.1 (omega (arith, k))
+
+pub each_argument : (d : Design) (find : Find) (needed : Bool) (es : List Expr) (i : ℕ) (x : Expr) → AreArguments d find needed (exprs es) → i < length es → x ≡ get_or es i x → IsBuildable d find needed (expr x)
+each_argument d find needed es i x b k e = record {
+  shaped = subst (λ y. IsExpr (expr y)) (sym e) (argument_shaped es i x b.shaped k);
+  sound = b.sound;
+  numbered = b.numbered;
+  clean = subst (λ y. (typed (expr y) find needed).faults ≡ []) (sym e) (argument_clean find needed es i x b.clean k);
+  shallow = omega (arith, b.shallow, depth_at es i x k, ap (λ y. expr_depth (expr y)) e);
+}
+
+pub arguments_are : (find : Find) (needed : Bool) (es : List Expr) → E.items_of (part_expressions find needed es) ≡ (typed_arguments (exprs es) find needed).items
+arguments_are find needed [] = refl
+arguments_are find needed (e ∷ es) = ap (E.Item (typed (expr e) find needed).expression) (arguments_are find needed es)
+
+pub apply_view : (name : Name) (list : Vec Expr Global) → expr (Apply name list) ≡ tree.Apply (name_tree name) (exprs list.items)
+apply_view name list = search (rules, expr_rows, the_lemmas)
+
+-- what a call without a fault calls, and its arguments
+pub record IsCall (d : Design) (find : Find) (needed : Bool) (name : tree.Name) (arguments : tree.Exprs) : Type 0 where
+  pub constant_no : needed ≡ false
+  pub function : FunctionMeaning
+  pub means : find name.bytes ≡ AFunction function
+  pub parts : AreArguments d find needed arguments
+  pub many : are_as_many (typed_arguments arguments find needed).items function.header.inputs ≡ true
+  pub expression : (typed (tree.Apply name arguments) find needed).expression ≡ begins_at name.place (E.Call function.header function.statement (typed_arguments arguments find needed).items)
+
+both_true : (a b c : Bool) → (a && (b && c)) ≡ true → (b ≡ true) × (c ≡ true)
+both_true true true true h = (refl, refl)
+both_true true true false h = cc
+both_true true false c h = cc
+both_true false b c h = cc
+
+call_faults : (good : Bool) (f : FunctionMeaning) (t : TypedItems) (fs : List Fault) → (call_if good f t fs).faults ≡ fs
+call_faults true f t fs = refl
+call_faults false f t fs = refl
+
+call_good : (good : Bool) (f : FunctionMeaning) (t : TypedItems) (fs : List Fault) → (call_if good f t fs).good ≡ true → good ≡ true
+call_good true f t fs h = refl
+call_good false f t fs h = cc
+
+pub call_is : (d : Design) (find : Find) (needed : Bool) (name : tree.Name) (arguments : tree.Exprs) → IsBuildable d find needed (tree.Apply name arguments) → IsCall d find needed name arguments
+call_is d find needed name arguments b = by needed (find name.bytes) refl refl (split (applied needed name.place (find name.bytes) t).good _ fine.good).0 clean
+  where
+    t : TypedItems
+    t = typed_arguments arguments find needed
+
+    fine : IsFine d needed (typed (tree.Apply name arguments) find needed)
+    fine = typed_fine d find (tree.Apply name arguments) needed b.sound b.shaped b.clean
+
+    clean : (applied needed name.place (find name.bytes) t).faults ≡ []
+    clean = noted_clean needed name.place (applied needed name.place (find name.bytes) t) b.clean
+
+    some_exprs : (es : tree.Exprs) → AreParts es → AreExprs es
+    some_exprs tree.NoExpr x = absurd x
+    some_exprs (tree.AndExpr e rest) x = x
+
+    by : (n : Bool) (m : Meaning) → needed ≡ n → find name.bytes ≡ m → (applied n name.place m t).good ≡ true → (applied n name.place m t).faults ≡ [] → IsCall d find needed name arguments
+    by true (AFunction f) e i g c = cc
+    by false (AFunction f) e i g c =
+        let fits = are_as_many t.items f.header.inputs in
+        let fs = fault_if (f.known && not fits) FunctionRule name.place ++ t.faults in
+        let good = call_good (f.known && (fits && t.good)) f t fs g in
+        let k = both_true f.known fits t.good good in
+        let none = both_nil (fault_if (f.known && not fits) FunctionRule name.place) t.faults (sym (call_faults (f.known && (fits && t.good)) f t fs) ∙ c) in
+        record {
+          constant_no = e;
+          function = f;
+          means = i;
+          parts = record { shaped = some_exprs arguments b.shaped.1; sound = b.sound; numbered = b.numbered; clean = none.1; shallow = omega (arith, b.shallow) };
+          many = k.0;
+          expression =
+              ap (λ x. begins_at name.place (applied x name.place (find name.bytes) t).expression) e ∙ ap (λ x. begins_at name.place (applied false name.place x t).expression) i
+              ∙ ap (λ x. begins_at name.place (call_if x f t fs).expression) good;
+        }
+    by n (AValue v r turns) e i g c = cc
+    by n (Undefined r) e i g c = cc
+    by n (ASignal s) e i g c = cc
+    by n (AMemory s) e i g c = cc
+    by n Incomplete e i g c = cc
+    by n Another e i g c = cc
+    by n (Barred rule) e i g c = cc
+    by n Unknown e i g c = cc
+
+-- as many arguments as inputs
+pub counted : (ts : List Expression) (inputs : List E.Signal) → are_as_many (E.items_of ts) inputs ≡ true → length inputs ≡ length ts
+counted [] [] h = refl
+counted [] (i ∷ is) h = cc
+counted (t ∷ ts) [] h = cc
+counted (t ∷ ts) (i ∷ is) h = ap suc (counted ts is h)
+
+pub call_many : (d : Design) (find : Find) (needed : Bool) (name : tree.Name) (es : List Expr) (k : IsCall d find needed name (exprs es)) → length k.function.header.inputs ≡ length es
+call_many d find needed name es k =
+    counted (part_expressions find needed es) k.function.header.inputs (ap (λ items. are_as_many items k.function.header.inputs) (arguments_are find needed es) ∙ k.many) ∙ part_count find needed es
+
+-- what is called is a function of the design, by its number
+functions_there : (d : Design) (o : Option Header) → (home_in d o).functions ≡ d.functions
+functions_there d None = refl
+functions_there d (Some h) = refl
+
+pub function_at : (s v : Draft) (ts : List Expression) (m : ℕ) (find : Find) (name : tree.Name) (f : FunctionMeaning) (number : ℕ) → AddsParts s v ts m → AreNumbered (home s) find → find name.bytes ≡ AFunction f → number ≡ f.number
+    → slice_get v.design.functions number ≡ Some (record { header = f.header; statement = f.statement })
+function_at s v ts m find name f number h n e i =
+    let there = subst (IsNumbered (home s)) e (n name.bytes) in
+    ap (λ (d : Draft). slice_get d.design.functions number) h.is ∙ ap (slice_get s.design.functions) i ∙ ap (λ (fs : List Function). slice_get fs f.number) (sym (functions_there s.design s.function)) ∙ there
+
+-- a call of arguments that were built
+pub call_arm : {U F : Type 0} (r : Result U F) (s v new : Draft) (find : Find) (needed : Bool) (at n : ℕ) (name : tree.Name) (f : FunctionMeaning) (es xs : List Expr) → xs ≡ es → n ≡ length es
+    → (typed (tree.Apply name (exprs es)) find needed).expression ≡ begins_at name.place (E.Call f.header f.statement (typed_arguments (exprs es) find needed).items)
+    → AddsParts s v (part_expressions find needed xs) (1 + exprs_depth (exprs xs))
+    → ((q : Draft) (ts : List Expression) (m : ℕ) → AddsParts q v ts m → length ts ≡ n → OnOk r (AddsExpression q new (E.At at (E.Call f.header f.statement (E.items_of ts))) (1 + m)))
+    → OnOk r (AddsExpression s new (begins_at at (typed (tree.Apply name (exprs es)) find needed).expression) (1 + (1 + exprs_depth (exprs es))))
+call_arm r s v new find needed at n name f es xs e count is h g =
+    let made = g s (part_expressions find needed xs) (1 + exprs_depth (exprs xs)) h (part_count find needed xs ∙ ap length e ∙ sym count) in
+    let same : OnOk r (AddsExpression s new (E.At at (E.Call f.header f.statement (E.items_of (part_expressions find needed es)))) (1 + (1 + exprs_depth (exprs es)))) =
+    subst (λ ys. OnOk r (AddsExpression s new (E.At at (E.Call f.header f.statement (E.items_of (part_expressions find needed ys)))) (1 + (1 + exprs_depth (exprs ys))))) e made
+    in
+    subst (λ t. OnOk r (AddsExpression s new t (1 + (1 + exprs_depth (exprs es)))))
+    (ap (λ items. E.At at (E.Call f.header f.statement items)) (arguments_are find needed es) ∙ sym (begins_twice at name.place (E.Call f.header f.statement (typed_arguments (exprs es) find needed).items)) ∙ sym (ap (begins_at at) is)) same
+
 -- ---- replications
 
 replicated_faults : (n : Option ℕ) (fs : List Fault) (t : Typed) → (replicated n fs t).faults ≡ [] → (fs ≡ []) × (t.faults ≡ [])
@@ -137,38 +275,41 @@ replicated_faults (Some n) fs t h = both_nil fs t.faults h
 
 pub record IsReplication (d : Design) (find : Find) (needed : Bool) (count : tree.Expr) (parts : tree.Exprs) : Type 0 where
   pub parts_are : AreBuildable d find needed parts
-  pub count_is : IsNumbered 1 64 find count
+  pub count_is : IsWithin 1 64 (steady find) count
 
 pub fair_of : (d : Design) (needed : Bool) (find : Find) → AreSound d needed find → IsFair find
 fair_of d needed find s = λ name. of (find name) (s name)
   where
     of : (m : Meaning) → IsSound d needed m → IsFairMeaning m
-    of (AValue v r) h = h.0
+    of (AValue v r turns) h = h.0
     of (Undefined r) h = tt
     of (ASignal t) h = tt
     of (AMemory t) h = tt
+    of (AFunction f) h = tt
+    of Incomplete h = tt
     of Another h = tt
+    of (Barred rule) h = tt
     of Unknown h = tt
 
-pub number_is : (d : Design) (needed : Bool) (find : Find) (low high : ℕ) (e : tree.Expr) → AreSound d needed find → IsExpr e → (natural low high (expr_place e) (constant e find)).faults ≡ [] → IsNumbered low high find e
+pub number_is : (d : Design) (needed : Bool) (find : Find) (low high : ℕ) (e : tree.Expr) → AreSound d needed find → IsExpr e → (natural low high (expr_place e) (constant e find)).faults ≡ [] → IsWithin low high find e
 number_is d needed find low high e s x h =
     let n = natural_fine d true low high (expr_place e) (constant e find) (λ k. typed_fine d find e true (λ name. sound_needed d needed (find name) (s name)) x k) h in
     record { shaped = x; fair = fair_of d needed find s; clean = h; number = n.n; is = n.is }
 
 pub replication_is : (d : Design) (find : Find) (needed : Bool) (place : ℕ) (count : tree.Expr) (parts : tree.Exprs) → IsBuildable d find needed (tree.Replication place count parts) → IsReplication d find needed count parts
 replication_is d find needed place count parts b =
-    let clean = noted_clean needed place (replication_typed (expr_place count) (typed count find true) (typed_parts parts find needed)) b.clean in
-    let n = natural 1 64 (expr_place count) (constant count find) in
+    let clean = noted_clean needed place (replication_typed (expr_place count) (typed count (steady find) true) (typed_parts parts find needed)) b.clean in
+    let n = natural 1 64 (expr_place count) (constant count (steady find)) in
     let k = replicated_faults n.number n.faults (typed_parts parts find needed) clean in
     record {
-      parts_are = record { shaped = b.shaped.1; sound = b.sound; clean = k.1; shallow = omega (arith, b.shallow) };
-      count_is = number_is d needed find 1 64 count b.sound b.shaped.0 k.0;
+      parts_are = record { shaped = b.shaped.1; sound = b.sound; numbered = b.numbered; clean = k.1; shallow = omega (arith, b.shallow) };
+      count_is = number_is d true (steady find) 1 64 count (steady_sound d needed find b.sound) b.shaped.0 k.0;
     }
 
-pub replication_expression : (find : Find) (needed : Bool) (at place n : ℕ) (count : tree.Expr) (parts : tree.Exprs) → (natural 1 64 (expr_place count) (constant count find)).number ≡ Some n
+pub replication_expression : (find : Find) (needed : Bool) (at place n : ℕ) (count : tree.Expr) (parts : tree.Exprs) → (natural 1 64 (expr_place count) (constant count (steady find))).number ≡ Some n
     → E.At at (E.Repeat n (typed_parts parts find needed).expression) ≡ begins_at at (typed (tree.Replication place count parts) find needed).expression
 replication_expression find needed at place n count parts e =
-    let m = natural 1 64 (expr_place count) (constant count find) in
+    let m = natural 1 64 (expr_place count) (constant count (steady find)) in
     sym (begins_twice at place (replicated m.number m.faults (typed_parts parts find needed)).expression ∙ ap (λ o. begins_at at (replicated o m.faults (typed_parts parts find needed)).expression) e)
 
 pub replication_view : (place : ℕ) (p : Box Expr Global) (list : Vec Expr Global) → expr (Replication place p list) ≡ tree.Replication place (expr p.value) (exprs list.items)

@@ -1,26 +1,34 @@
 -- The step for each kind of node.
-use Rattle.std.proofs.Common.{◌≡◌, ℕ, ◌+◌, ◌-◌, ◌<◌, ◌≤◌, Bool, true, ◌&&◌, nat_lt, List, [], ◌∷◌, ◌++◌, length, get_or, take, max, Result, OnOk, refl, sym, ap, ◌∙◌, subst, arith}
-use Rattle.std.proofs.lemmas.Bool.{lt-ltb}
+use Rattle.std.proofs.Common.{◌≡◌, ℕ, zero, suc, ◌+◌, ◌-◌, ◌<◌, ◌≤◌, Bool, true, false, not, ◌&&◌, ◌==◌, nat_lt, List, [], ◌∷◌, ◌++◌, length, get_or, take, max, slice_get, Option, Some, None, Result, OnOk, refl, sym, ap, ◌∙◌, subst, arith}
+use Rattle.std.specs.Prelude.{is_some}
+use Rattle.std.specs.List.{list_all}
+use Rattle.std.proofs.lemmas.Bool.{lt-ltb, ltb-true}
 use Rattle.vs_four.specs.declared.Range.{Range}
 use Rattle.vs_four.specs.Selects.{one_bit, Part}
 use Rattle.vs_design.specs.Expressions as E
-use Rattle.vs_design.specs.Elaborated.{has_words, is_formed, is_formed_select}
+use Rattle.vs_design.specs.Designs.{Design}
+use Rattle.vs_design.specs.Footprints.{is_input, is_variable, is_memory}
+use Rattle.vs_design.specs.Elaborated.{is_nil, are_numbered, have_bits_from, is_lawful_range, is_signal, is_this, has_words, is_formed, is_formed_select, is_local, is_formed_header}
 use Rattle.vs_flat.specs.declared.expressions.Node.{Node}
+use Rattle.vs_flat.specs.declared.functions.Declared.{Declared}
+use Rattle.vs_flat.specs.declared.functions.Function.{Function}
+use Rattle.vs_flat.specs.declared.processes.Signal.{Signal}
 use Rattle.vs_flat.specs.declared.expressions.Node.TheVariants as N
 use Rattle.vs_base.specs.declared.operators.UnaryOp.{UnaryOp}
 use Rattle.vs_base.specs.declared.operators.BinaryOp.{BinaryOp}
 use Rattle.vs_flat.specs.Arena.{Arena, placed}
-use Rattle.vs_flat.specs.Named.{all_below, node_expressions, covers_node}
+use Rattle.vs_flat.specs.Named.{all_below, node_expressions, locals_in, covers_node}
 use Rattle.vs_flat.specs.Targets.{source_of}
-use Rattle.vs_flat.specs.Trees.{signal_at, tree_at, placed_tree, node_tree}
-use Rattle.vs_flat.specs.DesignOf.{arena_names, arena_signals, arena_trees, design_of}
-use Rattle.vs_flat.specs.Lawful.{deepest, node_depths, node_names, has_copies}
-use Rattle.vs_flat.proofs.Agreeing.{and_both, and_true, first_below, rest_below}
-use Rattle.vs_build.specs.Drafts.{Root, Draft, most_levels, EndsWith, EndsInSelect, AddsExpression}
-use Rattle.vs_flat.proofs.Growing.{length-signals}
-use Rattle.vs_build.specs.Growth.{times, Growing, IsGrowing, root_at, draft_of, draft}
+use Rattle.vs_flat.specs.Trees.{signals_from, signal_at, tree_at, placed_tree, node_tree}
+use Rattle.vs_flat.specs.DesignOf.{header_of, arena_names, arena_signals, arena_trees, design_of}
+use Rattle.vs_flat.specs.Lawful.{deepest, node_depths, node_names, has_copies, has_locals}
+use Rattle.vs_flat.proofs.Agreeing.{and_both, and_true}
+use Rattle.vs_build.specs.Drafts.{Root, Draft, home_in, home, most_levels, EndsWith, EndsInSelect, AddsExpression}
+use Rattle.vs_flat.proofs.Growing.{length-signals, header_locals}
+use Rattle.vs_build.specs.Growth.{times, open_function, open_header, header_if, current, Growing, IsGrowing, root_at, draft_of, draft}
 use Rattle.vs_build.proofs.Counting.{times-append}
-use Rattle.vs_build.proofs.Steps.{ends_enough, last_one, last_two, last_three, parts_are, levels_are, formed_at, used_below, IsStep, IsAdded, step_adds, added_two, added_three}
+use Rattle.vs_build.proofs.SignalNames.{same_signals}
+use Rattle.vs_build.proofs.Steps.{ends_enough, last_one, last_two, last_three, parts_are, levels_are, used_below, used_formed, IsStep, IsAdded, step_kept, step_adds, added_two, added_three}
 
 pub nil_right : (xs : List ℕ) → xs ≡ xs ++ []
 nil_right [] = refl
@@ -33,7 +41,7 @@ covered below h = and_true below true h refl
 -- ---- leaves
 
 pub leaf_step : (a : Arena) (rs bs : List ℕ) (n : Node) (at : ℕ) → IsGrowing a rs bs → node_names n ≡ [] → node_expressions n ≡ [] → covers_node a n ≡ true → has_copies n ≡ true
-    → is_formed (design_of a) (placed_tree (arena_names a) (tree_at (arena_trees a)) (placed n at)) ≡ true → IsStep a rs bs rs [] n at
+    → is_formed (current a) (placed_tree (arena_names a) (tree_at (arena_trees a)) (placed n at)) ≡ true → IsStep a rs bs rs [] n at
 leaf_step a rs bs n at g names parts covers copies formed = record {
   growing = g;
   is = nil_right rs;
@@ -64,9 +72,6 @@ head_is x y xs ys e = cc
 tail_is : (x y : Root) (xs ys : List Root) → x ∷ xs ≡ y ∷ ys → xs ≡ ys
 tail_is x y xs ys e = cc
 
-first_formed : (a : Arena) (rs bs : List ℕ) (x : ℕ) (xs : List ℕ) → IsGrowing a rs bs → all_below (length a.nodes) (x ∷ xs) ≡ true → is_formed (design_of a) (tree_at (arena_trees a) x) ≡ true
-first_formed a rs bs x xs g h = formed_at a rs bs x g (first_below (length a.nodes) x xs h)
-
 pub unary_step : (a : Arena) (rs rest bs : List ℕ) (op : UnaryOp) (x at : ℕ) → IsGrowing a rs bs → rs ≡ rest ++ x ∷ [] → EndsWith 1 (draft_of a rs bs) → IsStep a rs bs rest (x ∷ []) (N.Unary op x) at
 unary_step a rs rest bs op x at g e ends =
     let below = used_below a rs rest (x ∷ []) bs g e in
@@ -76,7 +81,7 @@ unary_step a rs rest bs op x at g e ends =
       names = λ k. refl;
       covers = covered (all_below (length a.nodes) (x ∷ [])) below;
       copies = refl;
-      formed = first_formed a rs bs x [] g below;
+      formed = (used_formed a rs rest (x ∷ []) bs g e).0;
       few = omega (arith, few_used 1 a rs rest (x ∷ []) bs e refl ends);
     }
 
@@ -90,9 +95,9 @@ unary_adds r a b rs after rest bs op x at s t m p d h =
     step_adds r a b rs after bs rest (x ∷ []) (N.Unary op x) at s (E.At at (E.Unary op t)) m p d q.1
     (ap (λ (z : Root). E.At at (E.Unary op z.tree)) is) (omega (arith, ap (λ (z : Root). z.levels) is, h.few))
 
-pub word_step : (a : Arena) (rs rest bs : List ℕ) (n x at : ℕ) → IsGrowing a rs bs → rs ≡ rest ++ x ∷ [] → n < length a.signals → has_words (design_of a) (signal_at (arena_signals a) n) ≡ true → EndsWith 1 (draft_of a rs bs)
+pub word_step : (a : Arena) (rs rest bs : List ℕ) (n x at : ℕ) → IsGrowing a rs bs → rs ≡ rest ++ x ∷ [] → n < length a.signals → open_header a ≡ None → has_words (design_of a) (signal_at (arena_signals a) n) ≡ true → EndsWith 1 (draft_of a rs bs)
     → IsStep a rs bs rest (x ∷ []) (N.Word n x) at
-word_step a rs rest bs n x at g e there words ends =
+word_step a rs rest bs n x at g e there outside words ends =
     let below = used_below a rs rest (x ∷ []) bs g e in
     record {
       growing = g;
@@ -102,7 +107,9 @@ word_step a rs rest bs n x at g e there words ends =
           covered ((nat_lt n (length a.signals) && true) && all_below (length a.nodes) (x ∷ []))
           (and_true (nat_lt n (length a.signals) && true) (all_below (length a.nodes) (x ∷ [])) (covered (nat_lt n (length a.signals)) (lt-ltb n (length a.signals) there)) below);
       copies = refl;
-      formed = and_true (has_words (design_of a) (signal_at (arena_signals a) n)) (is_formed (design_of a) (tree_at (arena_trees a) x)) words (first_formed a rs bs x [] g below);
+      formed =
+          and_true (has_words (current a) (signal_at (arena_signals a) n)) (is_formed (current a) (tree_at (arena_trees a) x)) (subst (λ o. has_words (home_in (design_of a) o) (signal_at (arena_signals a) n) ≡ true) (sym outside) words)
+          (used_formed a rs rest (x ∷ []) bs g e).0;
       few = omega (arith, few_used 1 a rs rest (x ∷ []) bs e refl ends);
     }
 
@@ -125,7 +132,7 @@ binary_step a rs rest bs op x y at g e ends =
       names = λ k. refl;
       covers = covered (all_below (length a.nodes) (x ∷ y ∷ [])) below;
       copies = refl;
-      formed = and_true (is_formed (design_of a) (tree_at (arena_trees a) x)) (is_formed (design_of a) (tree_at (arena_trees a) y)) (first_formed a rs bs x (y ∷ []) g below) (first_formed a rs bs y [] g (rest_below (length a.nodes) x (y ∷ []) below));
+      formed = let f = used_formed a rs rest (x ∷ y ∷ []) bs g e in and_true (is_formed (current a) (tree_at (arena_trees a) x)) (is_formed (current a) (tree_at (arena_trees a) y)) f.0 f.1.0;
       few = omega (arith, few_used 2 a rs rest (x ∷ y ∷ []) bs e refl ends);
     }
 
@@ -182,9 +189,9 @@ select_step a rs rest bs n part index of at g e is ends =
     let below = used_below a rs rest (index ∷ of ∷ []) bs g e in
     let q = parts_are a rest (index ∷ of ∷ []) bs ends.before (ends.index ∷ ends.of ∷ []) (ap (λ xs. draft_of a xs bs) (sym e) ∙ ends.is) refl in
     let second : root_at a of ≡ ends.of = head_is (root_at a of) ends.of [] [] (tail_is (root_at a index) ends.index (root_at a of ∷ []) (ends.of ∷ []) q.0) in
-    let select : is_formed_select (design_of a) (source_of (tree_at (arena_trees a) of)) part ≡ true = subst (λ (z : Root). is_formed_select (design_of a) (source_of z.tree) part ≡ true) (sym second) ends.formed in
-    let formed : is_formed (design_of a) (E.Select (source_of (tree_at (arena_trees a) of)) part (tree_at (arena_trees a) index)) ≡ true =
-    and_true (is_formed_select (design_of a) (source_of (tree_at (arena_trees a) of)) part) (is_formed (design_of a) (tree_at (arena_trees a) index)) select (first_formed a rs bs index (of ∷ []) g below)
+    let select : is_formed_select (current a) (source_of (tree_at (arena_trees a) of)) part ≡ true = subst (λ (z : Root). is_formed_select (current a) (source_of z.tree) part ≡ true) (sym second) ends.formed in
+    let formed : is_formed (current a) (E.Select (source_of (tree_at (arena_trees a) of)) part (tree_at (arena_trees a) index)) ≡ true =
+    and_true (is_formed_select (current a) (source_of (tree_at (arena_trees a) of)) part) (is_formed (current a) (tree_at (arena_trees a) index)) select (used_formed a rs rest (index ∷ of ∷ []) bs g e).0
     in
     record {
       growing = g;
@@ -192,7 +199,7 @@ select_step a rs rest bs n part index of at g e is ends =
       names = λ k. turned k index of ∙ ap (times k) (sym is.names);
       covers = is.covers ∙ covered (all_below (length a.nodes) (of ∷ index ∷ [])) (turned_below (length a.nodes) index of below);
       copies = is.copies;
-      formed = ap (is_formed (design_of a)) is.tree ∙ formed;
+      formed = ap (is_formed (current a)) is.tree ∙ formed;
       few = omega (arith, ap (deepest (node_depths a.nodes)) is.expressions, levels_are a (index ∷ of ∷ []), ap most_levels q.0, ends.few);
     }
 
@@ -216,15 +223,15 @@ part_is a range up width index of = record { names = refl; expressions = refl; c
 pub choice_step : (a : Arena) (rs rest bs : List ℕ) (x y z at : ℕ) → IsGrowing a rs bs → rs ≡ rest ++ x ∷ y ∷ z ∷ [] → EndsWith 3 (draft_of a rs bs) → IsStep a rs bs rest (x ∷ y ∷ z ∷ []) (N.Choice x y z) at
 choice_step a rs rest bs x y z at g e ends =
     let below = used_below a rs rest (x ∷ y ∷ z ∷ []) bs g e in
-    let tail = rest_below (length a.nodes) x (y ∷ z ∷ []) below in
-    let f = λ (k : ℕ). is_formed (design_of a) (tree_at (arena_trees a) k) in
+    let here = used_formed a rs rest (x ∷ y ∷ z ∷ []) bs g e in
+    let f = λ (k : ℕ). is_formed (current a) (tree_at (arena_trees a) k) in
     record {
       growing = g;
       is = e;
       names = λ k. refl;
       covers = covered (all_below (length a.nodes) (x ∷ y ∷ z ∷ [])) below;
       copies = refl;
-      formed = and_true (f x && f y) (f z) (and_true (f x) (f y) (first_formed a rs bs x (y ∷ z ∷ []) g below) (first_formed a rs bs y (z ∷ []) g tail)) (first_formed a rs bs z [] g (rest_below (length a.nodes) y (z ∷ []) tail));
+      formed = and_true (f x && f y) (f z) (and_true (f x) (f y) here.0 here.1.0) here.1.1.0;
       few = omega (arith, few_used 3 a rs rest (x ∷ y ∷ z ∷ []) bs e refl ends);
     }
 
@@ -292,20 +299,163 @@ last_added a rs bs v s t m e h = subst (λ (w : Growing). AddsExpression s (draf
 pub first_added : {U F : Type 0} (r : Result U F) (a : Arena) (rs bs : List ℕ) (v : Growing) (new : Draft) (t : E.Expression) (m : ℕ) → (let w : Growing = record { arena = a; roots = rs; bodies = bs } in w) ≡ v → OnOk r (AddsExpression (draft_of a rs bs) new t m) → OnOk r (AddsExpression (draft v) new t m)
 first_added r a rs bs v new t m e h = subst (λ (w : Growing). OnOk r (AddsExpression (draft w) new t m)) e h
 
-pub formed_in : (a : Arena) (rs bs : List ℕ) (v : Growing) (t : E.Expression) → (let w : Growing = record { arena = a; roots = rs; bodies = bs } in w) ≡ v → is_formed (draft v).design t ≡ true → is_formed (design_of a) t ≡ true
-formed_in a rs bs v t e h = subst (λ (w : Growing). is_formed (draft w).design t ≡ true) (sym e) h
+pub formed_in : (a : Arena) (rs bs : List ℕ) (v : Growing) (t : E.Expression) → (let w : Growing = record { arena = a; roots = rs; bodies = bs } in w) ≡ v → is_formed (home (draft v)) t ≡ true → is_formed (current a) t ≡ true
+formed_in a rs bs v t e h = subst (λ (w : Growing). is_formed (home (draft w)) t ≡ true) (sym e) h
 
-pub name_in : (a : Arena) (rs bs : List ℕ) (v : Growing) (n : ℕ) → (let w : Growing = record { arena = a; roots = rs; bodies = bs } in w) ≡ v → n < length (draft v).design.signals → n < length a.signals
-name_in a rs bs v n e h =
-    let within : n < length (arena_signals a) = subst (λ (w : Growing). n < length (draft w).design.signals) (sym e) h in
-    omega (arith, within, length-signals a)
+-- no local signal of a function is a memory
+local_plain : (d : Design) (h : E.Header) (m : E.Signal) (ss : List E.Signal) (n : ℕ) → list_all (is_local d h) ss ≡ true → is_this m (slice_get ss n) ≡ true → is_memory m ≡ false
+local_plain d h m [] n l t = cc
+local_plain d h m (s ∷ ss) zero l t =
+    let k = and_both (is_local d h s) (list_all (is_local d h) ss) l in
+    ap is_memory (same_signals m s t) ∙ last ((s.scope == h.result.scope) && nat_lt s.scope (length d.scopes) && is_lawful_range s.range && not s.net) (is_memory s) k.0
+  where
+    last : (p q : Bool) → (p && not q) ≡ true → q ≡ false
+    last true false e = refl
+    last true true e = cc
+    last false q e = cc
+local_plain d h m (s ∷ ss) (suc n) l t = local_plain d h m ss n (and_both (is_local d h s) (list_all (is_local d h) ss) l).1 t
 
-pub signal_in : (a : Arena) (rs bs : List ℕ) (v : Growing) (n : ℕ) → (let w : Growing = record { arena = a; roots = rs; bodies = bs } in w) ≡ v → signal_at (arena_signals a) n ≡ signal_at (draft v).design.signals n
-signal_in a rs bs v n e = ap (λ (w : Growing). signal_at (draft w).design.signals n) e
+locals_of_header : (d : Design) (h : E.Header) → is_formed_header d h ≡ true → list_all (is_local d h) (E.local_signals h) ≡ true
+locals_of_header d h k =
+    let first = not (is_nil h.inputs) && are_numbered 0 0 (E.local_signals h) && have_bits_from 0 (E.local_signals h) in
+    let p = and_both (first && list_all (is_local d h) (E.local_signals h) && list_all is_input h.inputs) (list_all is_variable (h.result ∷ h.own)) k in
+    let q = and_both (first && list_all (is_local d h) (E.local_signals h)) (list_all is_input h.inputs) p.0 in
+    (and_both first (list_all (is_local d h) (E.local_signals h)) q.0).1
 
-pub word_found : (a : Arena) (rs bs : List ℕ) (v : Growing) (n len x at : ℕ) → IsGrowing a rs bs → (let w : Growing = record { arena = a; roots = rs; bodies = bs } in w) ≡ v → n < length (draft v).design.signals
-    → has_words (draft v).design (signal_at (draft v).design.signals n) ≡ true → EndsWith 1 (draft v) → len ≡ length rs → x ≡ get_or rs (len - 1) x → IsStep a rs bs (take (length rs - 1) rs) (x ∷ []) (N.Word n x) at
+-- so where a memory is named, no function is open
+outside_function : (a : Arena) (rs bs : List ℕ) (m : E.Signal) → IsGrowing a rs bs → has_words (current a) m ≡ true → open_header a ≡ None
+outside_function a rs bs m g h = by (open_header a) refl h
+  where
+    clash : is_memory m ≡ true → is_memory m ≡ false → ⊥
+    clash e f = cc
+
+    by : (o : Option E.Header) → open_header a ≡ o → has_words (home_in (design_of a) o) m ≡ true → o ≡ None
+    by None e k = refl
+    by (Some l) e k =
+        let b = and_both (is_signal (home_in (design_of a) (Some l)) m) (is_memory m) k in
+        absurd (clash b.1 (local_plain (design_of a) l m (E.local_signals l) m.number (locals_of_header (design_of a) l (g.header l e)) b.0))
+
+-- a memory of the design
+pub record IsMemory (a : Arena) (v : Growing) (n : ℕ) : Type 0 where
+  pub outside : open_header a ≡ None
+  pub there : n < length a.signals
+  pub words : has_words (design_of a) (signal_at (arena_signals a) n) ≡ true
+  pub same : signal_at (arena_signals a) n ≡ signal_at (home (draft v)).signals n
+
+pub memory_is : (a : Arena) (rs bs : List ℕ) (v : Growing) (n : ℕ) → IsGrowing a rs bs → (let w : Growing = record { arena = a; roots = rs; bodies = bs } in w) ≡ v → n < length (home (draft v)).signals
+    → has_words (home (draft v)) (signal_at (home (draft v)).signals n) ≡ true → IsMemory a v n
+memory_is a rs bs v n g view there words =
+    let here : has_words (current a) (signal_at (current a).signals n) ≡ true = subst (λ (w : Growing). has_words (home (draft w)) (signal_at (home (draft w)).signals n) ≡ true) (sym view) words in
+    let within : n < length (current a).signals = subst (λ (w : Growing). n < length (home (draft w)).signals) (sym view) there in
+    let out = outside_function a rs bs (signal_at (current a).signals n) g here in
+    record {
+      outside = out;
+      there = omega (arith, subst (λ o. n < length (home_in (design_of a) o).signals) out within, length-signals a);
+      words = subst (λ o. has_words (home_in (design_of a) o) (signal_at (home_in (design_of a) o).signals n) ≡ true) out here;
+      same = ap (λ o. signal_at (home_in (design_of a) o).signals n) (sym out) ∙ ap (λ (w : Growing). signal_at (home (draft w)).signals n) view;
+    }
+
+pub word_found : (a : Arena) (rs bs : List ℕ) (v : Growing) (n len x at : ℕ) → IsGrowing a rs bs → (let w : Growing = record { arena = a; roots = rs; bodies = bs } in w) ≡ v → n < length (home (draft v)).signals
+    → has_words (home (draft v)) (signal_at (home (draft v)).signals n) ≡ true → EndsWith 1 (draft v) → len ≡ length rs → x ≡ get_or rs (len - 1) x → IsStep a rs bs (take (length rs - 1) rs) (x ∷ []) (N.Word n x) at
 word_found a rs bs v n len x at g view there words h e f =
     let ends = ends_in 1 a rs bs v view h in
-    word_step a rs (take (length rs - 1) rs) bs n x at g (last_one rs x (ends_enough 1 a rs bs ends) (at_last rs len 1 x e f)) (name_in a rs bs v n view there)
-    (subst (λ (w : Growing). has_words (draft w).design (signal_at (draft w).design.signals n) ≡ true) (sym view) words) ends
+    let m = memory_is a rs bs v n g view there words in
+    word_step a rs (take (length rs - 1) rs) bs n x at g (last_one rs x (ends_enough 1 a rs bs ends) (at_last rs len 1 x e f)) m.there m.outside m.words ends
+
+-- ---- names: of the design's signals, and in a function of its local ones
+
+-- what `name` adds
+pub record IsName (a : Arena) (n : ℕ) (node : Node) : Type 0 where
+  pub names : node_names node ≡ []
+  pub expressions : node_expressions node ≡ []
+  pub covers : covers_node a node ≡ true
+  pub copies : has_copies node ≡ true
+  pub tree : node_tree (arena_names a) (tree_at (arena_trees a)) node ≡ E.Name (signal_at (current a).signals n)
+
+pub name_is : (a : Arena) (n : ℕ) → open_function a ≡ None → n < length (current a).signals → IsName a n (N.Name n)
+name_is a n none there = record {
+  names = refl;
+  expressions = refl;
+  covers = covers_name a n (omega (arith, subst (λ o. n < length (home_in (design_of a) (header_if o)).signals) none there, length-signals a));
+  copies = refl;
+  tree = ap (λ o. E.Name (signal_at (home_in (design_of a) (header_if o)).signals n)) (sym none);
+}
+
+-- a function's local signals, in the order of their numbers
+length_from : (n : ℕ) (ss : List Signal) → length (signals_from n ss) ≡ length ss
+length_from n [] = refl
+length_from n (s ∷ ss) = ap suc (length_from (suc n) ss)
+
+pub locals_are : (f : Function) → has_locals f ≡ true → E.local_signals (header_of f) ≡ signals_from 0 f.signals
+locals_are f h = header_locals f (ltb-true f.inputs (length f.signals) (first (nat_lt f.inputs (length f.signals)) _ _ h))
+  where
+    first : (p q r : Bool) → (p && q && r) ≡ true → p ≡ true
+    first true true r e = refl
+    first true false r e = cc
+    first false q r e = cc
+
+pub local_is : (a : Arena) (n : ℕ) (d : Declared) → open_function a ≡ Some d → has_locals d.function ≡ true → n < length (current a).signals → IsName a n (N.Local (length a.bodies) n)
+local_is a n d some locals there =
+    let same : (current a).signals ≡ signals_from 0 d.function.signals = ap (λ o. (home_in (design_of a) (header_if o)).signals) some ∙ locals_are d.function locals in
+    let own : locals_in (open_function a) ≡ d.function.signals = ap locals_in some in
+    let within : n < length d.function.signals = omega (arith, subst (λ ss. n < length ss) same there, length_from 0 d.function.signals) in
+    record {
+      names = refl;
+      expressions = refl;
+      covers = and_true (true && true) (nat_lt n (length (locals_in (open_function a)))) refl (lt-ltb n (length (locals_in (open_function a))) (subst (λ ss. n < length ss) (sym own) within));
+      copies = refl;
+      tree = ap (λ ss. E.Name (signal_at (signals_from 0 ss) n)) own ∙ ap (λ ss. E.Name (signal_at ss n)) (sym same);
+    }
+
+pub name_step : (a : Arena) (rs bs : List ℕ) (n : ℕ) (node : Node) (at : ℕ) → IsGrowing a rs bs → IsName a n node → is_formed (current a) (E.Name (signal_at (current a).signals n)) ≡ true → IsStep a rs bs rs [] node at
+name_step a rs bs n node at g i formed = leaf_step a rs bs node at g i.names i.expressions i.covers i.copies (ap (is_formed (current a)) i.tree ∙ formed)
+
+-- the last function, while it has no statement
+some_open : (b : Bool) (o : Option Declared) → b ≡ is_some o → b ≡ true → (d : Declared) × (o ≡ Some d)
+some_open b None e h = absurd (no (sym e ∙ h))
+  where
+    no : false ≡ true → ⊥
+    no q = cc
+some_open b (Some d) e h = (d, refl)
+
+none_open : (b : Bool) (o : Option Declared) → b ≡ is_some o → b ≡ false → o ≡ None
+none_open b None e h = refl
+none_open b (Some d) e h = absurd (no (sym e ∙ h))
+  where
+    no : true ≡ false → ⊥
+    no q = cc
+
+all_get : {X : Type 0} (p : X → Bool) (xs : List X) (n : ℕ) (x : X) → list_all p xs ≡ true → slice_get xs n ≡ Some x → p x ≡ true
+all_get p [] zero x h e = cc
+all_get p [] (suc n) x h e = cc
+all_get p (y ∷ ys) zero x h e = ap p (sym (same e)) ∙ (and_both (p y) (list_all p ys) h).0
+  where
+    same : Some y ≡ Some x → y ≡ x
+    same q = cc
+all_get p (y ∷ ys) (suc n) x h e = all_get p ys n x (and_both (p y) (list_all p ys) h).1 e
+
+pub name_found : (a : Arena) (rs bs : List ℕ) (v : Growing) (n : ℕ) (inside : Bool) → (let w : Growing = record { arena = a; roots = rs; bodies = bs } in w) ≡ v → inside ≡ is_some (open_function a) → inside ≡ false → n < length (home (draft v)).signals
+    → IsName a n (N.Name n)
+name_found a rs bs v n inside view e h there = name_is a n (none_open inside (open_function a) e h) (subst (λ (w : Growing). n < length (home (draft w)).signals) (sym view) there)
+
+pub local_found : (a : Arena) (rs bs : List ℕ) (v : Growing) (n function : ℕ) (inside : Bool) → IsGrowing a rs bs → (let w : Growing = record { arena = a; roots = rs; bodies = bs } in w) ≡ v → inside ≡ is_some (open_function a) → inside ≡ true
+    → function ≡ length a.bodies → n < length (home (draft v)).signals → IsName a n (N.Local function n)
+local_found a rs bs v n function inside g view e h is there =
+    let d = some_open inside (open_function a) e h in
+    let locals = all_get (λ (x : Declared). has_locals x.function) a.functions (length a.bodies) d.0 g.locals d.1 in
+    subst (λ f. IsName a n (N.Local f n)) (sym is) (local_is a n d.0 d.1 locals (subst (λ (w : Growing). n < length (home (draft w)).signals) (sym view) there))
+
+named_step : (a : Arena) (rs bs : List ℕ) (v : Growing) (n : ℕ) (node : Node) (at : ℕ) → IsGrowing a rs bs → (let w : Growing = record { arena = a; roots = rs; bodies = bs } in w) ≡ v → IsName a n node
+    → is_formed (home (draft v)) (E.Name (signal_at (home (draft v)).signals n)) ≡ true → IsStep a rs bs rs [] node at
+named_step a rs bs v n node at g view i formed = name_step a rs bs n node at g i (subst (λ (w : Growing). is_formed (home (draft w)) (E.Name (signal_at (home (draft w)).signals n)) ≡ true) (sym view) formed)
+
+pub name_kept : {U F : Type 0} (r : Result U F) (a b : Arena) (rs after bs : List ℕ) (v : Growing) (n : ℕ) (node : Node) (at : ℕ) → IsGrowing a rs bs → (let w : Growing = record { arena = a; roots = rs; bodies = bs } in w) ≡ v → IsName a n node
+    → is_formed (home (draft v)) (E.Name (signal_at (home (draft v)).signals n)) ≡ true → IsAdded r a b rs after rs node at → IsGrowing b after bs
+name_kept r a b rs after bs v n node at g view i formed d = step_kept r a b rs after bs rs [] node at (named_step a rs bs v n node at g view i formed) d
+
+pub name_adds : {U F : Type 0} (r : Result U F) (a b : Arena) (rs after bs : List ℕ) (v : Growing) (n : ℕ) (node : Node) (at : ℕ) → IsGrowing a rs bs → (let w : Growing = record { arena = a; roots = rs; bodies = bs } in w) ≡ v → IsName a n node
+    → is_formed (home (draft v)) (E.Name (signal_at (home (draft v)).signals n)) ≡ true → IsAdded r a b rs after rs node at → OnOk r (AddsExpression (draft v) (draft_of b after bs) (E.At at (E.Name (signal_at (home (draft v)).signals n))) 1)
+name_adds r a b rs after bs v n node at g view i formed d =
+    first_added r a rs bs v (draft_of b after bs) (E.At at (E.Name (signal_at (home (draft v)).signals n))) 1 view
+    (leaf_adds r a b rs after bs node at (E.At at (E.Name (signal_at (home (draft v)).signals n))) (named_step a rs bs v n node at g view i formed) d
+    (ap (E.At at) i.tree ∙ ap (λ (w : Growing). E.At at (E.Name (signal_at (home (draft w)).signals n))) view) i.expressions)

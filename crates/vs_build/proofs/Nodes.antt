@@ -1,10 +1,10 @@
 -- One more expression: what makes the flat design lawful stays, and what it stands for has the new tree in the place of those that it names.
-use Rattle.std.proofs.Common.{◌≡◌, ℕ, suc, ◌+◌, ◌-◌, ◌<◌, ◌≤◌, ◌^◌, Bool, true, ◌&&◌, List, [], ◌∷◌, ◌++◌, length, get_or, map, max, refl, sym, ap, ◌∙◌, subst, arith, length-append}
+use Rattle.std.proofs.Common.{◌≡◌, ℕ, suc, ◌+◌, ◌-◌, ◌<◌, ◌≤◌, ◌^◌, Bool, true, ◌&&◌, nat_lt, List, [], ◌∷◌, ◌++◌, length, get_or, map, max, refl, sym, ap, ◌∙◌, subst, arith, length-append}
 use Rattle.std.specs.List.{list_all, flat_map}
-use Rattle.std.proofs.lemmas.Bool.{le-leb}
+use Rattle.std.proofs.lemmas.Bool.{le-leb, ltb-true, ltb-false}
 use Rattle.std.proofs.lemmas.List.{map-append}
 use Rattle.vs_design.specs.Expressions as E
-use Rattle.vs_design.specs.Elaborated.{is_formed, is_formed_statement}
+use Rattle.vs_design.specs.Elaborated.{is_formed, is_formed_statement, is_formed_header, is_formed_function}
 use Rattle.vs_flat.specs.declared.placed.Placed.{Placed}
 use Rattle.vs_flat.specs.declared.expressions.Node.{Node}
 use Rattle.vs_flat.specs.declared.processes.Process.{Process}
@@ -21,9 +21,10 @@ use Rattle.vs_flat.proofs.Agreeing.{EqualBelow, and_both, and_true, first_below,
 use Rattle.vs_flat.proofs.Building.{built-append, built_agrees, length-built}
 use Rattle.vs_flat.proofs.Earlier.{names_with_node}
 use Rattle.vs_flat.proofs.Growing.{length-arena_trees, trees_with_node, statements_with_node, node_added, statement_names}
-use Rattle.vs_build.specs.Drafts.{Root, Body, and_root}
-use Rattle.vs_build.specs.Growth.{times, IsGrowing, node_levels, statement_levels, root_at, body_at, draft_of}
-use Rattle.vs_build.proofs.Counting.{times-append, times-flat, once_more, there_more, none_below, all_pushed, last_at, kept_at}
+use Rattle.vs_build.specs.Drafts.{Root, Body, home_in, and_root}
+use Rattle.vs_build.specs.Growth.{times, open_header, current, expression_header, statement_header, IsGrowing, node_levels, statement_levels, root_at, body_at, draft_of}
+use Rattle.vs_build.proofs.Counting.{by_test, times-append, times-flat, once_more, there_more, none_below, all_pushed, last_at, kept_at, each_both, each_parts}
+use Rattle.vs_build.proofs.Homes.{next_expression}
 
 -- ---- what is named is there, so it stays
 
@@ -97,11 +98,10 @@ pub chain_of : (d : ℕ) → d ≤ 255 → are_chains (suc d ∷ []) ≡ true
 chain_of d h = and_true _ true (le-leb (suc d) 256 (omega (arith, h))) refl
 
 pub node_kept : (a : Arena) (rs bs : List ℕ) (n : Node) (at : ℕ) → IsGrowing a (rs ++ node_names n) bs → covers_node a n ≡ true → length a.nodes < 2 ^ 32 - 1 → has_copies n ≡ true
-    → is_formed (design_of a) (placed_tree (arena_names a) (tree_at (arena_trees a)) (placed n at)) ≡ true → deepest (node_depths a.nodes) (node_expressions n) ≤ 255
+    → is_formed (current a) (placed_tree (arena_names a) (tree_at (arena_trees a)) (placed n at)) ≡ true → deepest (node_depths a.nodes) (node_expressions n) ≤ 255
     → IsGrowing (with_node a n at) (rs ++ length a.nodes ∷ []) bs
 node_kept a rs bs n at g covers room copies formed few =
     let b : Arena = with_node a n at in
-    let t : E.Expression = placed_tree (arena_names a) (tree_at (arena_trees a)) (placed n at) in
     let more : length b.nodes ≡ suc (length a.nodes) = omega (arith, length-append a.nodes (placed n at ∷ [])) in
     let design : design_of b ≡ design_of a = node_added a n at g.names in
     record {
@@ -109,14 +109,18 @@ node_kept a rs bs n at g covers room copies formed few =
       few_nodes = omega (arith, more, room);
       few_statements = g.few_statements;
       names = names_with_node a n at g.names covers;
-      no_functions = g.no_functions;
-      no_bodies = g.no_bodies;
-      expressions =
-          subst (λ d. list_all (is_formed d) (arena_trees b) ≡ true) (sym design)
-          (subst (λ ts. list_all (is_formed (design_of a)) ts ≡ true) (sym (trees_with_node a n at)) (all_pushed (is_formed (design_of a)) (arena_trees a) t g.expressions formed));
+      few_functions = g.few_functions;
+      open_one = g.open_one;
+      begun = λ f e. let k = g.begun f e in (omega (arith, k.0, more), k.1);
+      locals = g.locals;
+      header = λ h e. subst (λ d. is_formed_header d h ≡ true) (sym design) (g.header h e);
+      functions = subst (λ d. list_all (is_formed_function d) d.functions ≡ true) (sym design) g.functions;
+      expressions = λ k h. subst (λ d. is_formed (home_in d (expression_header a k)) (tree_at (arena_trees b) k) ≡ true) (sym design) (formed_now k (omega (arith, h, more)));
       statements =
-          subst (λ d. list_all (is_formed_statement d) (arena_statements b) ≡ true) (sym design)
-          (subst (λ ss. list_all (is_formed_statement (design_of a)) ss ≡ true) (sym (statements_with_node a n at g.names)) g.statements);
+          λ s h. subst (λ d. is_formed_statement (home_in d (statement_header a s)) (statement_at (arena_statements b) s) ≡ true) (sym design)
+          (subst (λ ss. is_formed_statement (home_in (design_of a) (statement_header a s)) (statement_at ss s) ≡ true) (sym (statements_with_node a n at g.names)) (g.statements s h));
+      rooted = each_both (λ k. expression_header a k ≡ open_header a) rs (length a.nodes ∷ []) (each_parts (λ k. expression_header a k ≡ open_header a) rs (node_names n) g.rooted).0 (next_expression a g.names (λ f e. (g.begun f e).0), tt);
+      embodied = g.embodied;
       copies = all_pushed (λ (m : Placed Node). has_copies m.item) a.nodes (placed n at) g.copies copies;
       assign_targets = targets_agree (length a.signals) (length a.nodes) (length a.statements) (tree_at (arena_trees b)) (tree_at (arena_trees a)) a.processes (tree_more a n at) g.names.processes ∙ g.assign_targets;
       statement_targets = assigns_agree (length a.nodes) 0 (tree_at (arena_trees b)) (tree_at (arena_trees a)) a.statements (tree_more a n at) g.names.statements ∙ g.statement_targets;
@@ -130,6 +134,20 @@ node_kept a rs bs n at g covers room copies formed few =
           (all_pushed _ (node_depths a.nodes) (suc (deepest (node_depths a.nodes) (node_expressions n))) g.node_chains (le-leb _ 256 (omega (arith, few))));
       statement_chains = subst (λ ds. are_chains ds ≡ true) (sym (statement_depths_same a n at g.names)) g.statement_chains;
     }
+  where
+    -- an earlier one, and the new one
+    formed_now : (k : ℕ) → k ≤ length a.nodes → is_formed (home_in (design_of a) (expression_header a k)) (tree_at (arena_trees (with_node a n at)) k) ≡ true
+    formed_now k h =
+        by_test (nat_lt k (length a.nodes))
+        (λ e. let l : k < length a.nodes = ltb-true k (length a.nodes) e in ap (is_formed (home_in (design_of a) (expression_header a k))) (tree_more a n at k l) ∙ g.expressions k l)
+        (λ e. let is : k ≡ length a.nodes = omega (arith, h, ltb-false k (length a.nodes) e) in subst (λ m. is_formed (home_in (design_of a) (expression_header a m)) (tree_at (arena_trees (with_node a n at)) m) ≡ true) (sym is) last)
+      where
+        last : is_formed (home_in (design_of a) (expression_header a (length a.nodes))) (tree_at (arena_trees (with_node a n at)) (length a.nodes)) ≡ true
+        last =
+            ap (λ o. is_formed (home_in (design_of a) o) (tree_at (arena_trees (with_node a n at)) (length a.nodes))) (next_expression a g.names (λ f e. (g.begun f e).0))
+            ∙ ap (λ ts. is_formed (current a) (tree_at ts (length a.nodes))) (trees_with_node a n at)
+            ∙ ap (is_formed (current a)) (last_at (arena_trees a) (placed_tree (arena_names a) (tree_at (arena_trees a)) (placed n at)) no_expression (length a.nodes) (length-arena_trees a))
+            ∙ formed
 
 -- the numbers that nothing names yet are there
 pub roots_below : (a : Arena) (rs bs : List ℕ) → IsGrowing a rs bs → all_below (length a.nodes) rs ≡ true

@@ -21,11 +21,11 @@ use Rattle.vs_flat.specs.declared.processes.Port.TheVariants as P
 use Rattle.vs_flat.specs.Targets.{place_of}
 use Rattle.vs_flat.specs.Trees.{joined, target_tree}
 use Rattle.vs_elaborated.specs.Targets.{typed_target, typed_targets, targeted, and_target, as_target, as_targets}
-use Rattle.vs_build.specs.Drafts.{Draft, and_process, EndsInAssign, AddsExpression, AddsParts}
+use Rattle.vs_build.specs.Drafts.{Draft, home, and_process, EndsInAssign, AddsExpression, AddsParts}
 use Rattle.vs_build.specs.Writable.{target_expression, targets_expression, IsWritable}
 use Rattle.vs_build.specs.Outputs.{output_of, outputs_of, output_expression, output_expressions, output_process, IsOutput, AreOutputs}
 use Rattle.vs_build.proofs.Steps.{added_two}
-use Rattle.vs_build.proofs.Lists.{parts_design}
+use Rattle.vs_build.proofs.Lists.{parts_home}
 use Rattle.vs_build.proofs.TargetFacts.{written, begins_there, concatenation_parts}
 
 some_is : {A : Type 0} (x y : A) → Some x ≡ Some y → x ≡ y
@@ -105,7 +105,7 @@ each_part d find es i x o k e =
     subst (λ y. IsOutput d find (expr y)) (sym e)
     (record {
       is = is_at es i x (outputs_of (exprs es)) o.is k;
-      fine = record { shaped = shaped_at es i x o.fine.shaped k; sound = o.fine.sound; clean = clean_at find es i x o.fine.clean k; shallow = omega (arith, o.fine.shallow, depth_at es i x k) };
+      fine = record { shaped = shaped_at es i x o.fine.shaped k; sound = o.fine.sound; numbered = o.fine.numbered; clean = clean_at find es i x o.fine.clean k; shallow = omega (arith, o.fine.shallow, depth_at es i x k) };
     })
 
 pub part_levels : (es : List Expr) (i : ℕ) (x : Expr) → i < length es → x ≡ get_or es i x → target_depth (output_of (expr x)) ≤ targets_depth (outputs_of (exprs es))
@@ -116,8 +116,8 @@ part_falls es i x t h k m =
     let b : the_size x ≤ most the_size es = subst (λ z. the_size z ≤ most the_size es) (sym k) (at_most the_size es i x h) in
     omega (arith, b, m)
 
-pub part_after : (s v : Draft) (ts : List Expression) (m : ℕ) (find : Find) (e : tree.Expr) → AddsParts s v ts m → IsOutput s.design find e → IsOutput v.design find e
-part_after s v ts m find e h b = subst (λ d. IsOutput d find e) (parts_design s v ts m h) b
+pub part_after : (s v : Draft) (ts : List Expression) (m : ℕ) (find : Find) (e : tree.Expr) → AddsParts s v ts m → IsOutput (home s) find e → IsOutput (home v) find e
+part_after s v ts m find e h b = subst (λ d. IsOutput d find e) (parts_home s v ts m h) b
 
 pub taken_more : (find : Find) (es : List Expr) (i : ℕ) (x : Expr) → i < length es → x ≡ get_or es i x → output_expressions find (take (i + 1) es) ≡ output_expressions find (take i es) ++ output_expression (expr x) find ∷ []
 taken_more find es i x h e =
@@ -151,7 +151,7 @@ join_arm r s v new find place n es xs e some count whole h f =
 
 -- ---- the assign
 
-pub output_ends : (s r v : Draft) (find : Find) (e : tree.Expr) (u : Expression) (m n : ℕ) → IsOutput s.design find e → AddsExpression s r (output_expression e find) m → AddsExpression r v u n → EndsInAssign P.Output v
+pub output_ends : (s r v : Draft) (find : Find) (e : tree.Expr) (u : Expression) (m n : ℕ) → IsOutput (home s) find e → AddsExpression s r (output_expression e find) m → AddsExpression r v u n → EndsInAssign P.Output v
 output_ends s r v find e u m n o h k =
     let t = output_expression e find in
     record {
@@ -159,14 +159,14 @@ output_ends s r v find e u m n o h k =
       target = record { tree = t; levels = h.levels };
       value = record { tree = u; levels = k.levels };
       is = added_two s r v t u m n h k;
-      written = ap is_some (written s.design find false (output_of e) o.fine.shaped o.fine.sound o.fine.clean);
+      written = ap is_some (written (home s) find false (output_of e) o.fine.shaped o.fine.sound o.fine.clean);
     }
 
-pub output_is : (s : Draft) (find : Find) (place : ℕ) (x : E.Signal) (e : tree.Expr) → IsOutput s.design find e
+pub output_is : (s : Draft) (find : Find) (place : ℕ) (x : E.Signal) (e : tree.Expr) → IsOutput (home s) find e
     → and_process s (Continuous place OutputPort (place_of (output_expression e find)) (target_tree (output_expression e find)) (E.At place (E.Name x))) ≡ and_process s (output_process place x (output_of e) find)
 output_is s find place x e o =
     ap (λ p. and_process s (Continuous place OutputPort p (target_tree (output_expression e find)) (E.At place (E.Name x)))) (begins_there (output_of e) find false)
-    ∙ ap (λ t. and_process s (Continuous place OutputPort (target_place (output_of e)) (unwrap_or t (Whole no)) (E.At place (E.Name x)))) (written s.design find false (output_of e) o.fine.shaped o.fine.sound o.fine.clean)
+    ∙ ap (λ t. and_process s (Continuous place OutputPort (target_place (output_of e)) (unwrap_or t (Whole no)) (E.At place (E.Name x)))) (written (home s) find false (output_of e) o.fine.shaped o.fine.sound o.fine.clean)
   where
     no : E.Signal
     no = record { name = []; scope = 0; number = 0; net = true; input = false; range = None; signed = false; first = 0; words = None }

@@ -16,17 +16,18 @@ use Rattle.vs_grammar.specs.Depths.{expr_depth}
 use Rattle.vs_const.specs.declared.faults.Fault.{Fault}
 use Rattle.vs_const.specs.Faults.{fault, fault_if, names_signal}
 use Rattle.vs_const.specs.declared.rules.Rule.TheVariants.{BadRange, NotConstant}
-use Rattle.vs_const.specs.Meanings.{SignalMeaning, Meaning, AValue, Undefined, ASignal, AMemory, Another, Unknown, Find}
+use Rattle.vs_const.specs.Meanings.{SignalMeaning, Meaning, AValue, Undefined, ASignal, AMemory, AFunction, Incomplete, Another, Barred, Unknown, Find, steady}
 use Rattle.vs_const.specs.Sound.{AreSound}
 use Rattle.vs_const.specs.Typed.{Typed, begins_at, noted, natural, is_over, unary_typed}
-use Rattle.vs_const.specs.Selects.{Base, base_of, Taken, taken, if_width, moving, is_against, lesser_bound, along, between, range_if, range_of, up_to, bounds, slice_taken, first_needed, select_if, select_typed, word_if, word_typed, bit_typed}
+use Rattle.vs_const.specs.Selects.{Base, base_of, Taken, taken, if_width, moving, is_against, lesser_bound, along, between, range_if, range_of, up_to, bounds, slice_taken, first_needed, first_names, select_if, select_typed, word_if, word_typed, bit_typed}
 use Rattle.vs_const.specs.Expressions.{constant, typed, selected, clog2_of, clog2_typed}
-use Rattle.vs_const.proofs.Formed.{both_nil, begins_same, split, sound_needed, typed_fine}
+use Rattle.vs_const.proofs.Steady.{sound_needed, steady_sound}
+use Rattle.vs_const.proofs.Formed.{both_nil, begins_same, split, typed_fine}
 use Rattle.vs_flat.specs.Targets.{source_of}
 use Rattle.vs_flat.specs.Trees.{signal_at}
-use Rattle.vs_build.specs.Drafts.{Draft, EndsWith, EndsInSelect, AddsExpression}
-use Rattle.vs_build.specs.Buildable.{IsBuildable, selected_by, memory_of, IsSelectable, HasBits, AddsSource, IsNumbered, AreBounds, IsRangeOf, IsConstant}
-use Rattle.vs_build.proofs.Arms.{begins_twice, noted_clean, same_design, ok_up_to}
+use Rattle.vs_build.specs.Drafts.{Draft, home, EndsWith, EndsInSelect, AddsExpression}
+use Rattle.vs_build.specs.Buildable.{IsBuildable, selected_by, memory_of, IsSelectable, HasBits, AddsSource, IsWithin, AreBounds, IsRangeOf, IsConstant}
+use Rattle.vs_build.proofs.Arms.{begins_twice, noted_clean, same_home, ok_up_to}
 use Rattle.vs_build.proofs.Lists.{fair_of, number_is}
 use Rattle.vs_build.proofs.SignalNames.{signal_is, signal_within, memory_signal}
 use Rattle.vs_build.proofs.Steps.{added_two}
@@ -37,6 +38,7 @@ selected_same : (select : tree.Select) (name : tree.Name) (find : Find) (needed 
 selected_same tree.Whole name find needed = refl
 selected_same (tree.BitAt bracket index) name find needed = refl
 selected_same (tree.Slice bracket kind a b) name find needed = refl
+selected_same (tree.OfWord bracket address part) name find needed = refl
 
 pub named_select : (d : Design) (find : Find) (needed : Bool) (name : tree.Name) (select : tree.Select) → IsBuildable d find needed (tree.Named name select) → IsSelectable d find needed needed name select
 named_select d find needed name select b =
@@ -47,6 +49,7 @@ named_select d find needed name select b =
       shaped = b.shaped.1;
       signals = b.sound name.bytes;
       sound = b.sound;
+      numbered = b.numbered;
       clean = subst (λ (x : Typed). x.faults ≡ []) same (noted_clean needed name.place t b.clean);
       good = subst (λ (x : Typed). x.good ≡ true) same (split t.good (not (needed && is_over 64 t.length)) fine.good).0;
       formed = subst (λ (x : Typed). is_formed d x.expression ≡ true) same (sym (begins_same (is_formed d) (λ p e. refl) name.place t.expression) ∙ fine.formed);
@@ -104,11 +107,11 @@ taken_bits d find fixed needed name select up n i fs s e =
 -- ---- `[a +: w]` and `[a -: w]`
 
 pub moving_taken : (d : Design) (find : Find) (fixed needed up : Bool) (name : tree.Name) (bracket : ℕ) (kind : tree.SliceKind) (a w : tree.Expr) (n : ℕ)
-    → ((declared : Option Range) → slice_taken declared bracket kind (expr_place a) (typed a find (first_needed kind needed)) (expr_place w) (typed w find true) ≡ moving declared up (typed a find needed) (expr_place w) (typed w find true))
-    → IsSelectable d find fixed needed name (tree.Slice bracket kind a w) → (natural 1 64 (expr_place w) (constant w find)).number ≡ Some n → IsTaken d find fixed needed name (tree.Slice bracket kind a w) up n (typed a find needed).expression
+    → ((declared : Option Range) → slice_taken declared bracket kind (expr_place a) (typed a (first_names kind find) (first_needed kind needed)) (expr_place w) (typed w (steady find) true) ≡ moving declared up (typed a find needed) (expr_place w) (typed w (steady find) true))
+    → IsSelectable d find fixed needed name (tree.Slice bracket kind a w) → (natural 1 64 (expr_place w) (constant w (steady find))).number ≡ Some n → IsTaken d find fixed needed name (tree.Slice bracket kind a w) up n (typed a find needed).expression
 moving_taken d find fixed needed up name bracket kind a w n kinds s e =
     let b = base_of fixed name.place (find name.bytes) in
-    let m = natural 1 64 (expr_place w) (typed w find true) in
+    let m = natural 1 64 (expr_place w) (typed w (steady find) true) in
     let fs = (typed a find needed).faults ++ m.faults in
     taken_bits d find fixed needed name (tree.Slice bracket kind a w) up n (typed a find needed) fs s
     (ap (select_typed b) (kinds b.range) ∙ ap (λ o. select_typed b (if_width b.range up o (typed a find needed) fs)) e)
@@ -125,37 +128,43 @@ width_faults (Some r) up (Some n) t fs = refl
 -- the index and the width have no fault
 pub record IsMoving (d : Design) (find : Find) (needed : Bool) (a w : tree.Expr) : Type 0 where
   pub index : IsBuildable d find needed a
-  pub width : IsNumbered 1 64 find w
+  pub width : IsWithin 1 64 (steady find) w
 
 pub moving_is : (d : Design) (find : Find) (fixed needed up : Bool) (name : tree.Name) (bracket : ℕ) (kind : tree.SliceKind) (a w : tree.Expr)
-    → ((declared : Option Range) → slice_taken declared bracket kind (expr_place a) (typed a find (first_needed kind needed)) (expr_place w) (typed w find true) ≡ moving declared up (typed a find needed) (expr_place w) (typed w find true))
+    → ((declared : Option Range) → slice_taken declared bracket kind (expr_place a) (typed a (first_names kind find) (first_needed kind needed)) (expr_place w) (typed w (steady find) true) ≡ moving declared up (typed a find needed) (expr_place w) (typed w (steady find) true))
     → IsSelectable d find fixed needed name (tree.Slice bracket kind a w) → IsMoving d find needed a w
 moving_is d find fixed needed up name bracket kind a w kinds s =
     let b = base_of fixed name.place (find name.bytes) in
-    let t = slice_taken b.range bracket kind (expr_place a) (typed a find (first_needed kind needed)) (expr_place w) (typed w find true) in
-    let m = natural 1 64 (expr_place w) (typed w find true) in
+    let t = slice_taken b.range bracket kind (expr_place a) (typed a (first_names kind find) (first_needed kind needed)) (expr_place w) (typed w (steady find) true) in
+    let m = natural 1 64 (expr_place w) (typed w (steady find) true) in
     let k = select_faults b t (b.good && t.good) s.clean in
     let p = both_nil (typed a find needed).faults m.faults (sym (ap (λ (x : Taken). x.faults) (kinds b.range) ∙ width_faults b.range up m.number (typed a find needed) ((typed a find needed).faults ++ m.faults)) ∙ k.1) in
     record {
-      index = record { shaped = s.shaped.0; sound = s.sound; clean = p.0; shallow = omega (arith, s.shallow) };
-      width = number_is d needed find 1 64 w s.sound s.shaped.1 p.1;
+      index = record { shaped = s.shaped.0; sound = s.sound; numbered = s.numbered; clean = p.0; shallow = omega (arith, s.shallow) };
+      width = number_is d true (steady find) 1 64 w (steady_sound d needed find s.sound) s.shaped.1 p.1;
     }
 
 -- ---- `[i]`: a bit, or a word
 
 -- of what is no memory
 pub bit_is : (needed : Bool) (place : ℕ) (m : Meaning) (i : Typed) → memory_of m ≡ None → bit_typed needed place m i ≡ select_typed (base_of needed place m) (taken (base_of needed place m).range true 1 i i.faults)
-bit_is needed place (AValue v r) i e = refl
+bit_is needed place (AValue v r turns) i e = refl
 bit_is needed place (Undefined r) i e = refl
 bit_is needed place (ASignal s) i e = refl
 bit_is needed place (AMemory s) i e = cc
+bit_is needed place (AFunction f) i e = refl
+bit_is needed place Incomplete i e = refl
 bit_is needed place Another i e = refl
+bit_is needed place (Barred rule) i e = refl
 bit_is needed place Unknown i e = refl
 
 pub memory_is : (m : Meaning) (n : ℕ) → memory_of m ≡ Some n → (t : SignalMeaning) × (m ≡ AMemory t) × (t.signal.number ≡ n)
-memory_is (AValue v r) n e = cc
+memory_is (AValue v r turns) n e = cc
 memory_is (Undefined r) n e = cc
 memory_is (ASignal s) n e = cc
+memory_is (AFunction f) n e = cc
+memory_is Incomplete n e = cc
+memory_is (Barred rule) n e = cc
 memory_is (AMemory s) n e = (s, refl, (let same : s.signal.number ≡ n = cc in same))
 memory_is Another n e = cc
 memory_is Unknown n e = cc
@@ -191,7 +200,7 @@ bit_faults needed place m i h = of (memory_of m) refl
 
 pub bit_index : (d : Design) (find : Find) (fixed needed : Bool) (name : tree.Name) (bracket : ℕ) (index : tree.Expr) → IsSelectable d find fixed needed name (tree.BitAt bracket index) → IsBuildable d find needed index
 bit_index d find fixed needed name bracket index s =
-    record { shaped = s.shaped; sound = s.sound; clean = bit_faults fixed name.place (find name.bytes) (typed index find needed) s.clean; shallow = omega (arith, s.shallow) }
+    record { shaped = s.shaped; sound = s.sound; numbered = s.numbered; clean = bit_faults fixed name.place (find name.bytes) (typed index find needed) s.clean; shallow = omega (arith, s.shallow) }
 
 -- a word of the memory of this number, at the address that `i` is
 pub record IsWord (d : Design) (t i : Typed) (n : ℕ) : Type 0 where
@@ -239,9 +248,9 @@ short_range bracket q true e h = (leb-true (range_length q) 64 e, refl)
 short_range bracket q false e h = cc
 
 pub record IsBetween (d : Design) (find : Find) (needed : Bool) (bracket : ℕ) (a b : tree.Expr) : Type 0 where
-  pub bounds_are : AreBounds find a b
-  pub range : (l r : ℕ) → (natural 0 65535 (expr_place a) (constant a find)).number ≡ Some l → (natural 0 65535 (expr_place b) (constant b find)).number ≡ Some r
-      → (bounds bracket (expr_place a) (typed a find true) (expr_place b) (typed b find true)).range ≡ Some (record { left = l; right = r })
+  pub bounds_are : AreBounds (steady find) a b
+  pub range : (l r : ℕ) → (natural 0 65535 (expr_place a) (constant a (steady find))).number ≡ Some l → (natural 0 65535 (expr_place b) (constant b (steady find))).number ≡ Some r
+      → (bounds bracket (expr_place a) (typed a (steady find) true) (expr_place b) (typed b (steady find) true)).range ≡ Some (record { left = l; right = r })
 
 between_range : (bracket : ℕ) (m n : Option ℕ) (l r : ℕ) → m ≡ Some l → n ≡ Some r → (range_of 64 bracket m n).faults ≡ []
     → (range_length (record { left = l; right = r }) ≤ 64) × ((range_of 64 bracket m n).range ≡ Some (record { left = l; right = r }))
@@ -254,15 +263,15 @@ between_range bracket m n l r e f h =
 pub between_is : (d : Design) (find : Find) (fixed needed : Bool) (name : tree.Name) (bracket : ℕ) (a b : tree.Expr) → IsSelectable d find fixed needed name (tree.Slice bracket tree.Between a b) → IsBetween d find needed bracket a b
 between_is d find fixed needed name bracket a b s =
     let base = base_of fixed name.place (find name.bytes) in
-    let t = slice_taken base.range bracket tree.Between (expr_place a) (typed a find true) (expr_place b) (typed b find true) in
-    let q = bounds bracket (expr_place a) (typed a find true) (expr_place b) (typed b find true) in
-    let m = natural 0 65535 (expr_place a) (typed a find true) in
-    let n = natural 0 65535 (expr_place b) (typed b find true) in
+    let t = slice_taken base.range bracket tree.Between (expr_place a) (typed a (steady find) true) (expr_place b) (typed b (steady find) true) in
+    let q = bounds bracket (expr_place a) (typed a (steady find) true) (expr_place b) (typed b (steady find) true) in
+    let m = natural 0 65535 (expr_place a) (typed a (steady find) true) in
+    let n = natural 0 65535 (expr_place b) (typed b (steady find) true) in
     let k = select_faults base t (base.good && t.good) s.clean in
     let w = both_nil m.faults (n.faults ++ (range_of 64 bracket m.number n.number).faults) (between_faults base.range bracket (expr_place a) q.range q.faults k.1) in
     let v = both_nil n.faults (range_of 64 bracket m.number n.number).faults w.1 in
-    let first = number_is d needed find 0 65535 a s.sound s.shaped.0 w.0 in
-    let second = number_is d needed find 0 65535 b s.sound s.shaped.1 v.0 in
+    let first = number_is d true (steady find) 0 65535 a (steady_sound d needed find s.sound) s.shaped.0 w.0 in
+    let second = number_is d true (steady find) 0 65535 b (steady_sound d needed find s.sound) s.shaped.1 v.0 in
     record {
       bounds_are = record { first = first; second = second; short = (between_range bracket m.number n.number first.number second.number first.is second.is v.1).0 };
       range = λ l r e f. (between_range bracket m.number n.number l r e f v.1).1;
@@ -278,11 +287,11 @@ along_taken b bracket place q fs true true e h = absurd (no b.good e)
     no false k = cc
 along_taken b bracket place q fs true false e h = cc
 
-pub between_taken : (d : Design) (find : Find) (fixed needed : Bool) (name : tree.Name) (bracket : ℕ) (a b : tree.Expr) (q : Range) → IsSelectable d find fixed needed name (tree.Slice bracket tree.Between a b) → IsRangeOf find a b q
+pub between_taken : (d : Design) (find : Find) (fixed needed : Bool) (name : tree.Name) (bracket : ℕ) (a b : tree.Expr) (q : Range) → IsSelectable d find fixed needed name (tree.Slice bracket tree.Between a b) → IsRangeOf (steady find) a b q
     → IsTaken d find fixed needed name (tree.Slice bracket tree.Between a b) true (range_length q) (E.At (expr_place a) (E.Literal (bits_of 32 (min q.left q.right)) true true))
 between_taken d find fixed needed name bracket a b q s r =
     let base = base_of fixed name.place (find name.bytes) in
-    let w = bounds bracket (expr_place a) (typed a find true) (expr_place b) (typed b find true) in
+    let w = bounds bracket (expr_place a) (typed a (steady find) true) (expr_place b) (typed b (steady find) true) in
     let range : w.range ≡ Some q = (between_is d find fixed needed name bracket a b s).range q.left q.right r.first r.second in
     let t = along (is_against base.range q) base.range bracket (expr_place a) q w.faults in
     let is : selected_by (tree.Slice bracket tree.Between a b) name find fixed needed ≡ select_typed base t = ap (λ o. select_typed base (between base.range bracket (expr_place a) o w.faults)) range in
@@ -291,11 +300,11 @@ between_taken d find fixed needed name bracket a b q s r =
 
 -- ---- the step
 
-pub select_ends : (d : Design) (find : Find) (fixed needed : Bool) (name : tree.Name) (select : tree.Select) (up : Bool) (n : ℕ) (i : Expression) (s q v : Draft) (m : ℕ) (r : Range) → IsTaken d find fixed needed name select up n i → s.design ≡ d
+pub select_ends : (d : Design) (find : Find) (fixed needed : Bool) (name : tree.Name) (select : tree.Select) (up : Bool) (n : ℕ) (i : Expression) (s q v : Draft) (m : ℕ) (r : Range) → IsTaken d find fixed needed name select up n i → home s ≡ d
     → AddsExpression s q i m → m ≤ 254 → AddsSource q v (base_of fixed name.place (find name.bytes)) r → EndsInSelect (record { range = r; up = up; width = n }) v
 select_ends d find fixed needed name select up n i s q v m r t e h few a =
     let part : Part = record { range = r; up = up; width = n } in
-    let design : d ≡ v.design = sym e ∙ same_design s q i m h ∙ same_design q v a.tree 1 a.adds in
+    let design : d ≡ home v = sym e ∙ same_home s q i m h ∙ same_home q v a.tree 1 a.adds in
     record {
       before = s;
       index = record { tree = i; levels = h.levels };
@@ -316,33 +325,33 @@ select_arm o d find fixed needed name select up n i s q v new m at most r t h a 
 
 -- what a word is built on
 pub record EndsInAddress (n : ℕ) (s : Draft) : Type 0 where
-  pub there : n < length s.design.signals
-  pub memory : has_words s.design (signal_at s.design.signals n) ≡ true
+  pub there : n < length (home s).signals
+  pub memory : has_words (home s) (signal_at (home s).signals n) ≡ true
   pub ends : EndsWith 1 s
 
-pub word_ends : (s v : Draft) (t i : Typed) (n m : ℕ) → IsWord s.design t i n → AddsExpression s v i.expression m → m ≤ 254 → EndsInAddress n v
+pub word_ends : (s v : Draft) (t i : Typed) (n m : ℕ) → IsWord (home s) t i n → AddsExpression s v i.expression m → m ≤ 254 → EndsInAddress n v
 word_ends s v t i n m w h few =
-    let design : s.design ≡ v.design = same_design s v i.expression m h in
+    let design : home s ≡ home v = same_home s v i.expression m h in
     record {
       there = subst (λ (d : Design). n < length d.signals) design w.there;
       memory = subst (λ (d : Design). has_words d (signal_at d.signals n) ≡ true) design w.memory;
       ends = record { before = s; last = record { tree = i.expression; levels = h.levels } ∷ []; is = h.is; many = refl; few = omega (arith, h.few, few) };
     }
 
-pub word_arm : {U F : Type 0} (o : Result U F) (s v new : Draft) (t i : Typed) (n m at most : ℕ) → IsWord s.design t i n → AddsExpression s v i.expression m
-    → ((p : Draft) (x : Expression) (k : ℕ) → AddsExpression p v x k → OnOk o (AddsExpression p new (E.At at (E.Word (signal_at v.design.signals n) x)) (1 + k)))
+pub word_arm : {U F : Type 0} (o : Result U F) (s v new : Draft) (t i : Typed) (n m at most : ℕ) → IsWord (home s) t i n → AddsExpression s v i.expression m
+    → ((p : Draft) (x : Expression) (k : ℕ) → AddsExpression p v x k → OnOk o (AddsExpression p new (E.At at (E.Word (signal_at (home v).signals n) x)) (1 + k)))
     → 1 + m ≤ most → OnOk o (AddsExpression s new (begins_at at t.expression) most)
 word_arm o s v new t i n m at most w h f le =
-    subst (λ x. OnOk o (AddsExpression s new x most)) (ap (λ (d : Design). E.At at (E.Word (signal_at d.signals n) i.expression)) (sym (same_design s v i.expression m h)) ∙ sym (ap (begins_at at) w.expression))
-    (ok_up_to o s new (E.At at (E.Word (signal_at v.design.signals n) i.expression)) (1 + m) most (f s i.expression m h) le)
+    subst (λ x. OnOk o (AddsExpression s new x most)) (ap (λ (d : Design). E.At at (E.Word (signal_at d.signals n) i.expression)) (sym (same_home s v i.expression m h)) ∙ sym (ap (begins_at at) w.expression))
+    (ok_up_to o s new (E.At at (E.Word (signal_at (home v).signals n) i.expression)) (1 + m) most (f s i.expression m h) le)
 
 -- ---- calls
 
 pub signed_operand : (d : Design) (find : Find) (needed : Bool) (place : ℕ) (a : tree.Expr) → IsBuildable d find needed (tree.Call place tree.AsSigned a) → IsBuildable d find needed a
-signed_operand d find needed place a b = record { shaped = b.shaped; sound = b.sound; clean = noted_clean needed place (unary_typed E.Signed (typed a find needed)) b.clean; shallow = omega (arith, b.shallow) }
+signed_operand d find needed place a b = record { shaped = b.shaped; sound = b.sound; numbered = b.numbered; clean = noted_clean needed place (unary_typed E.Signed (typed a find needed)) b.clean; shallow = omega (arith, b.shallow) }
 
 pub unsigned_operand : (d : Design) (find : Find) (needed : Bool) (place : ℕ) (a : tree.Expr) → IsBuildable d find needed (tree.Call place tree.AsUnsigned a) → IsBuildable d find needed a
-unsigned_operand d find needed place a b = record { shaped = b.shaped; sound = b.sound; clean = noted_clean needed place (unary_typed E.Unsigned (typed a find needed)) b.clean; shallow = omega (arith, b.shallow) }
+unsigned_operand d find needed place a b = record { shaped = b.shaped; sound = b.sound; numbered = b.numbered; clean = noted_clean needed place (unary_typed E.Unsigned (typed a find needed)) b.clean; shallow = omega (arith, b.shallow) }
 
 clog2_length : (place : ℕ) (t : Typed) (n : Option ℕ) (fs : List Fault) → (clog2_of n place fs).length ≡ Some 32
 clog2_length place t None fs = refl

@@ -2,7 +2,7 @@
 use Rattle.std.proofs.Common.{◌≡◌, ℕ, zero, suc, ◌<◌, Bool, true, false, not, ◌&&◌, ◌==◌, List, [], ◌∷◌, Option, Some, None, length, get_or, slice_get, refl, sym, ap, ◌∙◌, subst, arith, eqb-true}
 use Rattle.vs_four.specs.declared.Range.{Range}
 use Rattle.vs_design.specs.Expressions as E
-use Rattle.vs_design.specs.Expressions.{Signal, Expression}
+use Rattle.vs_design.specs.Expressions.{Signal}
 use Rattle.vs_design.specs.Designs.{Design}
 use Rattle.vs_design.specs.Clocks.{same_name}
 use Rattle.vs_design.specs.Footprints.{is_memory}
@@ -52,7 +52,7 @@ nine a b c d e f g h i k =
     let p1 = and_both a b p2.0 in
     (p1.0, p1.1, p2.1, p3.1, p4.1, p5.1, p6.1, p7.1, p8.1)
 
-same_signals : (s t : Signal) → same_signal s t ≡ true → s ≡ t
+pub same_signals : (s t : Signal) → same_signal s t ≡ true → s ≡ t
 same_signals s t h =
     let p = nine (same_name s.name t.name) (s.scope == t.scope) (s.number == t.number) (same_flag s.net t.net) (same_flag s.input t.input) (same_range s.range t.range) (same_flag s.signed t.signed) (s.first == t.first) (same_range s.words t.words) h in
     ap (λ x. record s { name = x }) (same_bytes s.name t.name p.0)

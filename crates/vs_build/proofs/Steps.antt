@@ -1,21 +1,19 @@
 -- One more expression over the last ones.
 use Rattle.std.proofs.Common.{◌≡◌, ℕ, zero, suc, ◌+◌, ◌-◌, ◌<◌, ◌≤◌, ◌^◌, true, List, [], ◌∷◌, ◌++◌, length, get_or, map, max, take, drop, Result, Ok, Err, OnOk, OnErr, refl, sym, ap, ◌∙◌, subst, arith, append_assoc, length-append, drop-cons}
 use Rattle.std.proofs.lemmas.List.{map-append, take-append-drop, length-map}
-use Rattle.std.proofs.lemmas.Option.{slice_get-get_or}
 use Rattle.vs_design.specs.Expressions as E
 use Rattle.vs_design.specs.Elaborated.{is_formed}
 use Rattle.vs_flat.specs.declared.expressions.Node.{Node}
 use Rattle.vs_flat.specs.Arena.{Arena, placed, with_node}
 use Rattle.vs_flat.specs.Named.{all_below, node_expressions, covers_node}
-use Rattle.vs_flat.specs.Trees.{no_expression, tree_at, placed_tree}
+use Rattle.vs_flat.specs.Trees.{tree_at, placed_tree}
 use Rattle.vs_flat.specs.DesignOf.{arena_names, arena_trees, design_of}
 use Rattle.vs_flat.specs.Lawful.{has_copies, node_names, deepest, node_depths}
-use Rattle.vs_flat.proofs.Agreeing.{below_append}
-use Rattle.vs_flat.proofs.Earlier.{all_at}
-use Rattle.vs_flat.proofs.Growing.{length-arena_trees}
-use Rattle.vs_build.specs.Drafts.{Root, Draft, and_root, and_roots, most_levels, EndsWith, AddsExpression}
-use Rattle.vs_build.specs.Growth.{times, IsGrowing, root_at, body_at, draft_of}
-use Rattle.vs_build.proofs.Counting.{times-append}
+use Rattle.vs_flat.proofs.Agreeing.{below_append, first_below, rest_below}
+use Rattle.vs_grammar.specs.Shapes.{Each}
+use Rattle.vs_build.specs.Drafts.{Root, Draft, home_in, and_root, and_roots, most_levels, EndsWith, AddsExpression}
+use Rattle.vs_build.specs.Growth.{times, open_header, current, expression_header, IsGrowing, root_at, body_at, draft_of}
+use Rattle.vs_build.proofs.Counting.{times-append, each_counted, each_parts}
 use Rattle.vs_build.proofs.Nodes.{node_kept, node_draft, roots_below}
 
 -- ---- lists that end alike
@@ -71,19 +69,30 @@ parts_are a rest used bs s ts e h =
     let p = append_same (map (root_at a) rest) s.expressions (map (root_at a) used) ts trees (length-map used (root_at a) ∙ h) in (
       p.1,
       ap (λ d. record (draft_of a rest bs) { design = d }) (ap (λ (d : Draft). d.design) e)
-          ∙ ap (λ xs. (let r : Draft = record { design = s.design; expressions = xs; statements = map (body_at a) bs } in r)) p.0
-          ∙ ap (λ xs. (let r : Draft = record { design = s.design; expressions = s.expressions; statements = xs } in r)) (ap (λ (d : Draft). d.statements) e),
+          ∙ ap (λ xs. (let r : Draft = record { design = s.design; function = open_header a; expressions = xs; statements = map (body_at a) bs } in r)) p.0
+          ∙ ap (λ o. (let r : Draft = record { design = s.design; function = o; expressions = s.expressions; statements = map (body_at a) bs } in r)) (ap (λ (d : Draft). d.function) e)
+          ∙ ap (λ xs. (let r : Draft = record { design = s.design; function = s.function; expressions = s.expressions; statements = xs } in r)) (ap (λ (d : Draft). d.statements) e),
     )
 
 pub levels_are : (a : Arena) (used : List ℕ) → deepest (node_depths a.nodes) used ≡ most_levels (map (root_at a) used)
 levels_are a [] = refl
 levels_are a (n ∷ ns) = ap (λ x. max (get_or (node_depths a.nodes) n 0) x) (levels_are a ns)
 
-pub formed_at : (a : Arena) (rs bs : List ℕ) (k : ℕ) → IsGrowing a rs bs → k < length a.nodes → is_formed (design_of a) (tree_at (arena_trees a) k) ≡ true
-formed_at a rs bs k g h = all_at (is_formed (design_of a)) (arena_trees a) k (tree_at (arena_trees a) k) g.expressions (slice_get-get_or (arena_trees a) k no_expression (omega (arith, h, length-arena_trees a)))
-
 pub used_below : (a : Arena) (rs rest used bs : List ℕ) → IsGrowing a rs bs → rs ≡ rest ++ used → all_below (length a.nodes) used ≡ true
 used_below a rs rest used bs g e = (below_append (length a.nodes) rest used (subst (λ xs. all_below (length a.nodes) xs ≡ true) e (roots_below a rs bs g))).1
+
+-- each of these is formed where the next one stands
+abbrev pub AreFormed : Arena → List ℕ → Type 0
+AreFormed a ns = Each (λ n. is_formed (current a) (tree_at (arena_trees a) n) ≡ true) ns
+
+formed_here : (a : Arena) (rs bs ns : List ℕ) → IsGrowing a rs bs → all_below (length a.nodes) ns ≡ true → Each (λ n. expression_header a n ≡ open_header a) ns → AreFormed a ns
+formed_here a rs bs [] g h k = tt
+formed_here a rs bs (n ∷ ns) g h k =
+    (subst (λ o. is_formed (home_in (design_of a) o) (tree_at (arena_trees a) n) ≡ true) k.0 (g.expressions n (first_below (length a.nodes) n ns h)), formed_here a rs bs ns g (rest_below (length a.nodes) n ns h) k.1)
+
+pub used_formed : (a : Arena) (rs rest used bs : List ℕ) → IsGrowing a rs bs → rs ≡ rest ++ used → AreFormed a used
+used_formed a rs rest used bs g e =
+    formed_here a rs bs used g (used_below a rs rest used bs g e) (each_parts (λ n. expression_header a n ≡ open_header a) rest used (subst (Each (λ n. expression_header a n ≡ open_header a)) e g.rooted)).1
 
 -- ---- the step
 
@@ -94,7 +103,7 @@ pub record IsStep (a : Arena) (rs bs rest used : List ℕ) (n : Node) (at : ℕ)
   pub names : (k : ℕ) → times k used ≡ times k (node_names n)
   pub covers : covers_node a n ≡ true
   pub copies : has_copies n ≡ true
-  pub formed : is_formed (design_of a) (placed_tree (arena_names a) (tree_at (arena_trees a)) (placed n at)) ≡ true
+  pub formed : is_formed (current a) (placed_tree (arena_names a) (tree_at (arena_trees a)) (placed n at)) ≡ true
   pub few : deepest (node_depths a.nodes) (node_expressions n) ≤ 255
 
 -- what adding it does
@@ -113,10 +122,16 @@ regrouped a rs bs rest used names g e h =
       few_nodes = g.few_nodes;
       few_statements = g.few_statements;
       names = g.names;
-      no_functions = g.no_functions;
-      no_bodies = g.no_bodies;
+      few_functions = g.few_functions;
+      open_one = g.open_one;
+      begun = g.begun;
+      locals = g.locals;
+      header = g.header;
+      functions = g.functions;
       expressions = g.expressions;
       statements = g.statements;
+      rooted = each_counted (λ n. expression_header a n ≡ open_header a) rs (rest ++ names) count g.rooted;
+      embodied = g.embodied;
       copies = g.copies;
       assign_targets = g.assign_targets;
       statement_targets = g.statement_targets;
@@ -145,13 +160,13 @@ step_adds (Ok u) a b rs after bs rest used n at s tree most p d before is few =
       few = omega (arith, few);
       is =
           ap (λ c. draft_of c after bs) d.flat ∙ ap (λ xs. draft_of (with_node a n at) xs bs) d.roots
-          ∙ node_draft a rest bs n at p.growing.names (rest_below p.growing p.is)
+          ∙ node_draft a rest bs n at p.growing.names (kept_below p.growing p.is)
           ∙ ap (λ c. and_root c (record { tree = placed_tree (arena_names a) (tree_at (arena_trees a)) (placed n at); levels = suc (deepest (node_depths a.nodes) (node_expressions n)) })) before
           ∙ ap (λ t. and_root s (record { tree = t; levels = suc (deepest (node_depths a.nodes) (node_expressions n)) })) is;
     }
   where
-    rest_below : IsGrowing a rs bs → rs ≡ rest ++ used → all_below (length a.nodes) rest ≡ true
-    rest_below g e = (below_append (length a.nodes) rest used (subst (λ xs. all_below (length a.nodes) xs ≡ true) e (roots_below a rs bs g))).0
+    kept_below : IsGrowing a rs bs → rs ≡ rest ++ used → all_below (length a.nodes) rest ≡ true
+    kept_below g e = (below_append (length a.nodes) rest used (subst (λ xs. all_below (length a.nodes) xs ≡ true) e (roots_below a rs bs g))).0
 step_adds (Err e) a b rs after bs rest used n at s tree most p d before is few = tt
 
 -- ---- what was added one after the other

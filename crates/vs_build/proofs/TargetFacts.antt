@@ -1,5 +1,5 @@
 -- Targets without a fault.
-use Rattle.std.proofs.Common.{rules, ◌≡◌, ℕ, zero, suc, ◌+◌, ◌*◌, ◌<◌, ◌≤◌, Bool, true, false, not, ◌&&◌, ◌||◌, List, [], ◌∷◌, ◌++◌, length, get_or, map, take, Option, Some, None, Vec, Global, Result, OnOk, refl, sym, ap, ◌∙◌, subst, arith}
+use Rattle.std.proofs.Common.{rules, ◌≡◌, ℕ, zero, suc, ◌+◌, ◌*◌, ◌<◌, ◌≤◌, Bool, true, false, not, ◌&&◌, List, [], ◌∷◌, ◌++◌, length, get_or, map, take, Option, Some, None, Vec, Global, Result, OnOk, refl, sym, ap, ◌∙◌, subst, arith}
 use Rattle.std.proofs.Math.Seq.{take-suc, take-length}
 use Rattle.std.proofs.lemmas.List.{map-append, length-map}
 use denote.Param.Weighed.{most, at_most}
@@ -19,26 +19,23 @@ use Rattle.vs_ast.specs.Views.{target, targets}
 use Rattle.vs_ast.proofs.Rows.{target_rows}
 use Rattle.vs_const.specs.Faults.{fault_if}
 use Rattle.vs_const.specs.declared.rules.Rule.TheVariants.{WrongKind}
-use Rattle.vs_const.specs.Meanings.{SignalMeaning, Meaning, AValue, Undefined, ASignal, AMemory, Another, Unknown, Find}
+use Rattle.vs_const.specs.Meanings.{SignalMeaning, Meaning, AValue, Undefined, ASignal, AMemory, AFunction, Incomplete, Another, Barred, Unknown, Find, steady}
 use Rattle.vs_const.specs.Sound.{IsSound, AreSound}
 use Rattle.vs_const.specs.Typed.{Typed, begins_at, fine}
-use Rattle.vs_const.specs.Selects.{Base, signal_base, base_of, is_scalar, name_typed, known_signal, Taken, taken, slice_taken, first_needed, select_if, select_typed, word_if, bit_typed}
+use Rattle.vs_const.specs.Selects.{Base, signal_base, base_of, is_scalar, name_typed, known_signal, Taken, taken, slice_taken, first_needed, first_names, select_if, select_typed, word_if, bit_typed}
 use Rattle.vs_const.specs.Expressions.{typed}
-use Rattle.vs_const.proofs.Formed.{both_nil, both, no_fault, sound_needed, first_sound, signal_base_fine, IsFineTaken, bit_fine, slice_fine, taken_faults, typed_fine}
+use Rattle.vs_const.proofs.Steady.{sound_needed, steady_sound, first_sound}
+use Rattle.vs_const.proofs.Formed.{both_nil, both, no_fault, signal_base_fine, IsFineTaken, bit_fine, slice_fine, taken_faults, typed_fine}
 use Rattle.vs_flat.specs.Targets.{target_of, both_of, place_of}
 use Rattle.vs_flat.specs.Trees.{joined}
-use Rattle.vs_elaborated.specs.Targets.{meant_signal, TypedTarget, is_wrong_target, target_base, part_target, word_target, bit_target, selected_target, typed_target, typed_targets}
-use Rattle.vs_build.specs.Drafts.{Draft, AddsExpression, AddsParts}
+use Rattle.vs_elaborated.specs.Targets.{meant_signal, TypedTarget, is_wrong_target, target_rule, target_base, part_target, word_target, bit_target, selected_target, typed_target, typed_targets}
+use Rattle.vs_build.specs.Drafts.{Draft, home, AddsExpression, AddsParts}
 use Rattle.vs_build.specs.Buildable.{selected_by, memory_of, IsSelectable}
 use Rattle.vs_build.specs.Writable.{target_expression, targets_expression, IsWritable, AreWritable, target_expressions}
-use Rattle.vs_build.proofs.Lists.{parts_design}
+use Rattle.vs_build.proofs.Lists.{parts_home}
 use Rattle.vs_build.proofs.Selects.{bit_is, memory_is}
 
 -- ---- names
-
-either_false : (a b : Bool) → (a || b) ≡ false → (a ≡ false) × (b ≡ false)
-either_false true b h = cc
-either_false false b h = (refl, h)
 
 -- what a target names is a signal
 pub record NamesSignal (d : Design) (place : ℕ) (selected : Bool) (m : Meaning) : Type 0 where
@@ -49,12 +46,15 @@ pub record NamesSignal (d : Design) (place : ℕ) (selected : Bool) (m : Meaning
   pub vector : (selected && is_scalar s) ≡ false
 
 names_signal : (d : Design) (procedural selected : Bool) (place : ℕ) (m : Meaning) → IsSound d false m → (target_base procedural place selected m).faults ≡ [] → NamesSignal d place selected m
-names_signal d procedural selected place (AValue v r) h f = cc
+names_signal d procedural selected place (AValue v r turns) h f = cc
 names_signal d procedural selected place (Undefined r) h f = cc
 names_signal d procedural selected place (ASignal s) h f =
-    record { s = s; is = refl; of_design = h.0; known = h.1; vector = (either_false (is_wrong_target procedural s) (selected && is_scalar s) (no_fault (is_wrong_target procedural s || (selected && is_scalar s)) WrongKind place f)).1 }
+    record { s = s; is = refl; of_design = h.0; known = h.1; vector = no_fault (selected && is_scalar s) WrongKind place (both_nil (fault_if (is_wrong_target procedural s) (target_rule s) place) (fault_if (selected && is_scalar s) WrongKind place) f).1 }
 names_signal d procedural selected place (AMemory s) h f = cc
+names_signal d procedural selected place (AFunction g) h f = cc
+names_signal d procedural selected place Incomplete h f = cc
 names_signal d procedural selected place Another h f = cc
+names_signal d procedural selected place (Barred rule) h f = cc
 names_signal d procedural selected place Unknown h f = cc
 
 -- the parts of what bits of a signal are
@@ -135,11 +135,14 @@ word_case d find procedural name bracket index m e x sound h =
 
 -- a bit of what is no memory
 pub bit_target_is : (procedural : Bool) (place : ℕ) (m : Meaning) (i : Typed) → memory_of m ≡ None → bit_target procedural place m i ≡ part_target (meant_signal m) (target_base procedural place true m) (taken (target_base procedural place true m).range true 1 i i.faults)
-bit_target_is procedural place (AValue v r) i e = refl
+bit_target_is procedural place (AValue v r turns) i e = refl
 bit_target_is procedural place (Undefined r) i e = refl
 bit_target_is procedural place (ASignal s) i e = refl
 bit_target_is procedural place (AMemory s) i e = cc
+bit_target_is procedural place (AFunction g) i e = refl
+bit_target_is procedural place Incomplete i e = refl
 bit_target_is procedural place Another i e = refl
+bit_target_is procedural place (Barred rule) i e = refl
 bit_target_is procedural place Unknown i e = refl
 
 bit_case : (d : Design) (find : Find) (procedural : Bool) (name : tree.Name) (bracket : ℕ) (index : tree.Expr) → memory_of (find name.bytes) ≡ None → IsExpr index → AreSound d false find
@@ -157,17 +160,18 @@ named_target d find procedural name (tree.BitAt bracket index) x sound h = of (m
     of : (o : Option ℕ) → memory_of (find name.bytes) ≡ o → IsNamedTarget d find procedural name (tree.BitAt bracket index)
     of None e = bit_case d find procedural name bracket index e x sound h
     of (Some n) e = let w = memory_is (find name.bytes) n e in word_case d find procedural name bracket index w.0 w.1 x sound h
+named_target d find procedural name (tree.OfWord bracket address part) x sound h = cc
 named_target d find procedural name (tree.Slice bracket kind a b) x sound h =
     let needed = not procedural in
     let all = needed_sound d needed find sound in
-    part_case d find procedural name (tree.Slice bracket kind a b) (λ o. slice_taken o bracket kind (expr_place a) (typed a find (first_needed kind needed)) (expr_place b) (typed b find true)) (sound name.bytes) refl refl
-    (λ r o e f. slice_fine d needed o r bracket kind (expr_place a) (typed a find (first_needed kind needed)) (expr_place b) (typed b find true) e
-    (λ k. typed_fine d find a (first_needed kind needed) (first_sound d kind needed find all) x.0 k) (λ k. typed_fine d find b true (needed_sound d true find sound) x.1 k) f) h
+    part_case d find procedural name (tree.Slice bracket kind a b) (λ o. slice_taken o bracket kind (expr_place a) (typed a (first_names kind find) (first_needed kind needed)) (expr_place b) (typed b (steady find) true)) (sound name.bytes) refl refl
+    (λ r o e f. slice_fine d needed o r bracket kind (expr_place a) (typed a (first_names kind find) (first_needed kind needed)) (expr_place b) (typed b (steady find) true) e
+    (λ k. typed_fine d (first_names kind find) a (first_needed kind needed) (first_sound d kind needed find all) x.0 k) (λ k. typed_fine d (steady find) b true (steady_sound d true find (needed_sound d true find sound)) x.1 k) f) h
 
 pub named_selectable : (d : Design) (find : Find) (procedural : Bool) (name : tree.Name) (select : tree.Select) → IsWritable d find procedural (tree.NamedTarget name select) → IsSelectable d find false (not procedural) name select
 named_selectable d find procedural name select w =
     let n = named_target d find procedural name select w.shaped.1 w.sound w.clean in
-    record { shaped = w.shaped.1; signals = w.sound name.bytes; sound = needed_sound d (not procedural) find w.sound; clean = n.clean; good = n.good; formed = n.formed; shallow = w.shallow }
+    record { shaped = w.shaped.1; signals = w.sound name.bytes; sound = needed_sound d (not procedural) find w.sound; numbered = w.numbered; clean = n.clean; good = n.good; formed = n.formed; shallow = w.shallow }
 
 -- ---- the whole is a target, that of the definition
 
@@ -249,6 +253,7 @@ pub each_part : (d : Design) (find : Find) (procedural : Bool) (ts : List Target
 each_part d find procedural ts i x b k e = record {
   shaped = subst (λ y. IsTarget (target y)) (sym e) (shaped_at ts i x b.shaped k);
   sound = b.sound;
+  numbered = b.numbered;
   clean = subst (λ y. (typed_target (target y) find procedural).faults ≡ []) (sym e) (clean_at find procedural ts i x b.clean k);
   shallow = omega (arith, b.shallow, depth_at ts i x k, ap (λ y. target_depth (target y)) e);
 }
@@ -273,11 +278,11 @@ parts_joined find procedural [] h = absurd (omega arith)
 parts_joined find procedural (t ∷ []) h = refl
 parts_joined find procedural (t ∷ u ∷ ts) h = ap (λ e. E.Join (target_expression (target t) find procedural) e) (parts_joined find procedural (u ∷ ts) (omega arith))
 
-pub part_after : (s v : Draft) (es : List Expression) (m : ℕ) (find : Find) (procedural : Bool) (t : tree.Target) → AddsParts s v es m → IsWritable s.design find procedural t → IsWritable v.design find procedural t
-part_after s v es m find procedural t h b = subst (λ d. IsWritable d find procedural t) (parts_design s v es m h) b
+pub part_after : (s v : Draft) (es : List Expression) (m : ℕ) (find : Find) (procedural : Bool) (t : tree.Target) → AddsParts s v es m → IsWritable (home s) find procedural t → IsWritable (home v) find procedural t
+part_after s v es m find procedural t h b = subst (λ d. IsWritable d find procedural t) (parts_home s v es m h) b
 
 pub concatenation_parts : (d : Design) (find : Find) (procedural : Bool) (place : ℕ) (parts : tree.Targets) → IsWritable d find procedural (tree.Targeted place parts) → AreWritable d find procedural parts
-concatenation_parts d find procedural place parts b = record { shaped = b.shaped; sound = b.sound; clean = b.clean; shallow = omega (arith, b.shallow) }
+concatenation_parts d find procedural place parts b = record { shaped = b.shaped; sound = b.sound; numbered = b.numbered; clean = b.clean; shallow = omega (arith, b.shallow) }
 
 pub join_arm : {U F : Type 0} (r : Result U F) (s v new : Draft) (find : Find) (procedural : Bool) (at n : ℕ) (es xs : List Target) → xs ≡ es → 1 ≤ length es → n ≡ length es
     → AddsParts s v (target_expressions find procedural xs) (1 + targets_depth (targets xs))

@@ -5,12 +5,12 @@ use Rattle.std.specs.List.{list_all}
 use Rattle.std.proofs.lemmas.Bool.{ltb-true, lt-ltb}
 use Rattle.vs_four.specs.Selects.{Part}
 use Rattle.vs_design.specs.Expressions.{Signal, Source, OfSignal, OfConstant, Header, local_signals, Expression, Literal, Name, Select, Word, Unary, Binary, Choice, Join, Repeat, At, Call, Items, NoItem, Item}
-use Rattle.vs_design.specs.Statements.{Target, Whole, PartOf, WordOf, Both, Statement, Empty, Assignment, Then, If, Case, Arms, Arm, Default}
+use Rattle.vs_design.specs.Statements.{Function, Target, Whole, PartOf, WordOf, Both, Statement, Empty, Assignment, Then, If, Case, Arms, Arm, Default}
 use Rattle.vs_design.specs.Designs.{Design}
 use Rattle.vs_design.specs.Footprints.{is_input, is_variable, is_memory}
 use Rattle.vs_design.specs.Fits.{fits_64}
 use Rattle.vs_design.specs.Rules.{mixed_in}
-use Rattle.vs_design.specs.Elaborated.{is_nil, are_numbered, have_bits_from, is_lawful_range, is_signal, is_this, is_plain, has_words, same_range, is_formed_select, is_local, is_formed_header, inside, has_items, are_as_many, is_formed, are_formed, is_formed_target, is_formed_statement, are_formed_arms}
+use Rattle.vs_design.specs.Elaborated.{is_nil, are_numbered, have_bits_from, is_lawful_range, is_signal, is_this, is_plain, has_words, same_range, is_formed_select, is_local, is_formed_header, inside, has_items, are_as_many, is_formed, are_formed, is_formed_target, is_formed_statement, is_formed_function, are_formed_arms}
 use Rattle.vs_flat.proofs.Agreeing.{and_both, and_true}
 
 pub record IsWider (c d : Design) : Type 0 where
@@ -27,7 +27,7 @@ all_wider f g (x ∷ xs) w h = both_wider (f x) (list_all f xs) (g x) (list_all 
 pub plain_wider : (c d : Design) → IsWider c d → (s : Signal) → is_plain c s ≡ true → is_plain d s ≡ true
 plain_wider c d w s h = both_wider (is_signal c s) (not (is_memory s)) (is_signal d s) (not (is_memory s)) (w.signals s) (λ k. k) h
 
-words_wider : (c d : Design) → IsWider c d → (s : Signal) → has_words c s ≡ true → has_words d s ≡ true
+pub words_wider : (c d : Design) → IsWider c d → (s : Signal) → has_words c s ≡ true → has_words d s ≡ true
 words_wider c d w s h = both_wider (is_signal c s) (is_memory s) (is_signal d s) (is_memory s) (w.signals s) (λ k. k) h
 
 select_wider : (c d : Design) → IsWider c d → (s : Source) (p : Part) → is_formed_select c s p ≡ true → is_formed_select d s p ≡ true
@@ -48,7 +48,7 @@ local_wider c d w h s k =
     below : nat_lt s.scope (length c.scopes) ≡ true → nat_lt s.scope (length d.scopes) ≡ true
     below i = lt-ltb s.scope (length d.scopes) (omega (arith, ltb-true s.scope (length c.scopes) i, w.scopes))
 
-header_wider : (c d : Design) → IsWider c d → (h : Header) → is_formed_header c h ≡ true → is_formed_header d h ≡ true
+pub header_wider : (c d : Design) → IsWider c d → (h : Header) → is_formed_header c h ≡ true → is_formed_header d h ≡ true
 header_wider c d w h k =
     let first = not (is_nil h.inputs) && are_numbered 0 0 (local_signals h) && have_bits_from 0 (local_signals h) in
     let variables = list_all is_variable (h.result ∷ h.own) in
@@ -56,7 +56,7 @@ header_wider c d w h k =
     (both_wider (first && list_all (is_local c h) (local_signals h)) (list_all is_input h.inputs) (first && list_all (is_local d h) (local_signals h)) (list_all is_input h.inputs)
     (both_wider first (list_all (is_local c h) (local_signals h)) first (list_all (is_local d h) (local_signals h)) (λ i. i) (all_wider (is_local c h) (is_local d h) (local_signals h) (local_wider c d w h))) (λ i. i)) (λ i. i) k
 
-inside_wider : (c d : Design) → IsWider c d → (h : Header) → IsWider (inside c h) (inside d h)
+pub inside_wider : (c d : Design) → IsWider c d → (h : Header) → IsWider (inside c h) (inside d h)
 inside_wider c d w h = record { scopes = w.scopes; signals = λ s k. k }
 
 -- ---- expressions, targets and statements
@@ -116,6 +116,14 @@ mutual
       (both_wider (has_items items) (are_formed c items) (has_items items) (are_formed d items) (λ k. k) (λ k. items_wider c d w items k))
       (λ k. statement_wider c d w s k)) (λ k. arms_wider c d w rest k) h
   arms_wider c d w (Default s) h = statement_wider c d w s h
+
+-- ---- functions with their statements
+
+pub function_wider : (c d : Design) → IsWider c d → (f : Function) → is_formed_function c f ≡ true → is_formed_function d f ≡ true
+function_wider c d w f h =
+    let unmixed = is_nil (mixed_in false f.statement) in
+    both_wider (is_formed_header c f.header && unmixed) (is_formed_statement (inside c f.header) f.statement) (is_formed_header d f.header && unmixed) (is_formed_statement (inside d f.header) f.statement)
+    (both_wider (is_formed_header c f.header) unmixed (is_formed_header d f.header) unmixed (header_wider c d w f.header) (λ k. k)) (λ k. statement_wider (inside c f.header) (inside d f.header) (inside_wider c d w f.header) f.statement k) h
 
 -- ---- signals
 

@@ -9,13 +9,14 @@ use Rattle.vs_design.specs.Designs.{Design}
 use Rattle.vs_design.specs.Elaborated.{is_formed}
 use Rattle.vs_grammar.specs.Trees as tree
 use Rattle.vs_grammar.specs.Trees.{expr_place}
-use Rattle.vs_grammar.specs.Shapes.{IsExpr, IsSelect, AreParts}
+use Rattle.vs_grammar.specs.Shapes.{IsExpr, AreExprs, IsSelect, AreParts}
 use Rattle.vs_grammar.specs.Depths.{expr_depth, exprs_depth, select_depth}
-use Rattle.vs_const.specs.Meanings.{Meaning, AMemory, Find, IsFair}
+use Rattle.vs_const.specs.Meanings.{FunctionMeaning, Meaning, AMemory, AFunction, Find, steady, IsFair}
 use Rattle.vs_const.specs.Sound.{IsSound, AreSound}
 use Rattle.vs_const.specs.Typed.{Typed, natural}
-use Rattle.vs_const.specs.Selects.{name_typed, Base, base_of, slice_taken, first_needed, select_typed, bit_typed}
-use Rattle.vs_const.specs.Expressions.{constant, typed, typed_parts}
+use Rattle.vs_const.specs.Selects.{name_typed, Base, base_of, slice_taken, first_needed, first_names, select_typed, bit_typed, further_typed}
+use Rattle.vs_const.specs.Expressions.{constant, typed, typed_parts, typed_arguments}
+use Rattle.vs_elaborated.specs.Numbers.{AreNumbered}
 use Rattle.vs_flat.specs.Targets.{source_of}
 use Rattle.vs_build.specs.Drafts.{Draft, AddsExpression}
 
@@ -23,6 +24,7 @@ use Rattle.vs_build.specs.Drafts.{Draft, AddsExpression}
 pub record IsBuildable (d : Design) (find : Find) (needed : Bool) (e : tree.Expr) : Type 0 where
   pub shaped : IsExpr e
   pub sound : AreSound d needed find
+  pub numbered : AreNumbered d find
   pub clean : (typed e find needed).faults ≡ []
   pub shallow : expr_depth e ≤ 253
 
@@ -32,12 +34,14 @@ selected_by tree.Whole name find fixed needed = name_typed fixed name.place (fin
 selected_by (tree.BitAt bracket index) name find fixed needed = bit_typed fixed name.place (find name.bytes) (typed index find needed)
 selected_by (tree.Slice bracket kind e f) name find fixed needed =
     let b = base_of fixed name.place (find name.bytes) in
-    select_typed b (slice_taken b.range bracket kind (expr_place e) (typed e find (first_needed kind needed)) (expr_place f) (typed f find true))
+    select_typed b (slice_taken b.range bracket kind (expr_place e) (typed e (first_names kind find) (first_needed kind needed)) (expr_place f) (typed f (steady find) true))
+selected_by (tree.OfWord bracket address part) name find fixed needed = further_typed fixed name.place (find name.bytes)
 
 pub record IsSelectable (d : Design) (find : Find) (fixed needed : Bool) (name : tree.Name) (select : tree.Select) : Type 0 where
   pub shaped : IsSelect select
   pub signals : IsSound d fixed (find name.bytes)
   pub sound : AreSound d needed find
+  pub numbered : AreNumbered d find
   pub clean : (selected_by select name find fixed needed).faults ≡ []
   pub good : (selected_by select name find fixed needed).good ≡ true
   pub formed : is_formed d (selected_by select name find fixed needed).expression ≡ true
@@ -47,11 +51,25 @@ pub record IsSelectable (d : Design) (find : Find) (fixed needed : Bool) (name :
 pub record AreBuildable (d : Design) (find : Find) (needed : Bool) (parts : tree.Exprs) : Type 0 where
   pub shaped : AreParts parts
   pub sound : AreSound d needed find
+  pub numbered : AreNumbered d find
   pub clean : (typed_parts parts find needed).faults ≡ []
   pub shallow : exprs_depth parts ≤ 253
 
+-- the arguments of a call (10.4.3)
+pub record AreArguments (d : Design) (find : Find) (needed : Bool) (es : tree.Exprs) : Type 0 where
+  pub shaped : AreExprs es
+  pub sound : AreSound d needed find
+  pub numbered : AreNumbered d find
+  pub clean : (typed_arguments es find needed).faults ≡ []
+  pub shallow : exprs_depth es ≤ 253
+
+-- what is called is a function
+pub record IsCallable (m : Meaning) : Type 0 where
+  pub function : FunctionMeaning
+  pub is : m ≡ AFunction function
+
 -- a needed number within its bounds
-pub record IsNumbered (low high : ℕ) (find : Find) (e : tree.Expr) : Type 0 where
+pub record IsWithin (low high : ℕ) (find : Find) (e : tree.Expr) : Type 0 where
   pub shaped : IsExpr e
   pub fair : IsFair find
   pub clean : (natural low high (expr_place e) (constant e find)).faults ≡ []
@@ -64,8 +82,8 @@ part_expressions find needed parts = map (λ (e : Expr). (typed (expr e) find ne
 
 -- two bounds, and the range that they are
 pub record AreBounds (find : Find) (left right : tree.Expr) : Type 0 where
-  pub first : IsNumbered 0 65535 find left
-  pub second : IsNumbered 0 65535 find right
+  pub first : IsWithin 0 65535 find left
+  pub second : IsWithin 0 65535 find right
   pub short : range_length (record { left = first.number; right = second.number }) ≤ 64
 
 -- the range of two bounds

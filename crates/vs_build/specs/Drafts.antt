@@ -1,10 +1,11 @@
 -- A design that is being built: what it is so far, and the expressions and statements that nothing in it names yet, in the order in which they were built.
-use Rattle.std.specs.Prelude.{◌≡◌, ◌≤◌, ◌+◌, ℕ, Bool, true, ◌&&◌, List, [], ◌∷◌, ◌++◌, map, length, max, nat_lt, is_some}
+use Rattle.std.specs.Prelude.{◌≡◌, ◌≤◌, ◌+◌, ℕ, Bool, true, false, ◌&&◌, List, [], ◌∷◌, ◌++◌, map, length, max, nat_lt, is_some, Option, None, Some}
 use Rattle.std.specs.List.{list_all}
-use Rattle.vs_design.specs.Expressions.{Signal, Expression, items_of}
+use Rattle.vs_design.specs.Expressions.{Signal, Header, Expression, items_of}
 use Rattle.vs_design.specs.Statements.{Target, Whole, PartOf, WordOf, Both, Statement, Arms, Arm, Default}
 use Rattle.vs_design.specs.Designs.{Scope, Process, Design}
-use Rattle.vs_design.specs.Elaborated.{is_formed_select}
+use Rattle.vs_design.specs.Elaborated.{inside, is_nil, is_formed_select}
+use Rattle.vs_design.specs.Rules.{mixed_in}
 use Rattle.vs_design.specs.Footprints.{is_variable}
 use Rattle.vs_four.specs.Selects.{Part}
 use Rattle.vs_flat.specs.declared.processes.Port.{Port}
@@ -24,6 +25,8 @@ pub record Body : Type 0 where
 
 pub record Draft : Type 0 where
   pub design : Design
+  -- the header of the function whose statement is being built, if one is (10.4)
+  pub function : Option Header
   pub expressions : List Root
   pub statements : List Body
 
@@ -32,7 +35,16 @@ abbrev pub no_design : Design
 no_design = record { scopes = []; signals = []; processes = []; functions = [] }
 
 abbrev pub no_draft : Draft
-no_draft = record { design = no_design; expressions = []; statements = [] }
+no_draft = record { design = no_design; function = None; expressions = []; statements = [] }
+
+-- what names mean in a function: its local signals alone, and the functions of the design
+abbrev pub home_in : Design → Option Header → Design
+home_in d None = d
+home_in d (Some h) = record (inside d h) { functions = d.functions }
+
+-- where the next expression stands
+abbrev pub home : Draft → Design
+home s = home_in s.design s.function
 
 -- ---- with one more of a kind
 
@@ -44,6 +56,13 @@ and_signal s x = record s { design = record s.design { signals = s.design.signal
 
 abbrev pub and_process : Draft → Process → Draft
 and_process s x = record s { design = record s.design { processes = s.design.processes ++ x ∷ [] } }
+
+-- a function's statement is to be built, and it was
+abbrev pub in_function : Draft → Header → Draft
+in_function s h = record s { function = Some h }
+
+abbrev pub and_function : Draft → Header → Statement → Draft
+and_function s h t = record s { design = record s.design { functions = s.design.functions ++ record { header = h; statement = t } ∷ [] }; function = None }
 
 abbrev pub and_root : Draft → Root → Draft
 and_root s x = record s { expressions = s.expressions ++ x ∷ [] }
@@ -83,7 +102,7 @@ pub record EndsInSelect (part : Part) (s : Draft) : Type 0 where
   pub of : Root
   pub is : s ≡ and_roots before (index ∷ of ∷ [])
   pub few : most_levels (index ∷ of ∷ []) ≤ 254
-  pub formed : is_formed_select s.design (source_of of.tree) part ≡ true
+  pub formed : is_formed_select (home s) (source_of of.tree) part ≡ true
 
 -- the last ones are what an assign of this kind writes, and its expression
 pub record EndsInAssign (port : Port) (s : Draft) : Type 0 where
@@ -92,6 +111,15 @@ pub record EndsInAssign (port : Port) (s : Draft) : Type 0 where
   pub value : Root
   pub is : s ≡ and_roots before (target ∷ value ∷ [])
   pub written : is_target port target.tree ≡ true
+
+-- nothing is there but the statement of the function that is being built, which has no delayed assignment (10.4.4)
+pub record EndsFunction (s : Draft) : Type 0 where
+  pub header : Header
+  pub body : Body
+  pub within : s.function ≡ Some header
+  pub expressions : s.expressions ≡ []
+  pub statements : s.statements ≡ body ∷ []
+  pub blocking : is_nil (mixed_in false body.statement) ≡ true
 
 -- ---- what a step does
 

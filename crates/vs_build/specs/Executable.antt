@@ -1,5 +1,6 @@
 -- Statements that can be built (IEEE 1364-2005, clause 9): without a fault, and with names that mean something in the design.
-use Rattle.std.specs.Prelude.{◌≡◌, ◌≤◌, ◌++◌, ℕ, false, List, [], ◌∷◌, map}
+use Rattle.std.specs.Prelude.{◌≡◌, ◌≤◌, ℕ, zero, suc, false, true, List, [], ◌∷◌, map, if◌then◌else◌, Option, Some, None}
+use Rattle.vs_four.specs.Logic.{BitList}
 use Rattle.vs_design.specs.Statements.{Statement}
 use Rattle.vs_design.specs.Designs.{Edge, Process, Always, Design}
 use Rattle.vs_flat.specs.declared.processes.Event.{Event as FlatEvent}
@@ -8,59 +9,94 @@ use Rattle.vs_ast.specs.Views as view
 use Rattle.vs_grammar.specs.Trees as tree
 use Rattle.vs_grammar.specs.Shapes.{IsExpr, IsStatement, AreStatements, AreArms, Each}
 use Rattle.vs_grammar.specs.Depths.{deepest, expr_depth, statement_depth, statements_depth, arms_depth}
-use Rattle.vs_const.specs.Meanings.{Find}
-use Rattle.vs_const.specs.Sound.{AreSound}
+use Rattle.vs_const.specs.Meanings.{Find, turning, IsFair}
+use Rattle.vs_const.specs.Expressions.{constant}
+use Rattle.vs_const.specs.Sound.{IsSound, AreSound}
+use Rattle.vs_elaborated.specs.Numbers.{IsNumbered, AreNumbered}
 use Rattle.vs_elaborated.specs.Targets.{meant_signal}
-use Rattle.vs_elaborated.specs.Statements.{typed_list, typed_fallback, typed_statement, typed_sequence, typed_arms, typed_control, is_clocked_by, unclocked_faults}
+use Rattle.vs_elaborated.specs.Statements.{Body, TypedStatement, typed_list, typed_statement, typed_sequence, typed_arms, not_there, typed_control, given, goes_on}
+use Rattle.vs_elaborated.specs.Surveys.{block_body}
 use Rattle.vs_build.specs.Drafts.{Labelled}
 
--- a statement
-pub record IsExecutable (d : Design) (find : Find) (s : tree.Statement) : Type 0 where
+-- the variables of named blocks mean something
+pub record IsSoundBody (d : Design) (body : Body) : Type 0 where
+  pub unrolls : body.unrolls ≡ true
+  pub sound : (place : ℕ) → IsSound d false (body.declared place)
+  pub numbered : (place : ℕ) → IsNumbered d (body.declared place)
+
+-- a statement, whose loops are unrolled
+pub record IsExecutable (d : Design) (body : Body) (find : Find) (s : tree.Statement) : Type 0 where
   pub shaped : IsStatement s
+  pub around : IsSoundBody d body
   pub sound : AreSound d false find
-  pub clean : (typed_statement s find).faults ≡ []
+  pub numbered : AreNumbered d find
+  pub clean : (typed_statement s body find).faults ≡ []
   pub shallow : statement_depth s ≤ 253
 
 -- the statements between `begin` and `end`
-pub record AreExecutable (d : Design) (find : Find) (parts : tree.Statements) : Type 0 where
+pub record AreExecutable (d : Design) (body : Body) (find : Find) (parts : tree.Statements) : Type 0 where
   pub shaped : AreStatements parts
+  pub around : IsSoundBody d body
   pub sound : AreSound d false find
-  pub clean : (typed_sequence parts find).faults ≡ []
+  pub numbered : AreNumbered d find
+  pub clean : (typed_sequence parts body find).faults ≡ []
   pub shallow : statements_depth parts ≤ 252
 
 -- the labels of an arm
 pub record AreLabels (d : Design) (find : Find) (labels : List tree.Expr) : Type 0 where
   pub shaped : Each IsExpr labels
   pub sound : AreSound d false find
+  pub numbered : AreNumbered d find
   pub clean : (typed_list labels find).faults ≡ []
   pub shallow : deepest expr_depth labels ≤ 252
 
 -- the arms of a case, without its default
-pub record AreChoosable (d : Design) (find : Find) (arms : tree.CaseArms) : Type 0 where
+pub record AreChoosable (d : Design) (body : Body) (find : Find) (arms : tree.CaseArms) : Type 0 where
   pub shaped : AreArms arms
+  pub around : IsSoundBody d body
   pub sound : AreSound d false find
-  pub clean : (typed_arms arms find (typed_fallback tree.NoFallback find)).faults ≡ []
+  pub numbered : AreNumbered d find
+  pub clean : (typed_arms arms body find (not_there [])).faults ≡ []
   pub shallow : arms_depth arms ≤ 252
 
 -- what statements stand for
-abbrev pub part_statements : Find → List TextStatement → List Statement
-part_statements find parts = map (λ (s : TextStatement). (typed_statement (view.statement s) find).statement) parts
+abbrev pub part_statements : Body → Find → List TextStatement → List Statement
+part_statements body find parts = map (λ (s : TextStatement). (typed_statement (view.statement s) body find).statement) parts
 
 -- what arms stand for
-abbrev pub labelled : Find → tree.CaseArms → List Labelled
-labelled find tree.NoArm = []
-labelled find (tree.AndArm labels s rest) = record { labels = (typed_list labels find).expressions; statement = (typed_statement s find).statement } ∷ labelled find rest
+abbrev pub labelled : Body → Find → tree.CaseArms → List Labelled
+labelled body find tree.NoArm = []
+labelled body find (tree.AndArm labels s rest) = record { labels = (typed_list labels find).expressions; statement = (typed_statement s body find).statement } ∷ labelled body find rest
 
--- an always block (9.9.2); a clocked one alone writes words of memories
+-- ---- loops (9.6)
+
+-- the copies of a loop's statement, one for each turn from this value of the integer on
+abbrev pub copies : (left : ℕ) → (copy : Find → TypedStatement) → tree.LoopHead → Find → Option BitList → List Statement
+copies left copy head find None = []
+copies zero copy head find (Some bits) = []
+copies (suc left) copy head find (Some bits) =
+    let inner = turning find head.variable.bytes bits in
+    if goes_on (constant head.test inner) then ((copy inner).statement ∷ copies left copy head find (given (constant head.next inner))) else []
+
+-- the step of a turn is a constant
+pub record IsNext (head : tree.LoopHead) (inner : Find) : Type 0 where
+  pub shaped : IsExpr head.next
+  pub fair : IsFair inner
+
+-- ---- always blocks (9.9.2)
+
+-- a block, whose loops are unrolled; a clocked one alone writes words of memories
 pub record IsRunnable (d : Design) (find : Find) (b : tree.AlwaysBlock) : Type 0 where
   pub shaped : IsStatement b.statement
   pub sound : AreSound d false find
-  pub clean : (typed_control b.control find).faults ++ ((typed_statement b.statement find).faults ++ unclocked_faults (is_clocked_by b.control) b.statement find) ≡ []
+  pub numbered : AreNumbered d find
+  pub control : (typed_control b.control find).faults ≡ []
+  pub clean : (typed_statement b.statement (block_body b) find).faults ≡ []
   pub shallow : statement_depth b.statement ≤ 253
 
 -- the process of a design that it is
 abbrev pub block_process : tree.AlwaysBlock → Find → Process
-block_process b find = Always b.place (typed_control b.control find).star (typed_control b.control find).events (typed_statement b.statement find).statement
+block_process b find = Always b.place (typed_control b.control find).star (typed_control b.control find).events (typed_statement b.statement (block_body b) find).statement
 
 -- what an event waits for: a signal, by its number, and an edge
 pub record Awaited : Type 0 where

@@ -1,18 +1,22 @@
--- What the items of a scope add to a design (IEEE 1364-2005, 6.1 and 9.9.2), each as a list of processes.
+-- What the items of a scope add to a design (IEEE 1364-2005, 6.1, 9.9.2 and 10.4): processes and functions.
 use Rattle.std.specs.Prelude.{◌≡◌, ◌≤◌, ℕ, false, List, [], ◌∷◌, ◌++◌, map, flat_map, Option, Some, None}
 use Rattle.vs_design.specs.Designs.{Process, Design}
 use Rattle.vs_grammar.specs.Trees as tree
-use Rattle.vs_grammar.specs.Shapes.{IsAssign, IsDeclarator, Each}
+use Rattle.vs_grammar.specs.Shapes.{IsAssign, IsDeclarator, IsStatement, IsFunction, Each}
 use Rattle.vs_grammar.specs.Depths.{deepest, assign_depth, declarator_depth, statement_depth}
 use Rattle.vs_const.specs.Meanings.{Find}
 use Rattle.vs_const.specs.Sound.{AreSound}
-use Rattle.vs_elaborated.specs.Environments.{Env, named}
+use Rattle.vs_elaborated.specs.Numbers.{AreNumbered}
+use Rattle.vs_elaborated.specs.Sound.{SeesSound}
+use Rattle.vs_elaborated.specs.Limits.{Limits}
+use Rattle.vs_elaborated.specs.Environments.{Env, inside_function, named}
+use Rattle.vs_elaborated.specs.Statements.{typed_statement}
+use Rattle.vs_elaborated.specs.Functions.{function_locals, header_of, function_names, function_body, said_function}
 use Rattle.vs_elaborated.specs.Pieces.{Own, all_said}
-use Rattle.vs_elaborated.specs.Surveys.{assign_said, wire_said, block_said}
-use Rattle.vs_grammar.specs.Shapes.{IsStatement}
-use Rattle.vs_build.specs.Drafts.{Draft}
+use Rattle.vs_elaborated.specs.Surveys.{Loops, assign_said, wire_said, block_said}
+use Rattle.vs_build.specs.Drafts.{Draft, home_in}
 use Rattle.vs_build.specs.Writable.{IsAssignable, wire_assign, assign_process}
-use Rattle.vs_build.specs.Executable.{IsRunnable, block_process}
+use Rattle.vs_build.specs.Executable.{IsExecutable, IsRunnable, block_process}
 
 abbrev pub and_processes : Draft → List Process → Draft
 and_processes s ps = record s { design = record s.design { processes = s.design.processes ++ ps } }
@@ -42,15 +46,25 @@ IsDeclared d find n = IsAssigned d find n.name n.value
 
 -- of assigns: they can be built, and the processes built are its pieces
 abbrev pub AssignsAreFine : Type 0
-AssignsAreFine = (d : Design) (env : Env) (place : ℕ) (assigns : List tree.Assign) → Each IsAssign assigns → AreSound d false (named env) → deepest assign_depth assigns ≤ 253 → (all_said (assign_said env place) assigns).faults ≡ []
+AssignsAreFine = (d : Design) (env : Env) (place : ℕ) (assigns : List tree.Assign) → Each IsAssign assigns → AreSound d false (named env) → AreNumbered d (named env) → deepest assign_depth assigns ≤ 253 → (all_said (assign_said env place) assigns).faults ≡ []
     → Each (IsAssignable d (named env)) assigns × ((all_said (assign_said env place) assigns).pieces ≡ map Own (assign_processes place assigns (named env)))
 
 -- of a declaration with values
 abbrev pub WiresAreFine : Type 0
-WiresAreFine = (d : Design) (env : Env) (place : ℕ) (names : List tree.Declarator) → Each IsDeclarator names → AreSound d false (named env) → deepest declarator_depth names ≤ 253 → (all_said (wire_said env place) names).faults ≡ []
+WiresAreFine = (d : Design) (env : Env) (place : ℕ) (names : List tree.Declarator) → Each IsDeclarator names → AreSound d false (named env) → AreNumbered d (named env) → deepest declarator_depth names ≤ 253 → (all_said (wire_said env place) names).faults ≡ []
     → Each (IsDeclared d (named env)) names × ((all_said (wire_said env place) names).pieces ≡ map Own (wire_processes place names (named env)))
 
--- of an always block
+-- of an always block: its loops are unrolled
 abbrev pub BlocksAreFine : Type 0
-BlocksAreFine = (d : Design) (env : Env) (b : tree.AlwaysBlock) → IsStatement b.statement → AreSound d false (named env) → statement_depth b.statement ≤ 253 → (block_said env b).faults ≡ []
-    → IsRunnable d (named env) b × ((block_said env b).pieces ≡ Own (block_process b (named env)) ∷ [])
+BlocksAreFine = (d : Design) (env : Env) (limits : Limits) (loops : Loops) (b : tree.AlwaysBlock) → IsStatement b.statement → AreSound d false (named env) → AreNumbered d (named env) → statement_depth b.statement ≤ 253
+    → (block_said limits env loops b).faults ≡ [] → IsRunnable d (named env) b × ((block_said limits env loops b).pieces ≡ Own (block_process b (named env)) ∷ [])
+
+-- what a function says: in it its statement can be built, which is that of its meaning
+pub record IsFineFunction (d : Design) (number most scope : ℕ) (env : Env) (f : tree.Function) : Type 0 where
+  pub executable : IsExecutable (home_in d (Some (header_of f (function_locals scope (inside_function env []) f)))) (function_body (function_locals scope (inside_function env []) f)) (function_names scope env f) f.statement
+  pub statement : (said_function number most scope env f).meaning.statement ≡ (typed_statement f.statement (function_body (function_locals scope (inside_function env []) f)) (function_names scope env f)).statement
+
+-- of a function without a fault (10.4)
+abbrev pub FunctionsAreFine : Type 0
+FunctionsAreFine = (d : Design) (number most scope : ℕ) (env : Env) (f : tree.Function) → IsFunction f → SeesSound d scope env f → AreNumbered d (function_names scope env f) → statement_depth f.statement ≤ 253
+    → (said_function number most scope env f).faults ≡ [] → IsFineFunction d number most scope env f

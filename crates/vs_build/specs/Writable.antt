@@ -11,6 +11,7 @@ use Rattle.vs_grammar.specs.Shapes.{IsTarget, ArePartsOfTarget, IsAssign}
 use Rattle.vs_grammar.specs.Depths.{target_depth, targets_depth, assign_depth}
 use Rattle.vs_const.specs.Meanings.{Find}
 use Rattle.vs_const.specs.Sound.{AreSound}
+use Rattle.vs_elaborated.specs.Numbers.{AreNumbered}
 use Rattle.vs_const.specs.Typed.{begins_at}
 use Rattle.vs_const.specs.Expressions.{typed}
 use Rattle.vs_flat.specs.Trees.{no_expression}
@@ -36,6 +37,7 @@ abbrev mutual
 pub record IsWritable (d : Design) (find : Find) (procedural : Bool) (t : tree.Target) : Type 0 where
   pub shaped : IsTarget t
   pub sound : AreSound d false find
+  pub numbered : AreNumbered d find
   pub clean : (typed_target t find procedural).faults ≡ []
   pub shallow : target_depth t ≤ 253
 
@@ -43,6 +45,7 @@ pub record IsWritable (d : Design) (find : Find) (procedural : Bool) (t : tree.T
 pub record AreWritable (d : Design) (find : Find) (procedural : Bool) (ts : tree.Targets) : Type 0 where
   pub shaped : ArePartsOfTarget ts
   pub sound : AreSound d false find
+  pub numbered : AreNumbered d find
   pub clean : (typed_targets ts find procedural).faults ≡ []
   pub shallow : targets_depth ts ≤ 253
 
@@ -54,6 +57,7 @@ target_expressions find procedural ts = map (λ (t : Target). target_expression 
 pub record IsAssignable (d : Design) (find : Find) (a : tree.Assign) : Type 0 where
   pub shaped : IsAssign a
   pub sound : AreSound d false find
+  pub numbered : AreNumbered d find
   pub clean : (typed_target a.target find false).faults ++ (typed a.e find false).faults ≡ []
   pub shallow : assign_depth a ≤ 253
 

@@ -1,10 +1,10 @@
 //! Assigns, written and of input ports (IEEE 1364-2005, 6.1 and 12.3.9.2).
 
-ghost use Rattle.std.specs.Prelude.{◌≡◌, ◌<◌, ◌^◌, true, false, length, OnOk};
+ghost use Rattle.std.specs.Prelude.{◌≡◌, ◌<◌, ◌^◌, None, true, false, length, OnOk};
 ghost use Rattle.vs_design.specs.Elaborated.{is_plain};
 ghost use Rattle.vs_ast.specs.Views as view;
 ghost use Rattle.vs_flat.specs.Trees.{signal_at};
-ghost use Rattle.vs_build.specs.Drafts.{and_process};
+ghost use Rattle.vs_build.specs.Drafts.{and_process, home};
 ghost use Rattle.vs_build.specs.Growth.{draft};
 ghost use Rattle.vs_build.specs.Buildable.{IsBuildable};
 ghost use Rattle.vs_build.specs.Writable.{IsAssignable, wire_assign, assign_process, input_process};
@@ -27,7 +27,8 @@ pub fn assign<E: Env>(
     env: &E,
 ) -> Result<(), AllocError>
     requires room { length (draft builder.old).design.processes < 2 ^ 16 }
-    requires fine { IsAssignable (draft builder.old).design (E.names env.now) (view.assign a.now) }
+    requires outside { (draft builder.old).function ≡ None }
+    requires fine { IsAssignable (home (draft builder.old)) (E.names env.now) (view.assign a.now) }
     ensures { OnOk result (draft builder.new ≡ and_process (draft builder.old) (assign_process place (view.assign a.now) (E.names env.now))) }
 {
     target(builder, alloc, &a.target, env, false)?;
@@ -45,7 +46,8 @@ pub fn wire<E: Env>(
     env: &E,
 ) -> Result<(), AllocError>
     requires room { length (draft builder.old).design.processes < 2 ^ 16 }
-    requires fine { IsAssignable (draft builder.old).design (E.names env.now) (wire_assign (view.name name.now) (view.expr e.now)) }
+    requires outside { (draft builder.old).function ≡ None }
+    requires fine { IsAssignable (home (draft builder.old)) (E.names env.now) (wire_assign (view.name name.now) (view.expr e.now)) }
     ensures { OnOk result (draft builder.new ≡ and_process (draft builder.old) (assign_process place (wire_assign (view.name name.now) (view.expr e.now)) (E.names env.now))) }
 {
     name_alone(builder, false, name, name.place, env)?;
@@ -66,7 +68,8 @@ pub fn input_port<E: Env>(
     requires room { length (draft builder.old).design.processes < 2 ^ 16 }
     requires there { inner < length (draft builder.old).design.signals }
     requires signal { is_plain (draft builder.old).design (signal_at (draft builder.old).design.signals inner) ≡ true }
-    requires fine { IsBuildable (draft builder.old).design (E.names env.now) false (view.expr e.now) }
+    requires outside { (draft builder.old).function ≡ None }
+    requires fine { IsBuildable (home (draft builder.old)) (E.names env.now) false (view.expr e.now) }
     ensures { OnOk result (draft builder.new ≡ and_process (draft builder.old) (input_process place (signal_at (draft builder.old).design.signals inner) (view.expr e.now) (E.names env.now))) }
 {
     builder.name(inner, place)?;

@@ -1,9 +1,11 @@
 //! Always blocks of the text (IEEE 1364-2005, 9.9.2).
 
-ghost use Rattle.std.specs.Prelude.{◌≡◌, ◌<◌, ◌^◌, [], length, map, IfOk, OnOk};
+ghost use Rattle.std.specs.Prelude.{◌≡◌, ◌<◌, ◌^◌, None, [], length, map, IfOk, OnOk};
 ghost use Rattle.vs_ast.specs.Views as view;
 ghost use Rattle.vs_elaborated.specs.Statements.{event_faults, typed_events};
-ghost use Rattle.vs_build.specs.Drafts.{and_process};
+ghost use Rattle.vs_const.specs.Meanings.{Barred};
+ghost use Rattle.vs_const.specs.declared.rules.Rule.TheVariants.{WrongKind};
+ghost use Rattle.vs_build.specs.Drafts.{and_process, home};
 ghost use Rattle.vs_build.specs.Growth.{draft};
 ghost use Rattle.vs_build.specs.Executable.{IsRunnable, awaited_of, awaited, block_process};
 
@@ -12,8 +14,31 @@ use crate::statements::statement;
 use std::alloc::{AllocError, Global};
 use vs_ast as ast;
 use vs_ast::{AlwaysBlock, EventControl};
-use vs_const::{Env, Named};
+use vs_bodies::{BodyKind, Inner, Layers, Surroundings, is_clocked};
+use vs_const::{Env, Named, Rule};
 use vs_flat::Event;
+
+/// What is around an always block: no variable of a named block in it is taken.
+#[derive(Clone, Copy)]
+struct Alone<'e, E> {
+    env: &'e E,
+}
+
+impl<E: Env> Env for Alone<'_, E> {
+    ghost names = { λ a. E.names a.env.now };
+
+    fn find(&self, name: &[u8]) -> Named {
+        self.env.find(name)
+    }
+}
+
+impl<E: Env> Surroundings for Alone<'_, E> {
+    ghost declared = { λ a place. Barred WrongKind };
+
+    fn declared(&self, _place: u32) -> Named {
+        Named::Barred(Rule::WrongKind)
+    }
+}
 
 /// An event that breaks no rule (IEEE 1364-2005, 9.7.2).
 fn event<E: Env>(e: &ast::Event, env: &E) -> Event
@@ -42,7 +67,7 @@ fn events<E: Env>(alloc: Global, list: &[ast::Event], env: &E) -> Result<Vec<Eve
     Ok(made)
 }
 
-/// Builds an always block that breaks no rule. An error is want of memory; the builder is of no use then.
+/// Builds an always block that breaks no rule, with its loops unrolled (IEEE 1364-2005, 9.6). An error is want of memory; the builder is of no use then.
 pub fn always<E: Env>(
     builder: &mut Builder,
     alloc: Global,
@@ -50,10 +75,21 @@ pub fn always<E: Env>(
     env: &E,
 ) -> Result<(), AllocError>
     requires room { length (draft builder.old).design.processes < 2 ^ 16 }
-    requires fine { IsRunnable (draft builder.old).design (E.names env.now) (view.always_block block.now) }
+    requires outside { (draft builder.old).function ≡ None }
+    requires fine { IsRunnable (home (draft builder.old)) (E.names env.now) (view.always_block block.now) }
     ensures { OnOk result (draft builder.new ≡ and_process (draft builder.old) (block_process (view.always_block block.now) (E.names env.now))) }
 {
-    statement(builder, alloc, &block.statement, env)?;
+    let around = Alone { env: &*env };
+    let layers = Layers::End;
+    let here = Inner {
+        around: &around,
+        layers: &layers,
+    };
+    let kind = BodyKind {
+        in_function: false,
+        clocked: is_clocked(&block.control),
+    };
+    statement(builder, alloc, &block.statement, kind, &here)?;
     match &block.control {
         EventControl::Star => builder.always(true, Vec::new(alloc), block.place),
         EventControl::Listed(list) => {

@@ -1,6 +1,6 @@
 //! A flat design that grows.
 
-ghost use Rattle.std.specs.Prelude.{◌≡◌, ◌<◌, ◌≤◌, ◌^◌, ◌-◌, ◌+◌, [], ◌∷◌, ◌++◌, true, length, map, max, suc, take, cond, IsTrue, IfOk, OnOk, OnErr, vec_len, vec_capacity, ℕ, List as Items, Option, nat_lt, option_to_list, unwrap_or, is_some, slice_get, flat_map};
+ghost use Rattle.std.specs.Prelude.{◌≡◌, ◌<◌, ◌≤◌, ◌^◌, ◌-◌, ◌+◌, [], ◌∷◌, ◌++◌, true, length, map, max, suc, take, cond, IsTrue, IfOk, OnOk, OnErr, vec_len, vec_capacity, ℕ, List as Items, Option, None, Some, nat_lt, option_to_list, unwrap_or, is_some, slice_get, flat_map};
 ghost use Rattle.vs_four.specs.Lengths.{repeat};
 ghost use Rattle.vs_flat.specs.Arena.{with_node, with_statement};
 ghost use Rattle.vs_flat.specs.Named.{all_below, covers_node, covers_statement};
@@ -11,37 +11,40 @@ use std::alloc::{AllocError, Global};
 use std::marker::Model;
 use vs_ast::CaseArm;
 use vs_base::{BinaryOp, CaseKind, List, UnaryOp};
-use vs_flat::{Arm, Event, Flat, Kind, Node, Port, Process, Scope, Signal, Statement};
+use vs_flat::{Arm, Event, Flat, Function, Kind, Node, Port, Process, Scope, Signal, Statement};
 use vs_four::{Bits, Range};
 
-/// A flat design that grows, with the expressions and statements that nothing in it names yet, in the order in which they were built.
+/// A flat design that grows, with the expressions and statements that nothing in it names yet, in the order in which they were built. `in_function` says
+/// that the last function has no statement yet: what is built is of it.
 #[derive(Drop)]
 pub struct Builder {
     flat: Flat,
     roots: Vec<u32>,
     bodies: Vec<u32>,
+    in_function: bool,
 }
 
 impl Model for Builder {
-    ghost use Rattle.vs_build.specs.Growth.{Growing, IsGrowing};
+    ghost use Rattle.std.specs.Prelude.{◌≡◌, is_some};
+    ghost use Rattle.vs_build.specs.Growth.{Growing, IsGrowing, open_function};
 
     ghost Value = { Growing };
 
     ghost view = { λ b. record { arena = b.flat; roots = b.roots.items; bodies = b.bodies.items } };
 
-    ghost invariant = { λ b. IsGrowing b.flat b.roots.items b.bodies.items };
+    ghost invariant = { λ b. IsGrowing b.flat b.roots.items b.bodies.items × (b.in_function ≡ is_some (open_function b.flat)) };
 }
 
 impl Builder {
-    ghost use Rattle.vs_build.specs.Drafts.{no_draft, Draft, Root, AddsExpression, AddsParts, AddsStatement, Adds, Labelled, EndsWith, EndsInSelect, EndsInAssign, EndsInParts, EndsInAssignment, EndsInCase, and_scope, and_signal, and_process, arms_with};
+    ghost use Rattle.vs_build.specs.Drafts.{no_draft, Draft, Root, AddsExpression, AddsParts, AddsStatement, Adds, Labelled, EndsWith, EndsInSelect, EndsInAssign, EndsInParts, EndsInAssignment, EndsInCase, EndsFunction, and_scope, and_signal, and_process, and_function, in_function, home, arms_with};
     ghost use Rattle.vs_build.specs.Growth.{draft};
     ghost use Rattle.vs_design.specs.Expressions as E;
     ghost use Rattle.vs_design.specs.Statements as T;
     ghost use Rattle.vs_design.specs.Designs.{Continuous, Always, bit_count as design_bits};
-    ghost use Rattle.vs_design.specs.Elaborated.{has_words, is_formed, IsLawfulDesign};
+    ghost use Rattle.vs_design.specs.Elaborated.{has_words, is_formed, is_formed_header, IsLawfulDesign};
     ghost use Rattle.vs_flat.specs.Ports.{port_of};
-    ghost use Rattle.vs_flat.specs.DesignOf.{scope_of, event_of, design_of};
-    ghost use Rattle.vs_flat.specs.Lawful.{IsLawful};
+    ghost use Rattle.vs_flat.specs.DesignOf.{scope_of, event_of, header_of, design_of};
+    ghost use Rattle.vs_flat.specs.Lawful.{has_locals, IsLawful};
     ghost use Rattle.vs_flat.specs.Targets.{source_of, place_of};
     ghost use Rattle.vs_four.specs.Selects.{one_bit};
     ghost use Rattle.vs_flat.specs.Arena.{signal_length};
@@ -55,6 +58,7 @@ impl Builder {
             flat: Flat::new(alloc),
             roots: Vec::new(alloc),
             bodies: Vec::new(alloc),
+            in_function: false,
         }
     }
 
@@ -66,7 +70,7 @@ impl Builder {
         sized: bool,
         at: u32,
     ) -> Result<(), AllocError>
-        requires { is_formed (draft self.old).design (E.Literal bits signed sized) ≡ true }
+        requires { is_formed (home (draft self.old)) (E.Literal bits signed sized) ≡ true }
         ensures { OnOk result (AddsExpression (draft self.old) (draft self.new) (E.At at (E.Literal bits signed sized)) 1) }
     {
         add_leaf(
@@ -81,13 +85,51 @@ impl Builder {
         )
     }
 
-    /// Builds the name of a signal.
+    /// Builds the name of a signal: in a function, that of a local signal by its number within it.
     pub fn name(&mut self, signal: u32, at: u32) -> Result<(), AllocError>
-        requires there { signal < length (draft self.old).design.signals }
-        requires formed { is_formed (draft self.old).design (E.Name (signal_at (draft self.old).design.signals signal)) ≡ true }
-        ensures { OnOk result (AddsExpression (draft self.old) (draft self.new) (E.At at (E.Name (signal_at (draft self.old).design.signals signal))) 1) }
+        requires there { signal < length (home (draft self.old)).signals }
+        requires formed { is_formed (home (draft self.old)) (E.Name (signal_at (home (draft self.old)).signals signal)) ≡ true }
+        ensures { OnOk result (AddsExpression (draft self.old) (draft self.new) (E.At at (E.Name (signal_at (home (draft self.old)).signals signal))) 1) }
     {
-        add_leaf(&mut self.flat, &mut self.roots, Node::Name { signal }, at)
+        if self.in_function {
+            let function = self.flat.function_count();
+            add_leaf(
+                &mut self.flat,
+                &mut self.roots,
+                Node::Local { function, signal },
+                at,
+            )
+        } else {
+            add_leaf(&mut self.flat, &mut self.roots, Node::Name { signal }, at)
+        }
+    }
+
+    /// Builds the call of a function, by its number, with the last expressions as its arguments, `count` of them (IEEE 1364-2005, 10.4.3).
+    pub fn call(
+        &mut self,
+        alloc: Global,
+        function: u32,
+        count: usize,
+        at: u32,
+    ) -> Result<(), AllocError>
+        requires there { (f : T.Function) × (slice_get (draft self.old).design.functions function ≡ Some f) × (length f.header.inputs ≡ count) }
+        requires some { 1 ≤ count }
+        requires arguments { EndsWith count (draft self.old) }
+        ensures { (s : Draft) (f : T.Function) (ts : Items E.Expression) (m : ℕ) → slice_get (draft self.old).design.functions function ≡ Some f → AddsParts s (draft self.old) ts m → length ts ≡ count
+            → OnOk result (AddsExpression s (draft self.new) (E.At at (E.Call f.header f.statement (E.items_of ts))) (1 + m)) }
+    {
+        let kept = self.roots.len() - count;
+        let arguments = list_of(alloc, &self.roots[kept..])?;
+        add_over(
+            &mut self.flat,
+            &mut self.roots,
+            count,
+            Node::Call {
+                function,
+                arguments: List::of(arguments),
+            },
+            at,
+        )
     }
 
     /// Builds an operator on the last expression.
@@ -189,11 +231,11 @@ impl Builder {
 
     /// Builds a word of a memory (IEEE 1364-2005, 4.9.3): the last expression is its address.
     pub fn word(&mut self, signal: u32, at: u32) -> Result<(), AllocError>
-        requires there { signal < length (draft self.old).design.signals }
-        requires memory { has_words (draft self.old).design (signal_at (draft self.old).design.signals signal) ≡ true }
+        requires there { signal < length (home (draft self.old)).signals }
+        requires memory { has_words (home (draft self.old)) (signal_at (home (draft self.old)).signals signal) ≡ true }
         requires ends { EndsWith 1 (draft self.old) }
         ensures { (s : Draft) (t : E.Expression) (m : ℕ) → AddsExpression s (draft self.old) t m
-            → OnOk result (AddsExpression s (draft self.new) (E.At at (E.Word (signal_at (draft self.old).design.signals signal) t)) (1 + m)) }
+            → OnOk result (AddsExpression s (draft self.new) (E.At at (E.Word (signal_at (home (draft self.old)).signals signal) t)) (1 + m)) }
     {
         let n = self.roots.len();
         let index = self.roots[n - 1];
@@ -392,9 +434,38 @@ impl Builder {
         self.flat.add_signal(signal)
     }
 
+    /// Begins a function with this header: until it is ended, names are those of its local signals (IEEE 1364-2005, 10.4.1).
+    pub(crate) fn begin_function(&mut self, header: Function) -> Result<(), AllocError>
+        requires outside { (draft self.old).function ≡ None }
+        requires expressions { (draft self.old).expressions ≡ [] }
+        requires statements { (draft self.old).statements ≡ [] }
+        requires locals { IsTrue (has_locals header) }
+        requires formed { is_formed_header (draft self.old).design (header_of header) ≡ true }
+        ensures { OnOk result (draft self.new ≡ in_function (draft self.old) (header_of header)) }
+    {
+        self.flat.add_function(header)?;
+        self.in_function = true;
+        Ok(())
+    }
+
+    /// Ends a function: the last statement is what it does. From then on it may be called.
+    pub(crate) fn end_function(&mut self) -> Result<(), AllocError>
+        requires { EndsFunction (draft self.old) }
+        ensures { (s : Draft) (h : E.Header) (t : T.Statement) (m : ℕ) → s.function ≡ Some h → AddsStatement s (draft self.old) t m
+            → OnOk result (draft self.new ≡ and_function s h t) }
+    {
+        let n = self.bodies.len();
+        let statement = self.bodies[n - 1];
+        self.flat.add_body(statement)?;
+        self.bodies.truncate(n - 1);
+        self.in_function = false;
+        Ok(())
+    }
+
     /// The flat design, which is lawful where its plain design is.
     pub fn finish(self) -> Flat
-        requires { IsLawfulDesign (draft self).design }
+        requires outside { (draft self).function ≡ None }
+        requires lawful { IsLawfulDesign (draft self).design }
         ensures design { design_of result ≡ (draft self).design }
         ensures lawful { IsLawful result }
     {
@@ -402,6 +473,7 @@ impl Builder {
             flat,
             roots: _,
             bodies: _,
+            in_function: _,
         } = self;
         flat
     }
@@ -409,6 +481,7 @@ impl Builder {
     /// Builds an assign, written or of a port (IEEE 1364-2005, 6.1 and 12.3.9.2), from the last expression to the one before it.
     pub(crate) fn assign(&mut self, port: Port, at: u32) -> Result<(), AllocError>
         requires room { length (draft self.old).design.processes < 2 ^ 16 }
+        requires outside { (draft self.old).function ≡ None }
         requires ends { EndsInAssign port (draft self.old) }
         ensures { (s r : Draft) (t u : E.Expression) (m n : ℕ) → AddsExpression s r t m → AddsExpression r (draft self.old) u n
             → OnOk result (draft self.new ≡ and_process s (Continuous at (port_of port) (place_of t) (target_tree t) u)) }
@@ -432,6 +505,7 @@ impl Builder {
         at: u32,
     ) -> Result<(), AllocError>
         requires room { length (draft self.old).design.processes < 2 ^ 16 }
+        requires outside { (draft self.old).function ≡ None }
         requires there { IsTrue (all_below (length (draft self.old).design.signals) (map (λ (e : Event). e.signal) events.items)) }
         requires ends { EndsInParts 0 1 (draft self.old) }
         ensures { (s : Draft) (t : T.Statement) (m : ℕ) → AddsStatement s (draft self.old) t m

@@ -6,14 +6,16 @@ ghost use Rattle.vs_grammar.specs.Depths.{expr_depth, exprs_depth, select_depth}
 ghost use Rattle.vs_ast.specs.Views as view;
 ghost use Rattle.vs_const.specs.Typed.{begins_at};
 ghost use Rattle.vs_const.specs.Expressions.{typed};
-ghost use Rattle.vs_build.specs.Drafts.{AddsExpression, AddsParts};
+ghost use Rattle.vs_build.specs.Drafts.{home, AddsExpression, AddsParts};
 ghost use Rattle.vs_build.specs.Growth.{draft};
-ghost use Rattle.vs_build.specs.Buildable.{IsBuildable, IsSelectable, AreBuildable, part_expressions, selected_by};
+ghost use Rattle.vs_build.specs.Buildable.{IsBuildable, IsSelectable, AreArguments, AreBuildable, part_expressions, selected_by};
 
 use crate::builder::Builder;
 use crate::names::{
-    bounds_of, constant_bits, lesser, memory, name_alone, number_within, range_length, source,
+    bounds_of, called, constant_bits, lesser, memory, name_alone, number_within, range_length,
+    source,
 };
+use crate::steady::Steady;
 use std::alloc::{AllocError, Global};
 use vs_ast::{Expr, Name, Select, SliceKind, SystemFunction};
 use vs_base::UnaryOp;
@@ -30,7 +32,7 @@ pub fn operand<E: Env>(
     env: &E,
     needed: bool,
 ) -> Result<(), AllocError>
-    requires { IsBuildable (draft builder.old).design (E.names env.now) needed (view.expr e.now) }
+    requires { IsBuildable (home (draft builder.old)) (E.names env.now) needed (view.expr e.now) }
     ensures { OnOk result (AddsExpression (draft builder.old) (draft builder.new) (typed (view.expr e.now) (E.names env.now) needed).expression (1 + expr_depth (view.expr e.now))) }
 {
     expression(builder, alloc, e, place_of(e), env, needed)
@@ -46,13 +48,20 @@ pub(crate) fn expression<E: Env>(
     env: &E,
     needed: bool,
 ) -> Result<(), AllocError>
-    requires { IsBuildable (draft builder.old).design (E.names env.now) needed (view.expr e.now) }
+    requires { IsBuildable (home (draft builder.old)) (E.names env.now) needed (view.expr e.now) }
     ensures { OnOk result (AddsExpression (draft builder.old) (draft builder.new) (begins_at at (typed (view.expr e.now) (E.names env.now) needed).expression) (1 + expr_depth (view.expr e.now))) }
 {
     match e {
         Expr::Number(n) => builder.literal(n.bits(), n.signed, n.sized, at),
         Expr::Named(name, select) => {
             selected(builder, alloc, select, name, at, env, needed, needed)
+        }
+        Expr::Apply {
+            name,
+            arguments: list,
+        } => {
+            arguments(builder, alloc, list, env, needed)?;
+            builder.call(alloc, called(name, env), list.len(), at)
         }
         Expr::Unary { op, operand: a, .. } => {
             operand(builder, alloc, a, env, needed)?;
@@ -78,7 +87,7 @@ pub(crate) fn expression<E: Env>(
             parts: list,
             ..
         } => {
-            let copies = number_within(alloc, 1, 64, count, env)?;
+            let copies = number_within(alloc, 1, 64, count, &Steady { env: &*env })?;
             parts(builder, alloc, list, env, needed)?;
             builder.join(alloc, list.len(), copies, at)
         }
@@ -113,11 +122,29 @@ fn parts<E: Env>(
     env: &E,
     needed: bool,
 ) -> Result<(), AllocError>
-    requires { AreBuildable (draft builder.old).design (E.names env.now) needed (view.exprs list.now) }
+    requires { AreBuildable (home (draft builder.old)) (E.names env.now) needed (view.exprs list.now) }
     ensures { OnOk result (AddsParts (draft builder.old) (draft builder.new) (part_expressions (E.names env.now) needed list.now) (1 + exprs_depth (view.exprs list.now))) }
 {
     for part in list {
         operand(builder, alloc, part, env, needed)?;
+    }
+    Ok(())
+}
+
+/// Builds the arguments of a call, one after the other (IEEE 1364-2005, 10.4.3).
+#[cycle(expressions)]
+fn arguments<E: Env>(
+    builder: &mut Builder,
+    alloc: Global,
+    list: &[Expr],
+    env: &E,
+    needed: bool,
+) -> Result<(), AllocError>
+    requires { AreArguments (home (draft builder.old)) (E.names env.now) needed (view.exprs list.now) }
+    ensures { OnOk result (AddsParts (draft builder.old) (draft builder.new) (part_expressions (E.names env.now) needed list.now) (1 + exprs_depth (view.exprs list.now))) }
+{
+    for argument in list {
+        operand(builder, alloc, argument, env, needed)?;
     }
     Ok(())
 }
@@ -135,7 +162,7 @@ pub(crate) fn selected<E: Env>(
     fixed: bool,
     needed: bool,
 ) -> Result<(), AllocError>
-    requires { IsSelectable (draft builder.old).design (E.names env.now) fixed needed (view.name name.now) (view.select select.now) }
+    requires { IsSelectable (home (draft builder.old)) (E.names env.now) fixed needed (view.name name.now) (view.select select.now) }
     ensures { OnOk result (AddsExpression (draft builder.old) (draft builder.new) (begins_at at (selected_by (view.select select.now) (view.name name.now) (E.names env.now) fixed needed).expression) (1 + select_depth (view.select select.now))) }
 {
     match select {
@@ -157,7 +184,7 @@ pub(crate) fn selected<E: Env>(
             ..
         } => match kind {
             SliceKind::Between => {
-                let bounds = bounds_of(alloc, left, right, env)?;
+                let bounds = bounds_of(alloc, left, right, &Steady { env: &*env })?;
                 builder.literal(
                     of_number(32, lesser(bounds) as u64),
                     true,
@@ -168,17 +195,18 @@ pub(crate) fn selected<E: Env>(
                 builder.part(range, true, range_length(bounds), at)
             }
             SliceKind::Upward => {
-                let width = number_within(alloc, 1, 64, right, env)?;
+                let width = number_within(alloc, 1, 64, right, &Steady { env: &*env })?;
                 operand(builder, alloc, left, env, needed)?;
                 let range = source(builder, fixed, name, env)?;
                 builder.part(range, true, width, at)
             }
             SliceKind::Downward => {
-                let width = number_within(alloc, 1, 64, right, env)?;
+                let width = number_within(alloc, 1, 64, right, &Steady { env: &*env })?;
                 operand(builder, alloc, left, env, needed)?;
                 let range = source(builder, fixed, name, env)?;
                 builder.part(range, false, width, at)
             }
         },
+        Select::Word { .. } => unreachable!(),
     }
 }

@@ -1,8 +1,9 @@
 //! The items of a scope that are processes (IEEE 1364-2005, 6.1).
 
-ghost use Rattle.std.specs.Prelude.{◌≡◌, ◌+◌, ◌≤◌, ◌^◌, length, map, OnOk};
+ghost use Rattle.std.specs.Prelude.{◌≡◌, ◌+◌, ◌≤◌, ◌^◌, None, length, map, OnOk};
 ghost use Rattle.vs_grammar.specs.Shapes.{Each};
 ghost use Rattle.vs_ast.specs.Views as view;
+ghost use Rattle.vs_build.specs.Drafts.{home};
 ghost use Rattle.vs_build.specs.Growth.{draft};
 ghost use Rattle.vs_build.specs.Writable.{IsAssignable};
 ghost use Rattle.vs_build.specs.Items.{and_processes, assign_processes, value_processes, wire_processes, IsDeclared};
@@ -22,7 +23,8 @@ pub fn assign_each<E: Env>(
     env: &E,
 ) -> Result<(), AllocError>
     requires room { length (draft builder.old).design.processes + length list.now ≤ 2 ^ 16 }
-    requires fine { Each (IsAssignable (draft builder.old).design (E.names env.now)) (map view.assign list.now) }
+    requires outside { (draft builder.old).function ≡ None }
+    requires fine { Each (IsAssignable (home (draft builder.old)) (E.names env.now)) (map view.assign list.now) }
     ensures { OnOk result (draft builder.new ≡ and_processes (draft builder.old) (assign_processes place (map view.assign list.now) (E.names env.now))) }
 {
     for a in list {
@@ -40,7 +42,8 @@ fn declared<E: Env>(
     env: &E,
 ) -> Result<(), AllocError>
     requires room { length (draft builder.old).design.processes + 1 ≤ 2 ^ 16 }
-    requires fine { IsDeclared (draft builder.old).design (E.names env.now) (view.declarator d.now) }
+    requires outside { (draft builder.old).function ≡ None }
+    requires fine { IsDeclared (home (draft builder.old)) (E.names env.now) (view.declarator d.now) }
     ensures { OnOk result (draft builder.new ≡ and_processes (draft builder.old) (value_processes place (view.declarator d.now).name (view.declarator d.now).value (E.names env.now))) }
 {
     match &d.value {
@@ -59,7 +62,8 @@ pub fn wire_each<E: Env>(
     env: &E,
 ) -> Result<(), AllocError>
     requires room { length (draft builder.old).design.processes + length names.now ≤ 2 ^ 16 }
-    requires fine { Each (IsDeclared (draft builder.old).design (E.names env.now)) (map view.declarator names.now) }
+    requires outside { (draft builder.old).function ≡ None }
+    requires fine { Each (IsDeclared (home (draft builder.old)) (E.names env.now)) (map view.declarator names.now) }
     ensures { OnOk result (draft builder.new ≡ and_processes (draft builder.old) (wire_processes place (map view.declarator names.now) (E.names env.now))) }
 {
     for d in names {

@@ -4,13 +4,14 @@ ghost use Rattle.std.specs.Prelude.{◌≡◌, ◌≤◌, ◌+◌, ◌-◌, ℕ,
 ghost use Rattle.vs_four.specs.Selects as four;
 ghost use Rattle.vs_grammar.specs.Trees.{expr_place};
 ghost use Rattle.vs_ast.specs.Views as view;
+ghost use Rattle.vs_const.specs.Meanings.{FunctionMeaning, AFunction};
 ghost use Rattle.vs_const.specs.Typed.{begins_at, natural};
 ghost use Rattle.vs_const.specs.Selects.{name_typed, base_of};
 ghost use Rattle.vs_design.specs.Values.{constant_value};
 ghost use Rattle.vs_const.specs.Expressions.{constant};
-ghost use Rattle.vs_build.specs.Drafts.{AddsExpression};
+ghost use Rattle.vs_build.specs.Drafts.{home, AddsExpression};
 ghost use Rattle.vs_build.specs.Growth.{draft};
-ghost use Rattle.vs_build.specs.Buildable.{memory_of, IsNameable, HasBits, AddsSource, IsNumbered, AreBounds, IsRangeOf, IsConstant};
+ghost use Rattle.vs_build.specs.Buildable.{memory_of, IsNameable, HasBits, AddsSource, IsCallable, IsWithin, AreBounds, IsRangeOf, IsConstant};
 
 use crate::builder::Builder;
 use std::alloc::{AllocError, Global};
@@ -26,7 +27,7 @@ pub(crate) fn name_alone<E: Env>(
     at: u32,
     env: &E,
 ) -> Result<(), AllocError>
-    requires { IsNameable (draft builder.old).design needed name.now.place (E.names env.now name.now.text) }
+    requires { IsNameable (home (draft builder.old)) needed name.now.place (E.names env.now name.now.text) }
     ensures { OnOk result (AddsExpression (draft builder.old) (draft builder.new) (begins_at at (name_typed needed name.now.place (E.names env.now name.now.text)).expression) 1) }
 {
     match env.find(name.text.as_slice()) {
@@ -46,6 +47,17 @@ pub(crate) fn memory<E: Env>(name: &Name, env: &E) -> Option<u32>
     }
 }
 
+/// The number of the function that a name means (IEEE 1364-2005, 10.4.3).
+pub(crate) fn called<E: Env>(name: &Name, env: &E) -> u32
+    requires { IsCallable (E.names env.now name.now.text) }
+    ensures { (f : FunctionMeaning) → E.names env.now name.now.text ≡ AFunction f → result ≡ f.number }
+{
+    match env.find(name.text.as_slice()) {
+        Named::Function(f) => f.number,
+        _ => unreachable!(),
+    }
+}
+
 /// Builds what bits are selected of, and answers its declared range.
 pub(crate) fn source<E: Env>(
     builder: &mut Builder,
@@ -53,11 +65,11 @@ pub(crate) fn source<E: Env>(
     name: &Name,
     env: &E,
 ) -> Result<Range, AllocError>
-    requires { HasBits (draft builder.old).design needed name.now.place (E.names env.now name.now.text) }
+    requires { HasBits (home (draft builder.old)) needed name.now.place (E.names env.now name.now.text) }
     ensures { IfOk result (λ r. AddsSource (draft builder.old) (draft builder.new) (base_of needed name.now.place (E.names env.now name.now.text)) r) }
 {
     match env.find(name.text.as_slice()) {
-        Named::Value { value, range } => {
+        Named::Value { value, range, .. } => {
             builder.literal(value.bits, value.signed, true, name.place)?;
             Ok(range)
         }
@@ -80,7 +92,7 @@ pub(crate) fn number_within<E: Env>(
     e: &Expr,
     env: &E,
 ) -> Result<u32, AllocError>
-    requires { IsNumbered low high (E.names env.now) (view.expr e.now) }
+    requires { IsWithin low high (E.names env.now) (view.expr e.now) }
     ensures { IfOk result (λ n. (natural low high (expr_place (view.expr e.now)) (constant (view.expr e.now) (E.names env.now))).number ≡ Some n) }
 {
     match number(alloc, e, env) {

@@ -3,7 +3,7 @@
 ghost use Rattle.std.specs.Prelude.{◌≡◌, ◌+◌, OnOk};
 ghost use Rattle.vs_grammar.specs.Depths.{target_depth, targets_depth};
 ghost use Rattle.vs_ast.specs.Views as view;
-ghost use Rattle.vs_build.specs.Drafts.{AddsExpression, AddsParts};
+ghost use Rattle.vs_build.specs.Drafts.{home, AddsExpression, AddsParts};
 ghost use Rattle.vs_build.specs.Growth.{draft};
 ghost use Rattle.vs_build.specs.Writable.{IsWritable, AreWritable, target_expression, target_expressions};
 
@@ -22,7 +22,7 @@ pub(crate) fn target<E: Env>(
     env: &E,
     procedural: bool,
 ) -> Result<(), AllocError>
-    requires { IsWritable (draft builder.old).design (E.names env.now) procedural (view.target t.now) }
+    requires { IsWritable (home (draft builder.old)) (E.names env.now) procedural (view.target t.now) }
     ensures { OnOk result (AddsExpression (draft builder.old) (draft builder.new) (target_expression (view.target t.now) (E.names env.now) procedural) (1 + target_depth (view.target t.now))) }
 {
     match t {
@@ -52,7 +52,7 @@ fn targets<E: Env>(
     env: &E,
     procedural: bool,
 ) -> Result<(), AllocError>
-    requires { AreWritable (draft builder.old).design (E.names env.now) procedural (view.targets list.now) }
+    requires { AreWritable (home (draft builder.old)) (E.names env.now) procedural (view.targets list.now) }
     ensures { OnOk result (AddsParts (draft builder.old) (draft builder.new) (target_expressions (E.names env.now) procedural list.now) (1 + targets_depth (view.targets list.now))) }
 {
     for part in list {

@@ -36,7 +36,7 @@ use Rattle.vs_compile.proofs.Laying.{registers_below, temps_fit}
 use Rattle.vs_compile.proofs.Lists.{and_true, at_process, is_none}
 use Rattle.vs_design.specs.Within.{StatementIsWithin, names_within, statement_within}
 use Rattle.vs_design.specs.Elaborated.{are_formed_events, is_formed_process, is_formed_statement}
-use Rattle.vs_design.specs.Sizes.{process_weight, size, statement_weight}
+use Rattle.vs_design.specs.Sizes.{process_weight, statement_weight}
 use Rattle.std.proofs.lemmas.List.Sums.{sum_by-cons}
 use Rattle.vs_compile.proofs.Lowering.{stores_left, writes_in}
 

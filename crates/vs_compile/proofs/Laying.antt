@@ -1,7 +1,6 @@
 -- What a design with a layout gives the lowering of a process.
 use Rattle.std.proofs.Common.{◌≡◌, ℕ, ◌+◌, ◌<◌, ◌^◌, Bool, true, false, List, [], ◌++◌, Some, None, Option, length, slice_get, sym, ap, ◌∙◌, subst, refl, arith}
 use Rattle.std.specs.Prelude.{slice_index}
-use Rattle.vs_net.specs.Network.{Sleeper}
 use Rattle.vs_net.specs.Network as N
 use Rattle.vs_design.specs.Designs.{Process, Design, bit_count}
 use Rattle.vs_design.specs.Footprints.{ascending, contains}

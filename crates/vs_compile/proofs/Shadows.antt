@@ -1,5 +1,5 @@
 -- A table of slots, by bit.
-use Rattle.std.proofs.Common.{◌≡◌, ℕ, ◌+◌, ◌<◌, ◌≤◌, Bool, true, false, ◌||◌, ◌==◌, List, [], ◌∷◌, length, get_or, take, slice_set, sym, ap, ◌∙◌, refl, eqb-true, eq-eqb}
+use Rattle.std.proofs.Common.{◌≡◌, ℕ, ◌+◌, ◌<◌, Bool, true, false, ◌||◌, ◌==◌, List, [], ◌∷◌, length, get_or, take, slice_set, sym, ap, ◌∙◌, refl, eqb-true, eq-eqb}
 use Rattle.std.proofs.lemmas.List.{take_more, get_or-set_same, get_or-set_other}
 use Rattle.vs_design.specs.Cycles.{AreApart}
 use Rattle.vs_design.specs.Footprints.{contains}

@@ -8,10 +8,10 @@ use Rattle.vs_ast.specs.declared.expressions.Expr.{Expr}
 use Rattle.vs_base.specs.declared.operators.BinaryOp.{BinaryOp}
 use Rattle.vs_const.specs.declared.found.Found.{Found}
 use Rattle.vs_const.specs.declared.names.Named.{Named}
-use Rattle.vs_const.specs.declared.names.Named.TheVariants.{Value, Undefined as UndefinedValue, Signal as SignalNamed, Memory as MemoryNamed, Other, Unknown as UnknownName}
+use Rattle.vs_const.specs.declared.names.Named.TheVariants.{Value, Undefined as UndefinedValue, Signal as SignalNamed, Memory as MemoryNamed, Function as FunctionNamed, Incomplete as IncompleteNamed, Other, Barred as BarredName, Unknown as UnknownName}
 use Rattle.vs_const.specs.declared.names.SignalShape.{SignalShape}
 use Rattle.vs_const.specs.declared.ranges.Numbered.{Numbered as NumberedOf}
-use Rattle.vs_const.specs.Meanings.{SignalMeaning, Meaning, AValue, Undefined, ASignal, AMemory, Another, Unknown, Means, Find, IsFair, IsFairMeaning}
+use Rattle.vs_const.specs.Meanings.{SignalMeaning, FunctionMeaning, Meaning, AValue, Undefined, ASignal, AMemory, AFunction, Incomplete, Another, Barred, Unknown, Means, Find, IsFair, IsFairMeaning, steady}
 use Rattle.vs_const.specs.Typed.{Typed, noted, binary_typed, number_of}
 use Rattle.vs_const.specs.Selects.{base_of, taken, select_typed, slice_taken, moving, bit_typed}
 use Rattle.vs_const.specs.Expressions.{typed, selected, number, clog2_typed}
@@ -43,49 +43,58 @@ placed a z p k h = subst (λ v. p ≡ expr_place (view.expr v)) k h
 pub between_arm : (needed : Bool) (find : Find) (name : tree.Name) (bracket : ℕ) (a b x y z w : Expr) (lp rp : ℕ) (named : Named) (m n : NumberedOf) (r : Result Found AllocError)
     → IsFair find → Means named (find name.bytes)
     → x ≡ a → y ≡ b → z ≡ a → w ≡ b → lp ≡ expr_place (view.expr z) → rp ≡ expr_place (view.expr w)
-    → ChecksNumber m (number (view.expr x) find) → ChecksNumber n (number (view.expr y) find)
+    → ChecksNumber m (number (view.expr x) (steady find)) → ChecksNumber n (number (view.expr y) (steady find))
     → ((o : Meaning) (t u : Typed) → IsFairMeaning o → Means named o → ChecksNumber m (number_of lp t) → ChecksNumber n (number_of rp u)
     → IfOk r (λ s. Finds needed s (select_typed (base_of needed name.place o) (slice_taken (base_of needed name.place o).range bracket tree.Between lp t rp u))))
     → IfOk r (λ s. Finds needed s (selected (tree.Slice bracket tree.Between (view.expr a) (view.expr b)) name find needed))
 between_arm needed find name bracket a b x y z w lp rp named m n r fair e i j k l p q u v f =
     let o = find name.bytes in
-    let t = typed (view.expr a) find true in
-    let s = typed (view.expr b) find true in
+    let t = typed (view.expr a) (steady find) true in
+    let s = typed (view.expr b) (steady find) true in
     let P : ℕ → ℕ → Type 0 = λ c d. ChecksNumber m (number_of c t) → ChecksNumber n (number_of d s) → IfOk r (λ k. Finds needed k (select_typed (base_of needed name.place o) (slice_taken (base_of needed name.place o).range bracket tree.Between c t d s))) in
     let at_left : P (expr_place (view.expr a)) rp = subst (λ c. P c rp) (placed a z lp k p) (f o t s (fair name.bytes) e) in
     let at_both : P (expr_place (view.expr a)) (expr_place (view.expr b)) = subst (λ d. P (expr_place (view.expr a)) d) (placed b w rp l q) at_left in
-    at_both (subst (λ c. ChecksNumber m (number (view.expr c) find)) i u) (subst (λ c. ChecksNumber n (number (view.expr c) find)) j v)
+    at_both (subst (λ c. ChecksNumber m (number (view.expr c) (steady find))) i u) (subst (λ c. ChecksNumber n (number (view.expr c) (steady find))) j v)
 
 pub moving_arm : (needed up : Bool) (find : Find) (name : tree.Name) (a b x y w : Expr) (rp : ℕ) (named : Named) (c : Found) (n : NumberedOf) (r : Result Found AllocError)
     → IsFair find → Means named (find name.bytes)
     → x ≡ a → y ≡ b → w ≡ b → rp ≡ expr_place (view.expr w)
-    → Says needed c (typed (view.expr x) find needed) → ChecksNumber n (number (view.expr y) find)
+    → Says needed c (typed (view.expr x) find needed) → ChecksNumber n (number (view.expr y) (steady find))
     → ((o : Meaning) (t u : Typed) → IsFairMeaning o → Means named o → Says needed c t → ChecksNumber n (number_of rp u)
     → IfOk r (λ s. Finds needed s (select_typed (base_of needed name.place o) (moving (base_of needed name.place o).range up t rp u))))
-    → IfOk r (λ s. Finds needed s (select_typed (base_of needed name.place (find name.bytes)) (moving (base_of needed name.place (find name.bytes)).range up (typed (view.expr a) find needed) (expr_place (view.expr b)) (typed (view.expr b) find true))))
+    → IfOk r (λ s. Finds needed s (select_typed (base_of needed name.place (find name.bytes)) (moving (base_of needed name.place (find name.bytes)).range up (typed (view.expr a) find needed) (expr_place (view.expr b)) (typed (view.expr b) (steady find) true))))
 moving_arm needed up find name a b x y w rp named c n r fair e i j l q u v f =
     let o = find name.bytes in
     let t = typed (view.expr a) find needed in
-    let s = typed (view.expr b) find true in
+    let s = typed (view.expr b) (steady find) true in
     let P : ℕ → Type 0 = λ d. ChecksNumber n (number_of d s) → IfOk r (λ k. Finds needed k (select_typed (base_of needed name.place o) (moving (base_of needed name.place o).range up t d s))) in
     let here : P (expr_place (view.expr b)) = subst P (placed b w rp l q) (f o t s (fair name.bytes) e (subst (λ d. Says needed c (typed (view.expr d) find needed)) i u)) in
-    here (subst (λ d. ChecksNumber n (number (view.expr d) find)) j v)
+    here (subst (λ d. ChecksNumber n (number (view.expr d) (steady find))) j v)
 
 -- what is no memory has bits
 pub bit_arm : (needed : Bool) (place : ℕ) (named : Named) (m : Meaning) (t : Typed) (r : Result Found AllocError) → ((s : SignalShape) → named ≡ MemoryNamed s → ⊥) → Means named m
     → IfOk r (λ s. Finds needed s (select_typed (base_of needed place m) (taken (base_of needed place m).range true 1 t t.faults)))
     → IfOk r (λ s. Finds needed s (bit_typed needed place m t))
-bit_arm needed place named (AValue v q) t r other h f = f
+bit_arm needed place named (AValue v q turns) t r other h f = f
 bit_arm needed place named (Undefined q) t r other h f = f
 bit_arm needed place named (ASignal s) t r other h f = f
+bit_arm needed place named (AFunction g) t r other h f = f
+bit_arm needed place named Incomplete t r other h f = f
 bit_arm needed place named Another t r other h f = f
+bit_arm needed place named (Barred rule) t r other h f = f
 bit_arm needed place named Unknown t r other h f = f
-bit_arm needed place (Value v q) (AMemory m) t r other h f = cc
+bit_arm needed place (Value v q turns) (AMemory m) t r other h f = cc
 bit_arm needed place (UndefinedValue q) (AMemory m) t r other h f = cc
 bit_arm needed place (SignalNamed s) (AMemory m) t r other h f = absurd (differ h.1)
   where
     differ : {k : SignalMeaning} → AMemory m ≡ ASignal k → ⊥
     differ e = cc
 bit_arm needed place (MemoryNamed s) (AMemory m) t r other h f = absurd (other s refl)
+bit_arm needed place (FunctionNamed g) (AMemory m) t r other h f = absurd (differ h.1)
+  where
+    differ : {k : FunctionMeaning} → AMemory m ≡ AFunction k → ⊥
+    differ e = cc
+bit_arm needed place IncompleteNamed (AMemory m) t r other h f = cc
 bit_arm needed place Other (AMemory m) t r other h f = cc
+bit_arm needed place (BarredName rule) (AMemory m) t r other h f = cc
 bit_arm needed place UnknownName (AMemory m) t r other h f = cc

@@ -5,34 +5,23 @@ use Rattle.vs_four.specs.declared.Range.{Range}
 use Rattle.vs_four.specs.Logic.{BitList, all_known}
 use Rattle.vs_four.specs.Numbers.{integer, clog2}
 use Rattle.vs_four.specs.Selects.{Part, range_length, is_descending}
-use Rattle.vs_design.specs.Expressions.{OfSignal, OfConstant, Expression, Literal, Name, Select, Word, Unary, Binary, Choice, Join, Repeat, At, Call, UnaryOp, Signed, Unsigned, BinaryOp, Way, InContext, Own, Compared, Shifted, way, binary_length, width, sign, is_constant}
+use Rattle.vs_design.specs.Expressions.{OfSignal, OfConstant, Expression, Literal, Name, Select, Word, Unary, Binary, Choice, Join, Repeat, At, Call, Items, NoItem, Item, UnaryOp, Signed, Unsigned, BinaryOp, Way, InContext, Own, Compared, Shifted, way, binary_length, width, sign, is_constant}
 use Rattle.vs_design.specs.Values.{constant_value}
 use Rattle.vs_design.specs.Designs.{Design}
 use Rattle.vs_design.specs.Fits.{fits_64}
-use Rattle.vs_design.specs.Elaborated.{is_plain, has_words, is_lawful_range, same_range, is_formed, is_formed_select}
+use Rattle.vs_design.specs.Elaborated.{is_plain, has_words, is_lawful_range, same_range, is_formed, is_formed_select, is_formed_header, is_formed_statement, is_nil, inside, are_as_many, are_formed}
+use Rattle.vs_design.specs.Rules.{mixed_in}
 use Rattle.vs_grammar.specs.Trees as tree
 use Rattle.vs_grammar.specs.Trees.{expr_place}
-use Rattle.vs_grammar.specs.Shapes.{IsExpr, AreParts, IsSelect, IsLiteral}
+use Rattle.vs_grammar.specs.Shapes.{IsExpr, AreParts, AreExprs, IsSelect, IsLiteral}
 use Rattle.vs_const.specs.declared.faults.Fault.{Fault}
-use Rattle.vs_const.specs.Faults.{Rule, fault, fault_if, names_signal, BadRange, UnknownConstant, WrongKind}
-use Rattle.vs_const.specs.Meanings.{SignalMeaning, Meaning, AValue, Undefined, ASignal, AMemory, Another, Unknown, Find, ConstantValue, IsFairValue}
-use Rattle.vs_const.specs.Sound.{IsSoundMemory, IsSound, AreSound, IsFine}
+use Rattle.vs_const.specs.Faults.{Rule, fault, fault_if, names_signal, BadRange, UnknownConstant, WrongKind, FunctionRule}
+use Rattle.vs_const.specs.Meanings.{SignalMeaning, FunctionMeaning, Meaning, AValue, Undefined, ASignal, AMemory, AFunction, Incomplete, Another, Barred, Unknown, Find, ConstantValue, IsFairValue, steady}
+use Rattle.vs_const.specs.Sound.{IsSoundMemory, IsFormedFunction, IsSoundFunction, IsSound, AreSound, IsFine}
 use Rattle.vs_const.specs.Typed.{Typed, begins_at, is_over, noted, known_number, number_known, number_if, number_of, natural_if, natural_within, natural, both_lengths, length_map, unary_op_length, unary_typed, binary_way_length, binary_typed, choice_typed, join_typed, copies_typed, fine}
-use Rattle.vs_const.specs.Selects.{range_if, range_of, bounds, known_signal, name_typed, Base, is_scalar, signal_base, base_of, Taken, taken, if_width, moving, is_against, lesser_bound, along, between, slice_taken, first_needed, select_if, select_typed, word_if, word_typed, bit_typed}
-use Rattle.vs_const.specs.Expressions.{unsized_faults, is_clean, part_typed, replicated, replication_typed, clog2_of, clog2_typed, call_typed, argument_needed, typed, selected, typed_parts}
-
-pub sound_needed : (d : Design) (needed : Bool) (m : Meaning) → IsSound d needed m → IsSound d true m
-sound_needed d needed (AValue v r) s = s
-sound_needed d needed (Undefined r) s = s
-sound_needed d needed (ASignal m) s = tt
-sound_needed d needed (AMemory m) s = tt
-sound_needed d needed Another s = tt
-sound_needed d needed Unknown s = tt
-
-pub first_sound : (d : Design) (kind : tree.SliceKind) (needed : Bool) (find : Find) → AreSound d needed find → AreSound d (first_needed kind needed) find
-first_sound d tree.Between needed find s = λ name. sound_needed d needed (find name) (s name)
-first_sound d tree.Upward needed find s = s
-first_sound d tree.Downward needed find s = s
+use Rattle.vs_const.specs.Selects.{range_if, range_of, bounds, known_signal, name_typed, Base, is_scalar, signal_base, base_of, Taken, taken, if_width, moving, is_against, lesser_bound, along, between, slice_taken, first_needed, first_names, select_if, select_typed, wrong_rule, word_if, word_typed, bit_typed, further_typed}
+use Rattle.vs_const.specs.Expressions.{unsized_faults, is_clean, part_typed, replicated, replication_typed, clog2_of, clog2_typed, call_typed, argument_needed, TypedItems, and_argument, call_rule, call_if, called, applied, typed, selected, typed_parts, typed_arguments}
+use Rattle.vs_const.proofs.Steady.{sound_needed, steady_sound, first_sound}
 
 argument_sound : (d : Design) (function : tree.SystemFunction) (needed : Bool) (find : Find) → AreSound d needed find → AreSound d (argument_needed function needed) find
 argument_sound d tree.AsSigned needed find s = s
@@ -289,7 +278,7 @@ bounds_fine d bracket p q t u t_if u_if h =
 -- ---- names
 
 name_fine : (d : Design) (needed : Bool) (place : ℕ) (m : Meaning) → IsSound d needed m → (name_typed needed place m).faults ≡ [] → IsFine d needed (name_typed needed place m)
-name_fine d needed place (AValue v r) s h = record { good = refl; formed = literal (length v.bits) s.0.some s.0.most; length = refl; constant = λ k. refl }
+name_fine d needed place (AValue v r turns) s h = record { good = refl; formed = literal (length v.bits) s.0.some s.0.most; length = refl; constant = λ k. refl }
   where
     literal : (n : ℕ) → 1 ≤ n → n ≤ 64 → (fits_64 n && true) ≡ true
     literal n a b = both (fits_64 n) true (both (nat_le 1 n) (nat_le n 64) (le-leb 1 n a) (le-leb n 64 b)) refl
@@ -305,7 +294,10 @@ name_fine d false place (ASignal m) s h = known m.known s.1
     known false e = cc
 name_fine d true place (AMemory m) s h = cc
 name_fine d false place (AMemory m) s h = cc
+name_fine d needed place (AFunction f) s h = cc
+name_fine d needed place Incomplete s h = cc
 name_fine d needed place Another s h = cc
+name_fine d needed place (Barred rule) s h = cc
 name_fine d needed place Unknown s h = cc
 
 -- ---- selects
@@ -365,16 +357,22 @@ signal_base_fine d place s (Some r) e h k f = record { good = k; r = r; range = 
     formed part i w = three (is_plain d s.signal) (same_range s.signal.range (Some part.range)) (fits_64 part.width) h (subst (λ q. same_range q (Some part.range) ≡ true) (sym e) (subst (λ q. same_range (Some r) (Some q) ≡ true) (sym i) (same_itself r))) w
 
 base_fine : (d : Design) (needed : Bool) (place : ℕ) (m : Meaning) → IsSound d needed m → (base_of needed place m).faults ≡ [] → IsFineBase d needed (base_of needed place m)
-base_fine d true place (AValue v r) s h = value_base_fine d true v r s.0 s.1
-base_fine d false place (AValue v r) s h = value_base_fine d false v r s.0 s.1
+base_fine d true place (AValue v r turns) s h = value_base_fine d true v r s.0 s.1
+base_fine d false place (AValue v r turns) s h = value_base_fine d false v r s.0 s.1
 base_fine d true place (Undefined r) s h = absurd s
 base_fine d false place (Undefined r) s h = absurd s
 base_fine d true place (ASignal m) s h = cc
 base_fine d false place (ASignal m) s h = signal_base_fine d place m m.signal.range refl s.0 s.1 h
 base_fine d true place (AMemory m) s h = cc
 base_fine d false place (AMemory m) s h = cc
+base_fine d true place (AFunction f) s h = cc
+base_fine d false place (AFunction f) s h = cc
+base_fine d true place Incomplete s h = cc
+base_fine d false place Incomplete s h = cc
 base_fine d true place Another s h = cc
 base_fine d false place Another s h = cc
+base_fine d true place (Barred rule) s h = cc
+base_fine d false place (Barred rule) s h = cc
 base_fine d true place Unknown s h = cc
 base_fine d false place Unknown s h = cc
 
@@ -511,11 +509,89 @@ one_bit_fine d needed place m i s fine_if h =
 
 bit_typed_fine : (d : Design) (needed : Bool) (place : ℕ) (m : Meaning) (i : Typed) → IsSound d needed m → (i.faults ≡ [] → IsFine d needed i) → (bit_typed needed place m i).faults ≡ [] → IsFine d needed (bit_typed needed place m i)
 bit_typed_fine d needed place (AMemory m) i s fine_if h = word_fine d needed place m i s fine_if h
-bit_typed_fine d needed place (AValue v r) i s fine_if h = one_bit_fine d needed place (AValue v r) i s fine_if h
+bit_typed_fine d needed place (AValue v r turns) i s fine_if h = one_bit_fine d needed place (AValue v r turns) i s fine_if h
 bit_typed_fine d needed place (Undefined r) i s fine_if h = one_bit_fine d needed place (Undefined r) i s fine_if h
 bit_typed_fine d needed place (ASignal m) i s fine_if h = one_bit_fine d needed place (ASignal m) i s fine_if h
+bit_typed_fine d needed place (AFunction f) i s fine_if h = one_bit_fine d needed place (AFunction f) i s fine_if h
+bit_typed_fine d needed place Incomplete i s fine_if h = one_bit_fine d needed place Incomplete i s fine_if h
 bit_typed_fine d needed place Another i s fine_if h = one_bit_fine d needed place Another i s fine_if h
+bit_typed_fine d needed place (Barred rule) i s fine_if h = one_bit_fine d needed place (Barred rule) i s fine_if h
 bit_typed_fine d needed place Unknown i s fine_if h = one_bit_fine d needed place Unknown i s fine_if h
+
+-- a name at fault
+misnamed_fine : (d : Design) (needed : Bool) (t : Typed) (rule : Rule) (place : ℕ) → fault rule place ≡ [] → IsFine d needed t
+misnamed_fine d needed t rule place h = absurd (no h)
+  where
+    no : fault rule place ≡ [] → ⊥
+    no k = cc
+
+-- ---- calls of functions
+
+-- the arguments of a call, where no fault was met
+pub record AreFine (d : Design) (t : TypedItems) : Type 0 where
+  pub good : t.good ≡ true
+  pub formed : are_formed d t.items ≡ true
+
+argument_fine : (d : Design) (needed : Bool) (t : Typed) (others : TypedItems) → IsFine d needed t → AreFine d others → AreFine d (and_argument t others)
+argument_fine d needed t others f g = record {
+  good = both t.good others.good f.good g.good;
+  formed = both (is_formed d t.expression) (are_formed d others.items) f.formed g.formed;
+}
+
+call_faults : (good : Bool) (f : FunctionMeaning) (t : TypedItems) (fs : List Fault) → (call_if good f t fs).faults ≡ fs
+call_faults true f t fs = refl
+call_faults false f t fs = refl
+
+-- a known function is called with as many arguments as it has inputs
+as_many : (known fits : Bool) → known ≡ true → (known && not fits) ≡ false → fits ≡ true
+as_many true true h k = refl
+as_many true false h k = cc
+as_many false fits h k = cc
+
+call_fits : (d : Design) (f : FunctionMeaning) (t : TypedItems) (fs : List Fault) (good : Bool) → good ≡ true → IsFormedFunction d f → are_as_many t.items f.header.inputs ≡ true → are_formed d t.items ≡ true → IsFine d false (call_if good f t fs)
+call_fits d f t fs false e g k a = cc
+call_fits d f t fs true e g k a = record {
+  good = refl;
+  formed = five (is_formed_header d f.header) (is_nil (mixed_in false f.statement)) (is_formed_statement (inside d f.header) f.statement) (are_as_many t.items f.header.inputs) (are_formed d t.items) g.header g.blocking g.statement k a;
+  length = refl;
+  constant = λ c. no c;
+}
+  where
+    no : false ≡ true → is_constant (Call f.header f.statement t.items) ≡ true
+    no c = cc
+
+    five : (a b c d e : Bool) → a ≡ true → b ≡ true → c ≡ true → d ≡ true → e ≡ true → (a && b && c && d && e) ≡ true
+    five true true true true true h k l m n = refl
+    five true true true true false h k l m n = cc
+    five true true true false e h k l m n = cc
+    five true true false d e h k l m n = cc
+    five true false c d e h k l m n = cc
+    five false b c d e h k l m n = cc
+
+called_fine : (d : Design) (f : FunctionMeaning) (place : ℕ) (t : TypedItems) → IsSoundFunction d false f → (t.faults ≡ [] → AreFine d t) → (called f place t).faults ≡ [] → IsFine d false (called f place t)
+called_fine d f place t s fine_if h =
+    let fits = are_as_many t.items f.header.inputs in
+    let fs = fault_if (f.known && not fits) FunctionRule place ++ t.faults in
+    let n = both_nil (fault_if (f.known && not fits) FunctionRule place) t.faults (sym (call_faults (f.known && (fits && t.good)) f t fs) ∙ h) in
+    let k = as_many f.known fits s.0 (no_fault (f.known && not fits) FunctionRule place n.0) in
+    let a = fine_if n.1 in
+    call_fits d f t fs (f.known && (fits && t.good)) (both f.known (fits && t.good) s.0 (both fits t.good k a.good)) s.1 k a.formed
+
+applied_fine : (d : Design) (needed : Bool) (place : ℕ) (m : Meaning) (t : TypedItems) → IsSound d needed m → (t.faults ≡ [] → AreFine d t) → (applied needed place m t).faults ≡ [] → IsFine d needed (applied needed place m t)
+applied_fine d true place (AFunction f) t s fine_if h = cc
+applied_fine d false place (AFunction f) t s fine_if h = called_fine d f place t s fine_if h
+applied_fine d needed place (AValue v r turns) t s fine_if h = cc
+applied_fine d needed place (Undefined r) t s fine_if h = cc
+applied_fine d needed place (ASignal m) t s fine_if h = cc
+applied_fine d needed place (AMemory m) t s fine_if h = cc
+applied_fine d needed place Incomplete t s fine_if h = cc
+applied_fine d needed place Another t s fine_if h = cc
+applied_fine d needed place (Barred rule) t s fine_if h = cc
+applied_fine d needed place Unknown t s fine_if h = cc
+
+some_exprs : (es : tree.Exprs) → AreParts es → AreExprs es
+some_exprs tree.NoExpr x = absurd x
+some_exprs (tree.AndExpr e rest) x = x
 
 -- a literal of the text has 1 to 64 bits, and 32 without a size
 literal_formed : (d : Design) (n : tree.Literal) → IsLiteral n → is_formed d (Literal n.bits n.signed n.sized) ≡ true
@@ -527,45 +603,64 @@ literal_formed d n x = both (fits_64 (length n.bits)) (n.sized || (length n.bits
 
 -- ---- the whole
 
-module _ (d : Design) (find : Find) where
+module _ (d : Design) where
   mutual
-    pub typed_fine : (e : tree.Expr) (needed : Bool) → AreSound d needed find → IsExpr e → (typed e find needed).faults ≡ [] → IsFine d needed (typed e find needed)
-    typed_fine (tree.Number n) needed s x h = noted_fine d needed n.place (fine (Literal n.bits n.signed n.sized) []) (λ k. record { good = refl; formed = literal_formed d n x; length = refl; constant = λ m. refl }) h
-    typed_fine (tree.Named name select) needed s x h = noted_fine d needed name.place (selected select name find needed) (λ k. selected_fine select name needed s x.1 k) h
-    typed_fine (tree.Unary place op a) needed s x h = noted_fine d needed place (unary_typed op (typed a find needed)) (λ k. unary_fine d needed op (typed a find needed) (typed_fine a needed s x k)) h
-    typed_fine (tree.Binary op a b) needed s x h =
+    every_fine : (e : tree.Expr) (find : Find) (needed : Bool) → AreSound d needed find → IsExpr e → (typed e find needed).faults ≡ [] → IsFine d needed (typed e find needed)
+    every_fine (tree.Number n) find needed s x h = noted_fine d needed n.place (fine (Literal n.bits n.signed n.sized) []) (λ k. record { good = refl; formed = literal_formed d n x; length = refl; constant = λ m. refl }) h
+    every_fine (tree.Named name select) find needed s x h = noted_fine d needed name.place (selected select name find needed) (λ k. selected_fine select name find needed s x.1 k) h
+    every_fine (tree.Apply name arguments) find needed s x h =
+        let t = typed_arguments arguments find needed in
+        noted_fine d needed name.place (applied needed name.place (find name.bytes) t)
+        (λ k. applied_fine d needed name.place (find name.bytes) t (s name.bytes) (λ n. arguments_fine arguments find needed s (some_exprs arguments x.1) n) k) h
+    every_fine (tree.Unary place op a) find needed s x h = noted_fine d needed place (unary_typed op (typed a find needed)) (λ k. unary_fine d needed op (typed a find needed) (every_fine a find needed s x k)) h
+    every_fine (tree.Binary op a b) find needed s x h =
         noted_fine d needed (expr_place a) (binary_typed op (typed a find needed) (typed b find needed))
-        (λ k. let n = both_nil (typed a find needed).faults (typed b find needed).faults k in binary_fine d needed op (typed a find needed) (typed b find needed) (typed_fine a needed s x.0 n.0) (typed_fine b needed s x.1 n.1)) h
-    typed_fine (tree.Choice c p q) needed s x h =
+        (λ k. let n = both_nil (typed a find needed).faults (typed b find needed).faults k in binary_fine d needed op (typed a find needed) (typed b find needed) (every_fine a find needed s x.0 n.0) (every_fine b find needed s x.1 n.1)) h
+    every_fine (tree.Choice c p q) find needed s x h =
         noted_fine d needed (expr_place c) (choice_typed (typed c find needed) (typed p find needed) (typed q find needed))
         (λ k.
         let n = both_nil (typed c find needed).faults ((typed p find needed).faults ++ (typed q find needed).faults) k in
         let m = both_nil (typed p find needed).faults (typed q find needed).faults n.1 in
-        choice_fine d needed (typed c find needed) (typed p find needed) (typed q find needed) (typed_fine c needed s x.0 n.0) (typed_fine p needed s x.1 m.0) (typed_fine q needed s x.2 m.1)) h
-    typed_fine (tree.Concatenation place parts) needed s x h = noted_fine d needed place (copies_typed 1 (typed_parts parts find needed)) (λ k. copies_fine d needed 1 (typed_parts parts find needed) refl (parts_fine parts needed s x k)) h
-    typed_fine (tree.Replication place count parts) needed s x h =
-        noted_fine d needed place (replication_typed (expr_place count) (typed count find true) (typed_parts parts find needed))
-        (λ k. replication_fine d needed (expr_place count) (typed count find true) (typed_parts parts find needed) (typed_fine count true (λ name. sound_needed d needed (find name) (s name)) x.0) (parts_fine parts needed s x.1) k) h
-    typed_fine (tree.Call place function a) needed s x h =
+        choice_fine d needed (typed c find needed) (typed p find needed) (typed q find needed) (every_fine c find needed s x.0 n.0) (every_fine p find needed s x.1 m.0) (every_fine q find needed s x.2 m.1)) h
+    every_fine (tree.Concatenation place parts) find needed s x h = noted_fine d needed place (copies_typed 1 (typed_parts parts find needed)) (λ k. copies_fine d needed 1 (typed_parts parts find needed) refl (parts_fine parts find needed s x k)) h
+    every_fine (tree.Replication place count parts) find needed s x h =
+        let n = typed count (steady find) true in
+        noted_fine d needed place (replication_typed (expr_place count) n (typed_parts parts find needed))
+        (λ k. replication_fine d needed (expr_place count) n (typed_parts parts find needed) (every_fine count (steady find) true (steady_sound d needed find s) x.0) (parts_fine parts find needed s x.1) k) h
+    every_fine (tree.Call place function a) find needed s x h =
         noted_fine d needed place (call_typed function (expr_place a) (typed a find (argument_needed function needed)))
-        (λ k. call_fine d needed function (expr_place a) (typed a find (argument_needed function needed)) (typed_fine a (argument_needed function needed) (argument_sound d function needed find s) x) k) h
-    typed_fine (tree.Brackets place e) needed s x h = noted_fine d needed place (typed e find needed) (typed_fine e needed s x) h
+        (λ k. call_fine d needed function (expr_place a) (typed a find (argument_needed function needed)) (every_fine a find (argument_needed function needed) (argument_sound d function needed find s) x) k) h
+    every_fine (tree.Brackets place e) find needed s x h = noted_fine d needed place (typed e find needed) (every_fine e find needed s x) h
 
-    selected_fine : (select : tree.Select) (name : tree.Name) (needed : Bool) → AreSound d needed find → IsSelect select → (selected select name find needed).faults ≡ [] → IsFine d needed (selected select name find needed)
-    selected_fine tree.Whole name needed s x h = name_fine d needed name.place (find name.bytes) (s name.bytes) h
-    selected_fine (tree.BitAt bracket index) name needed s x h = bit_typed_fine d needed name.place (find name.bytes) (typed index find needed) (s name.bytes) (λ k. typed_fine index needed s x k) h
-    selected_fine (tree.Slice bracket kind e g) name needed s x h =
+    selected_fine : (select : tree.Select) (name : tree.Name) (find : Find) (needed : Bool) → AreSound d needed find → IsSelect select → (selected select name find needed).faults ≡ [] → IsFine d needed (selected select name find needed)
+    selected_fine tree.Whole name find needed s x h = name_fine d needed name.place (find name.bytes) (s name.bytes) h
+    selected_fine (tree.BitAt bracket index) name find needed s x h = bit_typed_fine d needed name.place (find name.bytes) (typed index find needed) (s name.bytes) (λ k. every_fine index find needed s x k) h
+    selected_fine (tree.Slice bracket kind e g) name find needed s x h =
         let b = base_of needed name.place (find name.bytes) in
-        let t = slice_taken b.range bracket kind (expr_place e) (typed e find (first_needed kind needed)) (expr_place g) (typed g find true) in
+        let first = typed e (first_names kind find) (first_needed kind needed) in
+        let second = typed g (steady find) true in
+        let t = slice_taken b.range bracket kind (expr_place e) first (expr_place g) second in
         let k = select_faults b t h in
         let f = base_fine d needed name.place (find name.bytes) (s name.bytes) k.0 in
-        select_fine d needed b t f (slice_fine d needed b.range f.r bracket kind (expr_place e) (typed e find (first_needed kind needed)) (expr_place g) (typed g find true) f.range (typed_fine e (first_needed kind needed) (first_sound d kind needed find s) x.0) (typed_fine g true (λ name. sound_needed d needed (find name) (s name)) x.1) k.1)
+        select_fine d needed b t f (slice_fine d needed b.range f.r bracket kind (expr_place e) first (expr_place g) second f.range (every_fine e (first_names kind find) (first_needed kind needed) (first_sound d kind needed find s) x.0) (every_fine g (steady find) true (steady_sound d needed find s) x.1) k.1)
+    selected_fine (tree.OfWord bracket address part) name find needed s x h = misnamed_fine d needed (further_typed needed name.place (find name.bytes)) (wrong_rule needed (find name.bytes)) name.place h
 
-    parts_fine : (parts : tree.Exprs) (needed : Bool) → AreSound d needed find → AreParts parts → (typed_parts parts find needed).faults ≡ [] → IsFine d needed (typed_parts parts find needed)
-    parts_fine tree.NoExpr needed s x h = absurd x
-    parts_fine (tree.AndExpr e tree.NoExpr) needed s x h = part_fine d needed e (typed e find needed) (typed_fine e needed s x.0) h
-    parts_fine (tree.AndExpr e (tree.AndExpr g rest)) needed s x h =
+    parts_fine : (parts : tree.Exprs) (find : Find) (needed : Bool) → AreSound d needed find → AreParts parts → (typed_parts parts find needed).faults ≡ [] → IsFine d needed (typed_parts parts find needed)
+    parts_fine tree.NoExpr find needed s x h = absurd x
+    parts_fine (tree.AndExpr e tree.NoExpr) find needed s x h = part_fine d needed e (typed e find needed) (every_fine e find needed s x.0) h
+    parts_fine (tree.AndExpr e (tree.AndExpr g rest)) find needed s x h =
         let t = part_typed e (typed e find needed) in
         let u = typed_parts (tree.AndExpr g rest) find needed in
         let n = both_nil t.faults u.faults h in
-        join_fine d needed t u (part_fine d needed e (typed e find needed) (typed_fine e needed s x.0) n.0) (parts_fine (tree.AndExpr g rest) needed s x.1 n.1)
+        join_fine d needed t u (part_fine d needed e (typed e find needed) (every_fine e find needed s x.0) n.0) (parts_fine (tree.AndExpr g rest) find needed s x.1 n.1)
+
+    arguments_fine : (es : tree.Exprs) (find : Find) (needed : Bool) → AreSound d needed find → AreExprs es → (typed_arguments es find needed).faults ≡ [] → AreFine d (typed_arguments es find needed)
+    arguments_fine tree.NoExpr find needed s x h = record { good = refl; formed = refl }
+    arguments_fine (tree.AndExpr e rest) find needed s x h =
+        let t = typed e find needed in
+        let others = typed_arguments rest find needed in
+        let n = both_nil t.faults others.faults h in
+        argument_fine d needed t others (every_fine e find needed s x.0 n.0) (arguments_fine rest find needed s x.1 n.1)
+
+pub typed_fine : (d : Design) (find : Find) (e : tree.Expr) (needed : Bool) → AreSound d needed find → IsExpr e → (typed e find needed).faults ≡ [] → IsFine d needed (typed e find needed)
+typed_fine d find e needed s x h = every_fine d e find needed s x h

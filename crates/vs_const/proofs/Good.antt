@@ -11,10 +11,10 @@ use Rattle.vs_grammar.specs.Trees as tree
 use Rattle.vs_grammar.specs.Trees.{expr_place}
 use Rattle.vs_grammar.specs.Shapes.{IsExpr, AreParts, IsSelect}
 use Rattle.vs_const.specs.declared.faults.Fault.{Fault}
-use Rattle.vs_const.specs.Meanings.{Meaning, AValue, Undefined, ASignal, AMemory, Another, Unknown, Find, IsFairMeaning, IsFair}
+use Rattle.vs_const.specs.Meanings.{Meaning, AValue, Undefined, ASignal, AMemory, AFunction, Incomplete, Another, Barred, Unknown, Find, IsFairMeaning, IsFair, steady}
 use Rattle.vs_const.specs.Typed.{Typed, is_over, noted, number_of, natural_if, natural_within, natural, both_lengths, length_map, unary_op_length, unary_typed, binary_way_length, binary_typed, choice_typed, join_typed, copies_typed, fine}
-use Rattle.vs_const.specs.Selects.{bounds, name_typed, Base, base_of, Taken, taken, if_width, is_against, along, between, slice_taken, first_needed, select_if, select_typed, bit_typed}
-use Rattle.vs_const.specs.Expressions.{unsized_faults, is_clean, part_typed, replicated, replication_typed, clog2_of, clog2_typed, typed, selected, typed_parts}
+use Rattle.vs_const.specs.Selects.{bounds, name_typed, Base, base_of, Taken, taken, if_width, is_against, along, between, slice_taken, first_needed, first_names, select_if, select_typed, bit_typed, further_typed}
+use Rattle.vs_const.specs.Expressions.{unsized_faults, is_clean, part_typed, replicated, replication_typed, clog2_of, clog2_typed, TypedItems, applied, typed, selected, typed_parts, typed_arguments}
 use Rattle.vs_const.proofs.Formed.{begins_same, split, way_length, length_some}
 
 -- good: its length is known, and it has a bit
@@ -135,11 +135,14 @@ slice_long declared bracket tree.Upward p a q b h = width_long declared true (na
 slice_long declared bracket tree.Downward p a q b h = width_long declared false (natural 1 64 q b).number a (a.faults ++ (natural 1 64 q b).faults) (at_least q b) h
 
 name_long : (place : ℕ) (m : Meaning) → IsFairMeaning m → (name_typed true place m).good ≡ true → IsLong (name_typed true place m)
-name_long place (AValue v r) f h = record { length = refl; some = f.some }
+name_long place (AValue v r turns) f h = record { length = refl; some = f.some }
 name_long place (Undefined r) f h = cc
 name_long place (ASignal s) f h = cc
 name_long place (AMemory m) f h = cc
+name_long place (AFunction g) f h = cc
+name_long place Incomplete f h = cc
 name_long place Another f h = cc
+name_long place (Barred rule) f h = cc
 name_long place Unknown f h = cc
 
 one_bit_long : (place : ℕ) (m : Meaning) (i : Typed) → (select_typed (base_of true place m) (taken (base_of true place m).range true 1 i i.faults)).good ≡ true → IsLong (select_typed (base_of true place m) (taken (base_of true place m).range true 1 i i.faults))
@@ -148,20 +151,40 @@ one_bit_long place m i h = let b = base_of true place m in select_long b (taken 
 -- a word is no constant
 bit_long : (place : ℕ) (m : Meaning) (i : Typed) → (bit_typed true place m i).good ≡ true → IsLong (bit_typed true place m i)
 bit_long place (AMemory m) i h = cc
-bit_long place (AValue v r) i h = one_bit_long place (AValue v r) i h
+bit_long place (AValue v r turns) i h = one_bit_long place (AValue v r turns) i h
 bit_long place (Undefined r) i h = one_bit_long place (Undefined r) i h
 bit_long place (ASignal s) i h = one_bit_long place (ASignal s) i h
+bit_long place (AFunction f) i h = one_bit_long place (AFunction f) i h
+bit_long place Incomplete i h = one_bit_long place Incomplete i h
 bit_long place Another i h = one_bit_long place Another i h
+bit_long place (Barred rule) i h = one_bit_long place (Barred rule) i h
 bit_long place Unknown i h = one_bit_long place Unknown i h
 
 part_long : (e : tree.Expr) (t : Typed) → (t.good ≡ true → IsLong t) → (part_typed e t).good ≡ true → IsLong (part_typed e t)
 part_long e t k h = let g = k (split t.good (is_clean (unsized_faults e)) h).0 in record { length = g.length; some = g.some }
+
+-- a call is no constant
+applied_long : (place : ℕ) (m : Meaning) (t : TypedItems) → (applied true place m t).good ≡ true → IsLong (applied true place m t)
+applied_long place (AValue v r turns) t h = cc
+applied_long place (Undefined r) t h = cc
+applied_long place (ASignal s) t h = cc
+applied_long place (AMemory m) t h = cc
+applied_long place (AFunction f) t h = cc
+applied_long place Incomplete t h = cc
+applied_long place Another t h = cc
+applied_long place (Barred rule) t h = cc
+applied_long place Unknown t h = cc
+
+-- nor is a further select
+further_long : (place : ℕ) (m : Meaning) → (further_typed true place m).good ≡ true → IsLong (further_typed true place m)
+further_long place m h = cc
 
 module _ (find : Find) (fair : IsFair find) where
   mutual
     pub typed_long : (e : tree.Expr) → IsExpr e → (typed e find true).good ≡ true → IsLong (typed e find true)
     typed_long (tree.Number n) x h = noted_long n.place (fine (Literal n.bits n.signed n.sized) []) (λ k. record { length = refl; some = x.some }) h
     typed_long (tree.Named name select) x h = noted_long name.place (selected select name find true) (λ k. selected_long select name x.1 k) h
+    typed_long (tree.Apply name arguments) x h = let t = typed_arguments arguments find true in noted_long name.place (applied true name.place (find name.bytes) t) (λ k. applied_long name.place (find name.bytes) t k) h
     typed_long (tree.Unary place op a) x h = noted_long place (unary_typed op (typed a find true)) (λ k. unary_long op (typed a find true) (typed_long a x k)) h
     typed_long (tree.Binary op a b) x h =
         noted_long (expr_place a) (binary_typed op (typed a find true) (typed b find true))
@@ -173,8 +196,9 @@ module _ (find : Find) (fair : IsFair find) where
         choice_long (typed c find true) (typed p find true) (typed q find true) (typed_long p x.1 g.0) (typed_long q x.2 g.1)) h
     typed_long (tree.Concatenation place parts) x h = noted_long place (copies_typed 1 (typed_parts parts find true)) (λ k. copies_long 1 (typed_parts parts find true) (omega arith) (parts_long parts x k)) h
     typed_long (tree.Replication place count parts) x h =
-        noted_long place (replication_typed (expr_place count) (typed count find true) (typed_parts parts find true))
-        (λ k. replicated_long (natural 1 64 (expr_place count) (typed count find true)).number (natural 1 64 (expr_place count) (typed count find true)).faults (typed_parts parts find true) (at_least (expr_place count) (typed count find true)) (λ i. parts_long parts x.1 i) k) h
+        let c = typed count (steady find) true in
+        noted_long place (replication_typed (expr_place count) c (typed_parts parts find true))
+        (λ k. replicated_long (natural 1 64 (expr_place count) c).number (natural 1 64 (expr_place count) c).faults (typed_parts parts find true) (at_least (expr_place count) c) (λ i. parts_long parts x.1 i) k) h
     typed_long (tree.Call place tree.AsSigned a) x h = noted_long place (unary_typed Signed (typed a find true)) (λ k. unary_long Signed (typed a find true) (typed_long a x k)) h
     typed_long (tree.Call place tree.AsUnsigned a) x h = noted_long place (unary_typed Unsigned (typed a find true)) (λ k. unary_long Unsigned (typed a find true) (typed_long a x k)) h
     typed_long (tree.Call place tree.Clog2 a) x h = noted_long place (clog2_typed (typed a find true).good (expr_place a) (typed a find true)) (λ k. clog2_long (typed a find true).good (expr_place a) (typed a find true) k) h
@@ -185,7 +209,10 @@ module _ (find : Find) (fair : IsFair find) where
     selected_long (tree.BitAt bracket index) name x h = bit_long name.place (find name.bytes) (typed index find true) h
     selected_long (tree.Slice bracket kind e f) name x h =
         let b = base_of true name.place (find name.bytes) in
-        select_long b (slice_taken b.range bracket kind (expr_place e) (typed e find (first_needed kind true)) (expr_place f) (typed f find true)) (λ k. slice_long b.range bracket kind (expr_place e) (typed e find (first_needed kind true)) (expr_place f) (typed f find true) k) h
+        let first = typed e (first_names kind find) (first_needed kind true) in
+        let second = typed f (steady find) true in
+        select_long b (slice_taken b.range bracket kind (expr_place e) first (expr_place f) second) (λ k. slice_long b.range bracket kind (expr_place e) first (expr_place f) second k) h
+    selected_long (tree.OfWord bracket address part) name x h = further_long name.place (find name.bytes) h
 
     parts_long : (parts : tree.Exprs) → AreParts parts → (typed_parts parts find true).good ≡ true → IsLong (typed_parts parts find true)
     parts_long tree.NoExpr x h = absurd x

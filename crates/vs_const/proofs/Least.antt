@@ -69,6 +69,10 @@ with_better a None y = refl
 with_better a (Some b) None = refl
 with_better a (Some b) (Some c) = ap Some (sym (lesser_assoc a b c))
 
+pub better_assoc : (a b c : Option Fault) → better (better a b) c ≡ better a (better b c)
+better_assoc None b c = refl
+better_assoc (Some a) b c = sym (with_better a b c)
+
 pub least_append : (fs gs : List Fault) → least (fs ++ gs) ≡ better (least fs) (least gs)
 least_append [] gs = refl
 least_append (f ∷ fs) gs = ap (λ t. Some (lesser f t)) (least_append fs gs) ∙ with_better f (least fs) (least gs)

@@ -1,6 +1,6 @@
 -- No two rules have one number.
 use Rattle.std.proofs.Common.{◌≡◌, ℕ, ◌==◌, if◌then◌else◌, refl, sym, ap, ◌∙◌}
-use Rattle.vs_const.specs.Faults.{Rule, NotConstant, UnknownConstant, NoTop, DuplicateModule, UnknownModule, UnknownName, DuplicateName, BadRange, PortCount, UnknownPort, InstanceDepth, TooManyInstances, GenerateTurns, WrongKind, TooManyBits, TooManyProcesses}
+use Rattle.vs_const.specs.Faults.{Rule, NotConstant, UnknownConstant, NoTop, DuplicateModule, UnknownModule, UnknownName, DuplicateName, BadRange, PortCount, UnknownPort, InstanceDepth, TooManyInstances, GenerateTurns, WrongKind, TooManyBits, TooManyProcesses, LoopTurns, LoopVariable, FunctionRule, Recursion}
 use Rattle.vs_const.specs.Rules.{rule_number}
 
 -- the rule of a number
@@ -21,7 +21,11 @@ rule_of n =
     else if n == 42 then GenerateTurns
     else if n == 43 then WrongKind
     else if n == 44 then TooManyBits
-    else TooManyProcesses
+    else if n == 45 then TooManyProcesses
+    else if n == 46 then LoopTurns
+    else if n == 47 then LoopVariable
+    else if n == 48 then FunctionRule
+    else Recursion
 
 known : (r : Rule) → rule_of (rule_number r) ≡ r
 known NotConstant = refl
@@ -40,6 +44,10 @@ known GenerateTurns = refl
 known WrongKind = refl
 known TooManyBits = refl
 known TooManyProcesses = refl
+known LoopTurns = refl
+known LoopVariable = refl
+known FunctionRule = refl
+known Recursion = refl
 
 pub same_rule : (a b : Rule) → rule_number a ≡ rule_number b → a ≡ b
 same_rule a b h = sym (known a) ∙ ap rule_of h ∙ known b

@@ -5,9 +5,9 @@ use Rattle.vs_design.specs.Expressions.{Literal, width}
 use Rattle.vs_grammar.specs.Trees as tree
 use Rattle.vs_grammar.specs.Trees.{expr_place}
 use Rattle.vs_grammar.specs.Shapes.{IsExpr}
-use Rattle.vs_const.specs.Meanings.{Find, IsFair}
+use Rattle.vs_const.specs.Meanings.{Find, IsFair, steady}
 use Rattle.vs_const.specs.Typed.{Typed, is_over, noted, unary_typed, binary_typed, choice_typed, copies_typed, fine}
-use Rattle.vs_const.specs.Expressions.{replication_typed, call_typed, argument_needed, typed, selected, typed_parts}
+use Rattle.vs_const.specs.Expressions.{replication_typed, call_typed, argument_needed, applied, typed, selected, typed_parts, typed_arguments}
 use Rattle.vs_const.specs.declared.forms.Form.{Form}
 use Rattle.vs_const.specs.declared.found.Found.{Found}
 use Rattle.vs_const.specs.Found.{IsOf, Finds, AreValued, Says}
@@ -24,11 +24,12 @@ short_noted place t h = of t.good (is_over 64 t.length) h
 pub short : (e : tree.Expr) (find : Find) → (typed e find true).good ≡ true → is_over 64 (typed e find true).length ≡ false
 short (tree.Number n) find h = short_noted n.place (fine (Literal n.bits n.signed n.sized) []) h
 short (tree.Named name select) find h = short_noted name.place (selected select name find true) h
+short (tree.Apply name arguments) find h = short_noted name.place (applied true name.place (find name.bytes) (typed_arguments arguments find true)) h
 short (tree.Unary place op a) find h = short_noted place (unary_typed op (typed a find true)) h
 short (tree.Binary op a b) find h = short_noted (expr_place a) (binary_typed op (typed a find true) (typed b find true)) h
 short (tree.Choice c p q) find h = short_noted (expr_place c) (choice_typed (typed c find true) (typed p find true) (typed q find true)) h
 short (tree.Concatenation place parts) find h = short_noted place (copies_typed 1 (typed_parts parts find true)) h
-short (tree.Replication place count parts) find h = short_noted place (replication_typed (expr_place count) (typed count find true) (typed_parts parts find true)) h
+short (tree.Replication place count parts) find h = short_noted place (replication_typed (expr_place count) (typed count (steady find) true) (typed_parts parts find true)) h
 short (tree.Call place function a) find h = short_noted place (call_typed function (expr_place a) (typed a find (argument_needed function true))) h
 short (tree.Brackets place e) find h = short_noted place (typed e find true) h
 

@@ -7,8 +7,12 @@ use Rattle.vs_grammar.specs.Trees as tree
 use Rattle.vs_ast.proofs.expressions.Expr.TheLaws.{the_size}
 use Rattle.vs_ast.proofs.Rows.{expr_rows}
 use Rattle.vs_ast.specs.declared.expressions.SystemFunction.{SystemFunction}
-use Rattle.vs_ast.specs.declared.expressions.Expr.{Expr, Unary, Binary, Choice, Concatenation, Replication, Call, Brackets, the_lemmas}
-use Rattle.vs_ast.specs.Views.{expr, exprs}
+use Rattle.vs_ast.specs.declared.names.Name.{Name}
+use Rattle.vs_ast.specs.declared.expressions.Expr.{Expr, Apply, Unary, Binary, Choice, Concatenation, Replication, Call, Brackets, the_lemmas}
+use Rattle.vs_ast.specs.Views.{expr, exprs, name}
+
+pub arguments_size : (n : Name) (list : Vec Expr Global) → most the_size list.items < the_size (Apply n list)
+arguments_size n list = search (rules, the_lemmas)
 
 pub unary_size : (place : ℕ) (op : UnaryOp) (a : Box Expr Global) → the_size a.value < the_size (Unary place op a)
 unary_size place op a = search (rules, the_lemmas)
@@ -46,6 +50,9 @@ brackets_size place a = search (rules, the_lemmas)
 -- the part x of e, by their forms
 pub falls : (e x whole a : Expr) → the_size a < the_size whole → e ≡ whole → x ≡ a → the_size x < the_size e
 falls e x whole a h k m = subst (λ z. the_size z < the_size e) (sym m) (subst (λ z. the_size a < the_size z) (sym k) h)
+
+pub application_view : (n : Name) (list : Vec Expr Global) → expr (Apply n list) ≡ tree.Apply (name n) (exprs list.items)
+application_view n list = search (rules, expr_rows, the_lemmas)
 
 pub concatenation_view : (place : ℕ) (list : Vec Expr Global) → expr (Concatenation place list) ≡ tree.Concatenation place (exprs list.items)
 concatenation_view place list = search (rules, expr_rows, the_lemmas)

@@ -1,16 +1,24 @@
 -- What the check of an expression tells: of what the definitions say, all but the expression itself.
-use Rattle.std.specs.Prelude.{◌≡◌, ℕ, min, List, [], Option, Some, None, option_map}
-use Rattle.vs_design.specs.Expressions.{sign}
+use Rattle.std.specs.Prelude.{◌≡◌, ℕ, suc, min, List, [], Option, Some, None, option_map}
+use Rattle.vs_design.specs.Expressions.{sign, Items, NoItem, Item}
 use Rattle.vs_const.specs.Faults.{fault, flaws_of, WrongKind}
 use Rattle.vs_const.specs.declared.faults.Fault.{Fault}
 use Rattle.vs_const.specs.Typed.{Typed, Numbered, Natural}
 use Rattle.vs_const.specs.Selects.{Bounds, Base, Taken}
+use Rattle.vs_const.specs.Expressions.{TypedItems}
+use Rattle.vs_const.specs.CallDepths.{call_depth, items_depth}
+use Rattle.vs_const.specs.declared.calls.Arguments.{Arguments as ArgumentsOf}
 use Rattle.vs_const.specs.declared.found.Checked.{Checked}
 use Rattle.vs_const.specs.declared.ranges.Numbered.{Numbered as NumberedOf}
 use Rattle.vs_const.specs.declared.ranges.Natural.{Natural as NaturalOf}
 use Rattle.vs_const.specs.declared.ranges.Bounds.{Bounds as BoundsOf}
 use Rattle.vs_const.specs.declared.selects.Base.{Base as BaseOf}
 use Rattle.vs_const.specs.declared.selects.Taken.{Taken as TakenOf}
+
+-- how many there are
+abbrev pub item_count : Items → ℕ
+item_count NoItem = 0
+item_count (Item e es) = suc (item_count es)
 
 -- a length, of which no more is told than that it is over 64
 abbrev pub capped : Option ℕ → Option ℕ
@@ -22,6 +30,7 @@ pub record Checks (c : Checked) (t : Typed) : Type 0 where
   pub good : c.good ≡ t.good
   pub length : c.length ≡ capped t.length
   pub signed : c.signed ≡ sign t.expression
+  pub depth : c.depth ≡ call_depth t.expression
 
 -- of the number of a needed constant
 pub record ChecksNumber (c : NumberedOf) (n : Numbered) : Type 0 where
@@ -44,11 +53,19 @@ pub record ChecksBase (c : BaseOf) (b : Base) : Type 0 where
   pub good : c.good ≡ b.good
   pub flaws : c.flaws ≡ flaws_of b.faults
 
--- of which bits are taken: how many
+-- of which bits are taken: how many, and how deep calls nest in the index
 pub record ChecksTaken (c : TakenOf) (t : Taken) : Type 0 where
   pub length : c.length ≡ capped t.length
   pub good : c.good ≡ t.good
   pub flaws : c.flaws ≡ flaws_of t.faults
+  pub depth : c.depth ≡ call_depth t.index
+
+-- of the arguments of a call: how many there are
+pub record ChecksArguments (c : ArgumentsOf) (t : TypedItems) : Type 0 where
+  pub flaws : c.flaws ≡ flaws_of t.faults
+  pub good : c.good ≡ t.good
+  pub count : c.count ≡ item_count t.items
+  pub depth : c.depth ≡ items_depth t.items
 
 -- where a part of a concatenation begins that is a literal without a size
 abbrev pub IsUnsizedAt : Option ℕ → List Fault → Type 0

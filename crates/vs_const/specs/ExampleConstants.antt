@@ -1,16 +1,18 @@
 -- Worked constants, and where rules are broken.
-use Rattle.std.specs.Prelude.{◌≡◌, ℕ, ◌+◌, ◌-◌, ◌^◌, true, false, [], ◌∷◌, ◌++◌, replicate, if◌then◌else◌, ◌==◌, pos, negsuc, Option, Some, None, Result, Ok, Err}
+use Rattle.std.specs.Prelude.{◌≡◌, ℕ, ◌+◌, ◌*◌, ◌-◌, ◌^◌, true, false, [], ◌∷◌, ◌++◌, replicate, if◌then◌else◌, ◌==◌, pos, negsuc, Option, Some, None, Result, Ok, Err}
 use Rattle.vs_four.specs.declared.Bit4.TheVariants.{X}
 use Rattle.vs_four.specs.declared.Range.{Range}
 use Rattle.vs_four.specs.Logic.{BitList}
 use Rattle.vs_four.specs.Numbers.{bits_of}
-use Rattle.vs_design.specs.Expressions.{Signal}
+use Rattle.vs_design.specs.Expressions.{Signal, Header}
+use Rattle.vs_design.specs.Statements.{Empty}
 use Rattle.vs_grammar.specs.Trees as tree
-use Rattle.vs_grammar.specs.Trees.{Expr, NoExpr, AndExpr, Whole, BitAt, Slice, Between, Upward, Clog2}
+use Rattle.vs_grammar.specs.Trees.{Expr, NoExpr, AndExpr, Whole, BitAt, Slice, OfWord, Between, Upward, Clog2}
 use Rattle.vs_const.specs.declared.faults.Fault.{Fault}
-use Rattle.vs_const.specs.Meanings.{ConstantValue, Meaning, AValue, Undefined, ASignal, AMemory, Another, Unknown, Find}
+use Rattle.vs_const.specs.Meanings.{ConstantValue, Meaning, AValue, Undefined, ASignal, AMemory, AFunction, Incomplete, Another, Barred, Unknown, Find, InModule, turn_value}
+use Rattle.vs_const.specs.Expressions.{typed}
 use Rattle.vs_const.specs.Constants.{constant_answer, number_answer}
-use Rattle.vs_const.specs.Faults.{Rule, BadRange, NotConstant, UnknownConstant, UnknownName, WrongKind}
+use Rattle.vs_const.specs.Faults.{Rule, BadRange, NotConstant, UnknownConstant, UnknownName, WrongKind, LoopVariable, FunctionRule, Recursion, least}
 
 -- ---- what names mean
 
@@ -24,14 +26,27 @@ vector = record { name = 118 ∷ []; scope = 0; number = 0; net = true; input = 
 abbrev pub memory : Signal
 memory = record { name = 109 ∷ []; scope = 0; number = 1; net = false; input = false; range = Some (to_zero 7); signed = false; first = 4; words = Some (to_zero 3) }
 
--- `v` is a signal of four bits, `m` a memory, `p` a parameter of value `4'd9`, `d` one whose value another fault leaves undefined, `g` a generate block
+-- a local signal of a function
+abbrev pub local : ℕ → Signal
+local number = record { name = []; scope = 0; number = number; net = false; input = number == 0; range = Some (to_zero 3); signed = false; first = 4 * number; words = None }
+
+-- a function of one input
+abbrev pub header : Header
+header = record { place = 0; inputs = local 0 ∷ []; result = local 1; own = [] }
+
+-- `v` is a signal of four bits, `m` a memory, `p` a parameter of value `4'd9`, `d` one whose value another fault leaves undefined, `g` a generate block, `i` an integer of value 2 within
+-- its loop, `f` a function, `r` the function around, `o` an integer outside its loops
 abbrev pub letter : ℕ → Meaning
 letter c =
-    if c == 118 then ASignal (record { signal = vector; input = false; known = true })
-    else if c == 109 then AMemory (record { signal = memory; input = false; known = true })
-    else if c == 112 then AValue (record { bits = bits_of 4 9; signed = false }) (to_zero 3)
+    if c == 118 then ASignal (record { signal = vector; input = false; role = InModule; known = true })
+    else if c == 109 then AMemory (record { signal = memory; input = false; role = InModule; known = true })
+    else if c == 112 then AValue (record { bits = bits_of 4 9; signed = false }) (to_zero 3) false
     else if c == 100 then Undefined (Some (to_zero 3))
     else if c == 103 then Another
+    else if c == 105 then turn_value (bits_of 32 2)
+    else if c == 102 then AFunction (record { number = 0; header = header; statement = Empty; known = true })
+    else if c == 114 then Incomplete
+    else if c == 111 then Barred LoopVariable
     else Unknown
 
 abbrev pub names : Find
@@ -63,6 +78,17 @@ m place = tree.Named (a_name place 109) Whole
 
 abbrev pub p : ℕ → Expr
 p place = tree.Named (a_name place 112) Whole
+
+-- `i`
+abbrev pub turn : ℕ → Expr
+turn place = tree.Named (a_name place 105) Whole
+
+-- a call, of one argument and of two
+abbrev pub call_1 : ℕ → ℕ → Expr → Expr
+call_1 place c a = tree.Apply (a_name place c) (AndExpr a NoExpr)
+
+abbrev pub call_2 : ℕ → ℕ → Expr → Expr → Expr
+call_2 place c a b = tree.Apply (a_name place c) (AndExpr a (AndExpr b NoExpr))
 
 -- a name without a declaration
 abbrev pub u : ℕ → Expr
@@ -122,6 +148,39 @@ pub record ConstantsComputed : Type 0 where
   -- `m`, and `p + m[0]` at the memory
   pub memory_alone : constant_answer (m 0) names None ≡ breaks NotConstant 0
   pub word : constant_answer (tree.Binary tree.Add (p 0) (tree.Named (a_name 2 109) (BitAt 3 (plain 4 0)))) names None ≡ breaks NotConstant 2
+  -- `m[0][1]`
+  pub part_of_word : constant_answer (tree.Named (a_name 0 109) (OfWord 1 (plain 2 0) (BitAt 4 (plain 5 1)))) names None ≡ breaks NotConstant 0
+  -- `o`, outside its loops
+  pub barred : constant_answer (tree.Named (a_name 0 111) Whole) names None ≡ breaks NotConstant 0
+  -- ---- an integer within its loop is a constant, but in the bounds of a part and the count of a replication
+
+  -- `i + 1`, and `p[i]`, which is 0
+  pub in_turn : number_answer (tree.Binary tree.Add (turn 0) (plain 2 1)) names ≡ Ok (Some (pos 3))
+  pub turn_index : constant_answer (tree.Named (a_name 0 112) (BitAt 1 (turn 2))) names None ≡ gives (bits_of 1 0)
+  -- `p[i:0]`, `p[0 +: i]`, `{i{p}}`, and `p[{i{1'd1}}:0]`
+  pub turn_bound : constant_answer (p_between 0 (turn 2) (plain 4 0)) names None ≡ breaks NotConstant 2
+  pub turn_width : constant_answer (tree.Named (a_name 0 112) (Slice 1 Upward (plain 2 0) (turn 4))) names None ≡ breaks NotConstant 4
+  pub turn_count : constant_answer (tree.Replication 0 (turn 1) (AndExpr (p 3) NoExpr)) names None ≡ breaks NotConstant 1
+  pub count_in_bound : constant_answer (p_between 0 (tree.Replication 2 (turn 3) (AndExpr (dec 5 1 1) NoExpr)) (plain 8 0)) names None ≡ breaks NotConstant 3
+  -- but `p[i +: 1]`
+  pub turn_first : constant_answer (tree.Named (a_name 0 112) (Slice 1 Upward (turn 2) (plain 4 1))) names None ≡ gives (bits_of 1 0)
+  -- ---- a call is no constant
+
+  -- `f(p)`, and in it `{64'd0, f(p)}`, whatever the length; `r(p)`, `v(p)`; but `p(p)` and `u(p)` are no calls of functions
+  pub call : constant_answer (call_1 0 102 (p 2)) names None ≡ breaks NotConstant 0
+  pub call_of_long : constant_answer (two 0 (dec 1 64 0) (call_1 3 102 (p 5))) names None ≡ breaks NotConstant 3
+  pub recursive_call : constant_answer (call_1 0 114 (p 2)) names None ≡ breaks NotConstant 0
+  pub call_of_signal : constant_answer (call_1 0 118 (p 2)) names None ≡ breaks NotConstant 0
+  pub call_of_value : constant_answer (call_1 0 112 (p 2)) names None ≡ breaks WrongKind 0
+  pub call_of_unknown : constant_answer (call_1 0 117 (p 2)) names None ≡ breaks UnknownName 0
+  -- where none is needed: `f(v)`, of four bits, `f(v, p)`, `f(u)`, `r(v)`, `v(p)`, `o`
+  pub called : least (typed (call_1 0 102 (v 2)) names false).faults ≡ None
+  pub called_length : (typed (call_1 0 102 (v 2)) names false).length ≡ Some 4
+  pub too_many_arguments : least (typed (call_2 0 102 (v 2) (p 4)) names false).faults ≡ Some (record { rule = FunctionRule; place = 0 })
+  pub unknown_argument : least (typed (call_1 0 102 (u 2)) names false).faults ≡ Some (record { rule = UnknownName; place = 2 })
+  pub called_around : least (typed (call_1 0 114 (v 2)) names false).faults ≡ Some (record { rule = Recursion; place = 0 })
+  pub called_signal : least (typed (call_1 0 118 (p 2)) names false).faults ≡ Some (record { rule = WrongKind; place = 0 })
+  pub barred_name : least (typed (tree.Named (a_name 0 111) Whole) names false).faults ≡ Some (record { rule = LoopVariable; place = 0 })
   -- ---- bits of a number are unknown
 
   -- `$clog2(1'bx)` and `$clog2((1'bx))`
@@ -154,6 +213,8 @@ pub record ConstantsComputed : Type 0 where
   -- ---- a name of another kind, or a literal without size in a concatenation
 
   pub another_kind : constant_answer (tree.Named (a_name 0 103) Whole) names None ≡ breaks WrongKind 0
+  -- `p[1][0]`: a bit has no bits
+  pub bit_of_bit : constant_answer (tree.Named (a_name 0 112) (OfWord 1 (plain 2 1) (BitAt 4 (plain 5 0)))) names None ≡ breaks WrongKind 0
   -- `{p, 1}`, and `{p, (1)}` at the bracket
   pub no_size : constant_answer (two 0 (p 1) (plain 3 1)) names None ≡ breaks WrongKind 3
   pub no_size_in_brackets : constant_answer (two 0 (p 1) (tree.Brackets 3 (plain 4 1))) names None ≡ breaks WrongKind 4

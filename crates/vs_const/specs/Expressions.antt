@@ -1,15 +1,16 @@
--- Expressions of the text as expressions of a design, with their faults (IEEE 1364-2005, clause 5).
-use Rattle.std.specs.Prelude.{ℕ, Bool, true, false, not, ◌&&◌, List, [], ◌∷◌, ◌++◌, Option, Some, None}
+-- Expressions of the text as expressions of a design, with their faults (IEEE 1364-2005, clauses 5 and 10.4.3).
+use Rattle.std.specs.Prelude.{ℕ, Bool, true, false, not, ◌&&◌, List, [], ◌∷◌, ◌++◌, Option, Some, None, if◌then◌else◌}
 use Rattle.vs_four.specs.Numbers.{bits_of, clog2}
-use Rattle.vs_design.specs.Expressions.{Literal, Signed, Unsigned}
+use Rattle.vs_design.specs.Expressions.{signal_length, Literal, Call, Items, NoItem, Item, Signed, Unsigned}
+use Rattle.vs_design.specs.Elaborated.{are_as_many}
 use Rattle.vs_design.specs.Values.{constant_value}
 use Rattle.vs_grammar.specs.Trees as tree
 use Rattle.vs_grammar.specs.Trees.{expr_place}
 use Rattle.vs_const.specs.declared.faults.Fault.{Fault}
-use Rattle.vs_const.specs.Faults.{fault, fault_if, UnknownConstant, WrongKind}
-use Rattle.vs_const.specs.Meanings.{Find}
+use Rattle.vs_const.specs.Faults.{Rule, fault, fault_if, UnknownConstant, WrongKind, NotConstant, FunctionRule, Recursion}
+use Rattle.vs_const.specs.Meanings.{FunctionMeaning, Meaning, ASignal, AFunction, Incomplete, Find, steady, is_result}
 use Rattle.vs_const.specs.Typed.{Typed, broken, fine, noted, Numbered, number_of, natural, unary_typed, binary_typed, choice_typed, join_typed, copies_typed}
-use Rattle.vs_const.specs.Selects.{base_of, name_typed, slice_taken, first_needed, select_typed, bit_typed}
+use Rattle.vs_const.specs.Selects.{base_of, name_typed, slice_taken, first_needed, first_names, select_typed, bit_typed, rule_where, wrong_rule, further_typed}
 
 -- a literal without a size has no place in a concatenation (5.1.14); brackets round it are no matter
 abbrev pub unsized_faults : tree.Expr → List Fault
@@ -61,17 +62,61 @@ abbrev pub argument_needed : tree.SystemFunction → Bool → Bool
 argument_needed tree.Clog2 needed = true
 argument_needed _ needed = needed
 
+-- ---- calls of functions (10.4.3)
+
+-- the arguments of a call
+pub record TypedItems : Type 0 where
+  pub items : Items
+  pub good : Bool
+  pub faults : List Fault
+
+-- none
+abbrev pub no_arguments : TypedItems
+no_arguments = record { items = NoItem; good = true; faults = [] }
+
+-- one before others
+abbrev pub and_argument : Typed → TypedItems → TypedItems
+and_argument t others = record { items = Item t.expression others.items; good = t.good && others.good; faults = t.faults ++ others.faults }
+
+-- the rule that what is called breaks if it is no function that is complete here
+abbrev pub call_rule : (needed : Bool) → Meaning → Rule
+call_rule needed (ASignal s) = rule_where needed (if is_result s then Recursion else WrongKind)
+call_rule needed Incomplete = rule_where needed Recursion
+call_rule needed m = wrong_rule needed m
+
+-- the call of a function, unless a fault leaves it or an argument undefined
+abbrev pub call_if : (good : Bool) → FunctionMeaning → TypedItems → List Fault → Typed
+call_if true f arguments faults = fine (Call f.header f.statement arguments.items) faults
+call_if false f arguments faults = broken (if f.known then Some (signal_length f.header.result) else None) faults
+
+-- it has as many arguments as the function has inputs
+abbrev pub called : FunctionMeaning → (place : ℕ) → TypedItems → Typed
+called f place arguments =
+    let fits = are_as_many arguments.items f.header.inputs in
+    call_if (f.known && (fits && arguments.good)) f arguments (fault_if (f.known && not fits) FunctionRule place ++ arguments.faults)
+
+-- a call is no constant
+abbrev pub function_applied : (needed : Bool) → FunctionMeaning → (place : ℕ) → TypedItems → Typed
+function_applied true f place arguments = broken None (fault NotConstant place)
+function_applied false f place arguments = called f place arguments
+
+-- By what the name means; where it means no function, the arguments come behind it.
+abbrev pub applied : (needed : Bool) → (place : ℕ) → Meaning → TypedItems → Typed
+applied needed place (AFunction f) arguments = function_applied needed f place arguments
+applied needed place m arguments = broken None (fault (call_rule needed m) place)
+
 -- `needed`: where a constant is needed
 abbrev mutual
   -- an expression
   pub typed : tree.Expr → Find → Bool → Typed
   typed (tree.Number n) find needed = noted needed n.place (fine (Literal n.bits n.signed n.sized) [])
   typed (tree.Named name select) find needed = noted needed name.place (selected select name find needed)
+  typed (tree.Apply name arguments) find needed = noted needed name.place (applied needed name.place (find name.bytes) (typed_arguments arguments find needed))
   typed (tree.Unary place op a) find needed = noted needed place (unary_typed op (typed a find needed))
   typed (tree.Binary op a b) find needed = noted needed (expr_place a) (binary_typed op (typed a find needed) (typed b find needed))
   typed (tree.Choice c p q) find needed = noted needed (expr_place c) (choice_typed (typed c find needed) (typed p find needed) (typed q find needed))
   typed (tree.Concatenation place parts) find needed = noted needed place (copies_typed 1 (typed_parts parts find needed))
-  typed (tree.Replication place count parts) find needed = noted needed place (replication_typed (expr_place count) (typed count find true) (typed_parts parts find needed))
+  typed (tree.Replication place count parts) find needed = noted needed place (replication_typed (expr_place count) (typed count (steady find) true) (typed_parts parts find needed))
   typed (tree.Call place function a) find needed = noted needed place (call_typed function (expr_place a) (typed a find (argument_needed function needed)))
   typed (tree.Brackets place e) find needed = noted needed place (typed e find needed)
 
@@ -81,12 +126,18 @@ abbrev mutual
   selected (tree.BitAt bracket index) name find needed = bit_typed needed name.place (find name.bytes) (typed index find needed)
   selected (tree.Slice bracket kind e f) name find needed =
       let b = base_of needed name.place (find name.bytes) in
-      select_typed b (slice_taken b.range bracket kind (expr_place e) (typed e find (first_needed kind needed)) (expr_place f) (typed f find true))
+      select_typed b (slice_taken b.range bracket kind (expr_place e) (typed e (first_names kind find) (first_needed kind needed)) (expr_place f) (typed f (steady find) true))
+  selected (tree.OfWord bracket address part) name find needed = further_typed needed name.place (find name.bytes)
 
   -- the parts of a concatenation
   pub typed_parts : tree.Exprs → Find → Bool → Typed
   typed_parts tree.NoExpr find needed = broken None []
   typed_parts (tree.AndExpr e rest) find needed = and_parts rest (part_typed e (typed e find needed)) (typed_parts rest find needed)
+
+  -- the arguments of a call
+  pub typed_arguments : tree.Exprs → Find → Bool → TypedItems
+  typed_arguments tree.NoExpr find needed = no_arguments
+  typed_arguments (tree.AndExpr e rest) find needed = and_argument (typed e find needed) (typed_arguments rest find needed)
 
 -- a needed constant, and its number
 abbrev pub constant : tree.Expr → Find → Typed

@@ -2,7 +2,7 @@
 use Rattle.std.specs.Prelude.{ℕ, Bool, false, ◌&&◌, ◌||◌, List, [], ◌∷◌, if◌then◌else◌, ◌==◌, nat_lt, Option, Some, None}
 use Rattle.vs_const.specs.Rules.{rule_number, is_of_signal}
 pub use Rattle.vs_const.specs.declared.rules.Rule.{Rule}
-pub use Rattle.vs_const.specs.declared.rules.Rule.TheVariants.{NotConstant, UnknownConstant, NoTop, DuplicateModule, UnknownModule, UnknownName, DuplicateName, BadRange, PortCount, UnknownPort, InstanceDepth, TooManyInstances, GenerateTurns, WrongKind, TooManyBits, TooManyProcesses}
+pub use Rattle.vs_const.specs.declared.rules.Rule.TheVariants.{NotConstant, UnknownConstant, NoTop, DuplicateModule, UnknownModule, UnknownName, DuplicateName, BadRange, PortCount, UnknownPort, InstanceDepth, TooManyInstances, GenerateTurns, WrongKind, TooManyBits, TooManyProcesses, LoopTurns, LoopVariable, FunctionRule, Recursion}
 use Rattle.vs_const.specs.declared.faults.Fault.{Fault}
 use Rattle.vs_const.specs.declared.faults.Flaws.{Flaws}
 

@@ -1,7 +1,7 @@
 -- The rules of elaboration, and their numbers.
 use Rattle.std.specs.Prelude.{ℕ, Bool, true, false}
 use Rattle.vs_const.specs.declared.rules.Rule.{Rule}
-use Rattle.vs_const.specs.declared.rules.Rule.TheVariants.{NotConstant, UnknownConstant, NoTop, DuplicateModule, UnknownModule, UnknownName, DuplicateName, BadRange, PortCount, UnknownPort, InstanceDepth, TooManyInstances, GenerateTurns, WrongKind, TooManyBits, TooManyProcesses}
+use Rattle.vs_const.specs.declared.rules.Rule.TheVariants.{NotConstant, UnknownConstant, NoTop, DuplicateModule, UnknownModule, UnknownName, DuplicateName, BadRange, PortCount, UnknownPort, InstanceDepth, TooManyInstances, GenerateTurns, WrongKind, TooManyBits, TooManyProcesses, LoopTurns, LoopVariable, FunctionRule, Recursion}
 
 -- of two rules that are broken at one place the one with the lesser number is told
 abbrev pub rule_number : Rule → ℕ
@@ -21,6 +21,10 @@ rule_number GenerateTurns = 42
 rule_number WrongKind = 43
 rule_number TooManyBits = 44
 rule_number TooManyProcesses = 45
+rule_number LoopTurns = 46
+rule_number LoopVariable = 47
+rule_number FunctionRule = 48
+rule_number Recursion = 49
 
 -- whether it is that a constant names no signal (4.10)
 abbrev pub is_of_signal : Rule → Bool

@@ -7,7 +7,7 @@ use Rattle.vs_design.specs.Expressions.{Signal, word_length, Source, OfSignal, O
 use Rattle.vs_grammar.specs.Trees.{SliceKind, Between, Upward, Downward}
 use Rattle.vs_const.specs.declared.faults.Fault.{Fault}
 use Rattle.vs_const.specs.Faults.{Rule, fault, fault_if, BadRange, NotConstant, UnknownName, WrongKind}
-use Rattle.vs_const.specs.Meanings.{SignalMeaning, Meaning, AValue, Undefined, ASignal, AMemory, Another, Unknown}
+use Rattle.vs_const.specs.Meanings.{SignalMeaning, Meaning, AValue, Undefined, ASignal, AMemory, AFunction, Incomplete, Another, Barred, Unknown, Find, steady}
 use Rattle.vs_const.specs.Typed.{Typed, nothing, broken, fine, natural}
 
 -- ---- ranges
@@ -59,18 +59,21 @@ abbrev pub signal_typed : Bool → ℕ → SignalMeaning → Typed
 signal_typed true place s = broken None (fault NotConstant place)
 signal_typed false place s = known_signal s.known s.signal
 
--- a memory is no constant, and its name alone has no value (4.9.3)
-abbrev pub memory_rule : (needed : Bool) → Rule
-memory_rule true = NotConstant
-memory_rule false = WrongKind
+-- What is no constant breaks that rule where one is needed, and elsewhere another: of a memory that its name alone has no value (4.9.3).
+abbrev pub rule_where : (needed : Bool) → Rule → Rule
+rule_where true rule = NotConstant
+rule_where false rule = rule
 
 -- a name alone
 abbrev pub name_typed : Bool → ℕ → Meaning → Typed
-name_typed needed place (AValue v range) = fine (Literal v.bits v.signed true) []
+name_typed needed place (AValue v range turns) = fine (Literal v.bits v.signed true) []
 name_typed needed place (Undefined range) = broken None []
 name_typed needed place (ASignal s) = signal_typed needed place s
-name_typed needed place (AMemory m) = broken None (fault (memory_rule needed) place)
+name_typed needed place (AMemory m) = broken None (fault (rule_where needed WrongKind) place)
+name_typed needed place (AFunction f) = broken None (fault WrongKind place)
+name_typed needed place Incomplete = broken None (fault WrongKind place)
 name_typed needed place Another = broken None (fault WrongKind place)
+name_typed needed place (Barred rule) = broken None (fault (rule_where needed rule) place)
 name_typed needed place Unknown = broken None (fault UnknownName place)
 
 -- what a select takes bits of; no range where a select has no meaning
@@ -99,11 +102,14 @@ signal_base_of false place s = signal_base (fault_if (is_scalar s) WrongKind pla
 
 -- by what the name means
 abbrev pub base_of : Bool → ℕ → Meaning → Base
-base_of needed place (AValue v range) = record { source = OfConstant v.bits; range = Some range; good = true; faults = [] }
+base_of needed place (AValue v range turns) = record { source = OfConstant v.bits; range = Some range; good = true; faults = [] }
 base_of needed place (Undefined range) = no_base range []
 base_of needed place (ASignal s) = signal_base_of needed place s
-base_of needed place (AMemory m) = no_base None (fault (memory_rule needed) place)
+base_of needed place (AMemory m) = no_base None (fault (rule_where needed WrongKind) place)
+base_of needed place (AFunction f) = no_base None (fault WrongKind place)
+base_of needed place Incomplete = no_base None (fault WrongKind place)
 base_of needed place Another = no_base None (fault WrongKind place)
+base_of needed place (Barred rule) = no_base None (fault (rule_where needed rule) place)
 base_of needed place Unknown = no_base None (fault UnknownName place)
 
 -- ---- selects
@@ -172,6 +178,11 @@ abbrev pub first_needed : SliceKind → Bool → Bool
 first_needed Between needed = true
 first_needed _ needed = needed
 
+-- and name no integer
+abbrev pub first_names : SliceKind → Find → Find
+first_names Between find = steady find
+first_names _ find = find
+
 -- the select, unless a fault leaves it undefined
 abbrev pub select_if : (good : Bool) → Base → Taken → Typed
 select_if true b t = record { expression = Select b.source t.part t.index; length = t.length; good = true; faults = b.faults ++ t.faults }
@@ -180,6 +191,16 @@ select_if false b t = broken t.length (b.faults ++ t.faults)
 -- bits of a name
 abbrev pub select_typed : Base → Taken → Typed
 select_typed b t = select_if (b.good && t.good) b t
+
+-- ---- names of another kind
+
+-- the rule that a name breaks where something of another kind has to stand
+abbrev pub wrong_rule : (needed : Bool) → Meaning → Rule
+wrong_rule needed (ASignal s) = rule_where needed WrongKind
+wrong_rule needed (AMemory m) = rule_where needed WrongKind
+wrong_rule needed (Barred rule) = rule_where needed rule
+wrong_rule needed Unknown = UnknownName
+wrong_rule needed _ = WrongKind
 
 -- ---- words (4.9.3)
 
@@ -202,3 +223,7 @@ word_typed false place m i = word_if (m.known && i.good) m i
 abbrev pub bit_typed : (needed : Bool) → (place : ℕ) → Meaning → Typed → Typed
 bit_typed needed place (AMemory m) i = word_typed needed place m i
 bit_typed needed place m i = let b = base_of needed place m in select_typed b (taken b.range true 1 i i.faults)
+
+-- A further select, of a bit or of several of a word, isn't taken; what stands in the brackets comes behind the name.
+abbrev pub further_typed : (needed : Bool) → (place : ℕ) → Meaning → Typed
+further_typed needed place m = broken None (fault (wrong_rule needed m) place)

@@ -2,14 +2,15 @@
 use Rattle.std.specs.Prelude.{◌≡◌, ℕ, Bool, true, false, List, [], Some}
 use Rattle.vs_design.specs.Expressions.{width, is_constant}
 use Rattle.vs_design.specs.Designs.{Design}
-use Rattle.vs_design.specs.Elaborated.{is_plain, has_words, is_lawful_range, is_formed}
+use Rattle.vs_design.specs.Elaborated.{is_plain, has_words, is_lawful_range, is_formed, is_formed_header, is_formed_statement, is_nil, inside}
+use Rattle.vs_design.specs.Rules.{mixed_in}
 use Rattle.vs_grammar.specs.Trees.{Expr}
 use Rattle.vs_grammar.specs.Shapes.{IsExpr}
-use Rattle.vs_const.specs.Meanings.{SignalMeaning, Meaning, AValue, Undefined, ASignal, AMemory, Another, Unknown, Find, IsFairValue}
+use Rattle.vs_const.specs.Meanings.{SignalMeaning, FunctionMeaning, Meaning, AValue, Undefined, ASignal, AMemory, AFunction, Incomplete, Another, Barred, Unknown, Find, IsFairValue}
 use Rattle.vs_const.specs.Typed.{Typed}
 use Rattle.vs_const.specs.Expressions.{typed}
 
--- what a name means where no fault was met: a value with its range, a known signal or memory of the design (in a constant any of them is a fault), or nothing that an expression can name
+-- what a name means where no fault was met: a value with its range, a known signal, memory or function of the design (in a constant any of them is a fault), or nothing that an expression can name
 abbrev pub IsSoundSignal : Design → Bool → SignalMeaning → Type 0
 IsSoundSignal d true s = Unit {0}
 IsSoundSignal d false s = (is_plain d s.signal ≡ true) × (s.known ≡ true) × (s.signal.input ≡ true → s.input ≡ true)
@@ -19,13 +20,27 @@ abbrev pub IsSoundMemory : Design → Bool → SignalMeaning → Type 0
 IsSoundMemory d true m = Unit {0}
 IsSoundMemory d false m = (has_words d m.signal ≡ true) × (m.known ≡ true) × (m.signal.input ≡ true → m.input ≡ true)
 
+-- what a call of a function holds is formed
+pub record IsFormedFunction (d : Design) (f : FunctionMeaning) : Type 0 where
+  pub header : is_formed_header d f.header ≡ true
+  pub blocking : is_nil (mixed_in false f.statement) ≡ true
+  pub statement : is_formed_statement (inside d f.header) f.statement ≡ true
+
+-- a function that is complete, likewise
+abbrev pub IsSoundFunction : Design → Bool → FunctionMeaning → Type 0
+IsSoundFunction d true f = Unit {0}
+IsSoundFunction d false f = (f.known ≡ true) × IsFormedFunction d f
+
 -- of a name
 abbrev pub IsSound : Design → Bool → Meaning → Type 0
-IsSound d needed (AValue v r) = IsFairValue v r × (is_lawful_range (Some r) ≡ true)
+IsSound d needed (AValue v r turns) = IsFairValue v r × (is_lawful_range (Some r) ≡ true)
 IsSound d needed (Undefined r) = ⊥
 IsSound d needed (ASignal s) = IsSoundSignal d needed s
 IsSound d needed (AMemory m) = IsSoundMemory d needed m
+IsSound d needed (AFunction f) = IsSoundFunction d needed f
+IsSound d needed Incomplete = Unit {0}
 IsSound d needed Another = Unit {0}
+IsSound d needed (Barred rule) = Unit {0}
 IsSound d needed Unknown = Unit {0}
 
 -- of every name

@@ -40,6 +40,8 @@ pub struct Checked {
     /// Whether no fault leaves its value undefined.
     pub good: bool,
     pub signed: bool,
+    /// How deep calls of functions nest in it (10.4).
+    pub depth: u32,
 }
 
 /// What an expression says, and itself where a constant is needed whose value no fault leaves undefined.
@@ -262,7 +264,7 @@ fn select_form(
     match index {
         None => Ok(None),
         Some(f) => match named {
-            Named::Value { value, range } => {
+            Named::Value { value, range, .. } => {
                 if good {
                     let index = Box::new(alloc, f)?;
                     Ok(Some(Form::Select {
@@ -318,7 +320,7 @@ fn between_form(
     match range {
         None => Ok(None),
         Some(r) => match named {
-            Named::Value { value, range } => {
+            Named::Value { value, range, .. } => {
                 if good {
                     let inner = Form::Literal {
                         bits: of_number(32, r.left.min(r.right) as u64),
@@ -469,7 +471,10 @@ fn find_one_bit(
         → IfOk result (λ r. Finds needed r (spec.select_typed (spec.base_of needed place m) (spec.taken (spec.base_of needed place m).range true 1 t t.faults))) }
 {
     let base = base_of(needed, place, named);
-    let said = taken_of(base, bits_from(base.range, 1, i.said.good, i.said.flaws));
+    let said = taken_of(
+        base,
+        bits_from(base.range, 1, i.said.good, i.said.depth, i.said.flaws),
+    );
     let form = select_form(alloc, said.good, named, true, 1, i.form)?;
     Ok(Found { said, form })
 }

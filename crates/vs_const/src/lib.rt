@@ -2,6 +2,7 @@
 //! needed for.
 #![tactic(auto)]
 
+mod calls;
 mod checks;
 mod constants;
 mod error;
@@ -10,12 +11,13 @@ mod forms;
 mod found;
 mod laws;
 mod names;
+mod needs;
 mod operators;
 mod ranges;
 mod rules;
 mod selects;
 
-pub use checks::{address_bounds, bounds, check, natural, numbered, place_of};
+pub use checks::{address_bounds, bounds, check, check_slice, natural, numbered, place_of};
 pub use constants::{constant, number};
 pub use error::ConstError;
 pub use faults::{
@@ -24,7 +26,7 @@ pub use faults::{
 pub use forms::{Form, own, shape, value};
 pub use found::{Checked, Found};
 pub use laws::{constant_examples, sound_law};
-pub use names::{Constant, Env, Named, SignalShape};
+pub use names::{Constant, Env, FunctionShape, Named, Role, SignalShape};
 pub use ranges::{Bounds, Natural, Numbered, within};
 pub use rules::Rule;
-pub use selects::is_against;
+pub use selects::{Taken, is_against, wrong_rule};

@@ -26,6 +26,7 @@ pub(crate) fn undefined() -> Checked
         length: None,
         good: false,
         signed: false,
+        depth: 0,
     }
 }
 
@@ -38,11 +39,12 @@ pub(crate) fn faulty(rule: Rule, place: u32) -> Checked
         length: None,
         good: false,
         signed: false,
+        depth: 0,
     }
 }
 
 /// An expression that begins at this place; where a constant is needed it has at most 64 bits, or names a signal.
-#[tactic(auto, using(crate::proofs::Least::flaws_append))]
+#[tactic(auto, using(crate::proofs::Least::flaws_append, crate::proofs::Depths::begins_depth))]
 pub(crate) fn noted(needed: bool, place: u32, c: Checked) -> Checked
     ensures { (t : typed.Typed) → Checks c t → Checks result (typed.noted needed place t) }
 {
@@ -55,6 +57,7 @@ pub(crate) fn noted(needed: bool, place: u32, c: Checked) -> Checked
         length: c.length,
         good: c.good && !long,
         signed: c.signed,
+        depth: c.depth,
     }
 }
 
@@ -108,24 +111,28 @@ pub(crate) fn binary(op: BinaryOp, a: Checked, b: Checked) -> Checked
 {
     let flaws = both(a.flaws, b.flaws);
     let good = a.good && b.good;
+    let depth = a.depth.max(b.depth);
     match op.way() {
         Way::InContext => Checked {
             flaws,
             length: greater(a.length, b.length),
             good,
             signed: a.signed && b.signed,
+            depth,
         },
         Way::Shifted => Checked {
             flaws,
             length: a.length,
             good,
             signed: a.signed,
+            depth,
         },
         Way::Own | Way::Compared => Checked {
             flaws,
             length: Some(1),
             good,
             signed: false,
+            depth,
         },
     }
 }
@@ -140,6 +147,7 @@ pub(crate) fn choice(c: Checked, p: Checked, q: Checked) -> Checked
         length: greater(p.length, q.length),
         good: c.good && (p.good && q.good),
         signed: p.signed && q.signed,
+        depth: c.depth.max(p.depth.max(q.depth)),
     }
 }
 
@@ -153,6 +161,7 @@ pub(crate) fn join(high: Checked, low: Checked) -> Checked
         length: sum(high.length, low.length),
         good: high.good && low.good,
         signed: false,
+        depth: high.depth.max(low.depth),
     }
 }
 
@@ -179,6 +188,7 @@ pub(crate) fn copies(count: u32, c: Checked) -> Checked
         length: times(count, c.length),
         good: c.good,
         signed: false,
+        depth: c.depth,
     }
 }
 
@@ -192,6 +202,7 @@ pub(crate) fn literal(n: &Literal) -> Checked
         length: Some(n.size),
         good: true,
         signed: n.signed,
+        depth: 0,
     }
 }
 
@@ -208,6 +219,7 @@ pub(crate) fn replicated(n: Natural, c: Checked) -> Checked
             length: None,
             good: false,
             signed: false,
+            depth: 0,
         },
         Some(count) => Checked {
             flaws,
@@ -229,6 +241,7 @@ pub(crate) fn part(c: Checked, unsized_at: Option<u32>) -> Checked
             length: c.length,
             good: false,
             signed: c.signed,
+            depth: c.depth,
         },
     }
 }
@@ -244,12 +257,14 @@ pub(crate) fn clog2_of(place: u32, flaws: Flaws, n: Option<u32>) -> Checked
             length: Some(32),
             good: true,
             signed: true,
+            depth: 0,
         },
         None => Checked {
             flaws: both(flaws, flaw(Rule::UnknownConstant, place)),
             length: Some(32),
             good: false,
             signed: false,
+            depth: 0,
         },
     }
 }
@@ -263,5 +278,6 @@ pub(crate) fn clog2_broken(flaws: Flaws) -> Checked
         length: Some(32),
         good: false,
         signed: false,
+        depth: 0,
     }
 }

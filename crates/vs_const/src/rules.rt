@@ -38,10 +38,18 @@ pub enum Rule {
     TooManyBits,
     /// There are more than 65,536 assigns and blocks.
     TooManyProcesses,
+    /// A loop takes more than 4,096 turns, or all loops together make more than 1,048,576 copies of statements (9.6).
+    LoopTurns,
+    /// An integer is named outside its loops, assigned within one, heads a loop within its own, or heads loops of two processes (9.6).
+    LoopVariable,
+    /// A function names what it may not, or a call has another number of arguments than the function has inputs (10.4.4).
+    FunctionRule,
+    /// A function is called by itself, or by one that is declared before it (10.4.1).
+    Recursion,
 }
 
 impl Rule {
-    /// Its number, from 30 to 45. Of two rules that are broken at one place the one with the lesser number is told.
+    /// Its number, from 30 to 49. Of two rules that are broken at one place the one with the lesser number is told.
     pub fn number(self) -> u32
         ensures { result ≡ rule_number self }
     {
@@ -62,6 +70,10 @@ impl Rule {
             Rule::WrongKind => 43,
             Rule::TooManyBits => 44,
             Rule::TooManyProcesses => 45,
+            Rule::LoopTurns => 46,
+            Rule::LoopVariable => 47,
+            Rule::FunctionRule => 48,
+            Rule::Recursion => 49,
         }
     }
 

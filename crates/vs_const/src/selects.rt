@@ -8,6 +8,7 @@ ghost use Rattle.vs_const.specs.Faults.{fault, flaws_of};
 ghost use Rattle.vs_const.specs.Meanings.{Meaning, Means, SignalMeaning, IsFairMeaning};
 ghost use Rattle.vs_const.specs.Typed as typed;
 ghost use Rattle.vs_const.specs.Selects as spec;
+ghost use Rattle.vs_const.specs.CallDepths.{call_depth};
 ghost use Rattle.vs_const.specs.Checks.{capped, Checks, ChecksNumber, ChecksNatural, ChecksBounds, ChecksBase, ChecksTaken};
 
 use crate::faults::{Fault, Flaws, both, flaw, flaw_if, flawless};
@@ -27,12 +28,13 @@ pub(crate) struct Base {
     pub(crate) flaws: Flaws,
 }
 
-/// Which bits are taken: how many.
+/// Which bits are taken: how many, and how deep calls of functions nest in their index.
 #[derive(Clone, Copy, Debug)]
-pub(crate) struct Taken {
-    pub(crate) length: Option<u32>,
-    pub(crate) good: bool,
-    pub(crate) flaws: Flaws,
+pub struct Taken {
+    pub length: Option<u32>,
+    pub good: bool,
+    pub flaws: Flaws,
+    pub depth: u32,
 }
 
 /// How many bits a range has, as far as 65.
@@ -44,7 +46,7 @@ fn short_length(range: Range) -> u32
 }
 
 /// How many bits a signal has, or each word of a memory, as far as 65.
-fn signal_length(range: Option<Range>) -> u32
+pub(crate) fn signal_length(range: Option<Range>) -> u32
     ensures { result ≡ min 65 (E.range_or_one range) }
 {
     match range {
@@ -69,17 +71,30 @@ fn signal_name(needed: bool, place: u32, s: SignalShape) -> Checked
         length: Some(signal_length(s.range)),
         good: true,
         signed: s.signed,
+        depth: 0,
     }
 }
 
-/// The rule that the name of a memory breaks where no word of it is named: it is no constant, and has no value (4.9.3).
-fn memory_rule(needed: bool) -> Rule
-    ensures { result ≡ spec.memory_rule needed }
+/// The rule that something breaks which is no constant: where a constant is needed that, and elsewhere another.
+pub(crate) fn rule_where(needed: bool, rule: Rule) -> Rule
+    ensures { result ≡ spec.rule_where needed rule }
 {
-    if needed {
-        Rule::NotConstant
-    } else {
-        Rule::WrongKind
+    if needed { Rule::NotConstant } else { rule }
+}
+
+/// The rule that a name breaks where something of another kind has to stand.
+pub fn wrong_rule(needed: bool, named: &Named) -> Rule
+    ensures { (m : Meaning) → Means named.now m → result ≡ spec.wrong_rule needed m }
+{
+    match named {
+        Named::Signal(_) | Named::Memory(_) => rule_where(needed, Rule::WrongKind),
+        Named::Barred(rule) => rule_where(needed, *rule),
+        Named::Unknown => Rule::UnknownName,
+        Named::Value { .. }
+        | Named::Undefined { .. }
+        | Named::Function(_)
+        | Named::Incomplete
+        | Named::Other => Rule::WrongKind,
     }
 }
 
@@ -88,16 +103,18 @@ pub(crate) fn name_alone(needed: bool, place: u32, named: &Named) -> Checked
     ensures { (m : Meaning) → IsFairMeaning m → Means named.now m → Checks result (spec.name_typed needed place m) }
 {
     match named {
-        Named::Value { value, range: _ } => Checked {
+        Named::Value { value, .. } => Checked {
             flaws: flawless(),
             length: Some(value.bits.len()),
             good: true,
             signed: value.signed,
+            depth: 0,
         },
         Named::Undefined { range: _ } => undefined(),
         Named::Signal(s) => signal_name(needed, place, *s),
-        Named::Memory(_) => faulty(memory_rule(needed), place),
-        Named::Other => faulty(Rule::WrongKind, place),
+        Named::Memory(_) => faulty(rule_where(needed, Rule::WrongKind), place),
+        Named::Function(_) | Named::Incomplete | Named::Other => faulty(Rule::WrongKind, place),
+        Named::Barred(rule) => faulty(rule_where(needed, *rule), place),
         Named::Unknown => faulty(Rule::UnknownName, place),
     }
 }
@@ -143,15 +160,18 @@ pub(crate) fn base_of(needed: bool, place: u32, named: &Named) -> Base
     ensures { (m : Meaning) → Means named.now m → ChecksBase result (spec.base_of needed place m) }
 {
     match named {
-        Named::Value { value: _, range } => Base {
+        Named::Value { range, .. } => Base {
             range: Some(*range),
             good: true,
             flaws: flawless(),
         },
         Named::Undefined { range } => undefined_base(*range),
         Named::Signal(s) => signal_base(needed, place, *s),
-        Named::Memory(_) => faulty_base(memory_rule(needed), place),
-        Named::Other => faulty_base(Rule::WrongKind, place),
+        Named::Memory(_) => faulty_base(rule_where(needed, Rule::WrongKind), place),
+        Named::Function(_) | Named::Incomplete | Named::Other => {
+            faulty_base(Rule::WrongKind, place)
+        }
+        Named::Barred(rule) => faulty_base(rule_where(needed, *rule), place),
         Named::Unknown => faulty_base(Rule::UnknownName, place),
     }
 }
@@ -161,16 +181,26 @@ pub(crate) fn bits_from(
     declared: Option<Range>,
     width: u32,
     index_good: bool,
+    index_depth: u32,
     flaws: Flaws,
 ) -> Taken
     requires { width ≤ 65 }
-    ensures { (up : Bool) (n : ℕ) (t : typed.Typed) (fs : List Fault) → width ≡ min 65 n → index_good ≡ t.good → flaws ≡ flaws_of fs
+    ensures { (up : Bool) (n : ℕ) (t : typed.Typed) (fs : List Fault) → width ≡ min 65 n → index_good ≡ t.good → index_depth ≡ call_depth t.expression → flaws ≡ flaws_of fs
         → ChecksTaken result (spec.taken declared up n t fs) }
 {
-    Taken {
-        length: Some(width),
-        good: declared.is_some() && index_good,
-        flaws,
+    match declared {
+        None => Taken {
+            length: Some(width),
+            good: false,
+            flaws,
+            depth: 0,
+        },
+        Some(_) => Taken {
+            length: Some(width),
+            good: index_good,
+            flaws,
+            depth: index_depth,
+        },
     }
 }
 
@@ -187,8 +217,9 @@ pub(crate) fn moving(declared: Option<Range>, a: Checked, place: u32, w: Numbere
             length: None,
             good: false,
             flaws,
+            depth: 0,
         },
-        Some(width) => bits_from(declared, width, a.good, flaws),
+        Some(width) => bits_from(declared, width, a.good, a.depth, flaws),
     }
 }
 
@@ -213,13 +244,15 @@ pub(crate) fn between(declared: Option<Range>, bracket: u32, r: Bounds) -> Taken
             length: None,
             good: false,
             flaws: r.flaws,
+            depth: 0,
         },
         Some(range) if is_against(declared, range) => Taken {
             length: Some(short_length(range)),
             good: false,
             flaws: both(r.flaws, flaw(Rule::BadRange, bracket)),
+            depth: 0,
         },
-        Some(range) => bits_from(declared, short_length(range), true, r.flaws),
+        Some(range) => bits_from(declared, short_length(range), true, 0, r.flaws),
     }
 }
 
@@ -229,11 +262,13 @@ pub(crate) fn taken_of(b: Base, t: Taken) -> Checked
     ensures { (base : spec.Base) (bits : spec.Taken) → ChecksBase b base → ChecksTaken t bits
         → Checks result (spec.select_typed base bits) }
 {
+    let good = b.good && t.good;
     Checked {
         flaws: both(b.flaws, t.flaws),
         length: t.length,
-        good: b.good && t.good,
+        good,
         signed: false,
+        depth: if good { t.depth } else { 0 },
     }
 }
 
@@ -249,6 +284,7 @@ pub(crate) fn word(needed: bool, place: u32, shape: SignalShape, index: Checked)
             length: None,
             good: false,
             signed: false,
+            depth: 0,
         };
     }
     let good = shape.known && index.good;
@@ -261,5 +297,6 @@ pub(crate) fn word(needed: bool, place: u32, shape: SignalShape, index: Checked)
         },
         good,
         signed: good && shape.signed,
+        depth: if good { index.depth } else { 0 },
     }
 }

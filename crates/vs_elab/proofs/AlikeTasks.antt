@@ -11,13 +11,12 @@ use Rattle.vs_elaborated.specs.Pieces.{OfModule, Task}
 use Rattle.vs_elaborated.specs.Surveys.{Totals, Survey, survey}
 use Rattle.vs_elaborated.specs.Elaborated.{both_designs, then_do, unless_fault, Read, read_pieces, counted, limit_faults, scope_design, read_scope}
 use Rattle.vs_scope.specs.Frames.{env_at, envs}
-use Rattle.vs_scope.specs.Views.{entries}
 use Rattle.vs_elab.specs.declared.pending.Part.{Part}
 use Rattle.vs_elab.specs.declared.reading.Reading.{Reading}
 use Rattle.vs_items.specs.Overriding.{AreAlike}
 use Rattle.vs_elab.specs.Fine.{AreFineParts}
 use Rattle.vs_elab.specs.Pending.{parts_pieces, scope_around}
-use Rattle.vs_elab.specs.Reading.{FailsBy, IsOpened, design_so_far, totals_of}
+use Rattle.vs_elab.specs.Reading.{FailsBy, IsOpened, design_so_far, totals_so_far}
 use Rattle.vs_elab.specs.Stacks.{scope_part}
 use Rattle.vs_elab.proofs.SameOverrides.{survey_alike}
 
@@ -47,15 +46,14 @@ module _ (source : Source) (name : List ℕ) (parent : Option ℕ) (m : Module) 
   -- and opened
   pub opened_alike : (old new : Reading) (ps : List Part) → IsOpened source (task os) old new ps → IsOpened source (task qs) old new ps
   opened_alike old new ps o =
-      let e = same_survey (totals_of old.counts) in
+      let e = same_survey (totals_so_far old) in
       record {
         limits = o.limits;
         fair = subst (λ (s : Survey). least s.faults ≡ None) e o.fair;
         design = subst (λ (s : Survey). design_so_far new ≡ both_designs (design_so_far old) (scope_part (task os) s)) e o.design;
-        totals_is = subst (λ (s : Survey). totals_of new.counts ≡ s.totals) e o.totals_is;
+        totals_is = subst (λ (s : Survey). totals_so_far new ≡ s.totals) e o.totals_is;
         frame = o.frame;
         frames = o.frames;
-        entries = subst (λ (s : Survey). entries o.frame.names ≡ s.entries) e o.entries;
         seen = subst (λ (s : Survey). env_at (envs new.frames.items) (Some (length old.frames.items)) ≡ within env s.entries) e o.seen;
         pieces = subst (λ (s : Survey). parts_pieces source (scope_around new.frames.items (length old.frames.items) depth) ps ≡ s.pieces) e o.pieces;
         parts = subst (λ (s : Survey). AreFineParts source (within env s.entries) ps) e o.parts;

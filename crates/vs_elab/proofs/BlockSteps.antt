@@ -8,11 +8,12 @@ use Rattle.vs_grammar.specs.Trees as tree
 use Rattle.vs_ast.specs.Views as view
 use Rattle.vs_const.specs.declared.faults.Fault.{Fault}
 use Rattle.vs_elaborated.specs.Limits.{the_limits}
-use Rattle.vs_elaborated.specs.Environments.{Env, Entry}
+use Rattle.vs_elaborated.specs.Environments.{Env}
 use Rattle.vs_elaborated.specs.Environments as environment
 use Rattle.vs_elaborated.specs.Pieces.{Task, OfBlock, Within}
 use Rattle.vs_elaborated.specs.Surveys.{turned}
 use Rattle.vs_elaborated.specs.Elaborated.{read_scope}
+use Rattle.vs_elaborated.specs.Numbers.{AreNumberedFrames}
 use Rattle.vs_elaborated.specs.Sound.{IsSoundTask, AreSoundFrames}
 use Rattle.vs_scope.specs.declared.contents.BlockItems.{BlockItems}
 use Rattle.vs_scope.specs.declared.frames.Frame.{Frame}
@@ -26,7 +27,7 @@ use Rattle.vs_elab.specs.declared.reading.Text.{Text}
 use Rattle.vs_elab.specs.declared.stack.Pending.{Pending}
 use Rattle.vs_elab.specs.declared.steps.Standing.{Standing}
 use Rattle.vs_elab.specs.Pending.{parts_pieces, scope_around, pending_pieces, stack_pieces}
-use Rattle.vs_elab.specs.Reading.{AreSeen, ArePending, IsOpened, IsPending, IsReading, IsStep, outcome, pending_at, source_of, totals_of}
+use Rattle.vs_elab.specs.Reading.{AreNumberedIn, AreSeen, ArePending, IsOpened, IsPending, IsReading, IsStep, outcome, pending_at, source_of, totals_so_far}
 use Rattle.vs_elab.specs.Stacks.{pending}
 use Rattle.vs_elab.proofs.OpenedSteps.{within_opened, within_faulty}
 
@@ -59,6 +60,10 @@ block_sound source d frames at name items t h seen = record {
   shaped = h.fine.shaped;
 }
 
+pub block_numbered : (d : Design) (frames : List Frame) (at : Standing) (name : List ℕ) (items : BlockItems) (t : Option Turn)
+    → at.frame < length frames → AreNumberedIn d frames → AreNumberedFrames d (block_task frames at name items t).env.frames
+block_numbered d frames at name items t h numbered = subst (AreNumberedFrames d) (sym (turned_frames (env_at (envs frames) (Some at.frame)) (view.option turn t))) (numbered at.frame h)
+
 task_is : (text : Text) (old : Reading) (at : Standing) (name : Vec ℕ Global) (items : BlockItems) (t : Option Turn) (k : Task) (left : ℕ) → block_task old.frames.items at name.items items t ≡ k → at.left ≡ left
     → pending_pieces (source_of text) old.frames.items (pending_at at (Block name items t)) ≡ pending left (Within k) ∷ []
 task_is text old at name items t k left e l =
@@ -74,7 +79,7 @@ block_opened text k old new ps left at name items t stack rest h e l o pushed al
 
 -- or can't be
 pub block_faulty : (text : Text) (k : Task) (old : Reading) (left : ℕ) (at : Standing) (name : Vec ℕ Global) (items : BlockItems) (t : Option Turn) (stack : List Pending) (e : Fault)
-    → block_task old.frames.items at name.items items t ≡ k → at.left ≡ left → read_scope left the_limits (source_of text) k (totals_of old.counts) ≡ Err e
+    → block_task old.frames.items at name.items items t ≡ k → at.left ≡ left → read_scope left the_limits (source_of text) k (totals_so_far old) ≡ Err e
     → outcome text old (stack ++ pending_at at (Block name items t) ∷ []) ≡ Err e
 block_faulty text k old left at name items t stack e same l fails =
     within_faulty text k old left (pending_at at (Block name items t)) stack e (task_is text old at name items t k left same l) fails

@@ -16,8 +16,8 @@ use Rattle.vs_elaborated.specs.Generate.{Made}
 use Rattle.vs_elaborated.specs.Ports.{find_module}
 use Rattle.vs_elaborated.specs.Pieces.{Said, all_said}
 use Rattle.vs_elaborated.specs.Instances.{Around, said_overrides, instance_said, unknown_module}
-use Rattle.vs_elaborated.specs.Surveys.{wire_said, assign_said, item_said, items_said}
-use Rattle.vs_elab.specs.Fine.{IsFineAssign, IsFineWire, IsFineBlock, IsFineInstance, IsFineItem, AreFineItems}
+use Rattle.vs_elaborated.specs.Surveys.{wire_said, assign_said}
+use Rattle.vs_elab.specs.Fine.{IsFineAssign, IsFineWire, IsFineBlock, IsFineInstance, IsFineItem, AreFineItems, plain_said, plains_said}
 use Rattle.vs_elab.proofs.PartItems.{made_at}
 
 -- each of a list that says no fault
@@ -81,10 +81,10 @@ items_at : (source : tree.Source) (around : Around) (items : List Item) (made : 
 items_at source around [] made i d h same f = absurd (let no : ⊥ = omega (arith, h) in no)
 items_at source around (x ∷ items) [] i d h same f = absurd (let no : ⊥ = omega (arith, same) in no)
 items_at source around (x ∷ items) (m ∷ made) zero d h same f =
-    record { stated = f.stated.0; shallow = omega (arith, f.shallow); made = f.made.0; clean = (both_nil (item_said source around (view.item x) m).faults (items_said source around (map view.item items) made).faults f.clean).0 }
+    record { stated = f.stated.0; shallow = omega (arith, f.shallow); made = f.made.0; clean = (both_nil (plain_said source around (view.item x) m).faults (plains_said source around (map view.item items) made).faults f.clean).0 }
 items_at source around (x ∷ items) (m ∷ made) (suc i) d h same f =
     items_at source around items made i d (omega (arith, h)) (omega (arith, same))
-    (record { stated = f.stated.1; shallow = omega (arith, f.shallow); made = f.made.1; clean = (both_nil (item_said source around (view.item x) m).faults (items_said source around (map view.item items) made).faults f.clean).1 })
+    (record { stated = f.stated.1; shallow = omega (arith, f.shallow); made = f.made.1; clean = (both_nil (plain_said source around (view.item x) m).faults (plains_said source around (map view.item items) made).faults f.clean).1 })
 
 pub item_at : (source : tree.Source) (around : Around) (items : List Item) (made : List Made) (i : ℕ) (x : Item) → i < length items → x ≡ get_or items i x → length made ≡ length items
     → AreFineItems source around (map view.item items) made → IsFineItem source around (view.item x) (made_at made i)
@@ -94,5 +94,5 @@ item_at source around items made i x h e same f = subst (λ (y : Item). IsFineIt
 pub one_fine : (source : tree.Source) (around : Around) (i : tree.Item) (made : List Made) → length made ≡ 1 → AreFineItems source around (i ∷ []) made → IsFineItem source around i (made_at made 0)
 one_fine source around i [] h f = absurd (let no : ⊥ = omega (arith, h) in no)
 one_fine source around i (m ∷ []) h f =
-    record { stated = f.stated.0; shallow = omega (arith, f.shallow); made = f.made.0; clean = (both_nil (item_said source around i m).faults [] f.clean).0 }
+    record { stated = f.stated.0; shallow = omega (arith, f.shallow); made = f.made.0; clean = (both_nil (plain_said source around i m).faults [] f.clean).0 }
 one_fine source around i (m ∷ n ∷ ms) h f = absurd (let no : ⊥ = omega (arith, h) in no)

@@ -11,19 +11,20 @@ use Rattle.vs_elaborated.specs.Environments.{Entry, Env, within}
 use Rattle.vs_elaborated.specs.Generate.{Nested, Made}
 use Rattle.vs_elaborated.specs.Pieces.{Task}
 use Rattle.vs_elaborated.specs.Instances.{Around}
-use Rattle.vs_elaborated.specs.Surveys.{Totals, Survey, items_of, items_said, processes_over}
+use Rattle.vs_elaborated.specs.Surveys.{Totals, Survey, counts_of, items_of, items_said, processes_over}
 use Rattle.vs_elaborated.specs.Sound.{BlocksAreLower}
 use Rattle.vs_scope.specs.declared.frames.Frame.{Frame}
 use Rattle.vs_scope.specs.declared.made.Nested as blocks
 use Rattle.vs_scope.specs.declared.made.Made as constructs
 use Rattle.vs_scope.specs.Frames.{env_at, envs}
 use Rattle.vs_scope.specs.Made as code
-use Rattle.vs_scope.specs.Surveys.{IsOfParts, declared_in, faults_in, items_faults, made_in, said_in, start_at}
+use Rattle.vs_scope.specs.Surveys.{IsOfParts, declared_in, faults_in, items_faults, loops_in, made_in, said_in, start_at}
 use Rattle.vs_items.specs.Stated.{AreStated}
 use Rattle.vs_elab.specs.declared.pending.Part.{Part}
-use Rattle.vs_elab.specs.Fine.{AreFineInside, AreFineItems, MakesFine}
+use Rattle.vs_elab.specs.Fine.{AreFineInside, AreFineItems, MakesFine, plains_said}
 use Rattle.vs_elab.specs.Pending.{parts_pieces, scope_around}
 use Rattle.vs_elab.proofs.PartItems.{heads, tails, alike_length}
+use Rattle.vs_elab.proofs.PlainItems.{plains_clean}
 use Rattle.vs_elab.proofs.ScopeItems.{one_made_each}
 
 -- ---- faults
@@ -67,19 +68,19 @@ items_around t totals es = record { scope = totals.scopes; depth = t.depth; env 
 
 -- what each of them makes
 abbrev pub items_made : Task → Totals → List Made
-items_made t totals = made_in t.env t.contents (start_at t totals) totals.turns
+items_made t totals = made_in t.env t.contents (start_at t totals) (counts_of totals) totals.turns
 
 -- one thing each
 pub made_each : (t : Task) (totals : Totals) (ks : List constructs.Made) (items : List tree.Item) → items_of t.contents ≡ items → map code.made ks ≡ map code.kept (items_made t totals) → length ks ≡ length items
 made_each t totals ks items e h =
-    sym (alike_length code.made code.kept ks (items_made t totals) h) ∙ one_made_each the_limits (items_of t.contents) (within t.env (declared_in t.env t.contents (start_at t totals))) 1 totals.turns ∙ ap length e
+    sym (alike_length code.made code.kept ks (items_made t totals) h) ∙ one_made_each the_limits (items_of t.contents) (within t.env (declared_in t.env t.contents (start_at t totals) (counts_of totals))) 1 totals.turns ∙ ap length e
 
 scope_clean : (source : tree.Source) (t : Task) (totals : Totals) (s : Survey) → IsOfParts source t totals s → least s.faults ≡ None
-    → (items_said source (items_around t totals s.entries) (items_of t.contents) (items_made t totals)).faults ≡ []
+    → (items_said the_limits source (items_around t totals s.entries) (loops_in t totals) (items_of t.contents) (items_made t totals)).faults ≡ []
 scope_clean source t totals s p h =
-    ap (λ (es : List Entry). (items_said source (items_around t totals es) (items_of t.contents) (items_made t totals)).faults) p.entries
+    ap (λ (es : List Entry). (items_said the_limits source (items_around t totals es) (loops_in t totals) (items_of t.contents) (items_made t totals)).faults) p.entries
     ∙ first_none (said_in source t totals).faults (processes_over the_limits.processes totals.processes (said_in source t totals).pieces)
-    (none_left (items_faults source t totals) (second_none (least (faults_in t.env t.contents (start_at t totals) totals.turns)) (least (items_faults source t totals)) (sym p.fault ∙ h)))
+    (none_left (items_faults source t totals) (second_none (least (faults_in t.env t.contents (start_at t totals) (counts_of totals) totals.turns)) (least (items_faults source t totals)) (sym p.fault ∙ h)))
 
 -- the items of a scope without a fault
 pub scope_fine : (source : tree.Source) (t : Task) (totals : Totals) (s : Survey) (ks : List constructs.Made) (items : List tree.Item) → BlocksAreLower → IsOfParts source t totals s → least s.faults ≡ None
@@ -90,18 +91,19 @@ scope_fine source t totals s ks items lower p h e same shaped =
     (λ stated shallow. record {
       stated = stated;
       shallow = shallow;
-      made = fine_made ks (items_made t totals) same shaped (lower depth_limit the_limits (items_of t.contents) (within t.env (declared_in t.env t.contents (start_at t totals))) 1 totals.turns shallow);
-      clean = scope_clean source t totals s p h;
+      made = fine_made ks (items_made t totals) same shaped (lower depth_limit the_limits (items_of t.contents) (within t.env (declared_in t.env t.contents (start_at t totals) (counts_of totals))) 1 totals.turns shallow);
+      clean = (plains_clean source (items_around t totals s.entries) (items_of t.contents) (items_made t totals) (loops_in t totals) (scope_clean source t totals s p h)).0;
     })
 
 -- its parts are its pieces
-pub scope_pieces : (source : tree.Source) (t : Task) (totals : Totals) (s : Survey) (frames : List Frame) (n : ℕ) (items : List tree.Item) (ps : List Part) → IsOfParts source t totals s → items_of t.contents ≡ items → n ≡ totals.scopes
-    → env_at (envs frames) (Some n) ≡ within t.env s.entries → parts_pieces source (items_around t totals s.entries) ps ≡ (items_said source (items_around t totals s.entries) items (items_made t totals)).pieces
+pub scope_pieces : (source : tree.Source) (t : Task) (totals : Totals) (s : Survey) (frames : List Frame) (n : ℕ) (items : List tree.Item) (ps : List Part) → IsOfParts source t totals s → least s.faults ≡ None → items_of t.contents ≡ items → n ≡ totals.scopes
+    → env_at (envs frames) (Some n) ≡ within t.env s.entries → parts_pieces source (items_around t totals s.entries) ps ≡ (plains_said source (items_around t totals s.entries) items (items_made t totals)).pieces
     → parts_pieces source (scope_around frames n t.depth) ps ≡ s.pieces
-scope_pieces source t totals s frames n items ps p e scopes seen are =
+scope_pieces source t totals s frames n items ps p none e scopes seen are =
     ap (λ (x : Env). parts_pieces source (record { scope = n; depth = t.depth; env = x }) ps) seen
     ∙ ap (λ m. parts_pieces source (record { scope = m; depth = t.depth; env = within t.env s.entries }) ps) scopes
     ∙ are
-    ∙ ap (λ (is : List tree.Item). (items_said source (items_around t totals s.entries) is (items_made t totals)).pieces) (sym e)
-    ∙ ap (λ (es : List Entry). (items_said source (items_around t totals es) (items_of t.contents) (items_made t totals)).pieces) p.entries
+    ∙ ap (λ (is : List tree.Item). (plains_said source (items_around t totals s.entries) is (items_made t totals)).pieces) (sym e)
+    ∙ (plains_clean source (items_around t totals s.entries) (items_of t.contents) (items_made t totals) (loops_in t totals) (scope_clean source t totals s p none)).1
+    ∙ ap (λ (es : List Entry). (items_said the_limits source (items_around t totals es) (loops_in t totals) (items_of t.contents) (items_made t totals)).pieces) p.entries
     ∙ sym p.pieces

@@ -1,5 +1,5 @@
 -- What the calls that read an instance ask for, and what is told of them.
-use Rattle.std.proofs.Common.{◌≡◌, ℕ, suc, ◌+◌, ◌<◌, ◌≤◌, ◌^◌, List, [], ◌∷◌, ◌++◌, map, length, get_or, Some, sym, ap, ◌∙◌, subst, arith}
+use Rattle.std.proofs.Common.{◌≡◌, ℕ, suc, ◌+◌, ◌<◌, ◌≤◌, ◌^◌, List, [], ◌∷◌, ◌++◌, map, length, Some, sym, ap, ◌∙◌, subst, arith}
 use Rattle.std.specs.Prelude.{Result, Err, IfErr, IsTrue}
 use Rattle.std.specs.Borrow.{Bor}
 use Rattle.vs_grammar.specs.Trees as tree
@@ -17,11 +17,12 @@ use Rattle.vs_elaborated.specs.Ports.{find_module}
 use Rattle.vs_elaborated.specs.Pieces.{Task}
 use Rattle.vs_elaborated.specs.Instances.{said_overrides, said_connections}
 use Rattle.vs_elaborated.specs.Elaborated.{port_assign}
+use Rattle.vs_elaborated.specs.Numbers.{NamesAreNumbered}
 use Rattle.vs_elaborated.specs.Sound.{InstancesHavePorts, IsSoundTask, NamesAreSound, OverridesAreFine}
 use Rattle.vs_scope.specs.declared.frames.Frame.{Frame}
+use Rattle.vs_build.specs.Growth.{draft}
 use Rattle.vs_scope.specs.Frames.{env_at, envs}
-use Rattle.vs_scope.specs.Maps.{Pair, AreDistinct}
-use Rattle.vs_scope.specs.Views.{entries}
+use Rattle.vs_maps.specs.Maps.{Pair, AreDistinct}
 use Rattle.vs_scope.specs.declared.parameters.Override.{Override as CodeOverride}
 use Rattle.vs_items.specs.declared.connections.Connection.{Connection}
 use Rattle.vs_elab.specs.declared.error.ElabError.{ElabError}
@@ -40,9 +41,10 @@ use Rattle.vs_items.specs.Interfaces.{IsInterface}
 use Rattle.vs_items.specs.Overriding.{AreAlike, said_override}
 use Rattle.vs_items.specs.Modules.{IsOf}
 use Rattle.vs_elab.specs.Pending.{parts_pieces, scope_around, stack_pieces}
-use Rattle.vs_elab.specs.Reading.{IsText, source_of, totals_of, design_so_far, surveyed, FailsBy, IsOpened, IsPending, ArePending, IsReading, IsStep, Tells, outcome, pending_at}
+use Rattle.vs_elab.specs.Reading.{IsText, source_of, totals_so_far, design_so_far, surveyed, FailsBy, IsOpened, IsPending, ArePending, IsReading, IsStep, Tells, outcome, pending_at}
 use Rattle.vs_elab.specs.Stacks as stacks
-use Rattle.vs_elab.specs.Wiring.{AreWirable}
+use Rattle.vs_elab.specs.Functions.{IsIdle}
+use Rattle.vs_elab.specs.Wiring.{AreWirable, own_names}
 use Rattle.vs_elab.proofs.AlikeTasks.{instance_task}
 use Rattle.vs_elab.proofs.InstanceReads.{told, told_more, IsKnownFine, known_fine, next_pending, others_pending, task_at, ports_at, instance_deepest, broken_at, opened_at, wiring_room, instance_wirable, names_inside, count_more, parts_fine, stack_pending, instance_done}
 use Rattle.vs_elab.proofs.InstanceSteps.{wired, depth_within}
@@ -117,10 +119,10 @@ module _ (text : Text) (whole : IsText text) (old : Reading) (stack : List Pendi
 
     module _ (named_so : name ≡ (view.instance i.now).name.bytes) (left : ℕ) (deeper : at.left ≡ suc left) where
       -- its fault
-      pub broken_told : (r : Result (Unit {0}) ElabError) (y e : ElabError) → r ≡ Err y → y ≡ e → Tells e (FailsBy (source_of text) code (totals_of old.counts)) → IfErr r (λ (x : ElabError). Tells x Fails)
+      pub broken_told : (r : Result (Unit {0}) ElabError) (y e : ElabError) → r ≡ Err y → y ≡ e → Tells e (FailsBy (source_of text) code (totals_so_far old)) → IfErr r (λ (x : ElabError). Tells x Fails)
       broken_told r y e is same h =
           returned r y e is same
-          (told_more e (FailsBy (source_of text) code (totals_of old.counts)) Fails (λ f g. broken_at text old stack at t i m fine.found name (map (said_override old.frames.items) pairs) named_so alike left f deeper g) h)
+          (told_more e (FailsBy (source_of text) code (totals_so_far old)) Fails (λ f g. broken_at text old stack at t i m fine.found name (map (said_override old.frames.items) pairs) named_so alike left f deeper g) h)
 
       module _ (mid : Reading) (ps : List Part) (opened : IsOpened (source_of text) code old mid ps) where
         whole_opened : IsOpened (source_of text) (task_at old at t i m) old mid ps
@@ -135,7 +137,7 @@ module _ (text : Text) (whole : IsText text) (old : Reading) (stack : List Pendi
         pub depth_within_limit : at.depth + 1 ≤ 32
         depth_within_limit =
             depth_within (view.instance i.now).name.bytes (Some at.frame) m (at.depth + 1) (view.instances t.now).of.place no_env
-            (said_overrides (view.instances t.now).of (Some m) (view.instances t.now).overrides env).overrides (totals_of old.counts) whole_opened.limits
+            (said_overrides (view.instances t.now).of (Some m) (view.instances t.now).overrides env).overrides (totals_so_far old) whole_opened.limits
 
         pub pending_still : ArePending (source_of text) mid.frames.items stack
         pending_still = stack_pending text old stack at t i m fine.found mid ps whole_opened (others_pending (source_of text) old.frames.items stack (pending_at at (part.Instance t i)) reading.pending)
@@ -159,21 +161,21 @@ module _ (text : Text) (whole : IsText text) (old : Reading) (stack : List Pendi
           ports_room =
               subst (λ (ys : List Connection). length (design_so_far mid).processes + length ys ≤ 2 ^ 16) (sym same) (wiring_room text old stack at t i m fine.found mid ps whole_opened cs reading said_is each_fine)
 
-          module _ (x : Frame) (n : ℕ) (number : n ≡ length old.frames.items) (is : x ≡ get_or mid.frames.items n x) (here : Env) (seen : here ≡ env_at (envs mid.frames.items) (Some at.frame)) where
-            names_are : entries x.names ≡ (surveyed (source_of text) (task_at old at t i m) old.counts).entries
-            names_are = names_inside text old stack at t i m fine.found mid ps whole_opened x n number is
+          module _ (inside : Env) (n : ℕ) (number : n ≡ length old.frames.items) (is : inside ≡ env_at (envs mid.frames.items) (Some n)) (here : Env) (seen : here ≡ env_at (envs mid.frames.items) (Some at.frame)) where
+            names_are : own_names inside ≡ (surveyed (source_of text) (task_at old at t i m) old).entries
+            names_are = names_inside text old stack at t i m fine.found mid ps whole_opened inside n number is
 
-            pub ports_wirable : NamesAreSound → InstancesHavePorts → AreWirable (design_so_far mid) (named here) (entries x.names) xs
-            ports_wirable names ports =
-                subst (λ (ys : List Connection). AreWirable (design_so_far mid) (named here) (entries x.names) ys) (sym same)
+            pub ports_wirable : NamesAreSound → NamesAreNumbered → InstancesHavePorts → AreWirable (design_so_far mid) (named here) (own_names inside) xs
+            ports_wirable names numbers ports =
+                subst (λ (ys : List Connection). AreWirable (design_so_far mid) (named here) (own_names inside) ys) (sym same)
                 (subst (λ (es : List Entry). AreWirable (design_so_far mid) (named here) es cs) (sym names_are)
-                (instance_wirable text old stack at t i m fine.found mid ps whole_opened cs here names ports module_shaped pend.within seen said_is each_fine))
+                (instance_wirable text old stack at t i m fine.found mid ps whole_opened cs here names numbers ports module_shaped pend.within seen said_is each_fine))
 
             -- the step is done
-            pub all_done : (new : Reading) (rest : List Pending) → new.frames.items ≡ mid.frames.items → new.counts ≡ mid.counts
-                → design_so_far new ≡ wired (design_so_far mid) (map (port_assign (view.instances t.now).of.place (entries x.names)) (said here xs))
+            pub all_done : (new : Reading) (rest : List Pending) → new.frames.items ≡ mid.frames.items → new.counts ≡ mid.counts → new.loops ≡ mid.loops → IsIdle (draft new.builder)
+                → design_so_far new ≡ wired (design_so_far mid) (map (port_assign (view.instances t.now).of.place (own_names inside)) (said here xs))
                 → stack_pieces (source_of text) mid.frames.items rest ≡ map (stacks.pending left) (parts_pieces (source_of text) (scope_around mid.frames.items n (at.depth + 1)) ps) ++ stack_pieces (source_of text) mid.frames.items stack
                 → ArePending (source_of text) mid.frames.items rest → IsStep text old (stack ++ pending_at at (part.Instance t i) ∷ []) new rest
-            all_done new rest frames counts wiring pushed pending =
-                instance_done text old stack at t i m fine.found mid ps whole_opened new rest left n here (entries x.names) cs deeper reading number frames counts pend.within seen names_are said_is
-                (wiring ∙ ap (λ (ys : List Connection). wired (design_so_far mid) (map (port_assign (view.instances t.now).of.place (entries x.names)) (said here ys))) same) pushed pending
+            all_done new rest frames counts loops idle wiring pushed pending =
+                instance_done text old stack at t i m fine.found mid ps whole_opened new rest left n here (own_names inside) cs deeper reading number frames counts loops idle pend.within seen names_are said_is
+                (wiring ∙ ap (λ (ys : List Connection). wired (design_so_far mid) (map (port_assign (view.instances t.now).of.place (own_names inside)) (said here ys))) same) pushed pending

@@ -1,5 +1,5 @@
 -- One step of reading: an instance.
-use Rattle.std.proofs.Common.{◌≡◌, ℕ, suc, ◌+◌, ◌<◌, ◌≤◌, ◌^◌, false, List, [], ◌∷◌, ◌++◌, map, get_or, length, length-append, Option, Some, refl, sym, ap, ◌∙◌, subst, arith}
+use Rattle.std.proofs.Common.{◌≡◌, ℕ, suc, ◌+◌, ◌<◌, ◌≤◌, ◌^◌, false, List, [], ◌∷◌, ◌++◌, map, length, length-append, Option, Some, refl, sym, ap, ◌∙◌, subst, arith}
 use Rattle.std.specs.Prelude.{Result, Err, IfErr}
 use Rattle.std.specs.Borrow.{Bor}
 use Rattle.std.proofs.lemmas.List.{append-nil}
@@ -19,10 +19,11 @@ use Rattle.vs_elaborated.specs.Pieces.{Task, Piece}
 use Rattle.vs_elaborated.specs.Instances.{Around, connection_name, said_overrides, said_connections}
 use Rattle.vs_elaborated.specs.Surveys.{Survey}
 use Rattle.vs_elaborated.specs.Elaborated.{port_assign, counted}
+use Rattle.vs_elaborated.specs.Numbers.{AreNumberedFrames, NamesAreNumbered}
 use Rattle.vs_elaborated.specs.Sound.{AreSoundFrames, InstancesHavePorts, NamesAreSound, MeansSignal}
 use Rattle.vs_scope.specs.declared.frames.Frame.{Frame}
+use Rattle.vs_build.specs.Growth.{draft}
 use Rattle.vs_scope.specs.Frames.{env_at, envs}
-use Rattle.vs_scope.specs.Views.{entries}
 use Rattle.vs_items.specs.declared.connections.Connection.{Connection}
 use Rattle.vs_elab.specs.declared.error.ElabError.{ElabError}
 use Rattle.vs_elab.specs.declared.error.ElabError.TheVariants.{Broken, Memory}
@@ -41,10 +42,11 @@ use Rattle.vs_items.specs.Interfaces.{IsInterface}
 use Rattle.vs_items.specs.Overriding.{AreAlike}
 use Rattle.vs_items.specs.Modules.{IsKnownOf, IsOf}
 use Rattle.vs_elab.specs.Pending.{parts_pieces, scope_around, stack_pieces, AreWithin}
-use Rattle.vs_elab.specs.Reading.{source_of, totals_of, design_so_far, surveyed, FailsBy, IsOpened, IsPending, ArePending, IsReading, IsStep, outcome, Tells, pending_at, pending_processes, work_left}
+use Rattle.vs_elab.specs.Reading.{source_of, totals_of, totals_so_far, design_so_far, surveyed, FailsBy, IsOpened, IsPending, ArePending, IsReading, IsStep, outcome, Tells, pending_at, pending_processes, work_left}
 use Rattle.vs_elab.specs.Stacks as stacks
 use Rattle.vs_elab.specs.Stacks.{built_then, rest_of, work}
-use Rattle.vs_elab.specs.Wiring.{AreWirable}
+use Rattle.vs_elab.specs.Functions.{IsIdle}
+use Rattle.vs_elab.specs.Wiring.{AreWirable, own_names}
 use Rattle.vs_elab.proofs.AlikeTasks.{instance_task, fails_alike, opened_alike}
 use Rattle.vs_elab.proofs.InstanceSteps.{task_in, ports_in, instance_first, wired, AreStepped, outcome_same, work_less, room_same, room_first, survey_counts, faultless}
 use Rattle.vs_elab.proofs.MoreFrames.{env_kept, stack_kept}
@@ -84,10 +86,6 @@ known_fine source env t i k known fine =
     }
 
 -- ---- what is pending
-
-got_last : {A : Type 0} (xs : List A) (y d : A) → get_or (xs ++ y ∷ []) (length xs) d ≡ y
-got_last [] y d = refl
-got_last (x ∷ xs) y d = got_last xs y d
 
 each_before : {A : Type 0} (P : A → Type 0) (xs : List A) (y : A) → Each P (xs ++ y ∷ []) → Each P xs
 each_before P [] y h = tt
@@ -137,22 +135,22 @@ ports_at r at i m = ports_in (around_of r at) (view.instance i.now) m
 module _ (text : Text) (old : Reading) (stack : List Pending) (at : Standing) (t : Bor CodeInstances) (i : Bor CodeInstance) (m : tree.Module) (found : find_module (source_of text) (view.instances t.now).of.bytes ≡ Some m) where
   -- the outcome, by the pieces that are pending
   outcome_is : outcome text old (stack ++ pending_at at (part.Instance t i) ∷ [])
-      ≡ built_then (design_so_far old) (rest_of the_limits (source_of text) (stacks.pending at.left (pieces.Instance (ports_at old at i m) (task_at old at t i m)) ∷ stack_pieces (source_of text) old.frames.items stack) (totals_of old.counts))
-  outcome_is = ap (λ (qs : List stacks.Pending). built_then (design_so_far old) (rest_of the_limits (source_of text) qs (totals_of old.counts))) (instance_first (source_of text) old.frames.items stack at t i m found)
+      ≡ built_then (design_so_far old) (rest_of the_limits (source_of text) (stacks.pending at.left (pieces.Instance (ports_at old at i m) (task_at old at t i m)) ∷ stack_pieces (source_of text) old.frames.items stack) (totals_so_far old))
+  outcome_is = ap (λ (qs : List stacks.Pending). built_then (design_so_far old) (rest_of the_limits (source_of text) qs (totals_so_far old))) (instance_first (source_of text) old.frames.items stack at t i m found)
 
   -- a fault of the scope is the outcome
-  pub instance_broken : (left : ℕ) (f : Fault) → at.left ≡ suc left → FailsBy (source_of text) (task_at old at t i m) (totals_of old.counts) f → outcome text old (stack ++ pending_at at (part.Instance t i) ∷ []) ≡ Err f
+  pub instance_broken : (left : ℕ) (f : Fault) → at.left ≡ suc left → FailsBy (source_of text) (task_at old at t i m) (totals_so_far old) f → outcome text old (stack ++ pending_at at (part.Instance t i) ∷ []) ≡ Err f
   instance_broken left f e h =
       outcome_is
-      ∙ ap (λ n. built_then (design_so_far old) (rest_of the_limits (source_of text) (stacks.pending n (pieces.Instance (ports_at old at i m) (task_at old at t i m)) ∷ stack_pieces (source_of text) old.frames.items stack) (totals_of old.counts))) e
-      ∙ instance_fails the_limits (source_of text) (design_so_far old) (suc left) (ports_at old at i m) (task_at old at t i m) (stack_pieces (source_of text) old.frames.items stack) (totals_of old.counts) f (h left)
+      ∙ ap (λ n. built_then (design_so_far old) (rest_of the_limits (source_of text) (stacks.pending n (pieces.Instance (ports_at old at i m) (task_at old at t i m)) ∷ stack_pieces (source_of text) old.frames.items stack) (totals_so_far old))) e
+      ∙ instance_fails the_limits (source_of text) (design_so_far old) (suc left) (ports_at old at i m) (task_at old at t i m) (stack_pieces (source_of text) old.frames.items stack) (totals_so_far old) f (h left)
 
   -- and so is one that stands too deep
   pub instance_deepest : at.left ≡ 0 → outcome text old (stack ++ pending_at at (part.Instance t i) ∷ []) ≡ Err (record { rule = InstanceDepth; place = (view.instances t.now).of.place })
   instance_deepest e =
       outcome_is
-      ∙ ap (λ n. built_then (design_so_far old) (rest_of the_limits (source_of text) (stacks.pending n (pieces.Instance (ports_at old at i m) (task_at old at t i m)) ∷ stack_pieces (source_of text) old.frames.items stack) (totals_of old.counts))) e
-      ∙ instance_fails the_limits (source_of text) (design_so_far old) 0 (ports_at old at i m) (task_at old at t i m) (stack_pieces (source_of text) old.frames.items stack) (totals_of old.counts)
+      ∙ ap (λ n. built_then (design_so_far old) (rest_of the_limits (source_of text) (stacks.pending n (pieces.Instance (ports_at old at i m) (task_at old at t i m)) ∷ stack_pieces (source_of text) old.frames.items stack) (totals_so_far old))) e
+      ∙ instance_fails the_limits (source_of text) (design_so_far old) 0 (ports_at old at i m) (task_at old at t i m) (stack_pieces (source_of text) old.frames.items stack) (totals_so_far old)
       (record { rule = InstanceDepth; place = (view.instances t.now).of.place }) refl
 
   -- its scope as the code has it: its name, and overrides that are alike
@@ -164,11 +162,11 @@ module _ (text : Text) (old : Reading) (stack : List Pending) (at : Standing) (t
     abbrev named_task : List ℕ → Task
     named_task n = instance_task n (Some at.frame) m (at.depth + 1) (view.instances t.now).of.place no_env os
 
-    pub broken_at : (left : ℕ) (f : Fault) → at.left ≡ suc left → FailsBy (source_of text) code_task (totals_of old.counts) f → outcome text old (stack ++ pending_at at (part.Instance t i) ∷ []) ≡ Err f
+    pub broken_at : (left : ℕ) (f : Fault) → at.left ≡ suc left → FailsBy (source_of text) code_task (totals_so_far old) f → outcome text old (stack ++ pending_at at (part.Instance t i) ∷ []) ≡ Err f
     broken_at left f e h =
         instance_broken left f e
-        (fails_alike (source_of text) (view.instance i.now).name.bytes (Some at.frame) m (at.depth + 1) (view.instances t.now).of.place no_env os _ alike (totals_of old.counts) f
-        (subst (λ (n : List ℕ). FailsBy (source_of text) (named_task n) (totals_of old.counts) f) name_is h))
+        (fails_alike (source_of text) (view.instance i.now).name.bytes (Some at.frame) m (at.depth + 1) (view.instances t.now).of.place no_env os _ alike (totals_so_far old) f
+        (subst (λ (n : List ℕ). FailsBy (source_of text) (named_task n) (totals_so_far old) f) name_is h))
 
     pub opened_at : (mid : Reading) (ps : List Part) → IsOpened (source_of text) code_task old mid ps → IsOpened (source_of text) (task_at old at t i m) old mid ps
     opened_at mid ps h =
@@ -183,7 +181,7 @@ module _ (text : Text) (old : Reading) (stack : List Pending) (at : Standing) (t
 
   module _ (mid : Reading) (ps : List Part) (opened : IsOpened (source_of text) (task_at old at t i m) old mid ps) where
     abbrev own : Survey
-    own = surveyed (source_of text) (task_at old at t i m) old.counts
+    own = surveyed (source_of text) (task_at old at t i m) old
 
     -- what is pending, behind it
     stack_behind_it : ArePending (source_of text) old.frames.items stack → stack_pieces (source_of text) mid.frames.items stack ≡ stack_pieces (source_of text) old.frames.items stack
@@ -200,18 +198,19 @@ module _ (text : Text) (old : Reading) (stack : List Pending) (at : Standing) (t
     count_more = ap (λ (fs : List Frame). length fs) opened.frames ∙ length-append old.frames.items (opened.frame ∷ [])
 
     -- its ports can be built
-    pub instance_wirable : (cs : List Connection) (here : Env) → NamesAreSound → InstancesHavePorts → IsModule m → at.frame < length old.frames.items → here ≡ env_at (envs mid.frames.items) (Some at.frame)
+    pub instance_wirable : (cs : List Connection) (here : Env) → NamesAreSound → NamesAreNumbered → InstancesHavePorts → IsModule m → at.frame < length old.frames.items → here ≡ env_at (envs mid.frames.items) (Some at.frame)
         → said (env_at (envs old.frames.items) (Some at.frame)) cs ≡ ports_at old at i m → Each (IsFineConnected (env_at (envs old.frames.items) (Some at.frame))) cs
         → AreWirable (design_so_far mid) (named here) own.entries cs
-    instance_wirable cs here sound meant shaped h e s f =
+    instance_wirable cs here sound numbers meant shaped h e s f =
         let env : Env = env_at (envs old.frames.items) (Some at.frame) in
         let d : Design = design_so_far mid in
         let seen = subst (λ (x : Env). AreSoundFrames d false x.frames) (around_kept h) (opened.read.seen at.frame (let n = count_more in omega (arith, n, h))) in
+        let numbered = subst (λ (x : Env). AreNumberedFrames d x.frames) (around_kept h) (opened.read.numbered at.frame (let n = count_more in omega (arith, n, h))) in
         let inside = subst (λ (x : Env). AreSoundFrames d false x.frames) opened.seen (opened.read.seen (length old.frames.items) (let n = count_more in omega (arith, n))) in
         let all = meant d the_limits (source_of text) (around_of old at) (view.instances t.now).of.place (Some m) (said_overrides (view.instances t.now).of (Some m) (view.instances t.now).overrides env).overrides (view.instance i.now) in
-        let mean = all.0 (counted (task_at old at t i m) (totals_of old.counts)) shaped (faultless own.faults opened.fair) inside.0 in
+        let mean = all.0 (counted (task_at old at t i m) (totals_so_far old)) shaped (faultless own.faults opened.fair) inside.0 in
         subst (λ (x : Env). AreWirable d (named x) own.entries cs) (sym (e ∙ around_kept h))
-        (ports.wired d env own.entries cs (sound d false env seen) f (subst (λ (xs : List pieces.Connection). Each (λ (c : pieces.Connection). MeansSignal d own.entries (connection_name c)) xs) (sym s) mean))
+        (ports.wired d env own.entries cs (sound d false env seen) (numbers d env numbered) f (subst (λ (xs : List pieces.Connection). Each (λ (c : pieces.Connection). MeansSignal d own.entries (connection_name c)) xs) (sym s) mean))
 
     -- there is room for its ports
     pub wiring_room : (cs : List Connection) → IsReading text old (stack ++ pending_at at (part.Instance t i) ∷ []) → said (env_at (envs old.frames.items) (Some at.frame)) cs ≡ ports_at old at i m
@@ -223,25 +222,24 @@ module _ (text : Text) (old : Reading) (stack : List Pending) (at : Standing) (t
         omega (arith, had, many, room)
 
     -- its names
-    pub names_inside : (x : Frame) (n : ℕ) → n ≡ length old.frames.items → x ≡ get_or mid.frames.items n x → entries x.names ≡ own.entries
-    names_inside x n e is =
-        ap (λ (f : Frame). entries f.names) (is ∙ ap (λ (fs : List Frame). get_or fs n x) opened.frames ∙ ap (λ k. get_or (old.frames.items ++ opened.frame ∷ []) k x) e ∙ got_last old.frames.items opened.frame x) ∙ opened.entries
+    pub names_inside : (inside : Env) (n : ℕ) → n ≡ length old.frames.items → inside ≡ env_at (envs mid.frames.items) (Some n) → own_names inside ≡ own.entries
+    names_inside inside n e is = ap own_names (is ∙ ap (λ k. env_at (envs mid.frames.items) (Some k)) e ∙ opened.seen)
 
     -- the step
     module _ (new : Reading) (rest : List Pending) (left : ℕ) (deeper : at.left ≡ suc left) (reading : IsReading text old (stack ++ pending_at at (part.Instance t i) ∷ []))
-        (frames : new.frames.items ≡ mid.frames.items) (counts : new.counts ≡ mid.counts)
+        (frames : new.frames.items ≡ mid.frames.items) (counts : new.counts ≡ mid.counts) (loops : new.loops ≡ mid.loops) (idle : IsIdle (draft new.builder))
         (wiring : design_so_far new ≡ wired (design_so_far mid) (map (port_assign (view.instances t.now).of.place own.entries) (ports_at old at i m)))
         (pushed : stack_pieces (source_of text) mid.frames.items rest
         ≡ map (stacks.pending left) (parts_pieces (source_of text) (scope_around mid.frames.items (length old.frames.items) (at.depth + 1)) ps) ++ stack_pieces (source_of text) mid.frames.items stack)
         (pending : ArePending (source_of text) mid.frames.items rest) where
-      stepped : AreStepped (source_of text) (task_at old at t i m) (ports_at old at i m) left (design_so_far old) (totals_of old.counts) (stack_pieces (source_of text) old.frames.items stack)
-          own (design_so_far new) (totals_of new.counts) (stack_pieces (source_of text) new.frames.items rest)
+      stepped : AreStepped (source_of text) (task_at old at t i m) (ports_at old at i m) left (design_so_far old) (totals_so_far old) (stack_pieces (source_of text) old.frames.items stack)
+          own (design_so_far new) (totals_so_far new) (stack_pieces (source_of text) new.frames.items rest)
       stepped = record {
         is = refl;
         limits = opened.limits;
         fair = opened.fair;
         design = wiring ∙ ap (λ (d : Design). wired d (map (port_assign (view.instances t.now).of.place own.entries) (ports_at old at i m))) opened.design;
-        totals = ap totals_of counts ∙ opened.totals_is;
+        totals = ap (λ (c : Counts). totals_of c new.loops) counts ∙ ap (totals_of mid.counts) loops ∙ opened.totals_is;
         pending =
             ap (λ (fs : List Frame). stack_pieces (source_of text) fs rest) frames ∙ pushed
             ∙ ap (λ (qs : List Piece). map (stacks.pending left) qs ++ stack_pieces (source_of text) mid.frames.items stack) opened.pieces
@@ -259,14 +257,14 @@ module _ (text : Text) (old : Reading) (stack : List Pending) (at : Standing) (t
 
       reading_then : IsReading text new rest
       reading_then = record {
-        read = read_wired mid new (map (port_assign (view.instances t.now).of.place own.entries) (ports_at old at i m)) frames counts wiring opened.read;
+        read = read_wired mid new (map (port_assign (view.instances t.now).of.place own.entries) (ports_at old at i m)) frames counts idle wiring opened.read;
         later = subst (λ (c : Counts). c.start.top ≡ false) (sym counts) opened.later;
         pending = subst (λ (fs : List Frame). ArePending (source_of text) fs rest) (sym frames) pending;
         room =
-            room_same (source_of text) (task_at old at t i m) (ports_at old at i m) left (design_so_far old) (totals_of old.counts) (stack_pieces (source_of text) old.frames.items stack) own (design_so_far new) (totals_of new.counts)
+            room_same (source_of text) (task_at old at t i m) (ports_at old at i m) left (design_so_far old) (totals_so_far old) (stack_pieces (source_of text) old.frames.items stack) own (design_so_far new) (totals_so_far new)
             (stack_pieces (source_of text) new.frames.items rest) stepped
             (survey_counts (source_of text) (view.instance i.now).name.bytes (Some at.frame) m (at.depth + 1) (view.instances t.now).of.place no_env
-            (said_overrides (view.instances t.now).of (Some m) (view.instances t.now).overrides (env_at (envs old.frames.items) (Some at.frame))).overrides (totals_of old.counts))
+            (said_overrides (view.instances t.now).of (Some m) (view.instances t.now).overrides (env_at (envs old.frames.items) (Some at.frame))).overrides (totals_so_far old))
             (sym (ap (λ (qs : List stacks.Pending). length (design_so_far old).processes + pending_processes qs) before_is) ∙ reading.room);
       }
 
@@ -274,12 +272,12 @@ module _ (text : Text) (old : Reading) (stack : List Pending) (at : Standing) (t
       instance_read = record {
         reading = reading_then;
         same =
-            outcome_same (source_of text) (task_at old at t i m) (ports_at old at i m) left (design_so_far old) (totals_of old.counts) (stack_pieces (source_of text) old.frames.items stack) own (design_so_far new) (totals_of new.counts)
+            outcome_same (source_of text) (task_at old at t i m) (ports_at old at i m) left (design_so_far old) (totals_so_far old) (stack_pieces (source_of text) old.frames.items stack) own (design_so_far new) (totals_so_far new)
             (stack_pieces (source_of text) new.frames.items rest) stepped
-            ∙ ap (λ (qs : List stacks.Pending). built_then (design_so_far old) (rest_of the_limits (source_of text) qs (totals_of old.counts))) (sym before_is);
+            ∙ ap (λ (qs : List stacks.Pending). built_then (design_so_far old) (rest_of the_limits (source_of text) qs (totals_so_far old))) (sym before_is);
         less =
-            subst (λ (qs : List stacks.Pending). work_left text new rest < work the_limits (source_of text) qs (totals_of old.counts)) (sym before_is)
-            (work_less (source_of text) (task_at old at t i m) (ports_at old at i m) left (design_so_far old) (totals_of old.counts) (stack_pieces (source_of text) old.frames.items stack) own (design_so_far new) (totals_of new.counts)
+            subst (λ (qs : List stacks.Pending). work_left text new rest < work the_limits (source_of text) qs (totals_so_far old)) (sym before_is)
+            (work_less (source_of text) (task_at old at t i m) (ports_at old at i m) left (design_so_far old) (totals_so_far old) (stack_pieces (source_of text) old.frames.items stack) own (design_so_far new) (totals_so_far new)
             (stack_pieces (source_of text) new.frames.items rest) stepped);
       }
 
@@ -291,13 +289,13 @@ module _ (text : Text) (old : Reading) (stack : List Pending) (at : Standing) (t
     stack_pending h = subst (λ (fs : List Frame). ArePending (source_of text) fs stack) (sym opened.frames) (pending_kept (source_of text) old.frames.items opened.frame stack h)
 
     pub instance_done : (new : Reading) (rest : List Pending) (left n : ℕ) (here : Env) (names : List Entry) (cs : List Connection) → at.left ≡ suc left → IsReading text old (stack ++ pending_at at (part.Instance t i) ∷ [])
-        → n ≡ length old.frames.items → new.frames.items ≡ mid.frames.items → new.counts ≡ mid.counts → at.frame < length old.frames.items → here ≡ env_at (envs mid.frames.items) (Some at.frame) → names ≡ own.entries
+        → n ≡ length old.frames.items → new.frames.items ≡ mid.frames.items → new.counts ≡ mid.counts → new.loops ≡ mid.loops → IsIdle (draft new.builder) → at.frame < length old.frames.items → here ≡ env_at (envs mid.frames.items) (Some at.frame) → names ≡ own.entries
         → said (env_at (envs old.frames.items) (Some at.frame)) cs ≡ ports_at old at i m
         → design_so_far new ≡ wired (design_so_far mid) (map (port_assign (view.instances t.now).of.place names) (said here cs))
         → stack_pieces (source_of text) mid.frames.items rest ≡ map (stacks.pending left) (parts_pieces (source_of text) (scope_around mid.frames.items n (at.depth + 1)) ps) ++ stack_pieces (source_of text) mid.frames.items stack
         → ArePending (source_of text) mid.frames.items rest → IsStep text old (stack ++ pending_at at (part.Instance t i) ∷ []) new rest
-    instance_done new rest left n here names cs deeper reading number frames counts inside seen is said_is wiring pushed pending =
-        instance_read new rest left deeper reading frames counts
+    instance_done new rest left n here names cs deeper reading number frames counts loops idle inside seen is said_is wiring pushed pending =
+        instance_read new rest left deeper reading frames counts loops idle
         (wiring
         ∙ ap (λ (es : List Entry). wired (design_so_far mid) (map (port_assign (view.instances t.now).of.place es) (said here cs))) is
         ∙ ap (λ (xs : List pieces.Connection). wired (design_so_far mid) (map (port_assign (view.instances t.now).of.place own.entries) xs)) (ap (λ (e : Env). said e cs) (seen ∙ around_kept inside) ∙ said_is))

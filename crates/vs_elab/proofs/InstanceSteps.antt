@@ -69,10 +69,10 @@ ports_behind : (d : Design) (k : Task) (s : Survey) (cs : List Connection) → b
 ports_behind d k s cs =
     let ps = map (port_assign k.place s.entries) cs in
     let inside = scope_part k s in
-    ap (λ xs. let x : Design = record { scopes = xs ++ inside.scopes; signals = (d.signals ++ []) ++ inside.signals; processes = (d.processes ++ ps) ++ []; functions = (d.functions ++ []) ++ [] } in x) (append-nil d.scopes)
-    ∙ ap (λ xs. let x : Design = record { scopes = d.scopes ++ inside.scopes; signals = xs ++ inside.signals; processes = (d.processes ++ ps) ++ []; functions = (d.functions ++ []) ++ [] } in x) (append-nil d.signals)
-    ∙ ap (λ xs. let x : Design = record { scopes = d.scopes ++ inside.scopes; signals = d.signals ++ inside.signals; processes = xs; functions = (d.functions ++ []) ++ [] } in x) (append-nil (d.processes ++ ps) ∙ ap (λ xs. xs ++ ps) (sym (append-nil d.processes)))
-    ∙ ap (λ xs. let x : Design = record { scopes = d.scopes ++ inside.scopes; signals = d.signals ++ inside.signals; processes = (d.processes ++ []) ++ ps; functions = xs } in x) (append-nil (d.functions ++ []))
+    ap (λ xs. let x : Design = record { scopes = xs ++ inside.scopes; signals = (d.signals ++ []) ++ inside.signals; processes = (d.processes ++ ps) ++ []; functions = (d.functions ++ []) ++ inside.functions } in x) (append-nil d.scopes)
+    ∙ ap (λ xs. let x : Design = record { scopes = d.scopes ++ inside.scopes; signals = xs ++ inside.signals; processes = (d.processes ++ ps) ++ []; functions = (d.functions ++ []) ++ inside.functions } in x) (append-nil d.signals)
+    ∙ ap (λ xs. let x : Design = record { scopes = d.scopes ++ inside.scopes; signals = d.signals ++ inside.signals; processes = xs; functions = (d.functions ++ []) ++ inside.functions } in x) (append-nil (d.processes ++ ps) ∙ ap (λ xs. xs ++ ps) (sym (append-nil d.processes)))
+    ∙ ap (λ xs. let x : Design = record { scopes = d.scopes ++ inside.scopes; signals = d.signals ++ inside.signals; processes = (d.processes ++ []) ++ ps; functions = xs ++ inside.functions } in x) (append-nil d.functions)
 
 -- what has been read of an instance, and what is pending then
 pub record AreStepped (source : tree.Source) (k : Task) (cs : List Connection) (left : ℕ) (d : Design) (t : Totals) (ps : List stacks.Pending) (s : Survey) (e : Design) (u : Totals) (qs : List stacks.Pending) : Type 0 where

@@ -3,9 +3,9 @@ use Rattle.std.proofs.Common.{◌≡◌, ℕ, List, Option, Some, None, option_m
 use Rattle.std.specs.Borrow.{Bor}
 use Rattle.vs_grammar.specs.Trees as tree
 use Rattle.vs_elaborated.specs.Ports.{find_module}
-use Rattle.vs_scope.specs.declared.maps.NameMap.{NameMap}
-use Rattle.vs_scope.specs.Maps.{value_at}
-use Rattle.vs_scope.specs.MapViews.{pairs}
+use Rattle.vs_maps.specs.declared.maps.NameMap.{NameMap}
+use Rattle.vs_maps.specs.Maps.{value_at}
+use Rattle.vs_maps.specs.MapViews.{pairs}
 use Rattle.vs_items.specs.declared.modules.Known.{Known}
 use Rattle.vs_items.specs.Modules.{IsOf, AreOf}
 

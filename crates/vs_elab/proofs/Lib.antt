@@ -15,6 +15,7 @@ mod PendingStacks
 mod SignalsFollow
 mod SameOverrides
 mod MoreFrames
+mod NumberedNames
 mod WiderScopes
 mod FineParts
 mod FineItems
@@ -30,7 +31,14 @@ mod SoundInstances
 mod InstanceReads
 mod InstanceCalls
 mod NewSignals
+mod PlainItems
 mod FineScopes
+mod Headers
+mod AddedFunctions
+mod SaidFunctions
+mod BuiltFunctions
+mod BuildableFunctions
+mod ScopeFunctions
 mod OpenedScopes
 mod CountedScopes
 mod OpeningScopes

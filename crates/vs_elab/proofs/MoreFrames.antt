@@ -6,7 +6,10 @@ use Rattle.vs_grammar.specs.Trees as tree
 use Rattle.vs_grammar.specs.Shapes.{Each}
 use Rattle.vs_elaborated.specs.Environments.{Env, no_env}
 use Rattle.vs_scope.specs.declared.frames.Frame.{Frame}
-use Rattle.vs_scope.specs.Frames.{env_at, frame_env, envs_after, envs}
+use Rattle.vs_maps.specs.MapViews.{pairs}
+use Rattle.vs_scope.specs.Complete.{KeepsShapes, complete, shapes_in, shapes_of}
+use Rattle.vs_scope.specs.Frames.{env_at, env_above, frame_env, envs_after, envs, KeepShapes}
+use Rattle.vs_scope.specs.Stacks.{stack_shapes, stack_shapes_after}
 use Rattle.vs_elab.specs.declared.stack.Pending.{Pending}
 use Rattle.vs_elab.specs.Stacks as stacks
 use Rattle.vs_elab.specs.Pending.{part_pieces, pending_pieces, stack_pieces, AreWithin}
@@ -59,3 +62,19 @@ each_reversed P (x ∷ xs) h = subst (Each P) (sym (reverse-append (x ∷ []) xs
 -- what is pending stays so
 pub stack_kept : (source : tree.Source) (fs : List Frame) (f : Frame) (ps : List Pending) → AreWithin (length fs) ps → stack_pieces source (fs ++ f ∷ []) ps ≡ stack_pieces source fs ps
 stack_kept source fs f ps h = all_kept source fs f (reverse ps) (each_reversed (λ (p : Pending). p.frame < length fs) ps h)
+
+-- ---- what scopes keep of their functions
+
+stack_behind : (fs : List Frame) (f : Frame) → stack_shapes (fs ++ f ∷ []) ≡ stack_shapes fs ++ shapes_in (pairs f.names.map) ∷ []
+stack_behind [] f = refl
+stack_behind (g ∷ fs) f = ap (λ r. shapes_in (pairs g.names.map) ∷ r) (stack_behind fs f)
+
+after_behind : (es : List Env) (fs : List Frame) (f : Frame)
+    → stack_shapes_after es (fs ++ f ∷ []) ≡ stack_shapes_after es fs ++ shapes_of (complete (env_above (envs_after es fs) f.parent f.turn) f.names) ∷ []
+after_behind es [] f = refl
+after_behind es (g ∷ fs) f = ap (λ r. shapes_of (complete (env_above es g.parent g.turn) g.names) ∷ r) (after_behind (es ++ frame_env es g ∷ []) fs f)
+
+-- one scope more that keeps its own
+pub kept_behind : (fs : List Frame) (f : Frame) → KeepShapes fs → KeepsShapes (env_above (envs fs) f.parent f.turn) f.names → KeepShapes (fs ++ f ∷ [])
+kept_behind fs f all own =
+    stack_behind fs f ∙ ap (λ r. r ++ shapes_in (pairs f.names.map) ∷ []) all ∙ ap (λ x. stack_shapes_after [] fs ++ x ∷ []) own ∙ sym (after_behind [] fs f)

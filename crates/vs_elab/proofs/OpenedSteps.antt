@@ -15,9 +15,10 @@ use Rattle.vs_elaborated.specs.Environments.{Env}
 use Rattle.vs_elaborated.specs.Pieces.{Task, Piece, Within, is_instance}
 use Rattle.vs_elaborated.specs.Surveys.{Totals, survey, piece_processes}
 use Rattle.vs_elaborated.specs.Elaborated.{both_designs, counted, read_scope}
+use Rattle.vs_build.specs.Growth.{draft}
 use Rattle.vs_build.proofs.Wider.{IsWider, same_signals}
 use Rattle.vs_scope.specs.declared.frames.Frame.{Frame}
-use Rattle.vs_scope.specs.Frames.{env_at, envs}
+use Rattle.vs_scope.specs.Frames.{KeepShapes, env_at, envs}
 use Rattle.vs_elab.specs.declared.error.ElabError.{ElabError}
 use Rattle.vs_elab.specs.declared.error.ElabError.TheVariants.{Broken, Memory}
 use Rattle.vs_elab.specs.declared.pending.Part.{Part}
@@ -26,11 +27,13 @@ use Rattle.vs_elab.specs.declared.reading.Reading.{Reading}
 use Rattle.vs_elab.specs.declared.reading.Text.{Text}
 use Rattle.vs_elab.specs.declared.stack.Pending.{Pending}
 use Rattle.vs_elab.specs.Fine.{IsFinePart, AreFineParts}
+use Rattle.vs_elab.specs.Functions.{IsIdle}
 use Rattle.vs_elab.specs.Pending.{parts_pieces, scope_around, pending_pieces, stack_pieces, AreWithin}
-use Rattle.vs_elab.specs.Reading.{AreSeen, ArePending, IsOpened, IsPending, IsRead, IsReading, IsStep, design_so_far, outcome, pending_processes, source_of, surveyed, Tells, totals_of, work_left}
+use Rattle.vs_elab.specs.Reading.{AreNumberedIn, AreSeen, ArePending, IsOpened, IsPending, IsRead, IsReading, IsStep, design_so_far, outcome, pending_processes, source_of, surveyed, Tells, totals_so_far, work_left}
 use Rattle.vs_elab.specs.Stacks as stacks
 use Rattle.vs_elab.specs.Stacks.{built_then, pending, rest_of, scope_part, work}
 use Rattle.vs_elab.proofs.MoreFrames.{each_behind, env_kept, stack_kept}
+use Rattle.vs_elab.proofs.NumberedNames.{same_functions, seen_numbered}
 use Rattle.vs_elab.proofs.PendingStacks.{stack_behind}
 use Rattle.vs_elab.proofs.Stacks.{within_fails, within_step}
 use Rattle.vs_elab.proofs.WiderScopes.{frames_wider}
@@ -118,11 +121,14 @@ pub record HasMore (n : ℕ) (r s : Reading) : Type 0 where
   pub frames : s.frames.items ≡ r.frames.items
   pub counts : s.counts ≡ r.counts
   pub scopes : (design_so_far s).scopes ≡ (design_so_far r).scopes
+  pub loops : s.loops ≡ r.loops
   pub signals : (design_so_far s).signals ≡ (design_so_far r).signals
+  pub functions : (design_so_far s).functions ≡ (design_so_far r).functions
+  pub idle : IsIdle (draft r.builder) → IsIdle (draft s.builder)
   pub processes : length (design_so_far s).processes ≡ length (design_so_far r).processes + n
 
 pub nothing_more : (r : Reading) → HasMore 0 r r
-nothing_more r = record { frames = refl; counts = refl; scopes = refl; signals = refl; processes = nothing_added (length (design_so_far r).processes) }
+nothing_more r = record { frames = refl; counts = refl; loops = refl; scopes = refl; signals = refl; functions = refl; idle = λ h. h; processes = nothing_added (length (design_so_far r).processes) }
 
 -- it has been read as before
 pub more_read : (n : ℕ) (r s : Reading) → HasMore n r s → IsRead r → IsRead s
@@ -131,9 +137,13 @@ more_read n r s m h = record {
   frames = ap length m.frames ∙ h.frames ∙ sym (ap (λ (c : Counts). c.start.scope) m.counts);
   signals = ap length m.signals ∙ h.signals ∙ sym (ap (λ (c : Counts). c.start.signal) m.counts);
   bits = ap (sum_by signal_length) m.signals ∙ h.bits ∙ sym (ap (λ (c : Counts). c.start.bit) m.counts);
+  functions = ap length m.functions ∙ h.functions ∙ sym (ap (λ (c : Counts). c.functions) m.counts);
+  idle = m.idle h.idle;
   few_bits = subst (λ (c : Counts). c.start.bit ≤ 2 ^ 20) (sym m.counts) h.few_bits;
   few_instances = subst (λ (c : Counts). c.instances ≤ 4096) (sym m.counts) h.few_instances;
   few_processes = subst (λ (c : Counts). c.processes ≤ 2 ^ 16) (sym m.counts) h.few_processes;
+  kept = subst KeepShapes (sym m.frames) h.kept;
+  numbered = subst (AreNumberedIn (design_so_far s)) (sym m.frames) (seen_numbered (design_so_far r) (design_so_far s) [] (same_functions (design_so_far r) (design_so_far s) m.functions) r.frames.items h.numbered);
   seen = subst (AreSeen (design_so_far s)) (sym m.frames) (seen_wider (design_so_far r) (design_so_far s) (same_signals (design_so_far r) (design_so_far s) (omega (arith, ap length m.scopes)) m.signals) r.frames.items h.seen);
 }
 
@@ -150,20 +160,20 @@ survey_processes : (source : tree.Source) (k : Task) (t : Totals) → (survey th
 survey_processes source k t = refl
 
 -- its pieces have as many processes as there are more then
-surveyed_processes : (source : tree.Source) (k : Task) (c : Counts) → (surveyed source k c).totals.processes ≡ c.processes + sum_by piece_processes (surveyed source k c).pieces
-surveyed_processes source k c =
-    survey_processes source k (counted k (totals_of c)) ∙ ap (λ (n : ℕ). n + sum_by piece_processes (surveyed source k c).pieces) (counted_processes k (totals_of c))
+surveyed_processes : (source : tree.Source) (k : Task) (r : Reading) → (surveyed source k r).totals.processes ≡ r.counts.processes + sum_by piece_processes (surveyed source k r).pieces
+surveyed_processes source k r =
+    survey_processes source k (counted k (totals_so_far r)) ∙ ap (λ (n : ℕ). n + sum_by piece_processes (surveyed source k r).pieces) (counted_processes k (totals_so_far r))
 
 -- what is pending then: its parts, and what was pending before
 pub opened_stack : (source : tree.Source) (t : Task) (old new : Reading) (ps : List Part) (left : ℕ) (stack rest : List Pending)
     → IsOpened source t old new ps → ArePending source old.frames.items stack
     → stack_pieces source new.frames.items rest ≡ map (pending left) (parts_pieces source (scope_around new.frames.items (length old.frames.items) t.depth) ps) ++ stack_pieces source new.frames.items stack
-    → stack_pieces source new.frames.items rest ≡ map (pending left) (surveyed source t old.counts).pieces ++ stack_pieces source old.frames.items stack
+    → stack_pieces source new.frames.items rest ≡ map (pending left) (surveyed source t old).pieces ++ stack_pieces source old.frames.items stack
 opened_stack source t old new ps left stack rest o before pushed =
     pushed
     ∙ ap (λ (qs : List Piece). map (pending left) qs ++ stack_pieces source new.frames.items stack) o.pieces
-    ∙ ap (λ (fs : List Frame). map (pending left) (surveyed source t old.counts).pieces ++ stack_pieces source fs stack) o.frames
-    ∙ ap (λ (qs : List stacks.Pending). map (pending left) (surveyed source t old.counts).pieces ++ qs) (stack_kept source old.frames.items o.frame stack (are_within source old.frames.items stack before))
+    ∙ ap (λ (fs : List Frame). map (pending left) (surveyed source t old).pieces ++ stack_pieces source fs stack) o.frames
+    ∙ ap (λ (qs : List stacks.Pending). map (pending left) (surveyed source t old).pieces ++ qs) (stack_kept source old.frames.items o.frame stack (are_within source old.frames.items stack before))
 
 -- what was pending before stays so
 pub opened_before : (source : tree.Source) (t : Task) (old new : Reading) (ps : List Part) (stack : List Pending) → IsOpened source t old new ps
@@ -186,7 +196,7 @@ opened_processes source t old new ps o = ap (λ (d : Design). length d.processes
 -- what has been read and what is pending is all there is, where the part `p` had `n` processes of its own and these are built besides
 pub opened_reading : (text : Text) (t : Task) (old new last : Reading) (ps : List Part) (left n : ℕ) (p : Pending) (stack rest : List Pending)
     → IsReading text old (stack ++ p ∷ []) → IsOpened (source_of text) t old new ps → HasMore n new last → pending_processes (pending_pieces (source_of text) old.frames.items p) ≡ n
-    → stack_pieces (source_of text) new.frames.items rest ≡ map (pending left) (surveyed (source_of text) t old.counts).pieces ++ stack_pieces (source_of text) old.frames.items stack
+    → stack_pieces (source_of text) new.frames.items rest ≡ map (pending left) (surveyed (source_of text) t old).pieces ++ stack_pieces (source_of text) old.frames.items stack
     → ArePending (source_of text) new.frames.items rest → IsReading text last rest
 opened_reading text t old new last ps left n p stack rest h o m own pushed all = record {
   read = more_read n new last m o.read;
@@ -203,14 +213,14 @@ opened_reading text t old new last ps left n p stack rest h o m own pushed all =
         ap pending_processes (stack_behind source old.frames.items stack p) ∙ both_pending (pending_pieces source old.frames.items p) (stack_pieces source old.frames.items stack)
         ∙ ap (λ (k : ℕ). k + pending_processes (stack_pieces source old.frames.items stack)) own
 
-    behind : pending_processes (stack_pieces source last.frames.items rest) ≡ sum_by piece_processes (surveyed source t old.counts).pieces + pending_processes (stack_pieces source old.frames.items stack)
+    behind : pending_processes (stack_pieces source last.frames.items rest) ≡ sum_by piece_processes (surveyed source t old).pieces + pending_processes (stack_pieces source old.frames.items stack)
     behind =
         ap (λ (fs : List Frame). pending_processes (stack_pieces source fs rest)) m.frames ∙ ap pending_processes pushed
-        ∙ both_pending (map (pending left) (surveyed source t old.counts).pieces) (stack_pieces source old.frames.items stack)
-        ∙ ap (λ (k : ℕ). k + pending_processes (stack_pieces source old.frames.items stack)) (pieces_pending left (surveyed source t old.counts).pieces)
+        ∙ both_pending (map (pending left) (surveyed source t old).pieces) (stack_pieces source old.frames.items stack)
+        ∙ ap (λ (k : ℕ). k + pending_processes (stack_pieces source old.frames.items stack)) (pieces_pending left (surveyed source t old).pieces)
 
-    counts : last.counts.processes ≡ old.counts.processes + sum_by piece_processes (surveyed source t old.counts).pieces
-    counts = ap (λ (c : Counts). c.processes) m.counts ∙ ap (λ (u : Totals). u.processes) o.totals_is ∙ surveyed_processes source t old.counts
+    counts : last.counts.processes ≡ old.counts.processes + sum_by piece_processes (surveyed source t old).pieces
+    counts = ap (λ (c : Counts). c.processes) m.counts ∙ ap (λ (u : Totals). u.processes) o.totals_is ∙ surveyed_processes source t old
 
     room_of : length (design_so_far last).processes + pending_processes (stack_pieces source last.frames.items rest) ≡ last.counts.processes
     room_of = left_is _ _ _ _ _ _ _ n _ _ (opened_processes source t old new ps o) m.processes before behind counts h.room
@@ -234,7 +244,7 @@ within_opened text t old new ps left p stack rest h is o pushed all = record {
     others : List stacks.Pending
     others = stack_pieces source old.frames.items stack
 
-    after_it : stack_pieces source new.frames.items rest ≡ map (pending left) (surveyed source t old.counts).pieces ++ others
+    after_it : stack_pieces source new.frames.items rest ≡ map (pending left) (surveyed source t old).pieces ++ others
     after_it = opened_stack source t old new ps left stack rest o (each_front (IsPending source old.frames.items) stack (p ∷ []) h.pending) pushed
 
     before_it : stack_pieces source old.frames.items (stack ++ p ∷ []) ≡ pending (suc left) (Within t) ∷ others
@@ -242,24 +252,24 @@ within_opened text t old new ps left p stack rest h is o pushed all = record {
 
     same_of : outcome text new rest ≡ outcome text old (stack ++ p ∷ [])
     same_of =
-        ap (λ (d : Design). built_then d (rest_of the_limits source (stack_pieces source new.frames.items rest) (totals_of new.counts))) o.design
-        ∙ ap (λ (qs : List stacks.Pending). built_then (both_designs (design_so_far old) (scope_part t (surveyed source t old.counts))) (rest_of the_limits source qs (totals_of new.counts))) after_it
-        ∙ ap (λ (u : Totals). built_then (both_designs (design_so_far old) (scope_part t (surveyed source t old.counts))) (rest_of the_limits source (map (pending left) (surveyed source t old.counts).pieces ++ others) u)) o.totals_is
-        ∙ sym (within_step the_limits source (design_so_far old) left t others (totals_of old.counts) o.limits o.fair)
-        ∙ sym (ap (λ (qs : List stacks.Pending). built_then (design_so_far old) (rest_of the_limits source qs (totals_of old.counts))) before_it)
+        ap (λ (d : Design). built_then d (rest_of the_limits source (stack_pieces source new.frames.items rest) (totals_so_far new))) o.design
+        ∙ ap (λ (qs : List stacks.Pending). built_then (both_designs (design_so_far old) (scope_part t (surveyed source t old))) (rest_of the_limits source qs (totals_so_far new))) after_it
+        ∙ ap (λ (u : Totals). built_then (both_designs (design_so_far old) (scope_part t (surveyed source t old))) (rest_of the_limits source (map (pending left) (surveyed source t old).pieces ++ others) u)) o.totals_is
+        ∙ sym (within_step the_limits source (design_so_far old) left t others (totals_so_far old) o.limits o.fair)
+        ∙ sym (ap (λ (qs : List stacks.Pending). built_then (design_so_far old) (rest_of the_limits source qs (totals_so_far old))) before_it)
 
-    work_before : work_left text old (stack ++ p ∷ []) ≡ work the_limits source (pending (suc left) (Within t) ∷ others) (totals_of old.counts)
-    work_before = ap (λ (qs : List stacks.Pending). work the_limits source qs (totals_of old.counts)) before_it
+    work_before : work_left text old (stack ++ p ∷ []) ≡ work the_limits source (pending (suc left) (Within t) ∷ others) (totals_so_far old)
+    work_before = ap (λ (qs : List stacks.Pending). work the_limits source qs (totals_so_far old)) before_it
 
-    work_after : work_left text new rest ≡ work the_limits source (map (pending left) (surveyed source t old.counts).pieces ++ others) (surveyed source t old.counts).totals
+    work_after : work_left text new rest ≡ work the_limits source (map (pending left) (surveyed source t old).pieces ++ others) (surveyed source t old).totals
     work_after =
-        ap (λ (qs : List stacks.Pending). work the_limits source qs (totals_of new.counts)) after_it
-        ∙ ap (λ (u : Totals). work the_limits source (map (pending left) (surveyed source t old.counts).pieces ++ others) u) o.totals_is
+        ap (λ (qs : List stacks.Pending). work the_limits source qs (totals_so_far new)) after_it
+        ∙ ap (λ (u : Totals). work the_limits source (map (pending left) (surveyed source t old).pieces ++ others) u) o.totals_is
 
     less_of : work_left text new rest < work_left text old (stack ++ p ∷ [])
     less_of = subst (λ (n : ℕ). n < work_left text old (stack ++ p ∷ [])) (sym work_after)
-        (subst (λ (n : ℕ). work the_limits source (map (pending left) (surveyed source t old.counts).pieces ++ others) (surveyed source t old.counts).totals < n) (sym work_before)
-        (within_less the_limits source left t others (totals_of old.counts) o.limits o.fair))
+        (subst (λ (n : ℕ). work the_limits source (map (pending left) (surveyed source t old).pieces ++ others) (surveyed source t old).totals < n) (sym work_before)
+        (within_less the_limits source left t others (totals_so_far old) o.limits o.fair))
 
 -- ---- a scope that can't be opened
 
@@ -277,9 +287,9 @@ told P e f is h = subst (λ (x : ElabError). Tells x P) (sym is) h
 
 -- the fault of the block that comes next is the first of all
 pub within_faulty : (text : Text) (t : Task) (old : Reading) (left : ℕ) (p : Pending) (stack : List Pending) (e : Fault)
-    → pending_pieces (source_of text) old.frames.items p ≡ pending left (Within t) ∷ [] → read_scope left the_limits (source_of text) t (totals_of old.counts) ≡ Err e
+    → pending_pieces (source_of text) old.frames.items p ≡ pending left (Within t) ∷ [] → read_scope left the_limits (source_of text) t (totals_so_far old) ≡ Err e
     → outcome text old (stack ++ p ∷ []) ≡ Err e
 within_faulty text t old left p stack e is fails =
-    ap (λ (qs : List stacks.Pending). built_then (design_so_far old) (rest_of the_limits (source_of text) qs (totals_of old.counts)))
+    ap (λ (qs : List stacks.Pending). built_then (design_so_far old) (rest_of the_limits (source_of text) qs (totals_so_far old)))
     (stack_behind (source_of text) old.frames.items stack p ∙ ap (λ (qs : List stacks.Pending). qs ++ stack_pieces (source_of text) old.frames.items stack) is)
-    ∙ within_fails the_limits (source_of text) (design_so_far old) left t (stack_pieces (source_of text) old.frames.items stack) (totals_of old.counts) e fails
+    ∙ within_fails the_limits (source_of text) (design_so_far old) left t (stack_pieces (source_of text) old.frames.items stack) (totals_so_far old) e fails

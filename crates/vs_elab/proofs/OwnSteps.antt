@@ -1,5 +1,5 @@
 -- A process of a scope's own is built.
-use Rattle.std.proofs.Common.{◌≡◌, ℕ, ◌+◌, ◌<◌, ◌≤◌, ◌^◌, false, List, [], ◌∷◌, ◌++◌, length, length-append, map, Option, Some, Vec, Global, refl, sym, ap, ◌∙◌, subst, arith}
+use Rattle.std.proofs.Common.{◌≡◌, ℕ, ◌+◌, ◌<◌, ◌≤◌, ◌^◌, false, List, [], ◌∷◌, ◌++◌, length, length-append, map, Option, None, Some, Vec, Global, refl, sym, ap, ◌∙◌, subst, arith}
 use Rattle.std.specs.Borrow.{Bor}
 use Rattle.std.proofs.lemmas.List.{append-nil}
 use Rattle.vs_design.specs.Expressions.{Signal}
@@ -16,13 +16,17 @@ use Rattle.vs_ast.specs.declared.items.Instance.{Instance as TextInstance}
 use Rattle.vs_ast.specs.declared.items.Instances.{Instances}
 use Rattle.vs_ast.specs.declared.names.Name.{Name}
 use Rattle.vs_const.specs.Sound.{AreSound}
+use Rattle.vs_const.proofs.Formed.{both_nil}
+use Rattle.vs_elaborated.specs.Numbers.{AreNumbered, AreNumberedFrames}
+use Rattle.vs_elaborated.specs.Statements.{typed_control, typed_statement}
+use Rattle.vs_elaborated.specs.Surveys.{Totals, block_body}
 use Rattle.vs_elaborated.specs.Limits.{the_limits}
 use Rattle.vs_elaborated.specs.Environments.{Env, named}
 use Rattle.vs_elaborated.specs.Instances.{Around}
 use Rattle.vs_elaborated.specs.Sound.{AreSoundFrames}
 use Rattle.vs_elaborated.specs.Pieces.{Own}
 use Rattle.vs_elaborated.specs.Elaborated.{both_designs, of_processes}
-use Rattle.vs_build.specs.Drafts.{Draft, and_process}
+use Rattle.vs_build.specs.Drafts.{Draft, home, home_in, and_process}
 use Rattle.vs_build.specs.Growth.{draft}
 use Rattle.vs_build.specs.Executable.{IsRunnable, block_process}
 use Rattle.vs_build.specs.Items.{and_processes}
@@ -39,8 +43,9 @@ use Rattle.vs_elab.specs.declared.reading.Text.{Text}
 use Rattle.vs_elab.specs.declared.stack.Pending.{Pending}
 use Rattle.vs_elab.specs.Fine.{IsFineAssign, IsFineBlock, IsFinePart}
 use Rattle.vs_elab.specs.OwnParts.{IsFineOwn, own_processes}
+use Rattle.vs_elab.specs.Functions.{IsIdle}
 use Rattle.vs_elab.specs.Pending.{part_pieces, scope_around, pending_pieces, stack_pieces}
-use Rattle.vs_elab.specs.Reading.{ArePending, IsPending, IsReading, IsStep, design_so_far, outcome, pending_processes, source_of, totals_of, work_left}
+use Rattle.vs_elab.specs.Reading.{ArePending, IsPending, IsReading, IsStep, design_so_far, outcome, pending_processes, source_of, totals_of, totals_so_far, work_left}
 use Rattle.vs_elab.specs.Stacks as stacks
 use Rattle.vs_elab.specs.Stacks.{built_then, pending, rest_of, work}
 use Rattle.vs_elab.proofs.OpenedSteps.{HasMore, each_front, each_last, more_read, one_pending}
@@ -98,13 +103,23 @@ own_only env (Block name items t) w a k h = h
 
 -- ---- what can be built in a design
 
-pub assign_fine : (d : Design) (here env : Env) (a : tree.Assign) → here ≡ env → IsFineAssign env a → AreSound d false (named env) → IsAssignable d (named here) a
-assign_fine d here env a e h sound =
-    subst (λ (x : Env). IsAssignable d (named x) a) (sym e) (record { shaped = h.shaped; sound = sound; clean = h.clean; shallow = low (assign_depth a) h.shallow })
+-- outside functions all stands in the design
+pub at_home : (s : Draft) → s.function ≡ None → s.design ≡ home s
+at_home s outside = sym (ap (home_in s.design) outside)
 
-pub block_fine : (d : Design) (here env : Env) (b : tree.AlwaysBlock) → here ≡ env → IsFineBlock env b → AreSound d false (named env) → IsRunnable d (named here) b
-block_fine d here env b e h sound =
-    subst (λ (x : Env). IsRunnable d (named x) b) (sym e) (record { shaped = h.shaped; sound = sound; clean = h.clean; shallow = low (statement_depth b.statement) h.shallow })
+pub assign_fine : (s : Draft) (here env : Env) (a : tree.Assign) → s.function ≡ None → here ≡ env → IsFineAssign env a → AreSound s.design false (named env) → AreNumbered s.design (named env)
+    → IsAssignable (home s) (named here) a
+assign_fine s here env a outside e h sound numbered =
+    subst (λ (d : Design). IsAssignable d (named here) a) (at_home s outside)
+    (subst (λ (x : Env). IsAssignable s.design (named x) a) (sym e) (record { shaped = h.shaped; sound = sound; numbered = numbered; clean = h.clean; shallow = low (assign_depth a) h.shallow }))
+
+pub block_fine : (s : Draft) (here env : Env) (b : tree.AlwaysBlock) → s.function ≡ None → here ≡ env → IsFineBlock env b → AreSound s.design false (named env) → AreNumbered s.design (named env)
+    → IsRunnable (home s) (named here) b
+block_fine s here env b outside e h sound numbered =
+    let n = both_nil (typed_control b.control (named env)).faults (typed_statement b.statement (block_body b) (named env)).faults h.clean in
+    subst (λ (d : Design). IsRunnable d (named here) b) (at_home s outside)
+    (subst (λ (x : Env). IsRunnable s.design (named x) b) (sym e)
+    (record { shaped = h.shaped; sound = sound; numbered = numbered; control = n.0; clean = n.1; shallow = low (statement_depth b.statement) h.shallow }))
 
 -- ---- what is built
 
@@ -136,10 +151,13 @@ process_behind s v q e =
     ∙ ap (of_parts (s.design.scopes ++ []) (s.design.signals ++ []) (s.design.processes ++ q ∷ [])) (sym (append-nil s.design.functions))
 
 -- one process more has been built, and nothing else
-pub one_built : (old new : Reading) (q : Process) → draft new.builder ≡ and_process (draft old.builder) q → new.frames.items ≡ old.frames.items → new.counts ≡ old.counts → HasMore 1 old new
-one_built old new q e f c = record {
+pub one_built : (old new : Reading) (q : Process) → draft new.builder ≡ and_process (draft old.builder) q → new.frames.items ≡ old.frames.items → new.counts ≡ old.counts → new.loops ≡ old.loops → HasMore 1 old new
+one_built old new q e f c l = record {
   frames = f;
   counts = c;
+  loops = l;
+  functions = ap (λ (z : Draft). z.design.functions) e;
+  idle = λ h. subst IsIdle (sym e) (record { outside = h.outside; expressions = h.expressions; statements = h.statements });
   scopes = ap (λ (z : Draft). z.design.scopes) e;
   signals = ap (λ (z : Draft). z.design.signals) e;
   processes = ap (λ (z : Draft). length z.design.processes) e ∙ length-append (design_so_far old).processes (q ∷ []);
@@ -150,8 +168,8 @@ one_built old new q e f c = record {
 -- what is pending has one process less, and that is built
 pub own_built : (text : Text) (old new : Reading) (q : Process) (p : Pending) (stack : List Pending)
     → IsReading text old (stack ++ p ∷ []) → pending_pieces (source_of text) old.frames.items p ≡ pending p.left (Own q) ∷ []
-    → draft new.builder ≡ and_process (draft old.builder) q → new.frames.items ≡ old.frames.items → new.counts ≡ old.counts → IsStep text old (stack ++ p ∷ []) new stack
-own_built text old new q p stack h is built same_frames same_counts = record {
+    → draft new.builder ≡ and_process (draft old.builder) q → new.frames.items ≡ old.frames.items → new.counts ≡ old.counts → new.loops ≡ old.loops → IsStep text old (stack ++ p ∷ []) new stack
+own_built text old new q p stack h is built same_frames same_counts same_loops = record {
   reading =
       record {
         read = more_read 1 old new more h.read;
@@ -167,7 +185,10 @@ own_built text old new q p stack h is built same_frames same_counts = record {
     source = source_of text
 
     more : HasMore 1 old new
-    more = one_built old new q built same_frames same_counts
+    more = one_built old new q built same_frames same_counts same_loops
+
+    same_totals : totals_so_far new ≡ totals_so_far old
+    same_totals = ap (λ (c : Counts). totals_of c new.loops) same_counts ∙ ap (totals_of old.counts) same_loops
 
     others : List stacks.Pending
     others = stack_pieces source old.frames.items stack
@@ -183,22 +204,22 @@ own_built text old new q p stack h is built same_frames same_counts = record {
 
     same_of : outcome text new stack ≡ outcome text old (stack ++ p ∷ [])
     same_of =
-        ap (λ (d : Design). built_then d (rest_of the_limits source (stack_pieces source new.frames.items stack) (totals_of new.counts))) (process_behind (draft old.builder) (draft new.builder) q built)
-        ∙ ap (λ (qs : List stacks.Pending). built_then (both_designs (design_so_far old) (of_processes (q ∷ []))) (rest_of the_limits source qs (totals_of new.counts))) after_it
-        ∙ ap (λ (c : Counts). built_then (both_designs (design_so_far old) (of_processes (q ∷ []))) (rest_of the_limits source others (totals_of c))) same_counts
-        ∙ sym (own_step the_limits source (design_so_far old) p.left q others (totals_of old.counts))
-        ∙ sym (ap (λ (qs : List stacks.Pending). built_then (design_so_far old) (rest_of the_limits source qs (totals_of old.counts))) before_it)
+        ap (λ (d : Design). built_then d (rest_of the_limits source (stack_pieces source new.frames.items stack) (totals_so_far new))) (process_behind (draft old.builder) (draft new.builder) q built)
+        ∙ ap (λ (qs : List stacks.Pending). built_then (both_designs (design_so_far old) (of_processes (q ∷ []))) (rest_of the_limits source qs (totals_so_far new))) after_it
+        ∙ ap (λ (u : Totals). built_then (both_designs (design_so_far old) (of_processes (q ∷ []))) (rest_of the_limits source others u)) same_totals
+        ∙ sym (own_step the_limits source (design_so_far old) p.left q others (totals_so_far old))
+        ∙ sym (ap (λ (qs : List stacks.Pending). built_then (design_so_far old) (rest_of the_limits source qs (totals_so_far old))) before_it)
 
-    work_before : work_left text old (stack ++ p ∷ []) ≡ work the_limits source (pending p.left (Own q) ∷ others) (totals_of old.counts)
-    work_before = ap (λ (qs : List stacks.Pending). work the_limits source qs (totals_of old.counts)) before_it
+    work_before : work_left text old (stack ++ p ∷ []) ≡ work the_limits source (pending p.left (Own q) ∷ others) (totals_so_far old)
+    work_before = ap (λ (qs : List stacks.Pending). work the_limits source qs (totals_so_far old)) before_it
 
-    work_after : work_left text new stack ≡ work the_limits source others (totals_of old.counts)
-    work_after = ap (λ (qs : List stacks.Pending). work the_limits source qs (totals_of new.counts)) after_it ∙ ap (λ (c : Counts). work the_limits source others (totals_of c)) same_counts
+    work_after : work_left text new stack ≡ work the_limits source others (totals_so_far old)
+    work_after = ap (λ (qs : List stacks.Pending). work the_limits source qs (totals_so_far new)) after_it ∙ ap (λ (u : Totals). work the_limits source others u) same_totals
 
     less_of : work_left text new stack < work_left text old (stack ++ p ∷ [])
     less_of =
         subst (λ (n : ℕ). n < work_left text old (stack ++ p ∷ [])) (sym work_after)
-        (subst (λ (n : ℕ). work the_limits source others (totals_of old.counts) < n) (sym work_before) (own_less the_limits source p.left q others (totals_of old.counts)))
+        (subst (λ (n : ℕ). work the_limits source others (totals_so_far old) < n) (sym work_before) (own_less the_limits source p.left q others (totals_so_far old)))
 
 -- ---- what was pending
 
@@ -228,6 +249,9 @@ module _ (text : Text) (old : Reading) (p : Pending) (stack : List Pending) (b :
   pub next_seen : AreSoundFrames (design_so_far old) false (env_at (envs old.frames.items) (Some p.frame)).frames
   next_seen = h.read.seen p.frame next.within
 
+  pub next_numbered : AreNumberedFrames (design_so_far old) (env_at (envs old.frames.items) (Some p.frame)).frames
+  next_numbered = h.read.numbered p.frame next.within
+
   pub next_fine : IsFineOwn (env_at (envs old.frames.items) (Some p.frame)) p.part
   next_fine = own_fine (source_of text) (env_at (envs old.frames.items) (Some p.frame)) p.part b i next.fine
 
@@ -238,6 +262,6 @@ module _ (text : Text) (old : Reading) (p : Pending) (stack : List Pending) (b :
   next_room = own_room text old own.process p stack h (ap (map (pending p.left)) own.pieces)
 
   pub next_built : (new : Reading) → draft new.builder ≡ and_processes (draft old.builder) (own_processes (env_at (envs old.frames.items) (Some p.frame)) p.part)
-      → new.frames.items ≡ old.frames.items → new.counts ≡ old.counts → IsStep text old (stack ++ p ∷ []) new stack
-  next_built new built same_frames same_counts =
-      own_built text old new own.process p stack h (ap (map (pending p.left)) own.pieces) (built ∙ ap (and_processes (draft old.builder)) own.processes) same_frames same_counts
+      → new.frames.items ≡ old.frames.items → new.counts ≡ old.counts → new.loops ≡ old.loops → IsStep text old (stack ++ p ∷ []) new stack
+  next_built new built same_frames same_counts same_loops =
+      own_built text old new own.process p stack h (ap (map (pending p.left)) own.pieces) (built ∙ ap (and_processes (draft old.builder)) own.processes) same_frames same_counts same_loops

@@ -13,9 +13,10 @@ use Rattle.vs_ast.specs.Views as view
 use Rattle.vs_elaborated.specs.Generate.{Made, nothing_made}
 use Rattle.vs_elaborated.specs.Pieces.{Piece}
 use Rattle.vs_elaborated.specs.Instances.{Around}
-use Rattle.vs_elaborated.specs.Surveys.{nested_piece, item_said, items_said}
+use Rattle.vs_elaborated.specs.Surveys.{nested_piece}
 use Rattle.vs_scope.specs.declared.made.Nested.{Nested}
 use Rattle.vs_scope.specs.Made as code
+use Rattle.vs_elab.specs.Fine.{plain_said, plains_said}
 use Rattle.vs_elab.proofs.Sequences.{one_more}
 
 -- one block more
@@ -29,12 +30,14 @@ block_more around xs i x before done more h e is pushed =
 
 -- what is made of an item of another kind
 pub other_pieces : (source : tree.Source) (around : Around) (x : Item) (made : Made) → ((s : Signals) → x ≡ kind.Signals s → ⊥) → ((place : ℕ) (all : Vec Assign Global) → x ≡ kind.Assigns place all → ⊥)
-    → ((b : AlwaysBlock) → x ≡ kind.Always b → ⊥) → ((t : Instances) → x ≡ kind.Instances t → ⊥) → (item_said source around (view.item x) made).pieces ≡ map (nested_piece around) made.blocks
+    → ((b : AlwaysBlock) → x ≡ kind.Always b → ⊥) → ((t : Instances) → x ≡ kind.Instances t → ⊥) → (plain_said source around (view.item x) made).pieces ≡ map (nested_piece around) made.blocks
 other_pieces source around (kind.Signals s) made f g h k = absurd (f s refl)
 other_pieces source around (kind.Parameters p) made f g h k = refl
 other_pieces source around (kind.Assigns place all) made f g h k = absurd (g place all refl)
 other_pieces source around (kind.Always b) made f g h k = absurd (h b refl)
 other_pieces source around (kind.Genvars place names) made f g h k = refl
+other_pieces source around (kind.Integers place names) made f g h k = refl
+other_pieces source around (kind.Function fn) made f g h k = refl
 other_pieces source around (kind.Instances t) made f g h k = absurd (k t refl)
 other_pieces source around (kind.GenerateFor' head p b) made f g h k = refl
 other_pieces source around (kind.GenerateIf' place e p b other) made f g h k = refl
@@ -71,31 +74,31 @@ made_more : (ms : List Made) (i : ℕ) → i < length ms → take (i + 1) ms ≡
 made_more ms i h = ap (λ n. take n ms) (add-one i) ∙ take-suc ms i (nothing_made [] 0) h
 
 pieces_behind : (source : tree.Source) (around : Around) (is : List tree.Item) (i : tree.Item) (ms : List Made) (m : Made) → length is ≡ length ms
-    → (items_said source around (is ++ i ∷ []) (ms ++ m ∷ [])).pieces ≡ (items_said source around is ms).pieces ++ (item_said source around i m).pieces
-pieces_behind source around [] i [] m h = append-nil (item_said source around i m).pieces
+    → (plains_said source around (is ++ i ∷ []) (ms ++ m ∷ [])).pieces ≡ (plains_said source around is ms).pieces ++ (plain_said source around i m).pieces
+pieces_behind source around [] i [] m h = append-nil (plain_said source around i m).pieces
 pieces_behind source around [] i (n ∷ ms) m h = absurd (let no : ⊥ = omega (arith, h) in no)
 pieces_behind source around (j ∷ is) i [] m h = absurd (let no : ⊥ = omega (arith, h) in no)
 pieces_behind source around (j ∷ is) i (n ∷ ms) m h =
-    ap (λ r. (item_said source around j n).pieces ++ r) (pieces_behind source around is i ms m (omega (arith, h)))
-    ∙ sym (append_assoc (item_said source around j n).pieces (items_said source around is ms).pieces (item_said source around i m).pieces)
+    ap (λ r. (plain_said source around j n).pieces ++ r) (pieces_behind source around is i ms m (omega (arith, h)))
+    ∙ sym (append_assoc (plain_said source around j n).pieces (plains_said source around is ms).pieces (plain_said source around i m).pieces)
 
 -- one item more
 pub item_more : (source : tree.Source) (around : Around) (items : List Item) (made : List Made) (i : ℕ) (x : Item) (before done more : List Piece) → i < length items → x ≡ get_or items i x → length made ≡ length items
-    → done ≡ before ++ (items_said source around (map view.item (take i items)) (take i made)).pieces → more ≡ done ++ (item_said source around (view.item x) (made_at made i)).pieces
-    → more ≡ before ++ (items_said source around (map view.item (take (i + 1) items)) (take (i + 1) made)).pieces
+    → done ≡ before ++ (plains_said source around (map view.item (take i items)) (take i made)).pieces → more ≡ done ++ (plain_said source around (view.item x) (made_at made i)).pieces
+    → more ≡ before ++ (plains_said source around (map view.item (take (i + 1) items)) (take (i + 1) made)).pieces
 item_more source around items made i x before done more h e same is pushed =
     let within : i < length made = omega (arith, h, same) in
     let a = length-map (take i items) view.item in
     let b = length-take-le i items (omega (arith, h)) in
     let d = length-take-le i made (omega (arith, within)) in
-    pushed ∙ ap (λ r. r ++ (item_said source around (view.item x) (made_at made i)).pieces) is
-    ∙ append_assoc before (items_said source around (map view.item (take i items)) (take i made)).pieces (item_said source around (view.item x) (made_at made i)).pieces
+    pushed ∙ ap (λ r. r ++ (plain_said source around (view.item x) (made_at made i)).pieces) is
+    ∙ append_assoc before (plains_said source around (map view.item (take i items)) (take i made)).pieces (plain_said source around (view.item x) (made_at made i)).pieces
     ∙ ap (λ qs. before ++ qs) (sym (pieces_behind source around (map view.item (take i items)) (view.item x) (take i made) (made_at made i) (a ∙ b ∙ sym d)))
-    ∙ ap (λ is. before ++ (items_said source around is (take i made ++ made_at made i ∷ [])).pieces) (sym (one_more view.item items i x h e))
-    ∙ ap (λ ms. before ++ (items_said source around (map view.item (take (i + 1) items)) ms).pieces) (sym (made_more made i within))
+    ∙ ap (λ is. before ++ (plains_said source around is (take i made ++ made_at made i ∷ [])).pieces) (sym (one_more view.item items i x h e))
+    ∙ ap (λ ms. before ++ (plains_said source around (map view.item (take (i + 1) items)) ms).pieces) (sym (made_more made i within))
 
 -- the one item of a block
-pub one_item : (source : tree.Source) (around : Around) (i : tree.Item) (made : List Made) → length made ≡ 1 → (item_said source around i (made_at made 0)).pieces ≡ (items_said source around (i ∷ []) made).pieces
+pub one_item : (source : tree.Source) (around : Around) (i : tree.Item) (made : List Made) → length made ≡ 1 → (plain_said source around i (made_at made 0)).pieces ≡ (plains_said source around (i ∷ []) made).pieces
 one_item source around i [] h = absurd (let no : ⊥ = omega (arith, h) in no)
-one_item source around i (m ∷ []) h = sym (append-nil (item_said source around i m).pieces)
+one_item source around i (m ∷ []) h = sym (append-nil (plain_said source around i m).pieces)
 one_item source around i (m ∷ n ∷ ms) h = absurd (let no : ⊥ = omega (arith, h) in no)

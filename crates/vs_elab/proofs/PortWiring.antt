@@ -27,6 +27,7 @@ use Rattle.vs_items.specs.declared.connections.Connection.{Connection}
 use Rattle.vs_items.specs.Connections.{said, said_one}
 use Rattle.vs_build.specs.Items.{and_processes}
 use Rattle.vs_elab.specs.Wiring.{IsSignalOf, IsWirable, AreWirable}
+use Rattle.vs_elab.proofs.NumberedNames.{same_functions}
 use Rattle.vs_elab.proofs.Wider.{wirable_wider}
 use Rattle.vs_elab.proofs.Sequences.{each_at}
 
@@ -99,7 +100,8 @@ wired_more s t new place env es cs i c h e before is =
 pub wirable_at : (s t : Draft) (find : Find) (es : List Entry) (cs : List Connection) (i : ℕ) (c : Connection) (ps : List Process) → i < length cs → c ≡ get_or cs i c → t ≡ and_processes s ps
     → AreWirable s.design find es cs → IsWirable t.design find es c
 wirable_at s t find es cs i c ps h e is all =
-    wirable_wider s.design t.design (same_signals s.design t.design (omega (arith, ap (λ (x : Draft). length x.design.scopes) is)) (ap (λ (x : Draft). x.design.signals) is)) find es c (each_at (IsWirable s.design find es) (λ x. x) cs i c h e (each_of cs all))
+    wirable_wider s.design t.design (same_signals s.design t.design (omega (arith, ap (λ (x : Draft). length x.design.scopes) is)) (ap (λ (x : Draft). x.design.signals) is)) []
+    (same_functions s.design t.design (ap (λ (x : Draft). x.design.functions) is)) find es c (each_at (IsWirable s.design find es) (λ x. x) cs i c h e (each_of cs all))
   where
     each_of : (xs : List Connection) → Each (IsWirable s.design find es) xs → Each (IsWirable s.design find es) (map (λ (x : Connection). x) xs)
     each_of [] k = tt

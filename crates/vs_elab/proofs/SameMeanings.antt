@@ -1,7 +1,7 @@
 -- Scopes whose names mean the same are seen alike.
 use mathlib.Core.Path.{fun_ext}
 use Rattle.std.proofs.Common.{◌≡◌, ℕ, List, Option, Some, None, refl, ap, ◌∙◌}
-use Rattle.vs_elaborated.specs.Environments.{Declared, Later, OfSignal, OfParameter, OfGenvar, OfScope, Entry, Env, find_name, within, entry_meaning, named}
+use Rattle.vs_elaborated.specs.Environments.{Declared, Later, OfSignal, OfParameter, OfGenvar, OfInteger, OfFunction, OfScope, Entry, Env, find_name, within, entry_meaning, named}
 use Rattle.vs_scope.specs.Surveys.{MeanTheSame}
 
 module _ (env : Env) (es fs : List Entry) (h : MeanTheSame es fs) where
@@ -14,9 +14,11 @@ module _ (env : Env) (es fs : List Entry) (h : MeanTheSame es fs) where
       of n p (OfSignal s) = refl
       of n p (OfParameter v r) = refl
       of n p OfGenvar = refl
+      of n p (OfInteger owner) = refl
+      of n p (OfFunction f) = refl
       of n p OfScope = refl
 
-  found_alike : (name : List ℕ) → find_name (within env es).frames name ≡ find_name (within env fs).frames name
+  pub found_alike : (name : List ℕ) → find_name (within env es).frames name ≡ find_name (within env fs).frames name
   found_alike name = ap (λ (o : Option Entry). let r : Option Entry = elim o [ Some e ↦ Some e | None ↦ find_name env.frames name ] in r) (h name)
 
   name_alike : (name : List ℕ) → named (within env es) name ≡ named (within env fs) name

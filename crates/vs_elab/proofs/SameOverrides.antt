@@ -7,13 +7,14 @@ use Rattle.vs_const.specs.Typed.{Typed}
 use Rattle.vs_const.specs.Expressions.{constant}
 use Rattle.vs_elaborated.specs.Limits.{Limits}
 use Rattle.vs_elaborated.specs.Environments.{Env, Entry, up_to, within, named}
-use Rattle.vs_elaborated.specs.Declarations.{ParameterSort, Sort, SignalOf, ParameterOf, GenvarSort, InstanceSort, Declaration, names_of, repeated_names}
-use Rattle.vs_elaborated.specs.Parameters.{Override, chosen, said_range, parameter_declared, SaidParameter, said_parameter, put_value, first_entries, SaidEntries, said_parameters}
-use Rattle.vs_elaborated.specs.Signals.{SaidSignal, said_signals, range_faults, put_signals}
+use Rattle.vs_elaborated.specs.Declarations.{ParameterSort, Sort, SignalOf, ParameterOf, FunctionOf, GenvarSort, IntegerSort, InstanceSort, Declaration, names_of, repeated_names}
+use Rattle.vs_elaborated.specs.Parameters.{Override, chosen, is_signed, said_type, parameter_declared, SaidParameter, said_parameter, put_value, first_entries, SaidEntries, said_parameters}
+use Rattle.vs_elaborated.specs.Signals.{SaidSignal, said_signals, range_faults, array_faults, put_signals}
+use Rattle.vs_elaborated.specs.Functions.{said_functions}
 use Rattle.vs_elaborated.specs.Generate.{Made}
 use Rattle.vs_elaborated.specs.Constructs.{constructs}
 use Rattle.vs_elaborated.specs.Pieces.{OfModule}
-use Rattle.vs_elaborated.specs.Surveys.{items_said, block_faults, block_entries, Totals, bits_over, piece_processes, processes_over, turns_after, items_of, declarations_of, header_of, Survey, survey}
+use Rattle.vs_elaborated.specs.Surveys.{items_said, loops_behind, counts_of, block_faults, block_entries, Totals, bits_over, piece_processes, processes_over, turns_after, items_of, declarations_of, header_of, Survey, survey}
 use Rattle.vs_items.specs.Overriding.{AreAlike}
 
 -- all that an instance of a module says, by its names with the values of its parameters
@@ -23,24 +24,29 @@ surveyed limits source parent m depth env totals parameters =
     let names = names_of ds in
     let ranged = within env parameters.entries in
     let signals = said_signals ranged (record { scope = totals.scopes; top = is_none parent; signal = totals.signals; bit = totals.bits }) names in
-    let entries = put_signals signals parameters.entries in
+    let functions = said_functions limits totals.scopes env (counts_of totals) ds (put_signals signals parameters.entries) in
+    let entries = functions.entries in
+    let loops = record totals.loops { copies = functions.counts.copies } in
     let made = constructs limits (items_of (OfModule m [])) (within env entries) 1 totals.turns in
     let blocks = flat_map (λ (x : Made). x.names) made in
     let whole = entries ++ block_entries blocks in
-    let said = items_said source (record { scope = totals.scopes; depth = depth; env = within env whole }) (items_of (OfModule m [])) made in
+    let said = items_said limits source (record { scope = totals.scopes; depth = depth; env = within env whole }) loops (items_of (OfModule m [])) made in
     record {
       entries = whole;
       signals = map (λ (s : SaidSignal). s.meaning.signal) signals;
+      functions = functions.functions;
       pieces = said.pieces;
       faults =
-          header_of (OfModule m []) ++ (repeated_names [] ds ++ (parameters.faults ++ (range_faults ranged ds ++ (flat_map (λ (s : SaidSignal). s.faults) signals
-          ++ (flat_map (λ (x : Made). x.faults) made ++ (block_faults entries [] blocks ++ (said.faults ++ (bits_over limits.bits totals.bits signals ++ processes_over limits.processes totals.processes said.pieces))))))));
+          header_of (OfModule m []) ++ (repeated_names [] ds ++ (parameters.faults ++ (range_faults ranged ds ++ (array_faults ds ++ (flat_map (λ (s : SaidSignal). s.faults) signals
+          ++ (functions.faults ++ (flat_map (λ (x : Made). x.faults) made ++ (block_faults entries [] blocks ++ (said.faults ++ (bits_over limits.bits totals.bits signals ++ processes_over limits.processes totals.processes said.pieces))))))))));
       totals =
           record totals {
             scopes = totals.scopes + 1;
             signals = totals.signals + length signals;
             bits = totals.bits + sum_by (λ (s : SaidSignal). signal_length s.meaning.signal) signals;
             turns = turns_after totals.turns made;
+            functions = functions.counts.functions;
+            loops = loops_behind limits (within env whole) loops (items_of (OfModule m []));
             processes = totals.processes + sum_by piece_processes said.pieces;
           };
     }
@@ -51,7 +57,7 @@ module _ (os qs : List Override) (alike : AreAlike os qs) where
 
   parameter_alike : (env : Env) (name : Name) (p : ParameterSort) → said_parameter env os name p ≡ said_parameter env qs name p
   parameter_alike env name p =
-      ap (λ (t : Typed). let s : SaidParameter = record { declared = parameter_declared p.signed (said_range p.range env) t; faults = (said_range p.range env).faults ++ (constant p.value (named env)).faults } in s)
+      ap (λ (t : Typed). let s : SaidParameter = record { declared = parameter_declared (is_signed p.value_type) (said_type p.value_type env) t; faults = (said_type p.value_type env).faults ++ (constant p.value (named env)).faults } in s)
       (chosen_alike p name.bytes (constant p.value (named env)))
 
   pub parameters_alike : (env : Env) (ds : List Declaration) (es : List Entry) → said_parameters env os ds es ≡ said_parameters env qs ds es
@@ -69,6 +75,8 @@ module _ (os qs : List Override) (alike : AreAlike os qs) where
           (parameter_alike (up_to (within env es) n.place) n p)
           ∙ rest (record { entries = put_value n.bytes (said_parameter (up_to (within env es) n.place) qs n p).declared es; faults = (said_parameter (up_to (within env es) n.place) qs n p).faults }) k
       of n (SignalOf s) k = rest (record { entries = es; faults = [] }) k
+      of n (FunctionOf f) k = rest (record { entries = es; faults = [] }) k
+      of n IntegerSort k = rest (record { entries = es; faults = [] }) k
       of n GenvarSort k = rest (record { entries = es; faults = [] }) k
       of n InstanceSort k = rest (record { entries = es; faults = [] }) k
 
@@ -77,4 +85,4 @@ module _ (os qs : List Override) (alike : AreAlike os qs) where
       → survey limits source (record { name = name; parent = parent; contents = OfModule m os; depth = depth; place = place; env = env }) totals
       ≡ survey limits source (record { name = name; parent = parent; contents = OfModule m qs; depth = depth; place = place; env = env }) totals
   survey_alike limits source name parent m depth place env totals =
-      ap (surveyed limits source parent m depth env totals) (parameters_alike env (declarations_of (OfModule m [])) (first_entries (names_of (declarations_of (OfModule m [])))))
+      ap (surveyed limits source parent m depth env totals) (parameters_alike env (declarations_of (OfModule m [])) (first_entries totals.scopes (names_of (declarations_of (OfModule m [])))))

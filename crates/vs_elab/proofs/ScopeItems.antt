@@ -8,7 +8,7 @@ use Rattle.vs_elaborated.specs.Surveys.{items_of}
 use Rattle.vs_scope.specs.declared.contents.Contents.{Contents}
 use Rattle.vs_scope.specs.declared.contents.Contents.TheVariants.{Module, Block}
 use Rattle.vs_scope.specs.declared.frames.Frame.{Frame}
-use Rattle.vs_scope.specs.declared.maps.NameMap.{NameMap}
+use Rattle.vs_maps.specs.declared.maps.NameMap.{NameMap}
 use Rattle.vs_scope.specs.declared.parameters.Override.{Override}
 use Rattle.vs_scope.specs.Contents.{contents_items}
 use Rattle.vs_scope.specs.Surveys.{contents_of}

@@ -15,7 +15,7 @@ use Rattle.vs_elaborated.specs.Ports.{find_in, find_module}
 use Rattle.vs_elaborated.specs.Sound.{IsConstantFine, AreFineOverrides, IsSoundTask}
 use Rattle.vs_scope.specs.declared.frames.Frame.{Frame}
 use Rattle.vs_scope.specs.declared.parameters.Override.{Override}
-use Rattle.vs_scope.specs.Maps.{Pair, IsNew, AreDistinct}
+use Rattle.vs_maps.specs.Maps.{Pair, IsNew, AreDistinct}
 use Rattle.vs_items.specs.Overriding.{AreAlike, said_override}
 use Rattle.vs_elab.proofs.ShapedScopes.{list_depth}
 use Rattle.vs_elab.proofs.AlikeTasks.{instance_task}

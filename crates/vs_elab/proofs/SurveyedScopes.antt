@@ -1,32 +1,42 @@
 -- What is found of a scope is what its survey says.
-use Rattle.std.proofs.Common.{◌≡◌, ◌≤◌, ◌+◌, ◌^◌, ℕ, List, [], ◌∷◌, ◌++◌, length, map, Option, Some, None, refl, sym, ap, ◌∙◌, subst}
-use Rattle.std.specs.Prelude.{sum_by}
+use Rattle.std.proofs.Common.{◌≡◌, ◌≤◌, ◌+◌, ◌^◌, ℕ, List, ◌++◌, length, map, Option, Some, None, refl, sym, ap, ◌∙◌, subst}
+use Rattle.std.specs.Prelude.{sum_by, Result, Ok, Err, IfOk, OnOk}
 use Rattle.vs_grammar.specs.Trees as tree
 use Rattle.vs_grammar.specs.Shapes.{Each}
-use Rattle.vs_ast.specs.Views as view
 use Rattle.vs_const.specs.declared.faults.Fault.{Fault}
 use Rattle.vs_const.specs.Faults.{least, better}
 use Rattle.vs_elaborated.specs.Limits.{the_limits}
-use Rattle.vs_elaborated.specs.Environments.{Env, named, within}
+use Rattle.vs_elaborated.specs.Environments.{Env, find_entry, find_name, named, within}
 use Rattle.vs_elaborated.specs.Signals.{Start, SaidSignal}
 use Rattle.vs_elaborated.specs.Generate.{Made}
 use Rattle.vs_elaborated.specs.Pieces.{Task}
 use Rattle.vs_elaborated.specs.Instances.{Around}
-use Rattle.vs_elaborated.specs.Surveys.{Totals, Survey, survey, turned, items_of, items_said, piece_processes, processes_over}
-use Rattle.vs_scope.specs.declared.frames.Frame.{Frame}
-use Rattle.vs_scope.specs.Frames.{turn, env_at, envs}
+use Rattle.vs_elaborated.specs.Functions.{Counts}
+use Rattle.vs_elaborated.specs.Surveys.{Loops, Totals, Survey, survey, counts_of, declarations_of, items_of, items_said, loops_behind, piece_processes, processes_over}
+use Rattle.vs_scope.specs.Again.{AreSeen}
+use Rattle.vs_scope.specs.Complete.{KeepsShapes, complete, function_declaration}
+use Rattle.vs_scope.specs.Functions.{functions_in}
 use Rattle.vs_scope.specs.Made as code
 use Rattle.vs_scope.specs.Signalled.{start_of}
-use Rattle.vs_scope.specs.Surveys.{IsOfParts, MeanTheSame, start_at, start_behind, turns_behind, signals_in, made_in, entries_in, faults_in, items_faults, said_in}
-use Rattle.vs_scope.specs.Views.{entries}
+use Rattle.vs_scope.specs.Surveys.{IsOfParts, MeanTheSame, counts_behind, start_at, start_behind, turns_behind, signals_in, made_in, entries_in, faults_in, items_faults, loops_in, said_in, scope_env}
 use Rattle.vs_items.specs.declared.bodies.SaidItems.{SaidItems}
+use Rattle.vs_items.specs.Loops.{SeeTheSame}
 use Rattle.vs_items.specs.Said.{IsSaid}
 use Rattle.vs_elab.specs.declared.surveyed.SurveyedScope.{SurveyedScope}
 use Rattle.vs_elab.specs.Opening.{signal}
 use Rattle.vs_elab.specs.Reading.{IsSurveyed, totals_of}
-use Rattle.vs_elab.proofs.MoreFrames.{env_new}
-use Rattle.vs_elab.proofs.SameMeanings.{seen_alike}
+use Rattle.vs_elab.proofs.SameMeanings.{found_alike, seen_alike}
 use Rattle.vs_elab.proofs.ScopeItems.{one_made_each}
+
+-- what is said of the items, where it is known for all that can be asked
+pub said_for_all : {X Y Z E : Type 0} {P Q R : X → Y → Z → Type 0} (S : X → Y → Z → SaidItems → Type 0) (r : Result SaidItems E) → ((x : X) (y : Y) (z : Z) → P x y z → Q x y z → R x y z → IfOk r (S x y z))
+    → IfOk r (λ s. (x : X) (y : Y) (z : Z) → P x y z → Q x y z → R x y z → S x y z s)
+said_for_all S (Ok s) h = h
+said_for_all S (Err e) h = tt
+
+pub then_for_all : {X T E : Type 0} (P Q : X → Type 0) (r : Result T E) → ((x : X) → P x → OnOk r (Q x)) → OnOk r ((x : X) → P x → Q x)
+then_for_all P Q (Ok s) h = h
+then_for_all P Q (Err e) h = tt
 
 better_first : (a b : Option Fault) → better a b ≡ None → a ≡ None
 better_first None b h = refl
@@ -36,66 +46,91 @@ better_second : (a b : Option Fault) → better a b ≡ None → b ≡ None
 better_second None b h = h
 better_second (Some a) b h = cc
 
--- what is seen in the scope that was added
-added_env : (old new : List Frame) (f : Frame) (env : Env) → new ≡ old ++ f ∷ [] → turned (env_at (envs old) f.parent) (view.option turn f.turn) ≡ env
-    → env_at (envs new) (Some (length old)) ≡ within env (entries f.names)
-added_env old new f env is around = ap (λ fs. env_at (envs fs) (Some (length old))) is ∙ env_new old f ∙ ap (λ e. within e (entries f.names)) around
-
 -- where the items of a scope stand
 abbrev items_around : Task → Totals → Around
-items_around t totals = record { scope = totals.scopes; depth = t.depth; env = within t.env (entries_in t.env t.contents (start_at t totals) totals.turns) }
+items_around t totals = record { scope = totals.scopes; depth = t.depth; env = scope_env t totals }
 
 -- what was found of its names and of its items: the code's own words
-pub record IsFound (source : tree.Source) (t : Task) (totals : Totals) (old new : List Frame) (r : SurveyedScope) : Type 0 where
+pub record IsFound (source : tree.Source) (t : Task) (totals : Totals) (did : Loops) (r : SurveyedScope) : Type 0 where
   pub start : Start
   pub starts : start ≡ start_at t totals
+  pub before : Counts
+  pub counts_before : before ≡ counts_of totals
   pub items : List tree.Item
   pub items_are : items_of t.contents ≡ items
-  pub frame : Frame
-  pub frames : new ≡ old ++ frame ∷ []
-  pub around : turned (env_at (envs old) frame.parent) (view.option turn frame.turn) ≡ t.env
   pub here : Env
-  pub seen : here ≡ env_at (envs new) (Some (length old))
-  pub names : MeanTheSame (entries frame.names) (entries_in t.env t.contents start totals.turns)
+  pub here_is : here ≡ within t.env (complete t.env r.names)
+  pub names : MeanTheSame (complete t.env r.names) (entries_in t.env t.contents start before totals.turns)
   pub found : Option Fault
   pub said : SaidItems
+  pub behind : Counts
+  pub behind_is : behind ≡ counts_behind t.env t.contents start before
   pub first : r.fault ≡ better found said.fault
-  pub found_is : found ≡ least (faults_in t.env t.contents start totals.turns)
-  pub said_is : (a : Around) (ms : List Made) → named a.env ≡ named here → length ms ≡ length items → IsSaid said the_limits.processes totals.processes (items_said source a items ms)
-  pub entries_are : found ≡ None → entries frame.names ≡ entries_in t.env t.contents start totals.turns
+  pub found_is : found ≡ least (faults_in t.env t.contents start before totals.turns)
+  pub said_is : (a : Around) (ms : List Made) → SeeTheSame a.env here → length ms ≡ length items
+      → IsSaid said the_limits.processes totals.processes (items_said the_limits source a (record { copies = behind.copies; headed = totals.loops.headed }) items ms)
+  pub then_is : (env : Env) → SeeTheSame env here → did ≡ loops_behind the_limits env (record { copies = behind.copies; headed = totals.loops.headed }) items
+  pub entries_are : found ≡ None → complete t.env r.names ≡ entries_in t.env t.contents start before totals.turns
+  pub kept : KeepsShapes t.env r.names
+  pub seen : AreSeen r.names t.env t.contents start before
+  pub functions : map function_declaration r.names.functions.items ≡ functions_in (declarations_of t.contents)
   pub signals : map signal r.signals.items ≡ map (λ (x : SaidSignal). x.meaning.signal) (signals_in t.env t.contents start)
-  pub made : map code.made r.made.items ≡ map code.kept (made_in t.env t.contents start totals.turns)
+  pub made : map code.made r.made.items ≡ map code.kept (made_in t.env t.contents start before totals.turns)
   pub blocks : Each code.AreShapedBlocks r.made.items
   pub next : start_of r.counts.start ≡ start_behind t.env t.contents start
   pub instances : r.counts.instances ≡ totals.instances
-  pub turns : r.counts.turns ≡ turns_behind t.env t.contents start totals.turns
+  pub turns : r.counts.turns ≡ turns_behind t.env t.contents start before totals.turns
+  pub called : r.counts.functions ≡ behind.functions
   pub processes : r.counts.processes ≡ said.processes
 
-module _ (source : tree.Source) (t : Task) (totals : Totals) (old new : List Frame) (r : SurveyedScope) (f : IsFound source t totals old new r) where
+module _ (source : tree.Source) (t : Task) (totals : Totals) (did : Loops) (r : SurveyedScope) (f : IsFound source t totals did r) where
   abbrev all_made : List Made
-  all_made = made_in t.env t.contents (start_at t totals) totals.turns
+  all_made = made_in t.env t.contents (start_at t totals) (counts_of totals) totals.turns
 
   as_many : length all_made ≡ length f.items
   as_many = one_made_each the_limits (items_of t.contents) _ 1 totals.turns ∙ ap (λ (is : List tree.Item). length is) f.items_are
 
-  alike : named (items_around t totals).env ≡ named f.here
-  alike =
-      ap (λ b. named (within t.env (entries_in t.env t.contents b totals.turns))) (sym f.starts)
-      ∙ seen_alike t.env (entries_in t.env t.contents f.start totals.turns) (entries f.frame.names) (λ name. sym (f.names name))
-      ∙ ap named (sym (f.seen ∙ added_env old new f.frame t.env f.frames f.around))
+  -- where its signals begin, and the counts before it
+  both_are : {A : Type 0} (g : Start → Counts → A) → g f.start f.before ≡ g (start_at t totals) (counts_of totals)
+  both_are g = ap (λ b. g b f.before) f.starts ∙ ap (g (start_at t totals)) f.counts_before
 
-  said : IsSaid f.said the_limits.processes totals.processes (items_said source (items_around t totals) f.items all_made)
-  said = f.said_is (items_around t totals) all_made alike as_many
+  same_names : (name : List ℕ) → find_entry (entries_in t.env t.contents (start_at t totals) (counts_of totals) totals.turns) name ≡ find_entry (complete t.env r.names) name
+  same_names name = sym (f.names name ∙ both_are (λ b c. find_entry (entries_in t.env t.contents b c totals.turns) name))
+
+  alike : SeeTheSame (scope_env t totals) f.here
+  alike = record {
+    names = seen_alike t.env (entries_in t.env t.contents (start_at t totals) (counts_of totals) totals.turns) (complete t.env r.names) same_names ∙ ap named (sym f.here_is);
+    finds = λ name.
+        found_alike t.env (entries_in t.env t.contents (start_at t totals) (counts_of totals) totals.turns) (complete t.env r.names) same_names name ∙ ap (λ (e : Env). find_name e.frames name) (sym f.here_is);
+  }
+
+  behind_then : f.behind ≡ counts_behind t.env t.contents (start_at t totals) (counts_of totals)
+  behind_then = f.behind_is ∙ both_are (counts_behind t.env t.contents)
+
+  abbrev loops_with : Counts → Loops
+  loops_with c = record { copies = c.copies; headed = totals.loops.headed }
+
+  loops_are : loops_with f.behind ≡ loops_in t totals
+  loops_are = ap loops_with behind_then
+
+  said : IsSaid f.said the_limits.processes totals.processes (items_said the_limits source (items_around t totals) (loops_in t totals) f.items all_made)
+  said =
+      subst (λ (l : Loops). IsSaid f.said the_limits.processes totals.processes (items_said the_limits source (items_around t totals) l f.items all_made)) loops_are
+      (f.said_is (items_around t totals) all_made alike as_many)
 
   said_fault : f.said.fault ≡ least (items_faults source t totals)
   said_fault =
       said.fault
-      ∙ ap (λ is. least ((items_said source (items_around t totals) is all_made).faults ++ processes_over the_limits.processes totals.processes (items_said source (items_around t totals) is all_made).pieces)) (sym f.items_are)
+      ∙ ap (λ is. least ((items_said the_limits source (items_around t totals) (loops_in t totals) is all_made).faults ++ processes_over the_limits.processes totals.processes (items_said the_limits source (items_around t totals) (loops_in t totals) is all_made).pieces)) (sym f.items_are)
 
   said_processes : f.said.fault ≡ None → r.counts.processes ≡ totals.processes + sum_by piece_processes (said_in source t totals).pieces
   said_processes none =
       f.processes ∙ said.processes none
-      ∙ ap (λ is. totals.processes + sum_by piece_processes (items_said source (items_around t totals) is all_made).pieces) (sym f.items_are)
+      ∙ ap (λ is. totals.processes + sum_by piece_processes (items_said the_limits source (items_around t totals) (loops_in t totals) is all_made).pieces) (sym f.items_are)
+
+  loops_then : did ≡ loops_behind the_limits (scope_env t totals) (loops_in t totals) (items_of t.contents)
+  loops_then =
+      f.then_is (scope_env t totals) alike ∙ ap (λ (l : Loops). loops_behind the_limits (scope_env t totals) l f.items) loops_are ∙ ap (loops_behind the_limits (scope_env t totals) (loops_in t totals)) (sym f.items_are)
 
   next_start : start_of r.counts.start ≡ start_behind t.env t.contents (start_at t totals)
   next_start = f.next ∙ ap (start_behind t.env t.contents) f.starts
@@ -103,41 +138,43 @@ module _ (source : tree.Source) (t : Task) (totals : Totals) (old new : List Fra
   module _ (s : Survey) (parts : IsOfParts source t totals s) where
     the_fault : r.fault ≡ least s.faults
     the_fault =
-        f.first ∙ ap (λ o. better o f.said.fault) (f.found_is ∙ ap (λ b. least (faults_in t.env t.contents b totals.turns)) f.starts)
-        ∙ ap (better (least (faults_in t.env t.contents (start_at t totals) totals.turns))) said_fault ∙ sym parts.fault
+        f.first ∙ ap (λ o. better o f.said.fault) (f.found_is ∙ both_are (λ b c. least (faults_in t.env t.contents b c totals.turns)))
+        ∙ ap (better (least (faults_in t.env t.contents (start_at t totals) (counts_of totals) totals.turns))) said_fault ∙ sym parts.fault
 
-    the_entries : r.fault ≡ None → entries f.frame.names ≡ s.entries
+    the_entries : r.fault ≡ None → complete t.env r.names ≡ s.entries
     the_entries none =
-        f.entries_are (better_first f.found f.said.fault (sym f.first ∙ none)) ∙ ap (λ b. entries_in t.env t.contents b totals.turns) f.starts ∙ sym parts.entries
-
-    the_env : r.fault ≡ None → env_at (envs new) (Some (length old)) ≡ within t.env s.entries
-    the_env none = added_env old new f.frame t.env f.frames f.around ∙ ap (within t.env) (the_entries none)
+        f.entries_are (better_first f.found f.said.fault (sym f.first ∙ none)) ∙ both_are (λ b c. entries_in t.env t.contents b c totals.turns) ∙ sym parts.entries
 
     the_signals : map signal r.signals.items ≡ s.signals
     the_signals = f.signals ∙ ap (λ b. map (λ (x : SaidSignal). x.meaning.signal) (signals_in t.env t.contents b)) f.starts ∙ sym parts.signals
 
-    the_totals : r.fault ≡ None → totals_of r.counts ≡ s.totals
+    the_totals : r.fault ≡ None → totals_of r.counts did ≡ s.totals
     the_totals none =
-        let behind : Start → (instances turns processes : ℕ) → Totals =
-        λ b i n p. record { scopes = b.scope; signals = b.signal; bits = b.bit; instances = i; turns = n; processes = p } in
+        let behind : Start → (instances turns functions : ℕ) → Loops → (processes : ℕ) → Totals =
+        λ b i n k l p. record { scopes = b.scope; signals = b.signal; bits = b.bit; instances = i; turns = n; functions = k; loops = l; processes = p } in
         let next = start_behind t.env t.contents (start_at t totals) in
-        ap (λ b. behind b r.counts.instances r.counts.turns r.counts.processes) next_start
-        ∙ ap (λ i. behind next i r.counts.turns r.counts.processes) f.instances
-        ∙ ap (λ n. behind next totals.instances n r.counts.processes) (f.turns ∙ ap (λ b. turns_behind t.env t.contents b totals.turns) f.starts)
-        ∙ ap (behind next totals.instances (turns_behind t.env t.contents (start_at t totals) totals.turns)) (said_processes (better_second f.found f.said.fault (sym f.first ∙ none)))
+        let turns = turns_behind t.env t.contents (start_at t totals) (counts_of totals) totals.turns in
+        let functions = (counts_behind t.env t.contents (start_at t totals) (counts_of totals)).functions in
+        let loops = loops_behind the_limits (scope_env t totals) (loops_in t totals) (items_of t.contents) in
+        ap (λ b. behind b r.counts.instances r.counts.turns r.counts.functions did r.counts.processes) next_start
+        ∙ ap (λ i. behind next i r.counts.turns r.counts.functions did r.counts.processes) f.instances
+        ∙ ap (λ n. behind next totals.instances n r.counts.functions did r.counts.processes) (f.turns ∙ both_are (λ b c. turns_behind t.env t.contents b c totals.turns))
+        ∙ ap (λ k. behind next totals.instances turns k did r.counts.processes) (f.called ∙ ap (λ (c : Counts). c.functions) behind_then)
+        ∙ ap (λ l. behind next totals.instances turns functions l r.counts.processes) loops_then
+        ∙ ap (behind next totals.instances turns functions loops) (said_processes (better_second f.found f.said.fault (sym f.first ∙ none)))
         ∙ sym parts.totals_is
 
-  pub surveyed : IsOfParts source t totals (survey the_limits source t totals) → IsSurveyed source t totals old new r
+  pub surveyed : IsOfParts source t totals (survey the_limits source t totals) → IsSurveyed source t totals did r
   surveyed parts =
       let s = survey the_limits source t totals in
       record {
         fault = the_fault s parts;
-        frame = f.frame;
-        frames = f.frames;
-        entries = the_entries s parts;
-        seen = the_env s parts;
+        names = the_entries s parts;
+        kept = f.kept;
+        seen = subst (λ (b : Start). AreSeen r.names t.env t.contents b (counts_of totals)) f.starts (subst (AreSeen r.names t.env t.contents f.start) f.counts_before f.seen);
+        functions = f.functions;
         signals = the_signals s parts;
-        made = f.made ∙ ap (λ b. map code.kept (made_in t.env t.contents b totals.turns)) f.starts;
+        made = f.made ∙ both_are (λ b c. map code.kept (made_in t.env t.contents b c totals.turns));
         blocks = f.blocks;
         totals_is = the_totals s parts;
         few = subst (λ (n : ℕ). n ≤ 2 ^ 16) (sym f.processes) said.few;

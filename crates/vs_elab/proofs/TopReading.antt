@@ -23,13 +23,15 @@ use Rattle.vs_elaborated.specs.Environments.{Env, no_env}
 use Rattle.vs_elaborated.specs.Sound.{IsSoundTask, AreFineOverrides}
 use Rattle.vs_scope.specs.declared.contents.Contents.TheVariants.{Module as OfCode}
 use Rattle.vs_scope.specs.declared.frames.Frame.{Frame}
-use Rattle.vs_scope.specs.declared.maps.NameMap.{NameMap}
+use Rattle.vs_maps.specs.declared.maps.NameMap.{NameMap}
 use Rattle.vs_scope.specs.declared.parameters.Override.{Override}
-use Rattle.vs_scope.specs.Frames.{env_at, envs}
+use Rattle.vs_build.specs.Drafts.{Draft, no_draft}
+use Rattle.vs_build.specs.Growth.{draft}
+use Rattle.vs_scope.specs.Frames.{KeepShapes, env_at, envs}
 use Rattle.vs_scope.specs.Overrides.{AreOverrides, EachOverride, override_typed}
 use Rattle.vs_scope.specs.Surveys.{contents_of}
-use Rattle.vs_scope.specs.Maps.{Pair, value_at}
-use Rattle.vs_scope.specs.MapViews.{pairs}
+use Rattle.vs_maps.specs.Maps.{Pair, value_at}
+use Rattle.vs_maps.specs.MapViews.{pairs}
 use Rattle.vs_elab.specs.declared.pending.Part.{Part}
 use Rattle.vs_elab.specs.declared.reading.Text.{Text}
 use Rattle.vs_elab.specs.declared.reading.Reading.{Reading}
@@ -37,10 +39,11 @@ use Rattle.vs_elab.specs.declared.stack.Pending.{Pending}
 use Rattle.vs_items.specs.declared.modules.Known.{Known}
 use Rattle.vs_items.specs.Modules.{AreOf, IsOf}
 use Rattle.vs_elab.specs.Fine.{AreFineParts}
+use Rattle.vs_elab.specs.Functions.{IsIdle}
 use Rattle.vs_elab.specs.Pending.{parts_pieces, scope_around, stack_pieces}
 use Rattle.vs_elab.specs.declared.error.ElabError.{ElabError}
 use Rattle.vs_elab.specs.declared.error.ElabError.TheVariants.{Broken, Memory}
-use Rattle.vs_elab.specs.Reading.{IsOpened, IsRead, IsReading, Tells, FailsBy, ArePending, design_so_far, pending_processes, outcome, source_of, surveyed, totals_of}
+use Rattle.vs_elab.specs.Reading.{IsOpened, IsRead, IsReading, Tells, FailsBy, ArePending, design_so_far, pending_processes, outcome, source_of, surveyed, totals_so_far}
 use Rattle.vs_elab.specs.Stacks as stacks
 use Rattle.vs_elab.specs.Stacks.{rest_of, built_then, scope_part}
 use Rattle.vs_elab.proofs.OpenedSteps.{tells, told_exit}
@@ -144,13 +147,13 @@ only_pending limits source left k t = of (read_scope left limits source k t)
 -- its scope was read, and its parts are pending
 pub top_opened : (source : tree.Source) (left : ℕ) (k : Task) (old new : Reading) (ps : List Part) (qs : List stacks.Pending) → IsOpened source k old new ps → design_so_far old ≡ of_processes []
     → qs ≡ map (stacks.pending left) (parts_pieces source (scope_around new.frames.items (length old.frames.items) k.depth) ps) ++ []
-    → design_of_read (read_scope (suc left) the_limits source k (totals_of old.counts)) ≡ built_then (design_so_far new) (rest_of the_limits source qs (totals_of new.counts))
+    → design_of_read (read_scope (suc left) the_limits source k (totals_so_far old)) ≡ built_then (design_so_far new) (rest_of the_limits source qs (totals_so_far new))
 top_opened source left k old new ps qs o empty is =
-    let s = surveyed source k old.counts in
+    let s = surveyed source k old in
     let here : design_so_far new ≡ both_designs (of_processes []) (scope_part k s) = o.design ∙ ap (λ d. both_designs d (scope_part k s)) empty in
     let all : qs ≡ map (stacks.pending left) s.pieces ++ [] = is ∙ ap (λ xs. map (stacks.pending left) xs ++ []) o.pieces in
-    sym (only_pending the_limits source (suc left) k (totals_of old.counts))
-    ∙ within_step the_limits source (of_processes []) left k [] (totals_of old.counts) o.limits o.fair
+    sym (only_pending the_limits source (suc left) k (totals_so_far old))
+    ∙ within_step the_limits source (of_processes []) left k [] (totals_so_far old) o.limits o.fair
     ∙ ap (λ d. built_then d (rest_of the_limits source (map (stacks.pending left) s.pieces ++ []) s.totals)) (sym here)
     ∙ ap (λ xs. built_then (design_so_far new) (rest_of the_limits source xs s.totals)) (sym all)
     ∙ ap (λ t. built_then (design_so_far new) (rest_of the_limits source qs t)) (sym o.totals_is)
@@ -173,18 +176,18 @@ counted_processes k t = of (is_instance k.contents)
 survey_processes : (limits : Limits) (source : tree.Source) (k : Task) (t : Totals) → (survey limits source k t).totals.processes ≡ t.processes + sum_by piece_processes (survey limits source k t).pieces
 survey_processes limits source k t = refl
 
-pub top_reading : (text : Text) (left : ℕ) (k : Task) (old new : Reading) (ps : List Part) (stack : List Pending) → IsOpened (source_of text) k old new ps → design_so_far old ≡ of_processes [] → totals_of old.counts ≡ no_totals
+pub top_reading : (text : Text) (left : ℕ) (k : Task) (old new : Reading) (ps : List Part) (stack : List Pending) → IsOpened (source_of text) k old new ps → design_so_far old ≡ of_processes [] → totals_so_far old ≡ no_totals
     → ArePending (source_of text) new.frames.items stack
     → stack_pieces (source_of text) new.frames.items stack ≡ map (stacks.pending left) (parts_pieces (source_of text) (scope_around new.frames.items (length old.frames.items) k.depth) ps) ++ []
     → IsReading text new stack
 top_reading text left k old new ps stack o empty none pending is =
-    let s = surveyed (source_of text) k old.counts in
+    let s = surveyed (source_of text) k old in
     let built : length (design_so_far new).processes ≡ 0 = ap (λ (d : Design). length d.processes) (o.design ∙ ap (λ d. both_designs d (scope_part k s)) empty) in
     let counts : pending_processes (stack_pieces (source_of text) new.frames.items stack) ≡ sum_by piece_processes s.pieces =
     ap pending_processes (is ∙ ap (λ xs. map (stacks.pending left) xs ++ []) o.pieces) ∙ pieces_pending left s.pieces in
-    let before : (counted k (totals_of old.counts)).processes ≡ 0 = counted_processes k (totals_of old.counts) ∙ ap (λ (t : Totals). t.processes) none in
+    let before : (counted k (totals_so_far old)).processes ≡ 0 = counted_processes k (totals_so_far old) ∙ ap (λ (t : Totals). t.processes) none in
     let last : new.counts.processes ≡ s.totals.processes = ap (λ (t : Totals). t.processes) o.totals_is in
-    let sums = survey_processes the_limits (source_of text) k (counted k (totals_of old.counts)) in
+    let sums = survey_processes the_limits (source_of text) k (counted k (totals_so_far old)) in
     let all : new.counts.processes ≡ sum_by piece_processes s.pieces = omega (arith, last, sums, before) in
     record {
       read = o.read;
@@ -229,11 +232,11 @@ same_top source left m k t is none = ap (λ x. design_of_read (read_scope left t
 
 -- that of all that is within the top
 pub top_outcome : (text : Text) (m : tree.Module) (k : Task) (old new : Reading) (ps : List Part) (stack : List Pending) → k ≡ top_task m → IsOpened (source_of text) k old new ps
-    → design_so_far old ≡ of_processes [] → totals_of old.counts ≡ no_totals
+    → design_so_far old ≡ of_processes [] → totals_so_far old ≡ no_totals
     → stack_pieces (source_of text) new.frames.items stack ≡ map (stacks.pending 6432) (parts_pieces (source_of text) (scope_around new.frames.items (length old.frames.items) k.depth) ps) ++ []
     → elaborated_top the_limits (source_of text) (Some m) ≡ outcome text new stack
 top_outcome text m k old new ps stack is o empty none pieces =
-    whole_depth (source_of text) m ∙ same_top (source_of text) (suc 6432) m k (totals_of old.counts) is none ∙ top_opened (source_of text) 6432 k old new ps (stack_pieces (source_of text) new.frames.items stack) o empty pieces
+    whole_depth (source_of text) m ∙ same_top (source_of text) (suc 6432) m k (totals_so_far old) is none ∙ top_opened (source_of text) 6432 k old new ps (stack_pieces (source_of text) new.frames.items stack) o empty pieces
 
 -- or the fault of the top
 pub top_fails : (source : tree.Source) (m : tree.Module) (k : Task) (t : Totals) (e : ElabError) → k ≡ top_task m → t ≡ no_totals → Tells e (FailsBy source k t)
@@ -244,12 +247,14 @@ top_fails source m k t e is none h =
 
 -- ---- before the first scope, and behind the last one
 
-pub nothing_is_read : (r : Reading) → design_so_far r ≡ of_processes [] → r.frames.items ≡ [] → totals_of r.counts ≡ no_totals → IsRead r
-nothing_is_read r empty none zero =
+pub nothing_is_read : (r : Reading) → draft r.builder ≡ no_draft → r.frames.items ≡ [] → totals_so_far r ≡ no_totals → IsRead r
+nothing_is_read r new none zero =
+    let empty : design_so_far r ≡ of_processes [] = ap (λ (s : Draft). s.design) new in
     let scopes : r.counts.start.scope ≡ 0 = ap (λ (t : Totals). t.scopes) zero in
     let signals : r.counts.start.signal ≡ 0 = ap (λ (t : Totals). t.signals) zero in
     let bits : r.counts.start.bit ≡ 0 = ap (λ (t : Totals). t.bits) zero in
     let instances : r.counts.instances ≡ 0 = ap (λ (t : Totals). t.instances) zero in
+    let functions : r.counts.functions ≡ 0 = ap (λ (t : Totals). t.functions) zero in
     let processes : r.counts.processes ≡ 0 = ap (λ (t : Totals). t.processes) zero in
     let frames : length r.frames.items ≡ 0 = ap (λ (fs : List Frame). length fs) none in
     record {
@@ -257,10 +262,14 @@ nothing_is_read r empty none zero =
       frames = frames ∙ sym scopes;
       signals = ap (λ (d : Design). length d.signals) empty ∙ sym signals;
       bits = ap (λ (d : Design). bit_count d) empty ∙ sym bits;
+      functions = ap (λ (d : Design). length d.functions) empty ∙ sym functions;
+      idle = subst IsIdle (sym new) (record { outside = refl; expressions = refl; statements = refl });
       few_bits = omega (arith, bits);
       few_instances = omega (arith, instances);
       few_processes = omega (arith, processes);
+      kept = subst KeepShapes (sym none) refl;
       seen = λ i h. absurd (let no : ⊥ = omega (arith, frames, h) in no);
+      numbered = λ i h. absurd (let no : ⊥ = omega (arith, frames, h) in no);
     }
 
 nothing_in : {A : Type 0} (xs : List A) → length xs ≡ 0 → xs ≡ []
@@ -269,7 +278,7 @@ nothing_in (x ∷ xs) h = absurd (let no : ⊥ = omega (arith, h) in no)
 
 -- nothing is pending
 pub all_read : (text : Text) (r : Reading) (stack : List Pending) → length stack ≡ 0 → outcome text r stack ≡ Ok (design_so_far r)
-all_read text r stack h = ap (outcome text r) (nothing_in stack h) ∙ built_all the_limits (source_of text) (design_so_far r) (totals_of r.counts)
+all_read text r stack h = ap (outcome text r) (nothing_in stack h) ∙ built_all the_limits (source_of text) (design_so_far r) (totals_so_far r)
 
 -- a fault of the next part is that of the whole
 pub told_part : {A : Type 0} (text : Text) (r : Reading) (ps qs : List Pending) (o : Result Design Fault) (res : Result A ElabError) (e : ElabError) → outcome text r ps ≡ o → ps ≡ qs → IsErrAnd res (λ (y : ElabError). y ≡ e)

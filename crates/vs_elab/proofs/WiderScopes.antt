@@ -2,7 +2,8 @@
 use Rattle.std.proofs.Common.{◌≡◌, ◌<◌, ◌≤◌, Bool, false, List, [], ◌∷◌, ◌++◌, length, length-append, Some, None, sym, subst, arith, ◌⊎◌, inl, inr}
 use Rattle.std.proofs.lemmas.Bool.{cases_lt}
 use Rattle.vs_design.specs.Designs.{Design}
-use Rattle.vs_elaborated.specs.Environments.{Declared, Later, OfSignal, OfParameter, OfGenvar, OfScope, Entry, Env, within, signal_means}
+use Rattle.vs_const.specs.Meanings.{AFunction}
+use Rattle.vs_elaborated.specs.Environments.{Declared, Later, OfSignal, OfParameter, OfGenvar, OfInteger, OfFunction, OfScope, Entry, Env, within, signal_means}
 use Rattle.vs_elaborated.specs.Parameters.{Override}
 use Rattle.vs_elaborated.specs.Pieces.{Task}
 use Rattle.vs_elaborated.specs.Surveys.{overrides_of}
@@ -17,14 +18,17 @@ use Rattle.vs_elab.proofs.Wider.{meaning_wider}
 module _ (c d : Design) (w : IsWider c d) where
   declared_wider : (needed : Bool) (x : Declared) → IsSoundDeclared c needed x → IsSoundDeclared d needed x
   declared_wider needed Later h = h
-  declared_wider needed (OfSignal s) h = meaning_wider c d w needed (signal_means s) h
+  declared_wider needed (OfSignal s) h = (meaning_wider c d w needed (signal_means s) h.0, h.1)
   declared_wider needed (OfParameter (Some v) (Some r)) h = h
   declared_wider needed (OfParameter (Some v) None) h = h
   declared_wider needed (OfParameter None r) h = h
   declared_wider needed OfGenvar h = h
+  declared_wider needed (OfInteger owner) h = h
+  declared_wider needed (OfFunction (Some f)) h = meaning_wider c d w needed (AFunction f) h
+  declared_wider needed (OfFunction None) h = h
   declared_wider needed OfScope h = h
 
-  entries_wider : (needed : Bool) (es : List Entry) → AreSoundEntries c needed es → AreSoundEntries d needed es
+  pub entries_wider : (needed : Bool) (es : List Entry) → AreSoundEntries c needed es → AreSoundEntries d needed es
   entries_wider needed [] h = tt
   entries_wider needed (e ∷ es) h = (declared_wider needed e.declared h.0, entries_wider needed es h.1)
 

@@ -3,7 +3,7 @@ use Rattle.std.proofs.Common.{◌≡◌, ℕ, ◌+◌, ◌≤◌, max, Bool, tru
 use Rattle.std.specs.Prelude.{unwrap_or}
 use Rattle.vs_design.specs.Designs.{Design}
 use Rattle.vs_grammar.specs.Trees as tree
-use Rattle.vs_grammar.specs.Trees.{expr_place, target_place}
+use Rattle.vs_grammar.specs.Trees.{expr_place}
 use Rattle.vs_grammar.specs.Shapes.{IsExpr, AreExprs, AreParts, IsTarget, AreTargets, ArePartsOfTarget}
 use Rattle.vs_grammar.specs.Depths.{expr_depth, exprs_depth, target_depth, targets_depth}
 use Rattle.vs_ast.specs.Views as view
@@ -12,6 +12,7 @@ use Rattle.vs_const.specs.Faults.{fault}
 use Rattle.vs_const.specs.declared.rules.Rule.{Rule}
 use Rattle.vs_const.specs.declared.rules.Rule.TheVariants.{WrongKind}
 use Rattle.vs_const.specs.Sound.{AreSound}
+use Rattle.vs_elaborated.specs.Numbers.{AreNumbered}
 use Rattle.vs_const.specs.Expressions.{typed}
 use Rattle.vs_elaborated.specs.Environments.{Entry, Env, named}
 use Rattle.vs_elaborated.specs.Targets.{as_target, as_targets, targeted, and_target}
@@ -54,6 +55,7 @@ mutual
   target_shaped (tree.Choice c p q) t x h = cc
   target_shaped (tree.Replication place count parts) t x h = cc
   target_shaped (tree.Call place function a) t x h = cc
+  target_shaped (tree.Apply name arguments) t x h = cc
 
   parts_shaped : (parts : tree.Exprs) (ts : tree.Targets) → AreParts parts → as_targets parts ≡ Some ts → ArePartsOfTarget ts × (targets_depth ts ≤ exprs_depth parts)
   parts_shaped tree.NoExpr ts x h = absurd x
@@ -75,25 +77,25 @@ mutual
 fault_some : (n : Rule) (place : ℕ) (fs : List Fault) → (let all : List Fault = fault n place ++ fs in all) ≡ [] → ⊥
 fault_some n place fs h = cc
 
-output_built : (d : Design) (env : Env) (name : List ℕ) (e : tree.Expr) (o : Option tree.Target) → as_target e ≡ o → AreSound d false (named env) → IsExpr e → expr_depth e ≤ 253 → (output_target name e env o).faults ≡ [] → IsOutput d (named env) e
-output_built d env name e None i s x h f = absurd (fault_some WrongKind (expr_place e) (typed e (named env) false).faults f)
-output_built d env name e (Some t) i s x h f =
+output_built : (d : Design) (env : Env) (name : List ℕ) (e : tree.Expr) (o : Option tree.Target) → as_target e ≡ o → AreSound d false (named env) → AreNumbered d (named env) → IsExpr e → expr_depth e ≤ 253 → (output_target name e env o).faults ≡ [] → IsOutput d (named env) e
+output_built d env name e None i s k x h f = absurd (fault_some WrongKind (expr_place e) (typed e (named env) false).faults f)
+output_built d env name e (Some t) i s k x h f =
     let r = target_shaped e t x i in
     let same : t ≡ output_of e = ap (λ (o : Option tree.Target). unwrap_or o (tree.Targeted 0 tree.NoTarget)) (sym i) in
     record {
       is = i ∙ ap (λ (u : tree.Target). let o : Option tree.Target = Some u in o) same;
-      fine = subst (λ (u : tree.Target). IsWritable d (named env) false u) same (record { shaped = r.0; sound = s; clean = f; shallow = omega (arith, r.1, h) });
+      fine = subst (λ (u : tree.Target). IsWritable d (named env) false u) same (record { shaped = r.0; sound = s; numbered = k; clean = f; shallow = omega (arith, r.1, h) });
     }
 
 -- a port that is connected without a fault, to a name that means a signal
-pub wirable : (d : Design) (env : Env) (es : List Entry) (c : Connection) → AreSound d false (named env) → IsExpr (view.expr c.e.now) → expr_depth (view.expr c.e.now) ≤ 253
+pub wirable : (d : Design) (env : Env) (es : List Entry) (c : Connection) → AreSound d false (named env) → AreNumbered d (named env) → IsExpr (view.expr c.e.now) → expr_depth (view.expr c.e.now) ≤ 253
     → (directed c.name.now (Some c.input) (view.expr c.e.now) env).faults ≡ [] → MeansSignal d es c.name.now → IsWirable d (named env) es c
-wirable d env es c s x h f m = record {
+wirable d env es c s k x h f m = record {
   meaning = m.meaning;
   is = record { entry = m.entry; found = m.found; declared = m.declared };
   there = m.there;
-  input = λ i. record { shaped = x; sound = s; clean = faultless true i; shallow = h };
-  output = λ i. output_built d env c.name.now (view.expr c.e.now) (as_target (view.expr c.e.now)) refl s x h (faultless false i);
+  input = λ i. record { shaped = x; sound = s; numbered = k; clean = faultless true i; shallow = h };
+  output = λ i. output_built d env c.name.now (view.expr c.e.now) (as_target (view.expr c.e.now)) refl s k x h (faultless false i);
 }
   where
     faultless : (b : Bool) → c.input ≡ b → (directed c.name.now (Some b) (view.expr c.e.now) env).faults ≡ []

@@ -10,6 +10,7 @@ use Rattle.vs_const.specs.Faults.{fault}
 use Rattle.vs_const.specs.declared.rules.Rule.{Rule}
 use Rattle.vs_const.specs.declared.rules.Rule.TheVariants.{WrongKind}
 use Rattle.vs_const.specs.Sound.{AreSound}
+use Rattle.vs_elaborated.specs.Numbers.{AreNumbered}
 use Rattle.vs_const.specs.Expressions.{typed}
 use Rattle.vs_elaborated.specs.Environments.{Entry, Env, named}
 use Rattle.vs_elaborated.specs.Targets.{as_target}
@@ -56,12 +57,12 @@ said_count env (c ∷ cs) h =
 first_means : (P : pieces.Connection → Type 0) (one : pieces.Connection) (xs ys : List pieces.Connection) → xs ≡ one ∷ [] → Each P (xs ++ ys) → P one × Each P ys
 first_means P one xs ys e h = subst (λ (zs : List pieces.Connection). Each P (zs ++ ys)) e h
 
-pub wired : (d : Design) (env : Env) (es : List Entry) (cs : List Connection) → AreSound d false (named env) → Each (IsFineConnected env) cs
+pub wired : (d : Design) (env : Env) (es : List Entry) (cs : List Connection) → AreSound d false (named env) → AreNumbered d (named env) → Each (IsFineConnected env) cs
     → Each (λ (c : pieces.Connection). MeansSignal d es (connection_name c)) (said env cs) → AreWirable d (named env) es cs
-wired d env es [] s h m = tt
-wired d env es (c ∷ cs) s h m =
+wired d env es [] s k h m = tt
+wired d env es (c ∷ cs) s k h m =
     let o = said_is_one env c h.0 in
     let r = first_means (λ (x : pieces.Connection). MeansSignal d es (connection_name x)) o.one (said_one env c) (said env cs) o.is m in (
-      wirable d env es c s h.0.shaped (omega (arith, h.0.shallow)) h.0.clean (subst (λ (name : List ℕ). MeansSignal d es name) o.name_is r.0),
-      wired d env es cs s h.1 r.1,
+      wirable d env es c s k h.0.shaped (omega (arith, h.0.shallow)) h.0.clean (subst (λ (name : List ℕ). MeansSignal d es name) o.name_is r.0),
+      wired d env es cs s k h.1 r.1,
     )

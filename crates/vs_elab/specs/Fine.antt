@@ -1,5 +1,5 @@
 -- Parts of a scope that break no rule, whatever the design that they are built in.
-use Rattle.std.specs.Prelude.{◌≡◌, ◌≤◌, ◌++◌, false, List, [], Some}
+use Rattle.std.specs.Prelude.{◌≡◌, ◌≤◌, ◌++◌, false, List, [], ◌∷◌, Some}
 use Rattle.vs_grammar.specs.Trees as tree
 use Rattle.vs_grammar.specs.Shapes.{Each, Given, IsAssign, IsStatement, AreConnections, IsGenerateItem}
 use Rattle.vs_grammar.specs.Depths.{deepest, assign_depth, statement_depth, connections_depth, item_depth}
@@ -8,12 +8,15 @@ use Rattle.vs_ast.specs.Views as view
 use Rattle.vs_const.specs.Expressions.{typed}
 use Rattle.vs_elaborated.specs.Environments.{Env, named}
 use Rattle.vs_elaborated.specs.Targets.{typed_target}
-use Rattle.vs_elaborated.specs.Statements.{typed_control, typed_statement, is_clocked_by, unclocked_faults}
+use Rattle.vs_elaborated.specs.Limits.{the_limits}
+use Rattle.vs_elaborated.specs.Statements.{typed_control, typed_statement}
 use Rattle.vs_elaborated.specs.Generate.{Nested, Made}
 use Rattle.vs_elaborated.specs.Ports.{find_module}
 use Rattle.vs_elaborated.specs.Instances.{Around, said_overrides, said_connections}
-use Rattle.vs_elaborated.specs.Surveys.{item_said, items_said}
+use Rattle.vs_elaborated.specs.Pieces.{Own, Said, nothing_said, one_said, both_said}
+use Rattle.vs_elaborated.specs.Surveys.{no_loops, block_body, item_said}
 use Rattle.vs_build.specs.Writable.{wire_assign}
+use Rattle.vs_build.specs.Executable.{block_process}
 use Rattle.vs_scope.specs.Contents.{block_items}
 use Rattle.vs_items.specs.Stated.{IsStated, AreStated}
 use Rattle.vs_elab.specs.declared.pending.Part.{Part}
@@ -31,10 +34,10 @@ pub record IsFineAssign (env : Env) (a : tree.Assign) : Type 0 where
 abbrev pub IsFineWire : Env → tree.Declarator → Type 0
 IsFineWire env d = Given (λ (e : tree.Expr). IsFineAssign env (wire_assign d.name e)) d.value
 
--- an always block (9.9.2); a clocked one alone writes words of memories (4.9)
+-- an always block, with its loops unrolled (9.9.2)
 pub record IsFineBlock (env : Env) (b : tree.AlwaysBlock) : Type 0 where
   pub shaped : IsStatement b.statement
-  pub clean : (typed_control b.control (named env)).faults ++ ((typed_statement b.statement (named env)).faults ++ unclocked_faults (is_clocked_by b.control) b.statement (named env)) ≡ []
+  pub clean : (typed_control b.control (named env)).faults ++ (typed_statement b.statement (block_body b) (named env)).faults ≡ []
   pub shallow : statement_depth b.statement ≤ depth_limit
 
 -- an instance of an item, whose module the text has (12.1.2)
@@ -65,6 +68,17 @@ AreFineParts source env ps = Each (IsFinePart source env) ps
 
 -- ---- items
 
+-- what an item says where it breaks no rule: the loops of its block are unrolled, whatever loops did before
+abbrev pub plain_said : tree.Source → Around → tree.Item → Made → Said
+plain_said source around (tree.AlwaysItem b) made =
+    one_said (Own (block_process b (named around.env))) ((typed_control b.control (named around.env)).faults ++ (typed_statement b.statement (block_body b) (named around.env)).faults)
+plain_said source around item made = item_said the_limits source around no_loops item made
+
+-- each with what it makes
+abbrev pub plains_said : tree.Source → Around → List tree.Item → List Made → Said
+plains_said source around (i ∷ is) (m ∷ ms) = both_said (plain_said source around i m) (plains_said source around is ms)
+plains_said source around _ _ = nothing_said []
+
 -- the blocks that an item makes
 abbrev pub MakesFine : Made → Type 0
 MakesFine m = Each (λ (b : Nested). AreFineInside b.items) m.blocks
@@ -74,11 +88,11 @@ pub record IsFineItem (source : tree.Source) (around : Around) (item : tree.Item
   pub stated : IsStated item
   pub shallow : item_depth item ≤ depth_limit
   pub made : MakesFine m
-  pub clean : (item_said source around item m).faults ≡ []
+  pub clean : (plain_said source around item m).faults ≡ []
 
 -- items that make these break no rule
 pub record AreFineItems (source : tree.Source) (around : Around) (items : List tree.Item) (ms : List Made) : Type 0 where
   pub stated : AreStated items
   pub shallow : deepest item_depth items ≤ depth_limit
   pub made : Each MakesFine ms
-  pub clean : (items_said source around items ms).faults ≡ []
+  pub clean : (plains_said source around items ms).faults ≡ []

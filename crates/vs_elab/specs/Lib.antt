@@ -4,4 +4,5 @@ pub mod Wiring
 pub mod Opening
 pub mod Fine
 pub mod OwnParts
+pub mod Functions
 pub mod Reading

@@ -4,9 +4,11 @@ use Rattle.vs_grammar.specs.Trees as tree
 use Rattle.vs_grammar.specs.Shapes.{Each}
 use Rattle.vs_ast.specs.Views as view
 use Rattle.vs_elaborated.specs.Ports.{find_module}
-use Rattle.vs_elaborated.specs.Pieces.{Piece}
+use Rattle.vs_elaborated.specs.Environments.{named}
+use Rattle.vs_elaborated.specs.Pieces.{Piece, Own}
 use Rattle.vs_elaborated.specs.Instances.{Around, instance_said, said_overrides}
-use Rattle.vs_elaborated.specs.Surveys.{assign_said, wire_said, block_said, nested_piece}
+use Rattle.vs_elaborated.specs.Surveys.{assign_said, wire_said, nested_piece}
+use Rattle.vs_build.specs.Executable.{block_process}
 use Rattle.vs_scope.specs.Contents.{block_items}
 use Rattle.vs_scope.specs.declared.frames.Frame.{Frame}
 use Rattle.vs_scope.specs.Frames.{turn, env_at, envs}
@@ -25,7 +27,7 @@ instance_pieces source around t i =
 abbrev pub part_pieces : tree.Source → Around → Part → List Piece
 part_pieces source around (Wire place name value) = (wire_said around.env place (record { name = view.name name.now; addresses = None; value = Some (view.expr value.now) })).pieces
 part_pieces source around (Assigned place a) = (assign_said around.env place (view.assign a.now)).pieces
-part_pieces source around (Always b) = (block_said around.env (view.always_block b.now)).pieces
+part_pieces source around (Always b) = Own (block_process (view.always_block b.now) (named around.env)) ∷ []
 part_pieces source around (Instance t i) = instance_pieces source around (view.instances t.now) (view.instance i.now)
 part_pieces source around (Block name items t) = nested_piece around (record { name = name.items; items = block_items items; turn = view.option turn t }) ∷ []
 

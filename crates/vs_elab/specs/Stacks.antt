@@ -32,9 +32,9 @@ built_then built r = then_do r λ d. Ok (both_designs built d)
 
 -- ---- what a scope adds before all within it
 
--- the scope with its signals
+-- the scope with its signals and its functions
 abbrev pub scope_part : Task → Survey → Design
-scope_part k s = record { scopes = record { name = k.name; parent = k.parent; instance = is_instance k.contents } ∷ []; signals = s.signals; processes = []; functions = [] }
+scope_part k s = record { scopes = record { name = k.name; parent = k.parent; instance = is_instance k.contents } ∷ []; signals = s.signals; processes = []; functions = s.functions }
 
 -- the ports of an instance (12.3.9.2)
 abbrev pub ports_part : Task → Survey → List Connection → Design

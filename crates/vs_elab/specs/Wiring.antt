@@ -1,14 +1,18 @@
 -- Ports that can be built: what they are connected to is without a fault, and inside there is a signal of their name that is no memory.
-use Rattle.std.specs.Prelude.{◌≡◌, ℕ, true, false, List, Some}
+use Rattle.std.specs.Prelude.{◌≡◌, ℕ, true, false, List, [], ◌∷◌, Some}
 use Rattle.vs_design.specs.Designs.{Design}
 use Rattle.vs_design.specs.Elaborated.{is_plain}
 use Rattle.vs_grammar.specs.Shapes.{Each}
 use Rattle.vs_ast.specs.Views.{expr}
 use Rattle.vs_const.specs.Meanings.{SignalMeaning, Find}
-use Rattle.vs_elaborated.specs.Environments.{OfSignal, Entry, find_entry}
+use Rattle.vs_elaborated.specs.Environments.{OfSignal, Entry, Env, find_entry}
 use Rattle.vs_build.specs.Buildable.{IsBuildable}
 use Rattle.vs_build.specs.Outputs.{IsOutput}
 use Rattle.vs_items.specs.declared.connections.Connection.{Connection}
+
+-- the names of the innermost scope
+abbrev pub own_names : Env → List Entry
+own_names env = elim env.frames [ [] ↦ [] | f ∷ fs ↦ f ]
 
 -- a name is this signal
 pub record IsSignalOf (es : List Entry) (name : List ℕ) (m : SignalMeaning) : Type 0 where

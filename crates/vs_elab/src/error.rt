@@ -7,7 +7,7 @@ use vs_const::Fault;
 /// Why a text has no design.
 #[derive(Clone, Copy, PartialEq, Eq, Debug, Error)]
 pub enum ElabError {
-    /// A rule is broken (IEEE 1364-2005, clauses 4, 5, 6, 9 and 12): the first one of the first scope that breaks any, in the order in which scopes
+    /// A rule is broken (IEEE 1364-2005, clauses 4, 5, 6, 9, 10 and 12): the first one of the first scope that breaks any, in the order in which scopes
     /// are read. Its place is the number of a token.
     #[error("rule {} is broken", .0.rule.number())]
     Broken(Fault),

@@ -2,6 +2,7 @@
 #![tactic(auto)]
 
 mod error;
+mod functions;
 mod limits;
 mod opened;
 mod opening;

@@ -7,10 +7,10 @@ ghost use Rattle.vs_ast.specs.Views as view;
 ghost use Rattle.vs_elaborated.specs.Environments.{Env};
 ghost use Rattle.vs_elaborated.specs.Generate as generate;
 ghost use Rattle.vs_elaborated.specs.Instances.{Around};
-ghost use Rattle.vs_elaborated.specs.Surveys.{item_said, items_said, nested_piece};
+ghost use Rattle.vs_elaborated.specs.Surveys.{nested_piece};
 ghost use Rattle.vs_scope.specs.Contents.{block_items, contents_items};
 ghost use Rattle.vs_scope.specs.Made as code;
-ghost use Rattle.vs_elab.specs.Fine.{AreFineInside, AreFineItems, AreFineParts, IsFineItem};
+ghost use Rattle.vs_elab.specs.Fine.{AreFineInside, AreFineItems, AreFineParts, IsFineItem, plain_said, plains_said};
 ghost use Rattle.vs_elab.specs.Pending.{parts_pieces};
 
 use crate::pending::{Part, push_assigns, push_instances, push_wires};
@@ -47,7 +47,7 @@ fn push_item<'a>(
     made: &Made<'a>,
 ) -> Result<(), AllocError>
     ensures pieces { (source : tree.Source) (around : Around) (m : generate.Made) → code.made made.now ≡ code.kept m
-        → OnOk result (parts_pieces source around parts.new.items ≡ parts_pieces source around parts.old.items ++ (item_said source around (view.item item.now) m).pieces) }
+        → OnOk result (parts_pieces source around parts.new.items ≡ parts_pieces source around parts.old.items ++ (plain_said source around (view.item item.now) m).pieces) }
     ensures fine { (source : tree.Source) (around : Around) (m : generate.Made) → code.made made.now ≡ code.kept m
         → IsFineItem source around (view.item item.now) m → AreFineParts source around.env parts.old.items → OnOk result (AreFineParts source around.env parts.new.items) }
 {
@@ -72,7 +72,7 @@ fn push_items<'a>(
 ) -> Result<(), AllocError>
     requires { length made.now ≡ length items.now }
     ensures pieces { (source : tree.Source) (around : Around) (ms : List generate.Made) → map code.made made.now ≡ map code.kept ms
-        → OnOk result (parts_pieces source around parts.new.items ≡ parts_pieces source around parts.old.items ++ (items_said source around (map view.item items.now) ms).pieces) }
+        → OnOk result (parts_pieces source around parts.new.items ≡ parts_pieces source around parts.old.items ++ (plains_said source around (map view.item items.now) ms).pieces) }
     ensures fine { (source : tree.Source) (around : Around) (ms : List generate.Made) → map code.made made.now ≡ map code.kept ms
         → AreFineItems source around (map view.item items.now) ms → AreFineParts source around.env parts.old.items → OnOk result (AreFineParts source around.env parts.new.items) }
 {
@@ -91,7 +91,7 @@ fn push_one<'a>(
 ) -> Result<(), AllocError>
     requires { length made.now ≡ 1 }
     ensures pieces { (source : tree.Source) (around : Around) (ms : List generate.Made) → map code.made made.now ≡ map code.kept ms
-        → OnOk result (parts_pieces source around parts.new.items ≡ parts_pieces source around parts.old.items ++ (items_said source around (view.item item.now ∷ []) ms).pieces) }
+        → OnOk result (parts_pieces source around parts.new.items ≡ parts_pieces source around parts.old.items ++ (plains_said source around (view.item item.now ∷ []) ms).pieces) }
     ensures fine { (source : tree.Source) (around : Around) (ms : List generate.Made) → map code.made made.now ≡ map code.kept ms
         → AreFineItems source around (view.item item.now ∷ []) ms → AreFineParts source around.env parts.old.items → OnOk result (AreFineParts source around.env parts.new.items) }
 {
@@ -107,7 +107,7 @@ fn push_block<'a>(
 ) -> Result<(), AllocError>
     requires { length made.now ≡ length (block_items block) }
     ensures pieces { (source : tree.Source) (around : Around) (ms : List generate.Made) → map code.made made.now ≡ map code.kept ms
-        → OnOk result (parts_pieces source around parts.new.items ≡ parts_pieces source around parts.old.items ++ (items_said source around (block_items block.entry) ms).pieces) }
+        → OnOk result (parts_pieces source around parts.new.items ≡ parts_pieces source around parts.old.items ++ (plains_said source around (block_items block.entry) ms).pieces) }
     ensures fine { (source : tree.Source) (around : Around) (ms : List generate.Made) → map code.made made.now ≡ map code.kept ms
         → AreFineItems source around (block_items block.entry) ms → AreFineParts source around.env parts.old.items → OnOk result (AreFineParts source around.env parts.new.items) }
 {
@@ -126,7 +126,7 @@ fn push_contents<'a>(
 ) -> Result<(), AllocError>
     requires { length made.now ≡ length (contents_items contents) }
     ensures pieces { (source : tree.Source) (around : Around) (ms : List generate.Made) → map code.made made.now ≡ map code.kept ms
-        → OnOk result (parts_pieces source around parts.new.items ≡ parts_pieces source around parts.old.items ++ (items_said source around (contents_items contents.entry) ms).pieces) }
+        → OnOk result (parts_pieces source around parts.new.items ≡ parts_pieces source around parts.old.items ++ (plains_said source around (contents_items contents.entry) ms).pieces) }
     ensures fine { (source : tree.Source) (around : Around) (ms : List generate.Made) → map code.made made.now ≡ map code.kept ms
         → AreFineItems source around (contents_items contents.entry) ms → AreFineParts source around.env parts.old.items → OnOk result (AreFineParts source around.env parts.new.items) }
 {
@@ -144,7 +144,7 @@ pub(crate) fn parts_of<'a>(
 ) -> Result<Vec<Part<'a>>, AllocError>
     requires { length made.now ≡ length (contents_items contents) }
     ensures pieces { (source : tree.Source) (around : Around) (ms : List generate.Made) → map code.made made.now ≡ map code.kept ms
-        → IfOk result (λ ps. parts_pieces source around ps.items ≡ (items_said source around (contents_items contents.entry) ms).pieces) }
+        → IfOk result (λ ps. parts_pieces source around ps.items ≡ (plains_said source around (contents_items contents.entry) ms).pieces) }
     ensures fine { (source : tree.Source) (around : Around) (ms : List generate.Made) → map code.made made.now ≡ map code.kept ms
         → AreFineItems source around (contents_items contents.entry) ms → IfOk result (λ ps. AreFineParts source around.env ps.items) }
 {

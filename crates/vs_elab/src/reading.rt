@@ -2,8 +2,9 @@
 
 use vs_ast::Source;
 use vs_build::Builder;
-use vs_items::Known;
-use vs_scope::{Contents, Frame, NameMap, Override, Start, Turn};
+use vs_items::{Known, Loops};
+use vs_maps::NameMap;
+use vs_scope::{Contents, Frame, Override, Start, Turn};
 
 /// A text: its tree, and its modules by their names.
 #[derive(Drop)]
@@ -12,21 +13,25 @@ pub(crate) struct Text<'a> {
     pub modules: NameMap<'a, Known<'a>>,
 }
 
-/// Counts of all scopes so far: where the signals of the next one begin, and how many instances, turns of loops and processes there are.
+/// Counts of all scopes so far: where the signals of the next one begin, and how many instances, turns of generate loops, functions and processes there
+/// are.
 #[derive(Clone, Copy)]
 pub(crate) struct Counts {
     pub start: Start,
     pub instances: u32,
     pub turns: u32,
+    pub functions: u32,
     pub processes: u32,
 }
 
-/// What has been read: the design, its scopes with what their names mean, and the counts. Scope i of the design is the frame of number i.
+/// What has been read: the design, its scopes with what their names mean, the counts, and what loops of blocks and functions did. Scope i of the design
+/// is the frame of number i.
 #[derive(Drop)]
 pub(crate) struct Reading<'a> {
     pub builder: Builder,
     pub frames: Vec<Frame<'a>>,
     pub counts: Counts,
+    pub loops: Loops,
 }
 
 /// A scope that is to be read. `within` is the number of the scope around it in the design, which the top doesn't have; `parent` is the one whose

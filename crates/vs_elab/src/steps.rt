@@ -3,11 +3,13 @@
 ghost use Rattle.std.specs.Prelude.{◌≡◌, ◌<◌, ◌^◌, ◌++◌, ◌∷◌, [], suc, false, length, IfErr, IfOk, OnOk, Err, Some};
 ghost use Rattle.vs_ast.specs.Views as view;
 ghost use Rattle.vs_elaborated.specs.Ports.{find_module};
+ghost use Rattle.vs_elaborated.specs.Numbers.{AreNumberedFrames};
 ghost use Rattle.vs_elaborated.specs.Sound.{AreSoundFrames};
-ghost use Rattle.vs_scope.specs.Frames.{env_at, envs};
+ghost use Rattle.vs_scope.specs.Frames.{KeepShapes, env_at, envs};
 ghost use Rattle.vs_build.specs.Growth.{draft};
 ghost use Rattle.vs_build.specs.Items.{and_processes};
 ghost use Rattle.vs_items.specs.Modules.{IsOf};
+ghost use Rattle.vs_elab.specs.Functions.{IsIdle};
 ghost use Rattle.vs_elab.specs.OwnParts.{IsFineOwn, own_processes};
 ghost use Rattle.vs_elab.specs.Reading.{IsReading, IsStep, IsText, Tells, design_so_far, outcome, pending_at, source_of};
 ghost use Rattle.vs_const.specs.declared.rules.Rule.TheVariants.{InstanceDepth};
@@ -24,9 +26,10 @@ use std::alloc::{AllocError, Global};
 use vs_ast::{Instance, Instances};
 use vs_build::{always, assign, wire};
 use vs_const::{Fault, Rule};
-use vs_elaborated::{instance_law, scope_law};
+use vs_elaborated::{instance_law, number_law, scope_law};
 use vs_items::{Known, connections_of, overrides_of};
-use vs_scope::{BlockItems, Contents, NameMap, Turn, View};
+use vs_maps::NameMap;
+use vs_scope::{BlockItems, Contents, Turn, View};
 
 /// Where a part stands: the number of its scope, the instances around it, and how deep scopes may stand within one another in it.
 #[derive(Clone, Copy)]
@@ -60,14 +63,19 @@ fn read_own<'a>(
     part: &Part<'a>,
 ) -> Result<(), AllocError>
     requires within { frame < length reading.old.frames.items }
+    requires kept { KeepShapes reading.old.frames.items }
+    requires idle { IsIdle (draft reading.old.builder) }
     requires seen { AreSoundFrames (design_so_far reading.old) false (env_at (envs reading.old.frames.items) (Some frame)).frames }
+    requires numbered { AreNumberedFrames (design_so_far reading.old) (env_at (envs reading.old.frames.items) (Some frame)).frames }
     requires room { length (design_so_far reading.old).processes < 2 ^ 16 }
     requires fine { IsFineOwn (env_at (envs reading.old.frames.items) (Some frame)) part.now }
     ensures built { OnOk result (draft reading.new.builder ≡ and_processes (draft reading.old.builder) (own_processes (env_at (envs reading.old.frames.items) (Some frame)) part.now)) }
     ensures frames { reading.new.frames.items ≡ reading.old.frames.items }
     ensures counts { reading.new.counts ≡ reading.old.counts }
+    ensures loops { reading.new.loops ≡ reading.old.loops }
 {
     scope_law();
+    number_law();
     let here = View::of(&reading.frames, frame);
     match part {
         Part::Wire { place, name, value } => {
@@ -133,6 +141,7 @@ fn read_instance<'a>(
     ensures broken { IfErr result (λ e. Tells e (λ f. outcome text.now reading.old (stack.old.items ++ pending_at at (parts.Instance item.entry instance.entry) ∷ []) ≡ Err f)) }
 {
     scope_law();
+    number_law();
     instance_law();
     let place = item.of.place;
     let left = one_deeper(at.left, place)?;
@@ -152,11 +161,12 @@ fn read_instance<'a>(
     };
     let parts = open_scope(alloc, text, reading, scope)?;
     let here = View::of(&reading.frames, at.frame);
+    let inside = View::of(&reading.frames, number);
     wire_ports(
         &mut reading.builder,
         alloc,
         place,
-        &reading.frames[number].names,
+        &inside,
         &connections,
         &here,
     )?;

@@ -11,7 +11,9 @@ ghost use Rattle.vs_elaborated.specs.Surveys.{no_totals};
 ghost use Rattle.vs_elaborated.specs.Elaborated.{elaborated, elaborated_top, of_processes};
 ghost use Rattle.vs_flat.specs.DesignOf.{design_of};
 ghost use Rattle.vs_flat.specs.Lawful.{IsLawful};
-ghost use Rattle.vs_elab.specs.Reading.{IsRead, IsReading, IsText, Tells, design_so_far, outcome, source_of, totals_of};
+ghost use Rattle.vs_build.specs.Growth.{draft};
+ghost use Rattle.vs_elab.specs.Functions.{IsIdle};
+ghost use Rattle.vs_elab.specs.Reading.{IsRead, IsReading, IsText, Tells, design_so_far, outcome, source_of, totals_so_far};
 
 use crate::error::ElabError;
 use crate::opened::open_scope;
@@ -24,8 +26,9 @@ use vs_build::Builder;
 use vs_const::{Fault, Rule};
 use vs_elaborated::elaborated_law;
 use vs_flat::Flat;
-use vs_items::{Known, Modules, modules_of};
-use vs_scope::{Contents, NameMap, Start};
+use vs_items::{Known, Loops, Modules, modules_of};
+use vs_maps::NameMap;
+use vs_scope::{Contents, Start};
 
 /// How many scopes may stand within one another: the top, and at most 201 for each of 32 instances.
 const SCOPE_DEPTH: u32 = 1 + 32 * 201;
@@ -34,7 +37,7 @@ const SCOPE_DEPTH: u32 = 1 + 32 * 201;
 fn nothing_read<'a>(alloc: Global) -> Reading<'a>
     ensures design { design_so_far result ≡ of_processes [] }
     ensures frames { result.frames.items ≡ [] }
-    ensures totals { totals_of result.counts ≡ no_totals }
+    ensures totals { totals_so_far result ≡ no_totals }
     ensures top { result.counts.start.top ≡ true }
     ensures read { IsRead result }
 {
@@ -50,8 +53,10 @@ fn nothing_read<'a>(alloc: Global) -> Reading<'a>
             },
             instances: 0,
             turns: 0,
+            functions: 0,
             processes: 0,
         },
+        loops: Loops::new(alloc),
     }
 }
 
@@ -65,6 +70,7 @@ fn read_pending<'a>(
     requires text { IsText text.now }
     requires reading { IsReading text.now reading stack.items }
     ensures design { IfOk result (λ r. outcome text.now reading.entry stack.entry.items ≡ Ok (design_so_far r)) }
+    ensures idle { IfOk result (λ r. IsIdle (draft r.builder)) }
     ensures broken { IfErr result (λ e. Tells e (λ f. outcome text.now reading.entry stack.entry.items ≡ Err f)) }
 {
     let mut reading = reading;
@@ -81,6 +87,7 @@ fn read_top<'a>(alloc: Global, text: &Text<'a>, top: &Known<'a>) -> Result<Readi
     requires shaped { IsModule (view.module_tree top.now.of.now) }
     requires shallow { module_depth (view.module_tree top.now.of.now) ≤ depth_limit }
     ensures design { IfOk result (λ r. elaborated_top the_limits (source_of text.now) (Some (view.module_tree top.now.of.now)) ≡ Ok (design_so_far r)) }
+    ensures idle { IfOk result (λ r. IsIdle (draft r.builder)) }
     ensures broken { IfErr result (λ e. Tells e (λ f. elaborated_top the_limits (source_of text.now) (Some (view.module_tree top.now.of.now)) ≡ Err f)) }
 {
     let mut reading = nothing_read(alloc);
@@ -101,7 +108,7 @@ fn read_top<'a>(alloc: Global, text: &Text<'a>, top: &Known<'a>) -> Result<Readi
     read_pending(alloc, text, reading, stack)
 }
 
-/// The design that the tree of a text has from the module `top` on, flat: every scope, signal and process of it in the order of the text, each scope
+/// The design that the tree of a text has from the module `top` on, flat: every scope, signal, function and process of it in the order of the text, each scope
 /// before those within it (IEEE 1364-2005, 12.1). Nothing of the text is borrowed by it.
 ///
 /// An error is the first rule that is broken: `DuplicateModule` before all others, then `NoTop`, then those of one scope after the other, each scope before those within
@@ -117,8 +124,13 @@ fn read_top<'a>(alloc: Global, text: &Text<'a>, top: &Known<'a>) -> Result<Readi
 /// - `GenerateTurns`: over 4,096 turns of one generate loop, or 1,048,576 of all (12.4.1).
 /// - `WrongKind`: a name of another kind than is needed there, and a memory of which a block writes a word that isn't clocked (4.9).
 /// - `TooManyBits`, `TooManyProcesses`: over 1,048,576 bits, and over 65,536 processes.
+/// - `LoopTurns`: over 4,096 turns of one loop of a block or of a function, or over 1,048,576 copies of statements of all (9.6).
+/// - `LoopVariable`: an integer that is named outside of its loops or assigned within one, heads a loop within its own, or heads loops of two blocks (9.6).
+/// - `FunctionRule`: a function without inputs, with a `<=`, with over 64 calls within one another or with over 1,048,576 local bits, what a function may not
+///   name, and a call with another number of arguments (10.4).
+/// - `Recursion`: a function that is called by itself, or by one declared before it (10.4.1).
 ///
-/// Or it is want of memory. It takes time linear in the text and in what the generate constructs and instances make of it.
+/// Or it is want of memory. It takes time linear in the text and in what the generate constructs, loops and instances make of it.
 pub fn flatten(alloc: Global, source: &Source, top: &[u8]) -> Result<Flat, ElabError>
     requires { IsShaped (view.source source.now) }
     ensures design { IfOk result (λ f. elaborated (view.source source.now) top.now ≡ Ok (design_of f)) }

@@ -1,23 +1,29 @@
 -- A block without a fault writes words of memories only if it is clocked.
-use Rattle.std.proofs.Common.{◌≡◌, ℕ, Bool, true, false, ◌||◌, List, [], ◌∷◌, refl, ap}
+use Rattle.std.proofs.Common.{◌≡◌, ℕ, Bool, true, false, ◌||◌, List, [], ◌∷◌, ◌++◌, refl, ap, subst}
 use Rattle.std.specs.List.{list_any}
 use Rattle.vs_design.specs.Statements.{Statement}
 use Rattle.vs_design.specs.Designs.{Always, is_edge, is_clocked}
 use Rattle.vs_design.specs.Elaborated.{is_wordless, writes_no_word, arms_write_no_word, has_clocked_words}
 use Rattle.vs_grammar.specs.Trees as tree
-use Rattle.vs_const.specs.Meanings.{Meaning, AValue, Undefined, ASignal, AMemory, Another, Unknown, Find}
+use Rattle.vs_grammar.specs.Trees.{target_place}
+use Rattle.vs_const.specs.declared.faults.Fault.{Fault}
+use Rattle.vs_const.specs.Meanings.{Meaning, AValue, Undefined, ASignal, AMemory, AFunction, Incomplete, Another, Barred, Unknown, Find}
 use Rattle.vs_const.specs.Typed.{Typed}
 use Rattle.vs_const.specs.Expressions.{typed}
 use Rattle.vs_const.proofs.Formed.{both_nil, both}
 use Rattle.vs_elaborated.specs.Targets.{bit_target, selected_target, typed_target, typed_targets}
-use Rattle.vs_elaborated.specs.Statements.{TypedStatement, typed_statement, typed_fallback, typed_sequence, typed_arms, typed_events, typed_control, is_clocked_by, memory_faults, target_memories, targets_memories, written_memories, fallback_memories, sequence_memories, arms_memories, unclocked_faults}
+use Rattle.vs_elaborated.specs.Statements.{Body, TypedStatement, typed_list, typed_statement, typed_fallback, typed_sequence, typed_arms, typed_events, typed_control, is_clocked_by, memory_faults, target_memories, targets_memories, word_faults, delayed_faults, scope_locals, local_faults, scoped, unrolled_within}
+use Rattle.vs_elaborated.proofs.TurnsLaw.{loop_law, unrolled_law}
 
 bit_wordless : (place : ℕ) (m : Meaning) (i : Typed) → memory_faults place m ≡ [] → is_wordless (bit_target true place m i).target ≡ true
-bit_wordless place (AValue v r) i h = refl
+bit_wordless place (AValue v r turns) i h = refl
 bit_wordless place (Undefined r) i h = refl
 bit_wordless place (ASignal s) i h = refl
 bit_wordless place (AMemory m) i h = cc
+bit_wordless place (AFunction f) i h = refl
+bit_wordless place Incomplete i h = refl
 bit_wordless place Another i h = refl
+bit_wordless place (Barred rule) i h = refl
 bit_wordless place Unknown i h = refl
 
 module _ (find : Find) where
@@ -25,6 +31,7 @@ module _ (find : Find) where
   selected_wordless tree.Whole name h = refl
   selected_wordless (tree.BitAt bracket index) name h = bit_wordless name.place (find name.bytes) (typed index find false) h
   selected_wordless (tree.Slice bracket kind e f) name h = refl
+  selected_wordless (tree.OfWord bracket address part) name h = refl
 
   mutual
     target_wordless : (t : tree.Target) → target_memories t find ≡ [] → is_wordless (typed_target t find true).target ≡ true
@@ -38,35 +45,55 @@ module _ (find : Find) where
         let n = both_nil (target_memories t find) (targets_memories (tree.AndTarget u rest) find) h in
         both (is_wordless (typed_target t find true).target) (is_wordless (typed_targets (tree.AndTarget u rest) find true).target) (target_wordless t n.0) (targets_wordless (tree.AndTarget u rest) n.1)
 
+module _ (body : Body) (unclocked : body.clocked ≡ false) where
+  assignment_wordless : (target : tree.Target) (find : Find) (blocking : Bool) (place : ℕ) (others : List Fault) → delayed_faults body place blocking ++ (word_faults body.clocked target find ++ others) ≡ [] → is_wordless (typed_target target find true).target ≡ true
+  assignment_wordless target find blocking place others h =
+      let n = both_nil (delayed_faults body place blocking) (word_faults body.clocked target find ++ others) h in
+      let m = both_nil (word_faults body.clocked target find) others n.1 in
+      target_wordless find target (subst (λ b. word_faults b target find ≡ []) unclocked m.0)
+
   mutual
-    statement_wordless : (s : tree.Statement) → written_memories s find ≡ [] → writes_no_word (typed_statement s find).statement ≡ true
-    statement_wordless (tree.Empty place) h = refl
-    statement_wordless (tree.Assignment target e blocking) h = target_wordless target h
-    statement_wordless (tree.If place c taken other) h =
-        let n = both_nil (written_memories taken find) (fallback_memories other find) h in
-        both (writes_no_word (typed_statement taken find).statement) (writes_no_word (typed_fallback other find).statement) (statement_wordless taken n.0) (fallback_wordless other n.1)
-    statement_wordless (tree.Case place kind subject arms other) h =
-        let n = both_nil (arms_memories arms find) (fallback_memories other find) h in
-        arms_wordless arms (typed_fallback other find) n.0 (fallback_wordless other n.1)
-    statement_wordless (tree.Sequence place parts) h = sequence_wordless parts h
+    pub statement_wordless : (s : tree.Statement) (find : Find) → (typed_statement s body find).faults ≡ [] → writes_no_word (typed_statement s body find).statement ≡ true
+    statement_wordless (tree.Empty place) find h = refl
+    statement_wordless (tree.Assignment target e blocking) find h =
+        assignment_wordless target find blocking (target_place target) ((typed_target target find true).faults ++ (typed e find false).faults) h
+    statement_wordless (tree.If place c taken other) find h =
+        let n = both_nil (typed c find false).faults ((typed_statement taken body find).faults ++ (typed_fallback other body find).faults) h in
+        let m = both_nil (typed_statement taken body find).faults (typed_fallback other body find).faults n.1 in
+        both (writes_no_word (typed_statement taken body find).statement) (writes_no_word (typed_fallback other body find).statement) (statement_wordless taken find m.0) (fallback_wordless other find m.1)
+    statement_wordless (tree.Case place kind subject arms other) find h =
+        let o = typed_fallback other body find in
+        arms_wordless arms find o (λ k. fallback_wordless other find k) (both_nil (typed subject find false).faults (typed_arms arms body find o).faults h).1
+    statement_wordless (tree.Sequence place scope parts) find h =
+        let locals = scope_locals scope in
+        let inner = scoped body.declared locals find in
+        sequence_wordless parts inner (both_nil (local_faults body locals) (typed_sequence parts body inner).faults h).1
+    statement_wordless (tree.For head statement) find h =
+        loop_law (λ (t : Statement). writes_no_word t ≡ true) (λ (f : Find). Unit {0}) refl (λ s t p q. both (writes_no_word s) (writes_no_word t) p q) (λ f name bits e q. tt) body (λ inner. typed_statement statement body inner)
+        (λ inner q k. statement_wordless statement inner k) head find tt h
 
-    fallback_wordless : (other : tree.Fallback) → fallback_memories other find ≡ [] → writes_no_word (typed_fallback other find).statement ≡ true
-    fallback_wordless tree.NoFallback h = refl
-    fallback_wordless (tree.Otherwise s) h = statement_wordless s h
+    fallback_wordless : (other : tree.Fallback) (find : Find) → (typed_fallback other body find).faults ≡ [] → writes_no_word (typed_fallback other body find).statement ≡ true
+    fallback_wordless tree.NoFallback find h = refl
+    fallback_wordless (tree.Otherwise s) find h = statement_wordless s find h
 
-    sequence_wordless : (parts : tree.Statements) → sequence_memories parts find ≡ [] → writes_no_word (typed_sequence parts find).statement ≡ true
-    sequence_wordless tree.NoStatement h = refl
-    sequence_wordless (tree.AndStatement s tree.NoStatement) h = statement_wordless s (both_nil (written_memories s find) [] h).0
-    sequence_wordless (tree.AndStatement s (tree.AndStatement next rest)) h =
-        let n = both_nil (written_memories s find) (sequence_memories (tree.AndStatement next rest) find) h in
-        both (writes_no_word (typed_statement s find).statement) (writes_no_word (typed_sequence (tree.AndStatement next rest) find).statement) (statement_wordless s n.0) (sequence_wordless (tree.AndStatement next rest) n.1)
+    sequence_wordless : (parts : tree.Statements) (find : Find) → (typed_sequence parts body find).faults ≡ [] → writes_no_word (typed_sequence parts body find).statement ≡ true
+    sequence_wordless tree.NoStatement find h = refl
+    sequence_wordless (tree.AndStatement s tree.NoStatement) find h = statement_wordless s find h
+    sequence_wordless (tree.AndStatement s (tree.AndStatement next rest)) find h =
+        let one = typed_statement s body find in
+        let others = typed_sequence (tree.AndStatement next rest) body find in
+        let n = both_nil one.faults others.faults h in
+        both (writes_no_word one.statement) (writes_no_word others.statement) (statement_wordless s find n.0) (sequence_wordless (tree.AndStatement next rest) find n.1)
 
-    arms_wordless : (arms : tree.CaseArms) (other : TypedStatement) → arms_memories arms find ≡ [] → writes_no_word other.statement ≡ true → arms_write_no_word (typed_arms arms find other).arms ≡ true
-    arms_wordless tree.NoArm other h k = k
-    arms_wordless (tree.AndArm labels s rest) other h k =
-        let n = both_nil (written_memories s find) (arms_memories rest find) h in
-        both (writes_no_word (typed_statement s find).statement) (arms_write_no_word (typed_arms rest find other).arms) (statement_wordless s n.0) (arms_wordless rest other n.1 k)
+    arms_wordless : (arms : tree.CaseArms) (find : Find) (other : TypedStatement) → (other.faults ≡ [] → writes_no_word other.statement ≡ true) → (typed_arms arms body find other).faults ≡ [] → arms_write_no_word (typed_arms arms body find other).arms ≡ true
+    arms_wordless tree.NoArm find other k h = k h
+    arms_wordless (tree.AndArm labels s rest) find other k h =
+        let r = typed_arms rest body find other in
+        let n = both_nil (typed_list labels find).faults ((typed_statement s body find).faults ++ r.faults) h in
+        let m = both_nil (typed_statement s body find).faults r.faults n.1 in
+        both (writes_no_word (typed_statement s body find).statement) (arms_write_no_word r.arms) (statement_wordless s find m.0) (arms_wordless rest find other k m.1)
 
+module _ (find : Find) where
   -- the events of a block have the edges of the text
   edges_same : (es : List tree.Event) (place : ℕ) (s : Statement) → is_clocked (Always place (typed_events es find).star (typed_events es find).events s) ≡ list_any (λ (e : tree.Event). is_edge e.edge) es
   edges_same [] place s = refl
@@ -77,15 +104,20 @@ module _ (find : Find) where
   clocked_same (tree.Listed es) place s = edges_same es place s
 
   -- what a block writes
-  pub block_clocked : (b : tree.AlwaysBlock) → unclocked_faults (is_clocked_by b.control) b.statement find ≡ []
-      → has_clocked_words (Always b.place (typed_control b.control find).star (typed_control b.control find).events (typed_statement b.statement find).statement) ≡ true
-  block_clocked b h = of (is_clocked_by b.control) (clocked_same b.control b.place (typed_statement b.statement find).statement) h
+  pub block_clocked : (most : ℕ) (b : tree.AlwaysBlock) (body : Body) → body.clocked ≡ is_clocked_by b.control → (unrolled_within most b.statement body find).faults ≡ []
+      → has_clocked_words (Always b.place (typed_control b.control find).star (typed_control b.control find).events (unrolled_within most b.statement body find).statement) ≡ true
+  block_clocked most b body e h = of (is_clocked_by b.control) e (clocked_same b.control b.place s)
     where
+      s : Statement
+      s = (unrolled_within most b.statement body find).statement
+
+      clocked : Bool
+      clocked = is_clocked (Always b.place (typed_control b.control find).star (typed_control b.control find).events s)
+
       either : (x y : Bool) → y ≡ true → (x || y) ≡ true
       either true y k = refl
       either false y k = k
 
-      of : (c : Bool) → is_clocked (Always b.place (typed_control b.control find).star (typed_control b.control find).events (typed_statement b.statement find).statement) ≡ c → unclocked_faults c b.statement find ≡ []
-          → (is_clocked (Always b.place (typed_control b.control find).star (typed_control b.control find).events (typed_statement b.statement find).statement) || writes_no_word (typed_statement b.statement find).statement) ≡ true
-      of true e k = ap (λ x. x || writes_no_word (typed_statement b.statement find).statement) e
-      of false e k = either (is_clocked (Always b.place (typed_control b.control find).star (typed_control b.control find).events (typed_statement b.statement find).statement)) (writes_no_word (typed_statement b.statement find).statement) (statement_wordless b.statement k)
+      of : (c : Bool) → body.clocked ≡ c → clocked ≡ c → (clocked || writes_no_word s) ≡ true
+      of true i k = ap (λ x. x || writes_no_word s) k
+      of false i k = either clocked (writes_no_word s) (unrolled_law (λ (t : Statement). writes_no_word t ≡ true) most b.statement body find (λ u l. statement_wordless (record body { unrolls = u }) i b.statement find l) h)

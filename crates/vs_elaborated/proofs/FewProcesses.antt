@@ -1,7 +1,6 @@
 -- An elaborated design has no more processes than the limit.
 use Rattle.std.proofs.Common.{◌≡◌, ℕ, zero, suc, ◌+◌, ◌≤◌, Bool, true, false, List, [], ◌∷◌, ◌++◌, map, length, Option, Some, None, refl, ◌∙◌, arith, if◌then◌else◌, nat_lt}
-use Rattle.std.specs.Prelude.{Result, Ok, Err, fold, sum_by, is_none}
-use Rattle.std.specs.List.{flat_map}
+use Rattle.std.specs.Prelude.{Result, Ok, Err, fold, sum_by}
 use Rattle.std.proofs.lemmas.Bool.{ltb-false}
 use Rattle.std.proofs.Math.ListN.{length-map}
 use Rattle.vs_design.specs.Designs.{Design}
@@ -9,18 +8,11 @@ use Rattle.vs_grammar.specs.Trees.{Module, Source}
 use Rattle.vs_const.specs.declared.faults.Fault.{Fault}
 use Rattle.vs_const.specs.Faults.{fault, lesser, least}
 use Rattle.vs_const.specs.declared.rules.Rule.TheVariants.{TooManyProcesses}
-use Rattle.vs_const.proofs.Formed.{both_nil}
 use Rattle.vs_elaborated.specs.Limits.{Limits}
 use Rattle.vs_elaborated.specs.Ports.{find_module}
 use Rattle.vs_elaborated.specs.Pieces.{Task, Piece, Own, Instance, Within, is_instance}
-use Rattle.vs_elaborated.specs.Surveys.{items_of, declarations_of, overrides_of, header_of, block_entries, block_faults, bits_over, items_said, Totals, no_totals, Survey, survey, piece_place, piece_processes, processes_over}
-use Rattle.vs_elaborated.specs.Environments.{within}
-use Rattle.vs_elaborated.specs.Declarations.{names_of, repeated_names}
-use Rattle.vs_elaborated.specs.Parameters.{said_parameters, first_entries}
-use Rattle.vs_elaborated.specs.Signals.{Start, SaidSignal, said_signals, put_signals, range_faults}
-use Rattle.vs_elaborated.specs.Generate.{Made}
-use Rattle.vs_elaborated.specs.Constructs.{constructs}
-use Rattle.vs_elaborated.specs.Instances.{Around}
+use Rattle.vs_elaborated.specs.Surveys.{Totals, no_totals, Survey, survey, piece_place, piece_processes, processes_over}
+use Rattle.vs_elaborated.proofs.SurveyParts.{faultless}
 use Rattle.vs_elaborated.specs.Elaborated.{both_designs, of_processes, then_do, port_assign, Read, ReadPieces, read_piece, read_pieces, counted, limit_faults, scope_design, read_scope, repeated_modules, top_task, scope_depth, elaborated_top, elaborated_within}
 use Rattle.vs_elaborated.proofs.NumberedSignals.{unless}
 
@@ -112,27 +104,7 @@ counted_processes k t = of (is_instance k.contents)
 survey_counts : (limits : Limits) (source : Source) (k : Task) (t : Totals) → t.processes ≤ limits.processes → (survey limits source k t).faults ≡ [] → (survey limits source k t).totals.processes ≤ limits.processes
 survey_counts limits source k t b h =
     let s = survey limits source k t in
-    let ds = declarations_of k.contents in
-    let names = names_of ds in
-    let parameters = said_parameters k.env (overrides_of k.contents) ds (first_entries names) in
-    let ranged = within k.env parameters.entries in
-    let start : Start = record { scope = t.scopes; top = is_none k.parent; signal = t.signals; bit = t.bits } in
-    let signals = said_signals ranged start names in
-    let entries = put_signals signals parameters.entries in
-    let made = constructs limits (items_of k.contents) (within k.env entries) 1 t.turns in
-    let blocks = flat_map (λ (m : Made). m.names) made in
-    let around : Around = record { scope = t.scopes; depth = k.depth; env = within k.env (entries ++ block_entries blocks) } in
-    let said = items_said source around (items_of k.contents) made in
-    let h1 = (both_nil (header_of k.contents) _ h).1 in
-    let h2 = (both_nil (repeated_names [] ds) _ h1).1 in
-    let h3 = (both_nil parameters.faults _ h2).1 in
-    let h4 = (both_nil (range_faults ranged ds) _ h3).1 in
-    let h5 = (both_nil (flat_map (λ (s : SaidSignal). s.faults) signals) _ h4).1 in
-    let h6 = (both_nil (flat_map (λ (m : Made). m.faults) made) _ h5).1 in
-    let h7 = (both_nil (block_faults entries [] blocks) _ h6).1 in
-    let h8 = (both_nil said.faults _ h7).1 in
-    let h9 = (both_nil (bits_over limits.bits t.bits signals) _ h8).1 in
-    omega (arith, sum_is s.pieces, not_over limits.processes t.processes s.pieces b h9)
+    omega (arith, sum_is s.pieces, not_over limits.processes t.processes s.pieces b (faultless limits source k t h).processes)
 
 pub if_none : {A : Type 0} (P : Result A Fault → Type 0) → ((e : Fault) → P (Err e)) → (o : Option Fault) (f : ℕ → Result A Fault) → (o ≡ None → (n : ℕ) → P (f n)) → P (elim o [ None ↦ f 0 | Some a ↦ Err a ])
 if_none P e None f h = h refl 0

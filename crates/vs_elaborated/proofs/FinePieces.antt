@@ -1,35 +1,37 @@
 -- The pieces of a scope without a fault: its processes are formed, and what is still to be read is sound.
-use Rattle.std.proofs.Common.{◌≡◌, ℕ, suc, Bool, true, false, ◌&&◌, List, [], ◌∷◌, ◌++◌, map, Option, Some, None, refl, subst, if◌then◌else◌}
-use Rattle.std.specs.Prelude.{slice_get, is_none}
-use Rattle.std.specs.List.{flat_map}
+use Rattle.std.proofs.Common.{◌≡◌, ◌<◌, ◌-◌, ℕ, suc, Bool, true, false, ◌&&◌, List, [], ◌∷◌, ◌++◌, map, length, Option, Some, None, refl, subst, if◌then◌else◌}
+use Rattle.std.specs.Prelude.{slice_get}
 use Rattle.vs_design.specs.Expressions.{Signal}
 use Rattle.vs_design.specs.Designs.{Design}
+use Rattle.vs_design.specs.Statements.{Statement}
 use Rattle.vs_design.specs.Footprints.{is_net}
 use Rattle.vs_design.specs.Clocks.{same_name}
 use Rattle.vs_design.specs.Elaborated.{is_signal, is_formed, is_formed_target, has_constant_selects, is_formed_statement, are_formed_events}
 use Rattle.vs_grammar.specs.Trees as tree
-use Rattle.vs_grammar.specs.Trees.{Module, Source, items_list, expr_place, target_place}
+use Rattle.vs_grammar.specs.Trees.{Module, Source, items_list}
 use Rattle.vs_grammar.specs.Shapes.{Each, OneOrMore, Given, IsExpr, IsDeclarator, IsPlain, IsVariable, IsNet, IsPort, AreNames, IsAssign, IsControl, IsStatement, IsConnection, AreOrdered, AreConnections, IsInstance, AreInstances, IsItem, AreItems, IsGenerateItem, AreSignals, IsModule}
 use Rattle.vs_const.specs.Expressions.{typed, constant}
 use Rattle.vs_const.proofs.Formed.{both_nil, both, typed_fine}
 use Rattle.vs_elaborated.specs.Environments.{Env, Turn, named, within}
 use Rattle.vs_elaborated.specs.Limits.{Limits}
-use Rattle.vs_elaborated.specs.Declarations.{names_of, repeated_names}
-use Rattle.vs_elaborated.specs.Signals.{Start, SaidSignal, said_signals, put_signals, range_faults}
 use Rattle.vs_elaborated.specs.Constructs.{construct, constructs, is_construct}
 use Rattle.vs_elaborated.specs.Targets.{typed_target, as_target}
-use Rattle.vs_elaborated.specs.Statements.{typed_statement, typed_control, is_clocked_by, unclocked_faults}
-use Rattle.vs_elaborated.specs.Parameters.{Override, said_parameters, first_entries}
+use Rattle.vs_elaborated.specs.Statements.{typed_control}
+use Rattle.vs_elaborated.specs.Heads.{shared_heads}
+use Rattle.vs_elaborated.specs.Parameters.{Override}
 use Rattle.vs_elaborated.specs.Generate.{Nested, Made}
 use Rattle.vs_elaborated.specs.Ports.{Port, find_port, find_in, find_module}
 use Rattle.vs_elaborated.specs.Pieces.{Contents, OfModule, OfBlock, Task, Connection, Said, all_said}
 use Rattle.vs_elaborated.specs.Instances.{Around, Overrides, and_override, overrides_by_order, overrides_by_name, said_overrides, output_target, directed, connected, connected_by_order, connected_by_name, connection_name, connection_of, module_overridable, module_ports, unknown_module, in_port_order, said_connections, instance_said, instances_said}
-use Rattle.vs_elaborated.specs.Surveys.{items_of, declarations_of, header_of, block_entries, block_faults, Totals, survey, wire_said, assign_said, block_said, turned, nested_piece, item_said, items_said, overrides_of}
+use Rattle.vs_elaborated.specs.Surveys.{Loops, block_body, block_statement, block_heads, loops_after, items_of, Totals, survey, wire_said, assign_said, block_said, turned, nested_piece, item_said, items_said}
 use Rattle.vs_elaborated.specs.Sound.{AreSoundFrames, AreFineOverrides, IsShapedContents, IsFineConnection, IsSoundTask, IsFinePiece, AreFinePieces, AreModules}
 use Rattle.vs_elaborated.proofs.FormedBodies.{target_fine, statement_fine, control_fine, as_target_shaped}
 use Rattle.vs_elaborated.proofs.SoundNames.{frames_needed, named_sound, constant_fine}
 use Rattle.vs_elaborated.proofs.ClockedWords.{block_clocked}
-use Rattle.vs_elaborated.proofs.SurveyNames.{each_append, survey_names}
+use Rattle.vs_elaborated.proofs.EachOf.{each_append}
+use Rattle.vs_elaborated.proofs.TurnsLaw.{unrolled_law}
+use Rattle.vs_elaborated.proofs.SurveyParts.{functions_in, loops_in, around_in, faultless}
+use Rattle.vs_elaborated.proofs.SurveyNames.{survey_names}
 use Rattle.vs_elaborated.proofs.ShapedBlocks.{AreShapedBlocks, construct_shaped}
 
 all_fine : {A : Type 0} (d : Design) (f : A → Said) (P : A → Type 0) → ((a : A) → P a → (f a).faults ≡ [] → AreFinePieces d (f a).pieces) → (xs : List A) → Each P xs → (all_said f xs).faults ≡ [] → AreFinePieces d (all_said f xs).pieces
@@ -96,15 +98,18 @@ module _ (d : Design) (env : Env) (s : AreSoundFrames d false env.frames) where
       of n None e = tt
       of n (Some v) e = cc
 
-  block_fine : (b : tree.AlwaysBlock) → IsControl b.control → IsStatement b.statement → (block_said env b).faults ≡ [] → AreFinePieces d (block_said env b).pieces
-  block_fine b x y h =
-      let c = typed_control b.control (named env) in
-      let t = typed_statement b.statement (named env) in
-      let unclocked = unclocked_faults (is_clocked_by b.control) b.statement (named env) in
-      let n = both_nil c.faults (t.faults ++ unclocked) h in
-      let m = both_nil t.faults unclocked n.1 in
-      let formed = both (are_formed_events d c.star c.events) (is_formed_statement d t.statement) (control_fine d (named env) (named_sound d false env s) b.control x n.0) (statement_fine d (named env) (named_sound d false env s) b.statement y m.0) in
-      ((formed, block_clocked (named env) b m.1), tt)
+  block_fine : (limits : Limits) (loops : Loops) (b : tree.AlwaysBlock) → IsControl b.control → IsStatement b.statement → (block_said limits env loops b).faults ≡ [] → AreFinePieces d (block_said limits env loops b).pieces
+  block_fine limits loops b x y h =
+      let find = named env in
+      let sound = named_sound d false env s in
+      let most = limits.copies - loops.copies in
+      let c = typed_control b.control find in
+      let t = block_statement limits env loops b in
+      let n = both_nil c.faults (t.faults ++ shared_heads loops.headed (block_heads env b)) h in
+      let m = both_nil t.faults (shared_heads loops.headed (block_heads env b)) n.1 in
+      let statement = unrolled_law (λ (u : Statement). is_formed_statement d u ≡ true) most b.statement (block_body b) find (λ u k. statement_fine d (record (block_body b) { unrolls = u }) (λ place. tt) b.statement find sound y k) m.0 in
+      let formed = both (are_formed_events d c.star c.events) (is_formed_statement d t.statement) (control_fine d find sound b.control x n.0) statement in
+      ((formed, block_clocked find most b (block_body b) refl m.0), tt)
 
   -- ---- connections
 
@@ -230,37 +235,45 @@ assigns_fine d around s place [] x h = absurd x
 assigns_fine d around s place (a ∷ xs) x h = all_fine d (assign_said around.env place) IsAssign (assign_fine d around.env s place) (a ∷ xs) x h
 
 -- an item of a generate block, and of a module
-pub generate_item_fine : (d : Design) (source : Source) (around : Around) → AreSoundFrames d false around.env.frames → AreModules source.modules → (item : tree.Item) (made : Made) → IsGenerateItem item → AreShapedBlocks made.blocks → (item_said source around item made).faults ≡ []
-    → AreFinePieces d (item_said source around item made).pieces
-generate_item_fine d source around s x (tree.SignalsItem t) made y z h = wires_fine d around s t y.0 h
-generate_item_fine d source around s x (tree.ParametersItem t) made y z h = blocks_fine d around s made.blocks z
-generate_item_fine d source around s x (tree.AssignsItem place assigns) made y z h = assigns_fine d around s place assigns y h
-generate_item_fine d source around s x (tree.AlwaysItem block) made y z h = block_fine d around.env s block y.0 y.1 h
-generate_item_fine d source around s x (tree.GenvarsItem place names) made y z h = blocks_fine d around s made.blocks z
-generate_item_fine d source around s x (tree.InstancesItem t) made y z h = instances_fine d source around s x t y h
-generate_item_fine d source around s x (tree.GenerateFor head block) made y z h = blocks_fine d around s made.blocks z
-generate_item_fine d source around s x (tree.GenerateIf place c taken other) made y z h = blocks_fine d around s made.blocks z
-generate_item_fine d source around s x (tree.GenerateCase place subject arms other) made y z h = blocks_fine d around s made.blocks z
+pub generate_item_fine : (d : Design) (limits : Limits) (source : Source) (around : Around) (loops : Loops) → AreSoundFrames d false around.env.frames → AreModules source.modules → (item : tree.Item) (made : Made) → IsGenerateItem item → AreShapedBlocks made.blocks → (item_said limits source around loops item made).faults ≡ []
+    → AreFinePieces d (item_said limits source around loops item made).pieces
+generate_item_fine d limits source around loops s x (tree.SignalsItem t) made y z h = wires_fine d around s t y.0 h
+generate_item_fine d limits source around loops s x (tree.ParametersItem t) made y z h = blocks_fine d around s made.blocks z
+generate_item_fine d limits source around loops s x (tree.AssignsItem place assigns) made y z h = assigns_fine d around s place assigns y h
+generate_item_fine d limits source around loops s x (tree.AlwaysItem block) made y z h = block_fine d around.env s limits loops block y.0 y.1 h
+generate_item_fine d limits source around loops s x (tree.GenvarsItem place names) made y z h = blocks_fine d around s made.blocks z
+generate_item_fine d limits source around loops s x (tree.IntegersItem place names) made y z h = blocks_fine d around s made.blocks z
+generate_item_fine d limits source around loops s x (tree.FunctionItem function) made y z h = absurd y
+generate_item_fine d limits source around loops s x (tree.InstancesItem t) made y z h = instances_fine d source around s x t y h
+generate_item_fine d limits source around loops s x (tree.GenerateFor head block) made y z h = blocks_fine d around s made.blocks z
+generate_item_fine d limits source around loops s x (tree.GenerateIf place c taken other) made y z h = blocks_fine d around s made.blocks z
+generate_item_fine d limits source around loops s x (tree.GenerateCase place subject arms other) made y z h = blocks_fine d around s made.blocks z
 
-pub item_fine : (d : Design) (source : Source) (around : Around) → AreSoundFrames d false around.env.frames → AreModules source.modules → (item : tree.Item) (made : Made) → IsItem item → AreShapedBlocks made.blocks → (item_said source around item made).faults ≡ []
-    → AreFinePieces d (item_said source around item made).pieces
-item_fine d source around s x (tree.SignalsItem t) made y z h = wires_fine d around s t y h
-item_fine d source around s x (tree.ParametersItem t) made y z h = blocks_fine d around s made.blocks z
-item_fine d source around s x (tree.AssignsItem place assigns) made y z h = assigns_fine d around s place assigns y h
-item_fine d source around s x (tree.AlwaysItem block) made y z h = block_fine d around.env s block y.0 y.1 h
-item_fine d source around s x (tree.GenvarsItem place names) made y z h = blocks_fine d around s made.blocks z
-item_fine d source around s x (tree.InstancesItem t) made y z h = instances_fine d source around s x t y h
-item_fine d source around s x (tree.GenerateFor head block) made y z h = blocks_fine d around s made.blocks z
-item_fine d source around s x (tree.GenerateIf place c taken other) made y z h = blocks_fine d around s made.blocks z
-item_fine d source around s x (tree.GenerateCase place subject arms other) made y z h = blocks_fine d around s made.blocks z
+pub item_fine : (d : Design) (limits : Limits) (source : Source) (around : Around) (loops : Loops) → AreSoundFrames d false around.env.frames → AreModules source.modules → (item : tree.Item) (made : Made) → IsItem item → AreShapedBlocks made.blocks → (item_said limits source around loops item made).faults ≡ []
+    → AreFinePieces d (item_said limits source around loops item made).pieces
+item_fine d limits source around loops s x (tree.SignalsItem t) made y z h = wires_fine d around s t y h
+item_fine d limits source around loops s x (tree.ParametersItem t) made y z h = blocks_fine d around s made.blocks z
+item_fine d limits source around loops s x (tree.AssignsItem place assigns) made y z h = assigns_fine d around s place assigns y h
+item_fine d limits source around loops s x (tree.AlwaysItem block) made y z h = block_fine d around.env s limits loops block y.0 y.1 h
+item_fine d limits source around loops s x (tree.GenvarsItem place names) made y z h = blocks_fine d around s made.blocks z
+item_fine d limits source around loops s x (tree.IntegersItem place names) made y z h = blocks_fine d around s made.blocks z
+item_fine d limits source around loops s x (tree.FunctionItem function) made y z h = blocks_fine d around s made.blocks z
+item_fine d limits source around loops s x (tree.InstancesItem t) made y z h = instances_fine d source around s x t y h
+item_fine d limits source around loops s x (tree.GenerateFor head block) made y z h = blocks_fine d around s made.blocks z
+item_fine d limits source around loops s x (tree.GenerateIf place c taken other) made y z h = blocks_fine d around s made.blocks z
+item_fine d limits source around loops s x (tree.GenerateCase place subject arms other) made y z h = blocks_fine d around s made.blocks z
 
-items_fine : (P : tree.Item → Type 0) (d : Design) (source : Source) (around : Around) → ((item : tree.Item) (made : Made) → P item → AreShapedBlocks made.blocks → (item_said source around item made).faults ≡ [] → AreFinePieces d (item_said source around item made).pieces)
-    → (items : List tree.Item) (ms : List Made) → Each P items → Each (λ (m : Made). AreShapedBlocks m.blocks) ms → (items_said source around items ms).faults ≡ [] → AreFinePieces d (items_said source around items ms).pieces
-items_fine P d source around f [] ms x y h = tt
-items_fine P d source around f (i ∷ is) [] x y h = tt
-items_fine P d source around f (i ∷ is) (m ∷ ms) x y h =
-    let n = both_nil (item_said source around i m).faults (items_said source around is ms).faults h in
-    each_append (IsFinePiece d) (item_said source around i m).pieces (items_said source around is ms).pieces (f i m x.0 y.0 n.0) (items_fine P d source around f is ms x.1 y.1 n.1)
+items_fine : (P : tree.Item → Type 0) (d : Design) (limits : Limits) (source : Source) (around : Around)
+    → ((loops : Loops) (item : tree.Item) (made : Made) → P item → AreShapedBlocks made.blocks → (item_said limits source around loops item made).faults ≡ [] → AreFinePieces d (item_said limits source around loops item made).pieces)
+    → (loops : Loops) (items : List tree.Item) (ms : List Made) → Each P items → Each (λ (m : Made). AreShapedBlocks m.blocks) ms → (items_said limits source around loops items ms).faults ≡ [] → AreFinePieces d (items_said limits source around loops items ms).pieces
+items_fine P d limits source around f loops [] ms x y h = tt
+items_fine P d limits source around f loops (i ∷ is) [] x y h = tt
+items_fine P d limits source around f loops (i ∷ is) (m ∷ ms) x y h =
+    let one = item_said limits source around loops i m in
+    let after = loops_after limits around.env loops i in
+    let others = items_said limits source around after is ms in
+    let n = both_nil one.faults others.faults h in
+    each_append (IsFinePiece d) one.pieces others.pieces (f loops i m x.0 y.0 n.0) (items_fine P d limits source around f after is ms x.1 y.1 n.1)
 
 item_construct : (item : tree.Item) (limits : Limits) (env : Env) (n total : ℕ) → IsItem item → AreShapedBlocks (construct item limits env n total).blocks
 item_construct (tree.SignalsItem t) limits env n total x = tt
@@ -268,6 +281,8 @@ item_construct (tree.ParametersItem t) limits env n total x = tt
 item_construct (tree.AssignsItem place assigns) limits env n total x = tt
 item_construct (tree.AlwaysItem block) limits env n total x = tt
 item_construct (tree.GenvarsItem place names) limits env n total x = tt
+item_construct (tree.IntegersItem place names) limits env n total x = tt
+item_construct (tree.FunctionItem function) limits env n total x = tt
 item_construct (tree.InstancesItem t) limits env n total x = tt
 item_construct (tree.GenerateFor head block) limits env n total x = construct_shaped (tree.GenerateFor head block) limits env n total x
 item_construct (tree.GenerateIf place c taken other) limits env n total x = construct_shaped (tree.GenerateIf place c taken other) limits env n total x
@@ -283,35 +298,17 @@ module_items : (items : tree.Items) → AreItems items → Each IsItem (items_li
 module_items tree.NoItem x = tt
 module_items (tree.AndItem item rest) x = (x.0, module_items rest x.1)
 
-contents_fine : (d : Design) (source : Source) (around : Around) → AreSoundFrames d false around.env.frames → AreModules source.modules → (c : Contents) → IsShapedContents c → (limits : Limits) (env : Env) (total : ℕ)
-    → (items_said source around (items_of c) (constructs limits (items_of c) env 1 total)).faults ≡ [] → AreFinePieces d (items_said source around (items_of c) (constructs limits (items_of c) env 1 total)).pieces
-contents_fine d source around s x (OfModule m overrides) y limits env total h =
+contents_fine : (d : Design) (limits : Limits) (source : Source) (around : Around) (loops : Loops) → AreSoundFrames d false around.env.frames → AreModules source.modules → (c : Contents) → IsShapedContents c → (env : Env) (total : ℕ)
+    → (items_said limits source around loops (items_of c) (constructs limits (items_of c) env 1 total)).faults ≡ [] → AreFinePieces d (items_said limits source around loops (items_of c) (constructs limits (items_of c) env 1 total)).pieces
+contents_fine d limits source around loops s x (OfModule m overrides) y env total h =
     let is = module_items m.items y.items in
-    items_fine IsItem d source around (item_fine d source around s x) (items_list m.items) (constructs limits (items_list m.items) env 1 total) is (constructs_shaped IsItem item_construct limits (items_list m.items) env 1 total is) h
-contents_fine d source around s x (OfBlock items) y limits env total h =
-    items_fine IsGenerateItem d source around (generate_item_fine d source around s x) items (constructs limits items env 1 total) y (constructs_shaped IsGenerateItem construct_shaped limits items env 1 total y) h
+    items_fine IsItem d limits source around (λ l. item_fine d limits source around l s x) loops (items_list m.items) (constructs limits (items_list m.items) env 1 total) is (constructs_shaped IsItem item_construct limits (items_list m.items) env 1 total is) h
+contents_fine d limits source around loops s x (OfBlock items) y env total h =
+    items_fine IsGenerateItem d limits source around (λ l. generate_item_fine d limits source around l s x) loops items (constructs limits items env 1 total) y (constructs_shaped IsGenerateItem construct_shaped limits items env 1 total y) h
 
 -- the pieces of a scope without a fault
-pub survey_pieces : (d : Design) (limits : Limits) (source : Source) (k : Task) (t : Totals) → AreModules source.modules → IsSoundTask d k
+pub survey_pieces : (d : Design) (limits : Limits) (source : Source) (k : Task) (t : Totals) → AreModules source.modules → IsSoundTask d k → t.scopes < length d.scopes
     → Each (λ (s : Signal). is_signal d s ≡ true) (survey limits source k t).signals → (survey limits source k t).faults ≡ [] → AreFinePieces d (survey limits source k t).pieces
-survey_pieces d limits source k t x s i h =
-    let ds = declarations_of k.contents in
-    let names = names_of ds in
-    let parameters = said_parameters k.env (overrides_of k.contents) ds (first_entries names) in
-    let ranged = within k.env parameters.entries in
-    let start : Start = record { scope = t.scopes; top = is_none k.parent; signal = t.signals; bit = t.bits } in
-    let signals = said_signals ranged start names in
-    let entries = put_signals signals parameters.entries in
-    let made = constructs limits (items_of k.contents) (within k.env entries) 1 t.turns in
-    let blocks = flat_map (λ (m : Made). m.names) made in
-    let around : Around = record { scope = t.scopes; depth = k.depth; env = within k.env (entries ++ block_entries blocks) } in
-    let said = items_said source around (items_of k.contents) made in
-    let h1 = (both_nil (header_of k.contents) _ h).1 in
-    let h2 = (both_nil (repeated_names [] ds) _ h1).1 in
-    let h3 = (both_nil parameters.faults _ h2).1 in
-    let h4 = (both_nil (range_faults ranged ds) _ h3).1 in
-    let h5 = (both_nil (flat_map (λ (s : SaidSignal). s.faults) signals) _ h4).1 in
-    let h6 = (both_nil (flat_map (λ (m : Made). m.faults) made) _ h5).1 in
-    let h7 = (both_nil (block_faults entries [] blocks) _ h6).1 in
-    let h8 = (both_nil said.faults _ h7).0 in
-    contents_fine d source around (survey_names d limits source k t s.frames s.overrides s.shaped i h, s.frames) x k.contents s.shaped limits (within k.env entries) t.turns h8
+survey_pieces d limits source k t x s b i h =
+    contents_fine d limits source (around_in limits k t) (loops_in limits k t) (survey_names d limits source k t s.frames s.overrides s.shaped b i h, s.frames) x k.contents s.shaped (within k.env (functions_in limits k t).entries) t.turns
+    (faultless limits source k t h).said

@@ -1,5 +1,5 @@
 -- The entry of a name is that of its first declaration, and where no name is repeated, every other declaration of it is the second one of the same signal.
-use Rattle.std.proofs.Common.{◌≡◌, ℕ, Bool, true, false, not, ◌&&◌, ◌||◌, ◌==◌, List, [], ◌∷◌, ◌++◌, map, Option, Some, None, is_some, ◌⊎◌, inl, inr, if◌then◌else◌, refl, sym, ap, ◌∙◌, subst, eqb-true}
+use Rattle.std.proofs.Common.{◌≡◌, ℕ, ◌+◌, ◌-◌, Bool, true, false, not, ◌&&◌, ◌||◌, ◌==◌, List, [], ◌∷◌, ◌++◌, map, Option, Some, None, is_some, ◌⊎◌, inl, inr, if◌then◌else◌, refl, sym, ap, ◌∙◌, subst, eqb-true}
 use Rattle.std.specs.List.{list_any}
 use Rattle.vs_design.specs.Clocks.{same_name}
 use Rattle.vs_grammar.specs.Trees as tree
@@ -7,12 +7,15 @@ use Rattle.vs_grammar.specs.Trees.{SignalKind, Input, InputWire, Output, OutputW
 use Rattle.vs_grammar.specs.Shapes.{Each, is_port_kind}
 use Rattle.vs_const.specs.Faults.{fault_if}
 use Rattle.vs_const.specs.declared.rules.Rule.TheVariants.{DuplicateName}
-use Rattle.vs_const.specs.Meanings.{SignalMeaning}
+use Rattle.vs_const.specs.declared.names.Role.TheVariants.{InModule}
+use Rattle.vs_const.specs.Meanings.{SignalMeaning, FunctionMeaning}
 use Rattle.vs_const.proofs.Formed.{both_nil, no_fault, split}
-use Rattle.vs_elaborated.specs.Environments.{Declared, Later, OfSignal, OfParameter, OfGenvar, OfScope, Entry, Env, within, up_to, find_entry}
+use Rattle.vs_elaborated.specs.Environments.{Declared, Later, OfSignal, OfParameter, OfGenvar, OfInteger, OfFunction, OfScope, Entry, Env, within, up_to, find_entry}
 use Rattle.vs_elaborated.specs.Targets.{no_signal}
-use Rattle.vs_elaborated.specs.Declarations.{SignalSort, has_addresses, Sort, SignalOf, ParameterOf, GenvarSort, InstanceSort, Declaration, Named, are_kinds_of_one, are_sorts_of_one, second_of, names_after, first_named, is_repeated, repeated_names}
+use Rattle.vs_elaborated.specs.Declarations.{SignalSort, has_addresses, Sort, SignalOf, ParameterOf, FunctionOf, GenvarSort, IntegerSort, InstanceSort, Declaration, Named, are_kinds_of_one, are_sorts_of_one, second_of, names_after, first_named, is_repeated, repeated_names}
 use Rattle.vs_elaborated.specs.Parameters.{said_addresses, Override, valued, put_value, first_declared, first_entries, said_parameter, said_parameters}
+use Rattle.vs_elaborated.specs.Limits.{Limits}
+use Rattle.vs_elaborated.specs.Functions.{Counts, next_function, and_function, completed, put_function, said_functions}
 use Rattle.vs_elaborated.specs.Signals.{is_reg, is_input, second_sort, Start, SaidSignal, said_signal, said_signals, after, put_signal, put_signals}
 use Rattle.vs_elaborated.proofs.SoundNames.{same_itself, IsShapedSignal, IsShapedSort}
 
@@ -92,26 +95,26 @@ names_first seen (a ∷ rest) = of (list_any (same_name a.name.bytes) seen) refl
     of false e h k =
         (record { new = e; first = ap (λ b. if b then Some a else first_named a.name.bytes rest) (same_itself a.name.bytes); second = second_is a rest }, later (names_after (a.name.bytes ∷ seen) rest) k)
 
-abbrev pub first_entry : Declaration → Entry
-first_entry f = record { name = f.name.bytes; place = f.name.place; declared = first_declared f.sort }
+abbrev pub first_entry : ℕ → Declaration → Entry
+first_entry scope f = record { name = f.name.bytes; place = f.name.place; declared = first_declared scope f.sort }
 
-pub entry_first : (seen : List (List ℕ)) (ds : List Declaration) (w : List ℕ) (f : Declaration) → list_any (same_name w) seen ≡ false → first_named w ds ≡ Some f → find_entry (first_entries (names_after seen ds)) w ≡ Some (first_entry f)
-entry_first seen [] w f n h = cc
-entry_first seen (a ∷ rest) w f n h = of (list_any (same_name a.name.bytes) seen) refl (same_name a.name.bytes w) refl h (λ k. entry_first seen rest w f n k) (λ m k. entry_first (a.name.bytes ∷ seen) rest w f m k)
+pub entry_first : (scope : ℕ) (seen : List (List ℕ)) (ds : List Declaration) (w : List ℕ) (f : Declaration) → list_any (same_name w) seen ≡ false → first_named w ds ≡ Some f → find_entry (first_entries scope (names_after seen ds)) w ≡ Some (first_entry scope f)
+entry_first scope seen [] w f n h = cc
+entry_first scope seen (a ∷ rest) w f n h = of (list_any (same_name a.name.bytes) seen) refl (same_name a.name.bytes w) refl h (λ k. entry_first scope seen rest w f n k) (λ m k. entry_first scope (a.name.bytes ∷ seen) rest w f m k)
   where
     same : Some a ≡ Some f → a ≡ f
     same k = cc
 
-    head : (b : Bool) → same_name a.name.bytes w ≡ b → find_entry (first_entries (record { first = a; second = second_of a rest } ∷ names_after (a.name.bytes ∷ seen) rest)) w ≡ (if b then Some (first_entry a) else find_entry (first_entries (names_after (a.name.bytes ∷ seen) rest)) w)
-    head b e = ap (λ b. if b then Some (first_entry a) else find_entry (first_entries (names_after (a.name.bytes ∷ seen) rest)) w) e
+    head : (b : Bool) → same_name a.name.bytes w ≡ b → find_entry (first_entries scope (record { first = a; second = second_of a rest } ∷ names_after (a.name.bytes ∷ seen) rest)) w ≡ (if b then Some (first_entry scope a) else find_entry (first_entries scope (names_after (a.name.bytes ∷ seen) rest)) w)
+    head b e = ap (λ b. if b then Some (first_entry scope a) else find_entry (first_entries scope (names_after (a.name.bytes ∷ seen) rest)) w) e
 
     of : (b : Bool) → list_any (same_name a.name.bytes) seen ≡ b → (c : Bool) → same_name a.name.bytes w ≡ c → (if c then Some a else first_named w rest) ≡ Some f
-        → (first_named w rest ≡ Some f → find_entry (first_entries (names_after seen rest)) w ≡ Some (first_entry f))
-        → (list_any (same_name w) (a.name.bytes ∷ seen) ≡ false → first_named w rest ≡ Some f → find_entry (first_entries (names_after (a.name.bytes ∷ seen) rest)) w ≡ Some (first_entry f))
-        → find_entry (first_entries (if b then names_after seen rest else record { first = a; second = second_of a rest } ∷ names_after (a.name.bytes ∷ seen) rest)) w ≡ Some (first_entry f)
+        → (first_named w rest ≡ Some f → find_entry (first_entries scope (names_after seen rest)) w ≡ Some (first_entry scope f))
+        → (list_any (same_name w) (a.name.bytes ∷ seen) ≡ false → first_named w rest ≡ Some f → find_entry (first_entries scope (names_after (a.name.bytes ∷ seen) rest)) w ≡ Some (first_entry scope f))
+        → find_entry (first_entries scope (if b then names_after seen rest else record { first = a; second = second_of a rest } ∷ names_after (a.name.bytes ∷ seen) rest)) w ≡ Some (first_entry scope f)
     of true e true g k r s = absurd (no (sym e ∙ ap (λ u. list_any (same_name u) seen) (same_is a.name.bytes w g) ∙ n))
     of true e false g k r s = r k
-    of false e true g k r s = head true g ∙ ap (λ u. Some (first_entry u)) (same k)
+    of false e true g k r s = head true g ∙ ap (λ u. Some (first_entry scope u)) (same k)
     of false e false g k r s = head false g ∙ s (nor (same_name w a.name.bytes) (list_any (same_name w) seen) (turned_round a.name.bytes w g) n) k
 
 -- ---- where no name is repeated
@@ -173,6 +176,8 @@ IsDeclaredWith Q Later = ⊥
 IsDeclaredWith Q (OfSignal m) = Q m
 IsDeclaredWith Q (OfParameter v r) = ⊥
 IsDeclaredWith Q OfGenvar = ⊥
+IsDeclaredWith Q (OfInteger owner) = ⊥
+IsDeclaredWith Q (OfFunction f) = ⊥
 IsDeclaredWith Q OfScope = ⊥
 
 abbrev pub IsSignalWith : (SignalMeaning → Type 0) → Option Entry → Type 0
@@ -206,6 +211,8 @@ value_put Q w name value es h = mapped Q w (λ (e : Entry). if same_name e.name 
     kept_value (OfSignal m) k = k
     kept_value (OfParameter v r) k = k
     kept_value OfGenvar k = k
+    kept_value (OfInteger owner) k = absurd k
+    kept_value (OfFunction f) k = absurd k
     kept_value OfScope k = k
 
     kept : (b : Bool) (e : Entry) → IsDeclaredWith Q e.declared → IsDeclaredWith Q (put b e).declared
@@ -234,7 +241,9 @@ parameter_put : (Q : SignalMeaning → Type 0) (w : List ℕ) (outer : Env) (os 
     → ((fs : List Entry) → IsSignalWith Q (find_entry fs w) → IsSignalWith Q (find_entry (said_parameters outer os ds fs).entries w))
     → (n : tree.Name) (k : Sort) → IsSignalWith Q (find_entry es w) → IsSignalWith Q (find_entry (said_parameters outer os (record { name = n; sort = k } ∷ ds) es).entries w)
 parameter_put Q w outer os ds es next n (SignalOf q) h = next es h
+parameter_put Q w outer os ds es next n (FunctionOf f) h = next es h
 parameter_put Q w outer os ds es next n GenvarSort h = next es h
+parameter_put Q w outer os ds es next n IntegerSort h = next es h
 parameter_put Q w outer os ds es next n InstanceSort h = next es h
 parameter_put Q w outer os ds es next n (ParameterOf p) h =
     let env = up_to (within outer es) n.place in
@@ -244,6 +253,46 @@ parameter_put Q w outer os ds es next n (ParameterOf p) h =
 pub parameters_put : (Q : SignalMeaning → Type 0) (w : List ℕ) (outer : Env) (os : List Override) (ds : List Declaration) (es : List Entry) → IsSignalWith Q (find_entry es w) → IsSignalWith Q (find_entry (said_parameters outer os ds es).entries w)
 parameters_put Q w outer os [] es h = h
 parameters_put Q w outer os (a ∷ ds) es h = parameter_put Q w outer os ds es (λ fs k. parameters_put Q w outer os ds fs k) a.name a.sort h
+
+function_put : (Q : SignalMeaning → Type 0) (w name : List ℕ) (f : FunctionMeaning) (es : List Entry) → IsSignalWith Q (find_entry es w) → IsSignalWith Q (find_entry (put_function name f es) w)
+function_put Q w name f es h = mapped Q w (λ (e : Entry). if same_name e.name name then record e { declared = completed f e.declared } else e) (λ e. same_put (same_name e.name name) e) (λ e i k. kept (same_name e.name name) e k) es h
+  where
+    put : Bool → Entry → Entry
+    put b e = if b then record e { declared = completed f e.declared } else e
+
+    same_put : (b : Bool) (e : Entry) → (put b e).name ≡ e.name
+    same_put true e = refl
+    same_put false e = refl
+
+    kept_signal : (x : Declared) → IsDeclaredWith Q x → IsDeclaredWith Q (completed f x)
+    kept_signal Later k = absurd k
+    kept_signal (OfSignal m) k = k
+    kept_signal (OfParameter v r) k = k
+    kept_signal OfGenvar k = k
+    kept_signal (OfInteger owner) k = k
+    kept_signal (OfFunction g) k = absurd k
+    kept_signal OfScope k = k
+
+    kept : (b : Bool) (e : Entry) → IsDeclaredWith Q e.declared → IsDeclaredWith Q (put b e).declared
+    kept true e k = kept_signal e.declared k
+    kept false e k = k
+
+functions_one : (Q : SignalMeaning → Type 0) (w : List ℕ) (limits : Limits) (scope : ℕ) (outer : Env) (counts : Counts) (ds : List Declaration) (es : List Entry)
+    → ((c : Counts) (fs : List Entry) → IsSignalWith Q (find_entry fs w) → IsSignalWith Q (find_entry (said_functions limits scope outer c ds fs).entries w))
+    → (n : tree.Name) (k : Sort) → IsSignalWith Q (find_entry es w) → IsSignalWith Q (find_entry (said_functions limits scope outer counts (record { name = n; sort = k } ∷ ds) es).entries w)
+functions_one Q w limits scope outer counts ds es next n (SignalOf q) h = next counts es h
+functions_one Q w limits scope outer counts ds es next n (ParameterOf p) h = next counts es h
+functions_one Q w limits scope outer counts ds es next n GenvarSort h = next counts es h
+functions_one Q w limits scope outer counts ds es next n IntegerSort h = next counts es h
+functions_one Q w limits scope outer counts ds es next n InstanceSort h = next counts es h
+functions_one Q w limits scope outer counts ds es next n (FunctionOf f) h =
+    let s = next_function limits scope (within outer es) counts f in
+    next (and_function counts s) (put_function n.bytes s.meaning es) (function_put Q w n.bytes s.meaning es h)
+
+pub functions_put : (Q : SignalMeaning → Type 0) (w : List ℕ) (limits : Limits) (scope : ℕ) (outer : Env) (counts : Counts) (ds : List Declaration) (es : List Entry) → IsSignalWith Q (find_entry es w)
+    → IsSignalWith Q (find_entry (said_functions limits scope outer counts ds es).entries w)
+functions_put Q w limits scope outer counts [] es h = h
+functions_put Q w limits scope outer counts (a ∷ ds) es h = functions_one Q w limits scope outer counts ds es (λ c fs k. functions_put Q w limits scope outer c ds fs k) a.name a.sort h
 
 pub entry_within : (Q : SignalMeaning → Type 0) (w : List ℕ) (xs ys : List Entry) → IsSignalWith Q (find_entry xs w) → IsSignalWith Q (find_entry (xs ++ ys) w)
 entry_within Q w [] ys h = absurd h
@@ -328,6 +377,8 @@ abbrev pub IsSignalOf : Bool → Sort → Type 0
 IsSignalOf input (SignalOf s) = (is_input s.kind ≡ input) × (is_port_sort s ≡ true)
 IsSignalOf input (ParameterOf p) = ⊥
 IsSignalOf input GenvarSort = ⊥
+IsSignalOf input (FunctionOf f) = ⊥
+IsSignalOf input IntegerSort = ⊥
 IsSignalOf input InstanceSort = ⊥
 
 -- whether neither is a memory
@@ -360,9 +411,13 @@ sort_may (SignalOf a) (SignalOf b) h (inl e) = input_may a.kind (ap (λ (s : Sig
 sort_may (SignalOf a) (SignalOf b) h (inr e) = first_may a.kind b.kind h.0 (sorts_kinds a b e)
 sort_may (SignalOf a) (ParameterOf p) h e = absurd h
 sort_may (SignalOf a) GenvarSort h e = absurd h
+sort_may (SignalOf a) (FunctionOf f) h e = absurd h
+sort_may (SignalOf a) IntegerSort h e = absurd h
 sort_may (SignalOf a) InstanceSort h e = absurd h
 sort_may (ParameterOf p) l h e = tt
 sort_may GenvarSort l h e = tt
+sort_may (FunctionOf f) l h e = tt
+sort_may IntegerSort l h e = tt
 sort_may InstanceSort l h e = tt
 
 -- both declarations of a signal whose first may be an input are of a net
@@ -373,7 +428,9 @@ second_may s (Some b) h k = of b.name b.sort (k b refl)
     of : (n : tree.Name) (l : Sort) → are_sorts_of_one (SignalOf s) l ≡ true → is_reg (second_sort s (Some (record { name = n; sort = l }))).kind ≡ false
     of n (SignalOf t) e = second_net s.kind t.kind h (sorts_kinds s t e)
     of n (ParameterOf p) e = cc
+    of n (FunctionOf f) e = cc
     of n GenvarSort e = cc
+    of n IntegerSort e = cc
     of n InstanceSort e = cc
 
 pub both_net : (s : SignalSort) (second : Option Declaration) → may_be_input s.kind ≡ true → ((b : Declaration) → second ≡ Some b → are_sorts_of_one (SignalOf s) b.sort ≡ true) → not (is_reg s.kind || is_reg (second_sort s second).kind) ≡ true
@@ -385,6 +442,8 @@ abbrev pub IsNetOf : Sort → Option Declaration → Type 0
 IsNetOf (SignalOf s) second = not (is_reg s.kind || is_reg (second_sort s second).kind) ≡ true
 IsNetOf (ParameterOf p) second = Unit {0}
 IsNetOf GenvarSort second = Unit {0}
+IsNetOf (FunctionOf f) second = Unit {0}
+IsNetOf IntegerSort second = Unit {0}
 IsNetOf InstanceSort second = Unit {0}
 
 abbrev pub IsNetNamed : List ℕ → Named → Type 0
@@ -394,12 +453,16 @@ pub net_of : (k : Sort) (second : Option Declaration) → MayBeInput k → ((b :
 net_of (SignalOf s) second h k = both_net s second h k
 net_of (ParameterOf p) second h k = tt
 net_of GenvarSort second h k = tt
+net_of (FunctionOf f) second h k = tt
+net_of IntegerSort second h k = tt
 net_of InstanceSort second h k = tt
 
 abbrev pub IsAnySignal : Sort → Type 0
 IsAnySignal (SignalOf s) = Unit {0}
 IsAnySignal (ParameterOf p) = ⊥
 IsAnySignal GenvarSort = ⊥
+IsAnySignal (FunctionOf f) = ⊥
+IsAnySignal IntegerSort = ⊥
 IsAnySignal InstanceSort = ⊥
 
 pub any_signal : (b : Bool) (k l : Sort) → IsSignalOf b l → (k ≡ l) ⊎ (are_sorts_of_one k l ≡ true) → IsAnySignal k
@@ -410,15 +473,23 @@ any_signal b GenvarSort (SignalOf t) h (inl e) = cc
 any_signal b GenvarSort (SignalOf t) h (inr e) = cc
 any_signal b InstanceSort (SignalOf t) h (inl e) = cc
 any_signal b InstanceSort (SignalOf t) h (inr e) = cc
+any_signal b (FunctionOf f) (SignalOf t) h (inl e) = cc
+any_signal b (FunctionOf f) (SignalOf t) h (inr e) = cc
+any_signal b IntegerSort (SignalOf t) h (inl e) = cc
+any_signal b IntegerSort (SignalOf t) h (inr e) = cc
 any_signal b k (ParameterOf p) h e = absurd h
 any_signal b k GenvarSort h e = absurd h
+any_signal b k (FunctionOf f) h e = absurd h
+any_signal b k IntegerSort h e = absurd h
 any_signal b k InstanceSort h e = absurd h
 
-pub first_with : (Q : SignalMeaning → Type 0) → Q (record { signal = no_signal; input = false; known = false }) → (k : Sort) → IsAnySignal k → IsDeclaredWith Q (first_declared k)
-first_with Q q (SignalOf s) h = q
-first_with Q q (ParameterOf p) h = absurd h
-first_with Q q GenvarSort h = absurd h
-first_with Q q InstanceSort h = absurd h
+pub first_with : (Q : SignalMeaning → Type 0) → Q (record { signal = no_signal; input = false; role = InModule; known = false }) → (scope : ℕ) (k : Sort) → IsAnySignal k → IsDeclaredWith Q (first_declared scope k)
+first_with Q q scope (SignalOf s) h = q
+first_with Q q scope (ParameterOf p) h = absurd h
+first_with Q q scope (FunctionOf f) h = absurd h
+first_with Q q scope GenvarSort h = absurd h
+first_with Q q scope IntegerSort h = absurd h
+first_with Q q scope InstanceSort h = absurd h
 
 -- an input is a net, by its one or two declarations
 pub input_net : (s : SignalSort) (second : Option Declaration) → ((b : Declaration) → second ≡ Some b → are_sorts_of_one (SignalOf s) b.sort ≡ true) → (is_input s.kind || is_input (second_sort s second).kind) ≡ true
@@ -428,7 +499,9 @@ input_net s second k h = both_net s second (of second k (is_input s.kind) refl h
     other : (b : Declaration) (l : Sort) → are_sorts_of_one (SignalOf s) l ≡ true → is_input (second_sort s (Some (record { name = b.name; sort = l }))).kind ≡ true → may_be_input s.kind ≡ true
     other b (SignalOf t) e i = first_may s.kind t.kind i (sorts_kinds s t e)
     other b (ParameterOf p) e i = cc
+    other b (FunctionOf f) e i = cc
     other b GenvarSort e i = cc
+    other b IntegerSort e i = cc
     other b InstanceSort e i = cc
 
     of : (o : Option Declaration) → ((b : Declaration) → o ≡ Some b → are_sorts_of_one (SignalOf s) b.sort ≡ true) → (c : Bool) → is_input s.kind ≡ c → (c || is_input (second_sort s o).kind) ≡ true → may_be_input s.kind ≡ true
@@ -454,7 +527,9 @@ said_nets w env (n ∷ ns) start t h = of n.first.name n.first.sort n.second h.0
         let m : Named = record { first = record { name = v; sort = SignalOf s }; second = second } in
         (λ e. (g e, never (is_input s.kind || is_input (second_sort s second).kind) start.top t), rest (after start (said_signal env start m s).meaning) t)
     of v (ParameterOf p) second g rest = rest start t
+    of v (FunctionOf f) second g rest = rest start t
     of v GenvarSort second g rest = rest start t
+    of v IntegerSort second g rest = rest start t
     of v InstanceSort second g rest = rest start t
 
 -- ---- the signal of a port is no memory
@@ -464,12 +539,14 @@ port_plain s h x = of (has_addresses s) refl
   where
     of : (b : Bool) → has_addresses s ≡ b → b ≡ false
     of false e = refl
-    of true e = absurd (no (sym h ∙ ap (λ c. c || is_port_kind s.kind) (x.body e) ∙ ap is_port_kind (x.variable e)))
+    of true e = absurd (no (sym h ∙ ap (λ c. c || is_port_kind s.kind) (x.body e) ∙ x.inner e))
 
 abbrev pub IsPlainSort : Sort → Type 0
 IsPlainSort (SignalOf s) = has_addresses s ≡ false
 IsPlainSort (ParameterOf p) = Unit {0}
 IsPlainSort GenvarSort = Unit {0}
+IsPlainSort (FunctionOf f) = Unit {0}
+IsPlainSort IntegerSort = Unit {0}
 IsPlainSort InstanceSort = Unit {0}
 
 pub plain_of : (b : Bool) (k l : Sort) → IsSignalOf b l → IsShapedSort l → (k ≡ l) ⊎ (are_sorts_of_one k l ≡ true) → IsPlainSort k
@@ -480,9 +557,13 @@ plain_of b (SignalOf a) (SignalOf t) h x (inl e) = ap has_addresses (same e) ∙
 plain_of b (SignalOf a) (SignalOf t) h x (inr e) = sorts_first a t e
 plain_of b (SignalOf a) (ParameterOf p) h x e = absurd h
 plain_of b (SignalOf a) GenvarSort h x e = absurd h
+plain_of b (SignalOf a) (FunctionOf f) h x e = absurd h
+plain_of b (SignalOf a) IntegerSort h x e = absurd h
 plain_of b (SignalOf a) InstanceSort h x e = absurd h
 plain_of b (ParameterOf p) l h x e = tt
 plain_of b GenvarSort l h x e = tt
+plain_of b (FunctionOf f) l h x e = tt
+plain_of b IntegerSort l h x e = tt
 plain_of b InstanceSort l h x e = tt
 
 abbrev pub IsPlainNamed : List ℕ → Named → Type 0
@@ -505,24 +586,39 @@ said_plain w env (n ∷ ns) start h = of n.first.name n.first.sort n.second h.0 
         let m : Named = record { first = record { name = v; sort = SignalOf s }; second = second } in
         (λ e. no_words s.addresses env (g e), rest (after start (said_signal env start m s).meaning))
     of v (ParameterOf p) second g rest = rest start
+    of v (FunctionOf f) second g rest = rest start
     of v GenvarSort second g rest = rest start
+    of v IntegerSort second g rest = rest start
     of v InstanceSort second g rest = rest start
 
 -- a memory is a variable, with one declaration
-pub memory_variable : (s : SignalSort) (second : Option Declaration) → IsShapedSignal s → ((b : Declaration) → second ≡ Some b → are_sorts_of_one (SignalOf s) b.sort ≡ true) → has_addresses s ≡ true
+pub memory_variable : (s : SignalSort) (second : Option Declaration) → IsShapedSignal s → (has_addresses s && not (is_reg s.kind)) ≡ false → ((b : Declaration) → second ≡ Some b → are_sorts_of_one (SignalOf s) b.sort ≡ true) → has_addresses s ≡ true
     → (not (is_reg s.kind || is_reg (second_sort s second).kind) ≡ false) × ((is_input s.kind || is_input (second_sort s second).kind) ≡ false)
-memory_variable s second x k h = alone second k (x.variable h)
+memory_variable s second x r k h = alone second k
   where
-    one : (kind : SignalKind) → kind ≡ Reg → (not (is_reg kind || is_reg kind) ≡ false) × ((is_input kind || is_input kind) ≡ false)
-    one kind e = (ap (λ c. not (is_reg c || is_reg c)) e, ap (λ c. is_input c || is_input c) e)
+    reg : (a b : Bool) → a ≡ true → (a && not b) ≡ false → b ≡ true
+    reg true true e i = refl
+    reg true false e i = cc
+    reg false b e i = cc
+
+    one : (kind : SignalKind) → is_port_kind kind ≡ false → is_reg kind ≡ true → (not (is_reg kind || is_reg kind) ≡ false) × ((is_input kind || is_input kind) ≡ false)
+    one Reg e i = (refl, refl)
+    one Wire e i = cc
+    one Input e i = cc
+    one InputWire e i = cc
+    one Output e i = cc
+    one OutputWire e i = cc
+    one OutputReg e i = cc
 
     two : (b : Declaration) (l : Sort) → are_sorts_of_one (SignalOf s) l ≡ true → ⊥
     two b (SignalOf t) e = no (sym h ∙ sorts_first s t e)
     two b (ParameterOf p) e = cc
+    two b (FunctionOf f) e = cc
     two b GenvarSort e = cc
+    two b IntegerSort e = cc
     two b InstanceSort e = cc
 
-    alone : (o : Option Declaration) → ((b : Declaration) → o ≡ Some b → are_sorts_of_one (SignalOf s) b.sort ≡ true) → s.kind ≡ Reg
+    alone : (o : Option Declaration) → ((b : Declaration) → o ≡ Some b → are_sorts_of_one (SignalOf s) b.sort ≡ true)
         → (not (is_reg s.kind || is_reg (second_sort s o).kind) ≡ false) × ((is_input s.kind || is_input (second_sort s o).kind) ≡ false)
-    alone None k e = one s.kind e
-    alone (Some b) k e = absurd (two b b.sort (k b refl))
+    alone None k = one s.kind (x.inner h) (reg (has_addresses s) (is_reg s.kind) h r)
+    alone (Some b) k = absurd (two b b.sort (k b refl))

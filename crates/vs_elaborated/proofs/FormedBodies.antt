@@ -1,8 +1,11 @@
 -- Targets, statements and event controls without a fault are formed.
-use Rattle.std.proofs.Common.{◌≡◌, ℕ, Bool, true, false, not, ◌&&◌, ◌||◌, List, [], ◌∷◌, ◌++◌, Option, Some, None, is_none, is_some, refl, sym, ap, ◌∙◌, subst}
+use Rattle.std.proofs.Common.{◌≡◌, ℕ, Bool, true, false, not, ◌&&◌, ◌||◌, List, [], ◌∷◌, ◌++◌, length, Option, Some, None, is_none, is_some, if◌then◌else◌, refl, sym, ap, ◌∙◌, subst, arith}
 use Rattle.std.specs.List.{list_all}
 use Rattle.vs_four.specs.declared.Range.{Range}
+use Rattle.vs_four.specs.Logic.{BitList}
 use Rattle.vs_design.specs.Expressions.{Signal, OfSignal, items_of}
+use Rattle.vs_design.specs.Statements.{Statement}
+use Rattle.vs_design.specs.Clocks.{same_name}
 use Rattle.vs_design.specs.Designs.{Design, Edge, is_edge}
 use Rattle.vs_design.specs.Footprints.{is_net, is_variable}
 use Rattle.vs_design.specs.Fits.{fits_64}
@@ -10,16 +13,18 @@ use Rattle.vs_design.specs.Elaborated.{is_plain, has_words, has_items, are_forme
 use Rattle.vs_grammar.specs.Trees as tree
 use Rattle.vs_grammar.specs.Trees.{expr_place, target_place}
 use Rattle.vs_grammar.specs.Shapes.{IsExpr, IsSelect, IsTarget, ArePartsOfTarget, AreTargets, IsStatement, IsFallback, AreStatements, AreArms, OneOrMore, Each, IsControl, AreParts, AreExprs}
-use Rattle.vs_const.specs.Meanings.{SignalMeaning, Meaning, AValue, Undefined, ASignal, AMemory, Another, Unknown, Find}
-use Rattle.vs_const.specs.Selects.{Base, is_scalar, Taken, taken, slice_taken, first_needed}
+use Rattle.vs_const.specs.Meanings.{SignalMeaning, Meaning, AValue, Undefined, ASignal, AMemory, AFunction, Incomplete, Another, Barred, Unknown, Find, steady, turn_value, turning}
+use Rattle.vs_const.specs.Selects.{Base, is_scalar, Taken, taken, slice_taken, first_needed, first_names}
 use Rattle.vs_const.specs.Faults.{fault_if}
 use Rattle.vs_const.specs.Expressions.{typed}
 use Rattle.vs_const.specs.Typed.{Typed}
 use Rattle.vs_const.specs.Sound.{IsSound, AreSound, IsFine}
-use Rattle.vs_const.proofs.Formed.{sound_needed, first_sound, both_nil, no_fault, both, IsFineTaken, taken_faults, bit_fine, slice_fine, typed_fine, same_itself}
-use Rattle.vs_elaborated.specs.Targets.{meant_signal, TypedTarget, is_wrong_target, target_base, part_target, bit_target, selected_target, typed_target, typed_targets, targeted, and_target, as_target, as_targets}
-use Rattle.vs_elaborated.specs.Statements.{TypedStatement, typed_list, typed_statement, typed_fallback, typed_sequence, typed_arms, event_faults, typed_events, typed_control}
-use Rattle.vs_const.specs.declared.rules.Rule.TheVariants.{WrongKind}
+use Rattle.vs_const.proofs.Steady.{sound_needed, first_sound, steady_sound}
+use Rattle.vs_const.proofs.Formed.{both_nil, no_fault, both, IsFineTaken, taken_faults, bit_fine, slice_fine, typed_fine, same_itself}
+use Rattle.vs_elaborated.specs.Targets.{meant_signal, TypedTarget, is_wrong_target, target_rule, target_base, part_target, bit_target, selected_target, typed_target, typed_targets, targeted, and_target, as_target, as_targets}
+use Rattle.vs_elaborated.specs.Statements.{Body, TypedStatement, typed_list, delayed_faults, word_faults, Local, scope_locals, find_local, is_integer, local_or, scoped, local_faults, typed_statement, typed_fallback, typed_sequence, typed_arms, event_faults, typed_events, typed_control}
+use Rattle.vs_elaborated.proofs.TurnsLaw.{loop_law}
+use Rattle.vs_const.specs.declared.rules.Rule.TheVariants.{WrongKind, LoopVariable}
 
 -- what a target may write
 abbrev pub allowed : Bool → Signal → Bool
@@ -51,10 +56,6 @@ may_write : (procedural : Bool) (s : SignalMeaning) → is_wrong_target procedur
 may_write true s h k = right_kind true s.input s.signal.net s.signal.input h k
 may_write false s h k = right_kind false s.input s.signal.net s.signal.input h k
 
-either_false : (a b : Bool) → (a || b) ≡ false → (a ≡ false) × (b ≡ false)
-either_false true b h = cc
-either_false false b h = (refl, h)
-
 -- what a name gives to a target
 pub record IsFineName (d : Design) (procedural selected : Bool) (m : Meaning) : Type 0 where
   pub signal : is_plain d (meant_signal m) ≡ true
@@ -74,25 +75,33 @@ has_range s None e k h = absurd (no (scalar s.known s.signal.range k e) h)
     no g i = cc
 
 name_of_target : (d : Design) (procedural selected : Bool) (place : ℕ) (m : Meaning) → IsSound d false m → (target_base procedural place selected m).faults ≡ [] → IsFineName d procedural selected m
-name_of_target d procedural selected place (AValue v r) s h = cc
+name_of_target d procedural selected place (AValue v r turns) s h = cc
 name_of_target d procedural selected place (Undefined r) s h = absurd s
 name_of_target d procedural selected place (ASignal m) s h =
-    let n = either_false (is_wrong_target procedural m) (selected && is_scalar m) (no_fault (is_wrong_target procedural m || (selected && is_scalar m)) WrongKind place h) in
-    record { signal = s.0; allowed_to = may_write procedural m n.0 s.2; range = λ k. has_range m m.signal.range refl s.1 (unselected selected (is_scalar m) k n.1) }
+    let n = both_nil (fault_if (is_wrong_target procedural m) (target_rule m) place) (fault_if (selected && is_scalar m) WrongKind place) h in
+    let right = no_fault (is_wrong_target procedural m) (target_rule m) place n.0 in
+    let wide = no_fault (selected && is_scalar m) WrongKind place n.1 in
+    record { signal = s.0; allowed_to = may_write procedural m right s.2; range = λ k. has_range m m.signal.range refl s.1 (unselected selected (is_scalar m) k wide) }
   where
     unselected : (a b : Bool) → a ≡ true → (a && b) ≡ false → b ≡ false
     unselected true b k h = h
     unselected false b k h = cc
 name_of_target d procedural selected place (AMemory m) s h = cc
+name_of_target d procedural selected place (AFunction f) s h = cc
+name_of_target d procedural selected place Incomplete s h = cc
 name_of_target d procedural selected place Another s h = cc
+name_of_target d procedural selected place (Barred rule) s h = cc
 name_of_target d procedural selected place Unknown s h = cc
 
 base_range : (procedural selected : Bool) (place : ℕ) (m : Meaning) (r : Range) → (target_base procedural place selected m).faults ≡ [] → (meant_signal m).range ≡ Some r → (target_base procedural place selected m).range ≡ Some r
-base_range procedural selected place (AValue v q) r h e = cc
+base_range procedural selected place (AValue v q turns) r h e = cc
 base_range procedural selected place (Undefined q) r h e = cc
 base_range procedural selected place (ASignal m) r h e = e
 base_range procedural selected place (AMemory m) r h e = cc
+base_range procedural selected place (AFunction f) r h e = cc
+base_range procedural selected place Incomplete r h e = cc
 base_range procedural selected place Another r h e = cc
+base_range procedural selected place (Barred rule) r h e = cc
 base_range procedural selected place Unknown r h e = cc
 
 part_target_fine : (d : Design) (procedural : Bool) (m : Meaning) (b : Base) (t : Taken) (r : Range) → IsFineName d procedural true m → (meant_signal m).range ≡ Some r → IsFineTaken d (not procedural) r t → IsFineTarget d procedural (part_target (meant_signal m) b t)
@@ -136,10 +145,13 @@ bit_target_fine d procedural place (AMemory m) i s i_if h =
     three true true false h k l = cc
     three true false c h k l = cc
     three false b c h k l = cc
-bit_target_fine d procedural place (AValue v r) i s i_if h = selected_bit_fine d procedural place (AValue v r) i s i_if h
+bit_target_fine d procedural place (AValue v r turns) i s i_if h = selected_bit_fine d procedural place (AValue v r turns) i s i_if h
 bit_target_fine d procedural place (Undefined r) i s i_if h = absurd s
 bit_target_fine d procedural place (ASignal m) i s i_if h = selected_bit_fine d procedural place (ASignal m) i s i_if h
+bit_target_fine d procedural place (AFunction f) i s i_if h = selected_bit_fine d procedural place (AFunction f) i s i_if h
+bit_target_fine d procedural place Incomplete i s i_if h = selected_bit_fine d procedural place Incomplete i s i_if h
 bit_target_fine d procedural place Another i s i_if h = selected_bit_fine d procedural place Another i s i_if h
+bit_target_fine d procedural place (Barred rule) i s i_if h = selected_bit_fine d procedural place (Barred rule) i s i_if h
 bit_target_fine d procedural place Unknown i s i_if h = selected_bit_fine d procedural place Unknown i s i_if h
 
 module _ (d : Design) (find : Find) (s : AreSound d false find) where
@@ -156,17 +168,20 @@ module _ (d : Design) (find : Find) (s : AreSound d false find) where
   selected_target_fine (tree.Slice bracket kind e g) name procedural x h =
       let m = find name.bytes in
       let b = target_base procedural name.place true m in
-      let t = slice_taken b.range bracket kind (expr_place e) (typed e find (first_needed kind (not procedural))) (expr_place g) (typed g find true) in
+      let first = typed e (first_names kind find) (first_needed kind (not procedural)) in
+      let second = typed g (steady find) true in
+      let t = slice_taken b.range bracket kind (expr_place e) first (expr_place g) second in
       let k = both_nil b.faults t.faults h in
       let n = name_of_target d procedural true name.place m (s name.bytes) k.0 in
       let r = n.range refl in
       part_target_fine d procedural m b t r.0 n r.1
-      (slice_fine d (not procedural) b.range r.0 bracket kind (expr_place e) (typed e find (first_needed kind (not procedural))) (expr_place g) (typed g find true) (base_range procedural true name.place m r.0 k.0 r.1)
-      (typed_fine d find e (first_needed kind (not procedural)) (first_sound d kind (not procedural) find (weaker (not procedural))) x.0) (typed_fine d find g true (weaker true) x.1) k.1)
+      (slice_fine d (not procedural) b.range r.0 bracket kind (expr_place e) first (expr_place g) second (base_range procedural true name.place m r.0 k.0 r.1)
+      (typed_fine d (first_names kind find) e (first_needed kind (not procedural)) (first_sound d kind (not procedural) find (weaker (not procedural))) x.0) (typed_fine d (steady find) g true (steady_sound d false find s) x.1) k.1)
     where
       weaker : (b : Bool) → AreSound d b find
       weaker true = λ name. sound_needed d false (find name) (s name)
       weaker false = s
+  selected_target_fine (tree.OfWord bracket address part) name procedural x h = cc
 
   mutual
     pub target_fine : (t : tree.Target) (procedural : Bool) → IsTarget t → (typed_target t find procedural).faults ≡ [] → IsFineTarget d procedural (typed_target t find procedural)
@@ -199,48 +214,88 @@ module _ (d : Design) (find : Find) (s : AreSound d false find) where
   labels_fine [] x h = absurd x
   labels_fine (e ∷ es) x h = (list_fine (e ∷ es) (x.0, x.1) h, refl)
 
+-- what the variables of named blocks mean in a body is sound
+abbrev pub IsSoundBody : Design → Body → Type 0
+IsSoundBody d body = (place : ℕ) → IsSound d false (body.declared place)
+
+turning_sound : (d : Design) (find : Find) (name : List ℕ) (bits : BitList) → length bits ≡ 32 → AreSound d false find → AreSound d false (turning find name bits)
+turning_sound d find name bits e s other = of (same_name name other)
+  where
+    of : (b : Bool) → IsSound d false (if b then turn_value bits else find other)
+    of true = (record { some = omega (arith, e); most = omega (arith, e); range = sym e }, refl)
+    of false = s other
+
+scoped_sound : (d : Design) (body : Body) → IsSoundBody d body → (locals : List Local) (find : Find) → AreSound d false find → AreSound d false (scoped body.declared locals find)
+scoped_sound d body b locals find s name = of (find_local locals name)
+  where
+    local : (v : Local) (c : Bool) → IsSound d false (if c then Barred LoopVariable else body.declared v.name.place)
+    local v true = tt
+    local v false = b v.name.place
+
+    of : (o : Option Local) → IsSound d false (local_or body.declared o (find name))
+    of None = s name
+    of (Some v) = local v (is_integer v)
+
+module _ (d : Design) (body : Body) (b : IsSoundBody d body) where
   mutual
-    pub statement_fine : (st : tree.Statement) → IsStatement st → (typed_statement st find).faults ≡ [] → is_formed_statement d (typed_statement st find).statement ≡ true
-    statement_fine (tree.Empty place) x h = refl
-    statement_fine (tree.Assignment target e blocking) x h =
-        let n = both_nil (typed_target target find true).faults (typed e find false).faults h in
-        both (is_formed_target d is_variable (typed_target target find true).target) (is_formed d (typed e find false).expression) (target_fine target true x.0 n.0).formed (typed_fine d find e false s x.1 n.1).formed
-    statement_fine (tree.If place c taken other) x h =
-        let n = both_nil (typed c find false).faults ((typed_statement taken find).faults ++ (typed_fallback other find).faults) h in
-        let m = both_nil (typed_statement taken find).faults (typed_fallback other find).faults n.1 in
-        three (is_formed d (typed c find false).expression) (is_formed_statement d (typed_statement taken find).statement) (is_formed_statement d (typed_fallback other find).statement) (typed_fine d find c false s x.0 n.0).formed (statement_fine taken x.1 m.0) (fallback_fine other x.2 m.1)
+    pub statement_fine : (st : tree.Statement) (find : Find) → AreSound d false find → IsStatement st → (typed_statement st body find).faults ≡ [] → is_formed_statement d (typed_statement st body find).statement ≡ true
+    statement_fine (tree.Empty place) find s x h = refl
+    statement_fine (tree.Assignment target e blocking) find s x h =
+        let t = typed_target target find true in
+        let v = typed e find false in
+        let n = both_nil (delayed_faults body (target_place target) blocking) (word_faults body.clocked target find ++ (t.faults ++ v.faults)) h in
+        let m = both_nil (word_faults body.clocked target find) (t.faults ++ v.faults) n.1 in
+        let l = both_nil t.faults v.faults m.1 in
+        both (is_formed_target d is_variable t.target) (is_formed d v.expression) (target_fine d find s target true x.0 l.0).formed (typed_fine d find e false s x.1 l.1).formed
+    statement_fine (tree.If place c taken other) find s x h =
+        let one = typed_statement taken body find in
+        let two = typed_fallback other body find in
+        let n = both_nil (typed c find false).faults (one.faults ++ two.faults) h in
+        let m = both_nil one.faults two.faults n.1 in
+        three (is_formed d (typed c find false).expression) (is_formed_statement d one.statement) (is_formed_statement d two.statement) (typed_fine d find c false s x.0 n.0).formed (statement_fine taken find s x.1 m.0) (fallback_fine other find s x.2 m.1)
       where
         three : (a b c : Bool) → a ≡ true → b ≡ true → c ≡ true → (a && b && c) ≡ true
         three true true true h k l = refl
         three true true false h k l = cc
         three true false c h k l = cc
         three false b c h k l = cc
-    statement_fine (tree.Case place kind subject arms other) x h =
-        let r = typed_arms arms find (typed_fallback other find) in
+    statement_fine (tree.Case place kind subject arms other) find s x h =
+        let o = typed_fallback other body find in
+        let r = typed_arms arms body find o in
         let n = both_nil (typed subject find false).faults r.faults h in
-        both (is_formed d (typed subject find false).expression) (are_formed_arms d r.arms) (typed_fine d find subject false s x.0 n.0).formed (arms_fine arms (typed_fallback other find) x.1 (λ k. fallback_fine other x.2 k) n.1)
-    statement_fine (tree.Sequence place parts) x h = sequence_fine parts x h
+        both (is_formed d (typed subject find false).expression) (are_formed_arms d r.arms) (typed_fine d find subject false s x.0 n.0).formed (arms_fine arms find s o x.1 (λ k. fallback_fine other find s x.2 k) n.1)
+    statement_fine (tree.Sequence place scope parts) find s x h =
+        let locals = scope_locals scope in
+        let inner = scoped body.declared locals find in
+        sequence_fine parts inner (scoped_sound d body b locals find s) x.1 (both_nil (local_faults body locals) (typed_sequence parts body inner).faults h).1
+    statement_fine (tree.For head statement) find s x h =
+        loop_law (λ (t : Statement). is_formed_statement d t ≡ true) (AreSound d false) refl (λ t u p q. both (is_formed_statement d t) (is_formed_statement d u) p q) (turning_sound d) body (λ inner. typed_statement statement body inner)
+        (λ inner q k. statement_fine statement inner q x.1 k) head find s h
 
-    fallback_fine : (other : tree.Fallback) → IsFallback other → (typed_fallback other find).faults ≡ [] → is_formed_statement d (typed_fallback other find).statement ≡ true
-    fallback_fine tree.NoFallback x h = refl
-    fallback_fine (tree.Otherwise st) x h = statement_fine st x h
+    fallback_fine : (other : tree.Fallback) (find : Find) → AreSound d false find → IsFallback other → (typed_fallback other body find).faults ≡ [] → is_formed_statement d (typed_fallback other body find).statement ≡ true
+    fallback_fine tree.NoFallback find s x h = refl
+    fallback_fine (tree.Otherwise st) find s x h = statement_fine st find s x h
 
-    sequence_fine : (parts : tree.Statements) → AreStatements parts → (typed_sequence parts find).faults ≡ [] → is_formed_statement d (typed_sequence parts find).statement ≡ true
-    sequence_fine tree.NoStatement x h = refl
-    sequence_fine (tree.AndStatement st tree.NoStatement) x h = statement_fine st x.0 h
-    sequence_fine (tree.AndStatement st (tree.AndStatement next rest)) x h =
-        let n = both_nil (typed_statement st find).faults (typed_sequence (tree.AndStatement next rest) find).faults h in
-        both (is_formed_statement d (typed_statement st find).statement) (is_formed_statement d (typed_sequence (tree.AndStatement next rest) find).statement) (statement_fine st x.0 n.0) (sequence_fine (tree.AndStatement next rest) x.1 n.1)
+    sequence_fine : (parts : tree.Statements) (find : Find) → AreSound d false find → AreStatements parts → (typed_sequence parts body find).faults ≡ [] → is_formed_statement d (typed_sequence parts body find).statement ≡ true
+    sequence_fine tree.NoStatement find s x h = refl
+    sequence_fine (tree.AndStatement st tree.NoStatement) find s x h = statement_fine st find s x.0 h
+    sequence_fine (tree.AndStatement st (tree.AndStatement next rest)) find s x h =
+        let one = typed_statement st body find in
+        let others = typed_sequence (tree.AndStatement next rest) body find in
+        let n = both_nil one.faults others.faults h in
+        both (is_formed_statement d one.statement) (is_formed_statement d others.statement) (statement_fine st find s x.0 n.0) (sequence_fine (tree.AndStatement next rest) find s x.1 n.1)
 
-    arms_fine : (arms : tree.CaseArms) (other : TypedStatement) → AreArms arms → (other.faults ≡ [] → is_formed_statement d other.statement ≡ true) → (typed_arms arms find other).faults ≡ [] → are_formed_arms d (typed_arms arms find other).arms ≡ true
-    arms_fine tree.NoArm other x k h = k h
-    arms_fine (tree.AndArm labels st rest) other x k h =
+    arms_fine : (arms : tree.CaseArms) (find : Find) → AreSound d false find → (other : TypedStatement) → AreArms arms → (other.faults ≡ [] → is_formed_statement d other.statement ≡ true) → (typed_arms arms body find other).faults ≡ []
+        → are_formed_arms d (typed_arms arms body find other).arms ≡ true
+    arms_fine tree.NoArm find s other x k h = k h
+    arms_fine (tree.AndArm labels st rest) find s other x k h =
         let es = typed_list labels find in
-        let r = typed_arms rest find other in
-        let n = both_nil es.faults ((typed_statement st find).faults ++ r.faults) h in
-        let m = both_nil (typed_statement st find).faults r.faults n.1 in
-        let l = labels_fine labels x.0 n.0 in
-        four (has_items (items_of es.expressions)) (are_formed d (items_of es.expressions)) (is_formed_statement d (typed_statement st find).statement) (are_formed_arms d r.arms) l.1 l.0 (statement_fine st x.1 m.0) (arms_fine rest other x.2 k m.1)
+        let one = typed_statement st body find in
+        let r = typed_arms rest body find other in
+        let n = both_nil es.faults (one.faults ++ r.faults) h in
+        let m = both_nil one.faults r.faults n.1 in
+        let l = labels_fine d find s labels x.0 n.0 in
+        four (has_items (items_of es.expressions)) (are_formed d (items_of es.expressions)) (is_formed_statement d one.statement) (are_formed_arms d r.arms) l.1 l.0 (statement_fine st find s x.1 m.0) (arms_fine rest find s other x.2 k m.1)
       where
         four : (a b c e : Bool) → a ≡ true → b ≡ true → c ≡ true → e ≡ true → (a && b && c && e) ≡ true
         four true true true true h k l m = refl
@@ -249,10 +304,11 @@ module _ (d : Design) (find : Find) (s : AreSound d false find) where
         four true false c e h k l m = cc
         four false b c e h k l m = cc
 
+module _ (d : Design) (find : Find) (s : AreSound d false find) where
   -- ---- events
 
   event_fine : (place : ℕ) (edge : Edge) (m : Meaning) → IsSound d false m → event_faults place edge m ≡ [] → is_formed_event d (record { signal = meant_signal m; edge = edge }) ≡ true
-  event_fine place edge (AValue v r) q h = cc
+  event_fine place edge (AValue v r turns) q h = cc
   event_fine place edge (Undefined r) q h = absurd q
   event_fine place edge (ASignal m) q h = both (is_plain d m.signal) (not (is_edge edge) || is_none m.signal.range) q.0 (scalar (is_edge edge) m.signal.range (no_fault (is_edge edge && is_some m.signal.range) WrongKind place h))
     where
@@ -261,7 +317,10 @@ module _ (d : Design) (find : Find) (s : AreSound d false find) where
       scalar true (Some r) k = cc
       scalar false r k = refl
   event_fine place edge (AMemory m) q h = cc
+  event_fine place edge (AFunction f) q h = cc
+  event_fine place edge Incomplete q h = cc
   event_fine place edge Another q h = cc
+  event_fine place edge (Barred rule) q h = cc
   event_fine place edge Unknown q h = cc
 
   events_fine : (es : List tree.Event) → (typed_events es find).faults ≡ [] → list_all (is_formed_event d) (typed_events es find).events ≡ true
@@ -301,6 +360,7 @@ mutual
   as_target_shaped (tree.Brackets place e) t x h = as_target_shaped e t x h
   as_target_shaped (tree.Concatenation place parts) t x h = targeted_shaped place (as_targets parts) t (λ ts k. as_parts_shaped parts ts x k) h
   as_target_shaped (tree.Number n) t x h = cc
+  as_target_shaped (tree.Apply name arguments) t x h = cc
   as_target_shaped (tree.Unary place op a) t x h = cc
   as_target_shaped (tree.Binary op a b) t x h = cc
   as_target_shaped (tree.Choice c p q) t x h = cc

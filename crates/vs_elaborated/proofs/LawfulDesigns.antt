@@ -1,9 +1,10 @@
 -- Every design that elaboration gives of a shaped source is lawful.
-use Rattle.std.proofs.Common.{◌≡◌, ℕ, zero, suc, ◌+◌, ◌≤◌, ◌<◌, Bool, true, false, not, ◌&&◌, ◌||◌, ◌==◌, List, [], ◌∷◌, ◌++◌, map, length, Option, Some, None, is_none, if◌then◌else◌, nat_lt, refl, sym, ap, ◌∙◌, subst, arith, eq-eqb}
+use Rattle.std.proofs.Common.{◌≡◌, ℕ, zero, suc, ◌+◌, ◌≤◌, ◌<◌, Bool, true, false, not, ◌&&◌, ◌||◌, ◌==◌, List, [], ◌∷◌, map, length, Option, Some, None, is_none, if◌then◌else◌, nat_lt, refl, sym, ap, ◌∙◌, subst, arith, eq-eqb}
 use Rattle.std.specs.Prelude.{Result, Ok, Err, fold}
 use Rattle.std.specs.List.{list_all}
 use Rattle.std.proofs.lemmas.Bool.{lt-ltb}
 use Rattle.vs_design.specs.Expressions.{Signal, signal_length}
+use Rattle.vs_design.specs.Statements.{Function}
 use Rattle.vs_design.specs.Designs.{Process, Design, bit_count}
 use Rattle.vs_design.specs.Elaborated.{is_signal, is_lawful_range, is_declared, is_formed_process, is_formed_function, is_lawful_memory, has_clocked_words, IsLawfulDesign}
 use Rattle.vs_grammar.specs.Trees.{Module, Source}
@@ -18,10 +19,11 @@ use Rattle.vs_elaborated.specs.Pieces.{Task, Piece, Own, Instance, Within, Conne
 use Rattle.vs_elaborated.specs.Surveys.{declarations_of, Totals, no_totals, survey}
 use Rattle.vs_elaborated.specs.Elaborated.{both_designs, of_processes, then_do, port_assign, Read, ReadPieces, read_piece, read_pieces, counted, limit_faults, scope_design, read_scope, repeated_modules, top_task, scope_depth, elaborated_top, elaborated_within, elaborated}
 use Rattle.vs_elaborated.specs.Sound.{IsFineConnection, IsSoundTask, IsFinePiece, AreFinePieces, AreModules}
-use Rattle.vs_elaborated.proofs.NumberedSignals.{bits_of_all, AreBelow, GoodRead, good_scope, good_survey, GoodDesign, elaborated_numbered, unless}
+use Rattle.vs_elaborated.proofs.NumberedSignals.{bits_of_all, AreBelow, GoodRead, GoodPieces, good_pieces, good_scope, good_survey, GoodDesign, elaborated_numbered, unless}
 use Rattle.vs_elaborated.proofs.NestedScopes.{IsChild, AreChildren, survey_children, counted_scopes, NestedDesign, elaborated_nested}
 use Rattle.vs_elaborated.proofs.FewProcesses.{least_none, if_none, FewDesign, elaborated_few}
-use Rattle.vs_elaborated.proofs.SurveyNames.{each_append, survey_names}
+use Rattle.vs_elaborated.proofs.EachOf.{each_append, each_split}
+use Rattle.vs_elaborated.proofs.SurveyNames.{survey_functions, survey_names}
 use Rattle.vs_elaborated.proofs.FinePieces.{found_shaped, survey_pieces}
 use Rattle.vs_elaborated.proofs.PortNames.{IsDirected, IsDirectedPiece, AreDirectedPieces, survey_directed}
 use Rattle.vs_elaborated.proofs.PortsFormed.{IsDeclaredSignal, AreFineSignals, survey_signals, port_formed}
@@ -34,6 +36,10 @@ IsGoodProcess d p = (is_formed_process d p ≡ true) × (has_clocked_words p ≡
 abbrev pub AreFormed : Design → List Process → Type 0
 AreFormed d ps = Each (IsGoodProcess d) ps
 
+-- functions that are formed
+abbrev pub AreFormedFunctions : Design → List Function → Type 0
+AreFormedFunctions d fs = Each (λ (f : Function). is_formed_function d f ≡ true) fs
+
 -- a signal of lawful range, an input only where it is a net of the top, a memory only where it is a variable of few words
 abbrev pub IsFineSignal : Signal → Type 0
 IsFineSignal s = (is_lawful_range s.range ≡ true) × (s.input ≡ true → (s.net ≡ true) × (s.scope ≡ 0)) × (is_lawful_memory s ≡ true)
@@ -41,31 +47,27 @@ IsFineSignal s = (is_lawful_range s.range ≡ true) × (s.input ≡ true → (s.
 pub record FineRead (d : Design) (limits : Limits) (k : Task) (r : Read) : Type 0 where
   pub formed : AreFormed d r.design.processes
   pub declared : Each IsFineSignal r.design.signals
-  pub functions : r.design.functions ≡ []
+  pub functions : AreFormedFunctions d r.design.functions
   pub bits : r.totals.bits ≤ limits.bits
   pub ports : is_none k.parent ≡ false → (place : ℕ) (c : Connection) → IsFineConnection d c → IsDirected (declarations_of k.contents) c → IsGoodProcess d (port_assign place r.entries c)
 
 pub record FineParts (d : Design) (limits : Limits) (r : ReadPieces) : Type 0 where
   pub formed : AreFormed d r.design.processes
   pub declared : Each IsFineSignal r.design.signals
-  pub functions : r.design.functions ≡ []
+  pub functions : AreFormedFunctions d r.design.functions
   pub bits : r.totals.bits ≤ limits.bits
 
--- where the signals that were read are those of the design
+-- where the signals and the scopes that were read are those of the design
 abbrev pub ReadIsFine : Design → Limits → Task → Result Read Fault → Type 0
-ReadIsFine d limits k (Ok r) = AreIn d r.design.signals → FineRead d limits k r
+ReadIsFine d limits k (Ok r) = AreIn d r.design.signals → r.totals.scopes ≤ length d.scopes → FineRead d limits k r
 ReadIsFine d limits k (Err e) = Unit {0}
 
 abbrev pub PartsAreFine : Design → Limits → Result ReadPieces Fault → Type 0
-PartsAreFine d limits (Ok r) = AreIn d r.design.signals → FineParts d limits r
+PartsAreFine d limits (Ok r) = AreIn d r.design.signals → r.totals.scopes ≤ length d.scopes → FineParts d limits r
 PartsAreFine d limits (Err e) = Unit {0}
 
 abbrev pub ReadsFine : Design → Limits → (Task → Totals → Result Read Fault) → Type 0
 ReadsFine d limits read = (k : Task) (t : Totals) → IsSoundTask d k → (is_none k.parent ≡ true → t.scopes ≡ 0) → t.bits ≤ limits.bits → ReadIsFine d limits k (read k t)
-
-each_split : {A : Type 0} (P : A → Type 0) (xs ys : List A) → Each P (xs ++ ys) → Each P xs × Each P ys
-each_split P [] ys h = (tt, h)
-each_split P (x ∷ xs) ys h = let k = each_split P xs ys h.1 in ((h.0, k.0), k.1)
 
 ports_formed : (d : Design) (place : ℕ) (k : Task) (limits : Limits) (r : Read) → FineRead d limits k r → is_none k.parent ≡ false → (cs : List Connection) → Each (IsFineConnection d) cs → Each (IsDirected (declarations_of k.contents)) cs
     → AreFormed d (map (port_assign place r.entries) cs)
@@ -82,13 +84,13 @@ never_top o m n h k = absurd (no (sym k ∙ has_parent o m h))
     no e = cc
 
 piece_fine : (d : Design) (limits : Limits) (read : Task → Totals → Result Read Fault) → ReadsFine d limits read → (m : ℕ) (p : Piece) → IsFinePiece d p → IsDirectedPiece p → IsChild m p → (t : Totals) → t.bits ≤ limits.bits → PartsAreFine d limits (read_piece read p t)
-piece_fine d limits read h m (Own p) f g c t b = λ i. record { formed = (f, tt); declared = tt; functions = refl; bits = b }
+piece_fine d limits read h m (Own p) f g c t b = λ i l. record { formed = (f, tt); declared = tt; functions = tt; bits = b }
 piece_fine d limits read h m (Instance connections task) f g c t b = of (read task t) (h task t f.1 (never_top task.parent m t.scopes c) b)
   where
     of : (r : Result Read Fault) → ReadIsFine d limits task r → PartsAreFine d limits (then_do r λ s. Ok (record { design = both_designs (of_processes (map (port_assign task.place s.entries) connections)) s.design; totals = s.totals }))
     of (Err e) q = tt
-    of (Ok s) q = λ i.
-        let u = q i in
+    of (Ok s) q = λ i l.
+        let u = q i l in
         record {
           formed = each_append (IsGoodProcess d) (map (port_assign task.place s.entries) connections) s.design.processes (ports_formed d task.place task limits s u (has_parent task.parent m c) connections f.0 g) u.formed;
           declared = u.declared;
@@ -99,32 +101,33 @@ piece_fine d limits read h m (Within task) f g c t b = of (read task t) (h task 
   where
     of : (r : Result Read Fault) → ReadIsFine d limits task r → PartsAreFine d limits (then_do r λ s. Ok (record { design = s.design; totals = s.totals }))
     of (Err e) q = tt
-    of (Ok s) q = λ i. let u = q i in record { formed = u.formed; declared = u.declared; functions = u.functions; bits = u.bits }
+    of (Ok s) q = λ i l. let u = q i l in record { formed = u.formed; declared = u.declared; functions = u.functions; bits = u.bits }
 
-pieces_fine : (d : Design) (limits : Limits) (read : Task → Totals → Result Read Fault) → ReadsFine d limits read → (m : ℕ) (ps : List Piece) → AreFinePieces d ps → AreDirectedPieces ps → AreChildren m ps → (t : Totals) → t.bits ≤ limits.bits
+pieces_fine : (d : Design) (limits : Limits) (read : Task → Totals → Result Read Fault) → ((k : Task) (t : Totals) → GoodRead t (read k t)) → ReadsFine d limits read → (m : ℕ) (ps : List Piece) → AreFinePieces d ps → AreDirectedPieces ps → AreChildren m ps → (t : Totals) → t.bits ≤ limits.bits
     → PartsAreFine d limits (read_pieces read ps t)
-pieces_fine d limits read h m [] f g c t b = λ i. record { formed = tt; declared = tt; functions = refl; bits = b }
-pieces_fine d limits read h m (p ∷ ps) f g c t b = of (read_piece read p t) (piece_fine d limits read h m p f.0 g.0 c.0 t b) (λ u l. pieces_fine d limits read h m ps f.1 g.1 c.1 u l)
+pieces_fine d limits read good h m [] f g c t b = λ i l. record { formed = tt; declared = tt; functions = tt; bits = b }
+pieces_fine d limits read good h m (p ∷ ps) f g c t b =
+    of (read_piece read p t) (piece_fine d limits read h m p f.0 g.0 c.0 t b) (λ u l. pieces_fine d limits read good h m ps f.1 g.1 c.1 u l)
   where
     of : (r : Result ReadPieces Fault) → PartsAreFine d limits r → ((u : Totals) → u.bits ≤ limits.bits → PartsAreFine d limits (read_pieces read ps u))
         → PartsAreFine d limits (then_do r λ a. then_do (read_pieces read ps a.totals) λ b. Ok (record { design = both_designs a.design b.design; totals = b.totals }))
     of (Err e) q k = tt
-    of (Ok a) q k = rest (read_pieces read ps a.totals) (λ l. k a.totals l)
+    of (Ok a) q k = rest (read_pieces read ps a.totals) (good_pieces read good ps a.totals) (λ l. k a.totals l)
       where
         both_fine : (b : ReadPieces) → FineParts d limits a → FineParts d limits b → FineParts d limits (record { design = both_designs a.design b.design; totals = b.totals })
         both_fine b u v = record {
           formed = each_append (IsGoodProcess d) a.design.processes b.design.processes u.formed v.formed;
           declared = each_append IsFineSignal a.design.signals b.design.signals u.declared v.declared;
-          functions = ap (λ fs. fs ++ b.design.functions) u.functions ∙ v.functions;
+          functions = each_append (λ (f : Function). is_formed_function d f ≡ true) a.design.functions b.design.functions u.functions v.functions;
           bits = v.bits;
         }
 
-        rest : (r : Result ReadPieces Fault) → (a.totals.bits ≤ limits.bits → PartsAreFine d limits r) → PartsAreFine d limits (then_do r λ b. Ok (record { design = both_designs a.design b.design; totals = b.totals }))
-        rest (Err e) l = tt
-        rest (Ok b) l = λ i.
+        rest : (r : Result ReadPieces Fault) → GoodPieces a.totals r → (a.totals.bits ≤ limits.bits → PartsAreFine d limits r) → PartsAreFine d limits (then_do r λ b. Ok (record { design = both_designs a.design b.design; totals = b.totals }))
+        rest (Err e) n l = tt
+        rest (Ok b) n l = λ i o.
             let s = each_split (λ (s : Signal). is_signal d s ≡ true) a.design.signals b.design.signals i in
-            let u = q s.0 in
-            both_fine b u (l u.bits s.1)
+            let u = q s.0 (omega (arith, n.scopes, o)) in
+            both_fine b u (l u.bits s.1 o)
 
 counted_bits : (k : Task) (t : Totals) → (counted k t).bits ≡ t.bits
 counted_bits k t = of (is_instance k.contents)
@@ -151,24 +154,28 @@ scope_fine d (suc left) limits source x k t s top b =
     let h = least_none y.faults none in
     let c = subst (λ b. b ≤ limits.bits) (sym (counted_bits k t)) b in
     let g = survey_signals d limits source k (counted k t) s c h in
-    of (read_pieces (read_scope left limits source) y.pieces y.totals) h g
-    (λ own. pieces_fine d limits (read_scope left limits source) (scope_fine d left limits source x) (counted k t).scopes y.pieces (survey_pieces d limits source k (counted k t) x s own h) (survey_directed limits source k (counted k t)) (survey_children limits source k (counted k t)) y.totals
-    (omega (arith, g.bits, (good_survey limits source k (counted k t)).bits)))
+    let good = good_survey limits source k (counted k t) in
+    of (read_pieces (read_scope left limits source) y.pieces y.totals) (good_pieces (read_scope left limits source) (good_scope left limits source) y.pieces y.totals) h g
+    (λ there own.
+    pieces_fine d limits (read_scope left limits source) (good_scope left limits source) (scope_fine d left limits source x) (counted k t).scopes y.pieces (survey_pieces d limits source k (counted k t) x s there own h)
+    (survey_directed limits source k (counted k t)) (survey_children limits source k (counted k t)) y.totals (omega (arith, g.bits, good.bits)))
   where
-    of : (r : Result ReadPieces Fault) → (survey limits source k (counted k t)).faults ≡ [] → AreFineSignals d limits source k (counted k t)
-        → (AreIn d (survey limits source k (counted k t)).signals → PartsAreFine d limits r)
+    of : (r : Result ReadPieces Fault) → GoodPieces (survey limits source k (counted k t)).totals r → (survey limits source k (counted k t)).faults ≡ [] → AreFineSignals d limits source k (counted k t)
+        → ((counted k t).scopes < length d.scopes → AreIn d (survey limits source k (counted k t)).signals → PartsAreFine d limits r)
         → ReadIsFine d limits k (then_do r λ q. Ok (record { entries = (survey limits source k (counted k t)).entries; design = scope_design k (survey limits source k (counted k t)) q.design; totals = q.totals }))
-    of (Err e) h g f = tt
-    of (Ok q) h g f = λ i.
-        let own = (survey limits source k (counted k t)).signals in
-        let w = each_split (λ (s : Signal). is_signal d s ≡ true) own q.design.signals i in
-        let u = f w.0 w.1 in
+    of (Err e) n h g f = tt
+    of (Ok q) n h g f = λ i o.
+        let y = survey limits source k (counted k t) in
+        let w = each_split (λ (s : Signal). is_signal d s ≡ true) y.signals q.design.signals i in
+        let there : (counted k t).scopes < length d.scopes = omega (arith, n.scopes, o) in
+        let u = f there w.0 w.1 o in
+        let whole = survey_functions d limits source k (counted k t) s.frames s.overrides s.shaped there w.0 h in
         record {
           formed = u.formed;
-          declared = each_append IsFineSignal own q.design.signals (fine_signals (is_none k.parent) (counted k t).scopes (λ e. counted_scopes k t ∙ top e) own g.declared) u.declared;
-          functions = u.functions;
+          declared = each_append IsFineSignal y.signals q.design.signals (fine_signals (is_none k.parent) (counted k t).scopes (λ e. counted_scopes k t ∙ top e) y.signals g.declared) u.declared;
+          functions = each_append (λ (f : Function). is_formed_function d f ≡ true) y.functions q.design.functions whole.functions u.functions;
           bits = u.bits;
-          ports = λ e place c g l. (port_formed d limits source k (counted k t) s.shaped (survey_names d limits source k (counted k t) s.frames s.overrides s.shaped w.0 h) h e place c g l, port_clocked place (survey limits source k (counted k t)).entries c);
+          ports = λ e place c g l. (port_formed d limits source k (counted k t) s.shaped (survey_names d limits source k (counted k t) s.frames s.overrides s.shaped there w.0 h) h e place c g l, port_clocked place y.entries c);
         }
 
 -- ---- the whole
@@ -211,7 +218,7 @@ sum_from k [] = omega arith
 sum_from k (s ∷ ss) = sum_from (k + signal_length s) ss ∙ omega arith
 
 abbrev pub IsFineDesign : Limits → Design → Type 0
-IsFineDesign limits d = AreFormed d d.processes × Each IsFineSignal d.signals × (bit_count d ≤ limits.bits) × (d.functions ≡ [])
+IsFineDesign limits d = AreFormed d d.processes × Each IsFineSignal d.signals × (bit_count d ≤ limits.bits) × AreFormedFunctions d d.functions
 
 abbrev pub DesignIsFine : Limits → Result Design Fault → Type 0
 DesignIsFine limits (Ok d) = IsFineDesign limits d
@@ -232,7 +239,7 @@ elaborated_fine limits source top x = unless (DesignIsFine limits) (λ e. tt) (l
 
     read : (m : Module) → (r : Result Read Fault) → GoodRead no_totals r → ((d : Design) → ReadIsFine d limits (top_task m) r) → DesignIsFine limits (then_do r λ s. Ok s.design)
     read m (Err e) g f = tt
-    read m (Ok s) g f = let u = f s.design (in_design s.design g.numbered) in (u.formed, u.declared, subst (λ n. n ≤ limits.bits) (g.bits ∙ sym (sum_from 0 s.design.signals)) u.bits, u.functions)
+    read m (Ok s) g f = let u = f s.design (in_design s.design g.numbered) (omega (arith, g.scopes)) in (u.formed, u.declared, subst (λ n. n ≤ limits.bits) (g.bits ∙ sym (sum_from 0 s.design.signals)) u.bits, u.functions)
 
     found : (o : Option Module) → find_in source.modules top ≡ o → DesignIsFine limits (elaborated_top limits source o)
     found None e = tt
@@ -252,7 +259,7 @@ lawful_result (Ok d) g n f x = record {
   declared = all_true (is_declared d) d.signals (declared_all d d.signals g.below x.1);
   memories = all_true is_lawful_memory d.signals (memories_all d.signals x.1);
   formed = all_true (is_formed_process d) d.processes (formed_all d d.processes x.0);
-  functions = ap (list_all (is_formed_function d)) x.3;
+  functions = all_true (is_formed_function d) d.functions x.3;
   clocked_words = all_true has_clocked_words d.processes (clocked_all d d.processes x.0);
   few_bits = x.2;
   few_processes = f;

@@ -1,3 +1,5 @@
+mod EachOf
+mod TurnsLaw
 mod FormedBodies
 mod SoundNames
 mod NumberedSignals
@@ -11,9 +13,14 @@ mod FirstNames
 mod PortNames
 mod PortsFormed
 mod ClockedWords
+mod BlockingBodies
+mod FormedFunctions
+mod SurveyParts
+mod Unrolling
 mod LawfulDesigns
 mod LowBlocks
 mod SoundScopes
+mod NumberedFunctions
 mod EnoughFuel
 mod QuickCuts
 mod WorkedTexts

@@ -1,26 +1,24 @@
 -- Blocks stand lower than the items that make them: the pieces of a scope nest less deep than its items do.
-use Rattle.std.proofs.Common.{◌≡◌, ℕ, zero, suc, ◌+◌, ◌≤◌, max, Bool, true, false, List, [], ◌∷◌, ◌++◌, map, flat_map, Option, Some, None, if◌then◌else◌, refl, ap, subst, arith, ℤ}
-use Rattle.std.specs.Prelude.{is_none}
+use Rattle.std.proofs.Common.{◌≡◌, ℕ, zero, suc, ◌+◌, ◌≤◌, max, Bool, true, false, List, [], ◌∷◌, map, Option, Some, None, if◌then◌else◌, refl, ap, subst, arith, ℤ}
 use Rattle.vs_design.specs.Clocks.{same_name}
 use Rattle.vs_grammar.specs.Trees as tree
-use Rattle.vs_grammar.specs.Trees.{Module, Source, item_place, items_list}
+use Rattle.vs_grammar.specs.Trees.{Module, Source, items_list}
 use Rattle.vs_grammar.specs.Shapes.{Each}
 use Rattle.vs_grammar.specs.Depths.{deepest, item_depth, block_depth, block_fallback_depth, generate_arms_depth, items_depth, module_depth}
 use Rattle.vs_const.specs.declared.faults.Fault.{Fault}
 use Rattle.vs_const.specs.Expressions.{number}
 use Rattle.vs_elaborated.specs.Limits.{Limits}
 use Rattle.vs_elaborated.specs.Environments.{Env, named, within}
-use Rattle.vs_elaborated.specs.Declarations.{names_of}
-use Rattle.vs_elaborated.specs.Parameters.{Override, said_parameters, first_entries}
-use Rattle.vs_elaborated.specs.Signals.{Start, said_signals, put_signals}
+use Rattle.vs_elaborated.specs.Parameters.{Override}
 use Rattle.vs_elaborated.specs.Generate.{Nested, Made, nothing_made, after_faults, Block, block_of, one_block}
 use Rattle.vs_elaborated.specs.Loops.{holds, Turns, turns_from, turn_blocks, loop_blocks, loop_from}
 use Rattle.vs_elaborated.specs.Constructs.{said_case, is_conditional, construct, branch, fallback, arm_branch, is_construct, constructs}
 use Rattle.vs_elaborated.specs.Ports.{find_in, find_module}
 use Rattle.vs_elaborated.specs.Pieces.{Task, is_instance, Piece, Own, Instance, Within, Said, all_said}
 use Rattle.vs_elaborated.specs.Instances.{Around, said_overrides, instance_said}
-use Rattle.vs_elaborated.specs.Surveys.{items_of, declarations_of, overrides_of, block_entries, Totals, survey, wire_said, assign_said, nested_piece, item_said, items_said}
-use Rattle.vs_elaborated.proofs.SurveyNames.{each_append}
+use Rattle.vs_elaborated.specs.Surveys.{Loops, loops_after, items_of, Totals, survey, wire_said, assign_said, nested_piece, item_said, items_said}
+use Rattle.vs_elaborated.proofs.EachOf.{each_append}
+use Rattle.vs_elaborated.proofs.SurveyParts.{functions_in, loops_in, made_in, around_in}
 
 abbrev pub levels : List tree.Item → ℕ
 levels items = deepest item_depth items
@@ -55,7 +53,7 @@ loop_lower : (n : ℕ) (b : Option Block) (genvar : ℕ) (t : Turns) → IsLower
 loop_lower n None genvar t x = tt
 loop_lower n (Some b) genvar t x = turns_lower n b genvar t.values x
 
-from_lower : (n : ℕ) (limits : Limits) (head : tree.GenerateHead) (g v : Option ℕ) (fs : List Fault) (b : Option Block) (env : Env) (total : ℕ) → IsLowerBlock n b → AreLower n (loop_from limits head g v fs b env total).blocks
+from_lower : (n : ℕ) (limits : Limits) (head : tree.LoopHead) (g v : Option ℕ) (fs : List Fault) (b : Option Block) (env : Env) (total : ℕ) → IsLowerBlock n b → AreLower n (loop_from limits head g v fs b env total).blocks
 from_lower n limits head (Some g) (Some v) fs b env total x = loop_lower n b g (turns_from (suc limits.turns) limits head (same_name head.variable.bytes head.again.bytes) g env [] total v) x
 from_lower n limits head (Some g) None fs b env total x = tt
 from_lower n limits head None v fs b env total x = tt
@@ -91,6 +89,8 @@ mutual
   construct_lower (tree.AssignsItem place assigns) l h limits env n total = tt
   construct_lower (tree.AlwaysItem block) l h limits env n total = tt
   construct_lower (tree.GenvarsItem place names) l h limits env n total = tt
+  construct_lower (tree.IntegersItem place names) l h limits env n total = tt
+  construct_lower (tree.FunctionItem function) l h limits env n total = tt
   construct_lower (tree.InstancesItem t) l h limits env n total = tt
 
   branch_lower : (b : tree.GenerateBlock) (l : ℕ) → block_depth b ≤ l → (limits : Limits) (env : Env) (n total : ℕ) → AreLower l (branch b limits env n total).blocks
@@ -169,32 +169,28 @@ wire_low l around place d = of d.name d.value
     of w None = tt
     of w (Some e) = (tt, tt)
 
-item_low : (l : ℕ) (source : Source) (around : Around) → AreLowModules source.modules → (item : tree.Item) (made : Made) → AreLower l made.blocks → AreLowPieces around.depth l (item_said source around item made).pieces
-item_low l source around x (tree.SignalsItem t) made y = all_low around.depth l (wire_said around.env t.place) t.names (wire_low l around t.place)
-item_low l source around x (tree.ParametersItem t) made y = blocks_low l around made.blocks y
-item_low l source around x (tree.AssignsItem place assigns) made y = all_low around.depth l (assign_said around.env place) assigns (λ a. (tt, tt))
-item_low l source around x (tree.AlwaysItem block) made y = (tt, tt)
-item_low l source around x (tree.GenvarsItem place names) made y = blocks_low l around made.blocks y
-item_low l source around x (tree.InstancesItem t) made y =
+item_low : (l : ℕ) (limits : Limits) (source : Source) (around : Around) (loops : Loops) → AreLowModules source.modules → (item : tree.Item) (made : Made) → AreLower l made.blocks → AreLowPieces around.depth l (item_said limits source around loops item made).pieces
+item_low l limits source around loops x (tree.SignalsItem t) made y = all_low around.depth l (wire_said around.env t.place) t.names (wire_low l around t.place)
+item_low l limits source around loops x (tree.ParametersItem t) made y = blocks_low l around made.blocks y
+item_low l limits source around loops x (tree.AssignsItem place assigns) made y = all_low around.depth l (assign_said around.env place) assigns (λ a. (tt, tt))
+item_low l limits source around loops x (tree.AlwaysItem block) made y = (tt, tt)
+item_low l limits source around loops x (tree.GenvarsItem place names) made y = blocks_low l around made.blocks y
+item_low l limits source around loops x (tree.IntegersItem place names) made y = blocks_low l around made.blocks y
+item_low l limits source around loops x (tree.FunctionItem function) made y = blocks_low l around made.blocks y
+item_low l limits source around loops x (tree.InstancesItem t) made y =
     let m = find_module source t.of.bytes in
     let o = said_overrides t.of m t.overrides around.env in
     all_low around.depth l (instance_said around t.of.place m o.overrides) t.instances (instance_low l around t.of.place m (λ k e. found_low source.modules t.of.bytes k x e) o.overrides)
-item_low l source around x (tree.GenerateFor head block) made y = blocks_low l around made.blocks y
-item_low l source around x (tree.GenerateIf place c taken other) made y = blocks_low l around made.blocks y
-item_low l source around x (tree.GenerateCase place subject arms other) made y = blocks_low l around made.blocks y
+item_low l limits source around loops x (tree.GenerateFor head block) made y = blocks_low l around made.blocks y
+item_low l limits source around loops x (tree.GenerateIf place c taken other) made y = blocks_low l around made.blocks y
+item_low l limits source around loops x (tree.GenerateCase place subject arms other) made y = blocks_low l around made.blocks y
 
-items_low : (l : ℕ) (source : Source) (around : Around) → AreLowModules source.modules → (items : List tree.Item) (made : List Made) → Each (λ (m : Made). AreLower l m.blocks) made → AreLowPieces around.depth l (items_said source around items made).pieces
-items_low l source around x [] made y = tt
-items_low l source around x (i ∷ is) [] y = tt
-items_low l source around x (i ∷ is) (m ∷ ms) y = each_append (IsLowPiece around.depth l) (item_said source around i m).pieces (items_said source around is ms).pieces (item_low l source around x i m y.0) (items_low l source around x is ms y.1)
+items_low : (l : ℕ) (limits : Limits) (source : Source) (around : Around) (loops : Loops) → AreLowModules source.modules → (items : List tree.Item) (made : List Made) → Each (λ (m : Made). AreLower l m.blocks) made → AreLowPieces around.depth l (items_said limits source around loops items made).pieces
+items_low l limits source around loops x [] made y = tt
+items_low l limits source around loops x (i ∷ is) [] y = tt
+items_low l limits source around loops x (i ∷ is) (m ∷ ms) y = each_append (IsLowPiece around.depth l) (item_said limits source around loops i m).pieces (items_said limits source around (loops_after limits around.env loops i) is ms).pieces (item_low l limits source around loops x i m y.0) (items_low l limits source around (loops_after limits around.env loops i) x is ms y.1)
 
 pub survey_low : (limits : Limits) (source : Source) (k : Task) (t : Totals) → AreLowModules source.modules → AreLowPieces k.depth (levels (items_of k.contents)) (survey limits source k t).pieces
 survey_low limits source k t x =
-    let ds = declarations_of k.contents in
-    let names = names_of ds in
-    let parameters = said_parameters k.env (overrides_of k.contents) ds (first_entries names) in
-    let start : Start = record { scope = t.scopes; top = is_none k.parent; signal = t.signals; bit = t.bits } in
-    let entries = put_signals (said_signals (within k.env parameters.entries) start names) parameters.entries in
-    let made = constructs limits (items_of k.contents) (within k.env entries) 1 t.turns in
-    let around : Around = record { scope = t.scopes; depth = k.depth; env = within k.env (entries ++ block_entries (flat_map (λ (m : Made). m.names) made)) } in
-    items_low (levels (items_of k.contents)) source around x (items_of k.contents) made (constructs_lower (levels (items_of k.contents)) limits (items_of k.contents) (within k.env entries) 1 t.turns (omega arith))
+    items_low (levels (items_of k.contents)) limits source (around_in limits k t) (loops_in limits k t) x (items_of k.contents) (made_in limits k t)
+    (constructs_lower (levels (items_of k.contents)) limits (items_of k.contents) (within k.env (functions_in limits k t).entries) 1 t.turns (omega arith))

@@ -1,6 +1,6 @@
 -- The scopes of an elaborated design are nested: each is within the one before it or within one around that.
-use Rattle.std.proofs.Common.{◌≡◌, ℕ, zero, suc, ◌+◌, ◌≤◌, Bool, true, false, not, ◌&&◌, List, [], ◌∷◌, ◌++◌, map, flat_map, length, Option, Some, None, refl, sym, ap, ◌∙◌, subst, arith, ◌==◌, if◌then◌else◌, eq-eqb}
-use Rattle.std.specs.Prelude.{Result, Ok, Err, is_none}
+use Rattle.std.proofs.Common.{◌≡◌, ℕ, zero, suc, ◌+◌, ◌≤◌, Bool, true, false, not, ◌&&◌, List, [], ◌∷◌, ◌++◌, map, length, Option, Some, None, refl, sym, ap, ◌∙◌, subst, arith, ◌==◌, if◌then◌else◌, eq-eqb}
+use Rattle.std.specs.Prelude.{Result, Ok, Err}
 use Rattle.std.proofs.lemmas.Bool.{eqb-true}
 use Rattle.vs_design.specs.Designs.{Scope, Design}
 use Rattle.vs_design.specs.Elaborated.{is_nil, way_from, way_of_parent, are_nested, are_scopes}
@@ -11,15 +11,12 @@ use Rattle.vs_const.specs.declared.faults.Fault.{Fault}
 use Rattle.vs_const.specs.Faults.{least}
 use Rattle.vs_elaborated.specs.Limits.{Limits}
 use Rattle.vs_elaborated.specs.Generate.{Nested, Made}
-use Rattle.vs_elaborated.specs.Environments.{within}
-use Rattle.vs_elaborated.specs.Declarations.{names_of}
-use Rattle.vs_elaborated.specs.Parameters.{Override, said_parameters, first_entries}
-use Rattle.vs_elaborated.specs.Signals.{Start, said_signals, put_signals}
-use Rattle.vs_elaborated.specs.Constructs.{constructs}
+use Rattle.vs_elaborated.specs.Parameters.{Override}
 use Rattle.vs_elaborated.specs.Pieces.{Task, Piece, Own, Instance, Within, is_instance, Said, all_said}
 use Rattle.vs_elaborated.specs.Instances.{Around, Connected, known_instance, instance_said, said_connections, said_overrides}
 use Rattle.vs_elaborated.specs.Ports.{find_module}
-use Rattle.vs_elaborated.specs.Surveys.{items_of, declarations_of, overrides_of, block_entries, Totals, no_totals, Survey, survey, wire_said, assign_said, nested_piece, item_said, items_said}
+use Rattle.vs_elaborated.specs.Surveys.{Loops, loops_after, items_of, Totals, no_totals, Survey, survey, wire_said, assign_said, nested_piece, item_said, items_said}
+use Rattle.vs_elaborated.proofs.SurveyParts.{loops_in, made_in, around_in}
 use Rattle.vs_elaborated.specs.Elaborated.{both_designs, of_processes, then_do, port_assign, Read, ReadPieces, read_piece, read_pieces, counted, limit_faults, scope_design, read_scope, repeated_modules, top_task, scope_depth, elaborated_top, elaborated_within}
 use Rattle.vs_elaborated.proofs.NumberedSignals.{GoodRead, GoodPieces, good_piece, good_scope, unless}
 
@@ -103,24 +100,26 @@ wire_child around place d = of d.name d.value
     of w None = tt
     of w (Some e) = (tt, tt)
 
-item_children : (source : Source) (around : Around) (item : tree.Item) (made : Made) → AreChildren around.scope (item_said source around item made).pieces
-item_children source around (tree.SignalsItem t) made = all_children around.scope (wire_said around.env t.place) t.names (wire_child around t.place)
-item_children source around (tree.ParametersItem t) made = blocks_children around made.blocks
-item_children source around (tree.AssignsItem place assigns) made = all_children around.scope (assign_said around.env place) assigns (λ a. (tt, tt))
-item_children source around (tree.AlwaysItem block) made = (tt, tt)
-item_children source around (tree.GenvarsItem place names) made = blocks_children around made.blocks
-item_children source around (tree.InstancesItem t) made =
+item_children : (limits : Limits) (source : Source) (around : Around) (loops : Loops) (item : tree.Item) (made : Made) → AreChildren around.scope (item_said limits source around loops item made).pieces
+item_children limits source around loops (tree.SignalsItem t) made = all_children around.scope (wire_said around.env t.place) t.names (wire_child around t.place)
+item_children limits source around loops (tree.ParametersItem t) made = blocks_children around made.blocks
+item_children limits source around loops (tree.AssignsItem place assigns) made = all_children around.scope (assign_said around.env place) assigns (λ a. (tt, tt))
+item_children limits source around loops (tree.AlwaysItem block) made = (tt, tt)
+item_children limits source around loops (tree.GenvarsItem place names) made = blocks_children around made.blocks
+item_children limits source around loops (tree.IntegersItem place names) made = blocks_children around made.blocks
+item_children limits source around loops (tree.FunctionItem function) made = blocks_children around made.blocks
+item_children limits source around loops (tree.InstancesItem t) made =
     let m = find_module source t.of.bytes in
     let o = said_overrides t.of m t.overrides around.env in
     all_children around.scope (instance_said around t.of.place m o.overrides) t.instances (λ i. known_child around t.of.place i.name.bytes m o.overrides (said_connections m i.name i.connections around.env))
-item_children source around (tree.GenerateFor head block) made = blocks_children around made.blocks
-item_children source around (tree.GenerateIf place c taken other) made = blocks_children around made.blocks
-item_children source around (tree.GenerateCase place subject arms other) made = blocks_children around made.blocks
+item_children limits source around loops (tree.GenerateFor head block) made = blocks_children around made.blocks
+item_children limits source around loops (tree.GenerateIf place c taken other) made = blocks_children around made.blocks
+item_children limits source around loops (tree.GenerateCase place subject arms other) made = blocks_children around made.blocks
 
-items_children : (source : Source) (around : Around) (items : List tree.Item) (made : List Made) → AreChildren around.scope (items_said source around items made).pieces
-items_children source around [] made = tt
-items_children source around (i ∷ is) [] = tt
-items_children source around (i ∷ is) (m ∷ ms) = children_append around.scope (item_said source around i m).pieces (items_said source around is ms).pieces (item_children source around i m) (items_children source around is ms)
+items_children : (limits : Limits) (source : Source) (around : Around) (loops : Loops) (items : List tree.Item) (made : List Made) → AreChildren around.scope (items_said limits source around loops items made).pieces
+items_children limits source around loops [] made = tt
+items_children limits source around loops (i ∷ is) [] = tt
+items_children limits source around loops (i ∷ is) (m ∷ ms) = children_append around.scope (item_said limits source around loops i m).pieces (items_said limits source around (loops_after limits around.env loops i) is ms).pieces (item_children limits source around loops i m) (items_children limits source around (loops_after limits around.env loops i) is ms)
 
 -- ---- reading
 
@@ -207,15 +206,7 @@ own_nested m w n way s ss e l b g = record {
     regroup (x ∷ xs) = ap (λ ys. x ∷ ys) (regroup xs)
 
 pub survey_children : (limits : Limits) (source : Source) (k : Task) (t : Totals) → AreChildren t.scopes (survey limits source k t).pieces
-survey_children limits source k t =
-    let ds = declarations_of k.contents in
-    let names = names_of ds in
-    let parameters = said_parameters k.env (overrides_of k.contents) ds (first_entries names) in
-    let start : Start = record { scope = t.scopes; top = is_none k.parent; signal = t.signals; bit = t.bits } in
-    let entries = put_signals (said_signals (within k.env parameters.entries) start names) parameters.entries in
-    let made = constructs limits (items_of k.contents) (within k.env entries) 1 t.turns in
-    let around : Around = record { scope = t.scopes; depth = k.depth; env = within k.env (entries ++ block_entries (flat_map (λ (m : Made). m.names) made)) } in
-    items_children source around (items_of k.contents) made
+survey_children limits source k t = items_children limits source (around_in limits k t) (loops_in limits k t) (items_of k.contents) (made_in limits k t)
 
 pub counted_scopes : (k : Task) (t : Totals) → (counted k t).scopes ≡ t.scopes
 counted_scopes k t = of (is_instance k.contents)

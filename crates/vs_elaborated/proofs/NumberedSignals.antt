@@ -1,5 +1,5 @@
 -- The signals of an elaborated design are numbered from 0, and so are their bits; their scopes never go back, and are scopes of the design.
-use Rattle.std.proofs.Common.{◌≡◌, ℕ, zero, suc, ◌+◌, ◌≤◌, ◌<◌, Bool, true, false, ◌&&◌, List, [], ◌∷◌, ◌++◌, map, length, Option, Some, None, refl, sym, ap, ◌∙◌, subst, subst₂, arith, nat_le, ◌==◌, eq-eqb, is_none, if◌then◌else◌}
+use Rattle.std.proofs.Common.{◌≡◌, ℕ, zero, suc, ◌+◌, ◌≤◌, ◌<◌, Bool, true, false, ◌&&◌, List, [], ◌∷◌, ◌++◌, map, length, Option, Some, None, refl, sym, ap, ◌∙◌, subst, subst₂, arith, nat_le, ◌==◌, eq-eqb, if◌then◌else◌}
 use Rattle.std.specs.Prelude.{Result, Ok, Err, fold, sum_by}
 use Rattle.std.proofs.lemmas.Bool.{le-leb}
 use Rattle.vs_design.specs.Expressions.{Signal, signal_length}
@@ -10,14 +10,14 @@ use Rattle.vs_grammar.specs.Shapes.{Each}
 use Rattle.vs_const.specs.declared.faults.Fault.{Fault}
 use Rattle.vs_const.specs.Faults.{least}
 use Rattle.vs_const.proofs.Formed.{both}
-use Rattle.vs_elaborated.specs.Environments.{Env, within}
+use Rattle.vs_elaborated.specs.Environments.{Env}
 use Rattle.vs_elaborated.specs.Limits.{Limits}
-use Rattle.vs_elaborated.specs.Declarations.{Declaration, Named, Sort, SignalOf, ParameterOf, GenvarSort, InstanceSort, names_of}
-use Rattle.vs_elaborated.specs.Parameters.{said_parameters, first_entries}
+use Rattle.vs_elaborated.specs.Declarations.{Declaration, Named, Sort, SignalOf, ParameterOf, FunctionOf, GenvarSort, IntegerSort, InstanceSort}
 use Rattle.vs_elaborated.specs.Signals.{Start, SaidSignal, said_signal, said_signals, after}
 use Rattle.vs_elaborated.specs.Ports.{find_module}
 use Rattle.vs_elaborated.specs.Pieces.{Task, Piece, Own, Instance, Within, is_instance}
-use Rattle.vs_elaborated.specs.Surveys.{Totals, no_totals, Survey, survey, declarations_of, overrides_of}
+use Rattle.vs_elaborated.specs.Surveys.{Totals, no_totals, Survey, survey}
+use Rattle.vs_elaborated.proofs.SurveyParts.{names_in, ranged_in, start_in, signals_in}
 use Rattle.vs_elaborated.specs.Elaborated.{both_designs, of_processes, then_do, port_assign, Read, ReadPieces, read_piece, read_pieces, counted, limit_faults, scope_design, read_scope, repeated_modules, top_task, scope_depth, elaborated_top, elaborated_within}
 
 abbrev pub bits_of_all : List Signal → ℕ
@@ -64,7 +64,9 @@ said_numbered env (n ∷ ns) start = of n.first.name n.first.sort n.second (λ n
         let m : Named = record { first = record { name = w; sort = SignalOf s }; second = second } in
         (refl, refl, omega arith, rest (after start (said_signal env start m s).meaning))
     of w (ParameterOf p) second rest = rest start
+    of w (FunctionOf f) second rest = rest start
     of w GenvarSort second rest = rest start
+    of w IntegerSort second rest = rest start
     of w InstanceSort second rest = rest start
 
 said_below : (env : Env) (names : List Named) (start : Start) → AreBelow (start.scope + 1) (signals_of (said_signals env start names))
@@ -77,7 +79,9 @@ said_below env (n ∷ ns) start = of n.first.name n.first.sort n.second (λ next
         let m : Named = record { first = record { name = w; sort = SignalOf s }; second = second } in
         (omega arith, rest (after start (said_signal env start m s).meaning))
     of w (ParameterOf p) second rest = rest start
+    of w (FunctionOf f) second rest = rest start
     of w GenvarSort second rest = rest start
+    of w IntegerSort second rest = rest start
     of w InstanceSort second rest = rest start
 
 -- ---- what was read goes on from the totals
@@ -155,22 +159,16 @@ bits_signals ss = sym (bits_from 0 ss ∙ omega arith)
 
 -- a scope's own part
 abbrev pub own_part : Task → Survey → Design
-own_part k s = record { scopes = record { name = k.name; parent = k.parent; instance = is_instance k.contents } ∷ []; signals = s.signals; processes = []; functions = [] }
+own_part k s = record { scopes = record { name = k.name; parent = k.parent; instance = is_instance k.contents } ∷ []; signals = s.signals; processes = []; functions = s.functions }
 
 pub good_survey : (limits : Limits) (source : Source) (k : Task) (t : Totals) → GoesOn t (own_part k (survey limits source k t)) (survey limits source k t).totals
-good_survey limits source k t =
-    let ds = declarations_of k.contents in
-    let names = names_of ds in
-    let parameters = said_parameters k.env (overrides_of k.contents) ds (first_entries names) in
-    let start : Start = record { scope = t.scopes; top = is_none k.parent; signal = t.signals; bit = t.bits } in
-    let ss = said_signals (within k.env parameters.entries) start names in
-    record {
-      numbered = said_numbered (within k.env parameters.entries) names start;
-      below = said_below (within k.env parameters.entries) names start;
-      signals = ap (λ n. t.signals + n) (sym (length_signals ss));
-      bits = ap (λ n. t.bits + n) (sym (bits_signals ss));
-      scopes = refl;
-    }
+good_survey limits source k t = record {
+  numbered = said_numbered (ranged_in k t) (names_in k) (start_in k t);
+  below = said_below (ranged_in k t) (names_in k) (start_in k t);
+  signals = ap (λ n. t.signals + n) (sym (length_signals (signals_in k t)));
+  bits = ap (λ n. t.bits + n) (sym (bits_signals (signals_in k t)));
+  scopes = refl;
+}
 
 counted_goes_on : (k : Task) (t : Totals) (d : Design) (u : Totals) → GoesOn (counted k t) d u → GoesOn t d u
 counted_goes_on k t d u g = of (is_instance k.contents) g
@@ -203,7 +201,7 @@ pub record IsNumberedDesign (d : Design) : Type 0 where
   pub bits_numbered : have_bits_from 0 d.signals ≡ true
   pub below : AreBelow (length d.scopes) d.signals
 
-numbers_are : (n b c : ℕ) (ss : List Signal) → Numbered n b c ss → are_numbered n c ss ≡ true
+pub numbers_are : (n b c : ℕ) (ss : List Signal) → Numbered n b c ss → are_numbered n c ss ≡ true
 numbers_are n b c [] p = refl
 numbers_are n b c (s ∷ ss) p = three (s.number == n) (nat_le c s.scope) (are_numbered (suc n) s.scope ss) (eq-eqb s.number n p.0) (le-leb c s.scope p.2) (subst (λ m. are_numbered m s.scope ss ≡ true) (omega arith) (numbers_are (n + 1) (b + signal_length s) s.scope ss p.3))
   where
@@ -213,7 +211,7 @@ numbers_are n b c (s ∷ ss) p = three (s.number == n) (nat_le c s.scope) (are_n
     three true false c h k l = cc
     three false b c h k l = cc
 
-bits_are : (n b c : ℕ) (ss : List Signal) → Numbered n b c ss → have_bits_from b ss ≡ true
+pub bits_are : (n b c : ℕ) (ss : List Signal) → Numbered n b c ss → have_bits_from b ss ≡ true
 bits_are n b c [] p = refl
 bits_are n b c (s ∷ ss) p = both (s.first == b) (have_bits_from (b + signal_length s) ss) (eq-eqb s.first b p.1) (bits_are (n + 1) (b + signal_length s) s.scope ss p.3)
 

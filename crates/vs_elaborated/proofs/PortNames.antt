@@ -1,23 +1,23 @@
 -- Each connection of an instance is to a port that its module declares.
 use Rattle.std.proofs.Common.{◌≡◌, ℕ, zero, suc, Bool, true, false, List, [], ◌∷◌, ◌++◌, map, flat_map, Option, Some, None, ◌⊎◌, inl, inr, ◌||◌, if◌then◌else◌, refl, subst}
-use Rattle.std.specs.Prelude.{slice_get, is_none}
+use Rattle.std.specs.Prelude.{slice_get}
 use Rattle.vs_design.specs.Clocks.{same_name}
 use Rattle.vs_grammar.specs.Trees as tree
 use Rattle.vs_grammar.specs.Trees.{Module, Source, items_list}
 use Rattle.vs_grammar.specs.Shapes.{Each, is_port_kind}
 use Rattle.vs_elaborated.specs.Limits.{Limits}
-use Rattle.vs_elaborated.specs.Environments.{Env, within}
+use Rattle.vs_elaborated.specs.Environments.{Env}
 use Rattle.vs_elaborated.specs.Targets.{as_target}
-use Rattle.vs_elaborated.specs.Declarations.{SignalOf, Declaration, signals_declared, parameters_declared, item_declared, header_declared, module_declared, names_of}
-use Rattle.vs_elaborated.specs.Parameters.{Override, said_parameters, first_entries}
-use Rattle.vs_elaborated.specs.Signals.{is_input, Start, said_signals, put_signals}
+use Rattle.vs_elaborated.specs.Declarations.{SignalOf, Declaration, signals_declared, parameters_declared, item_declared, header_declared, module_declared}
+use Rattle.vs_elaborated.specs.Parameters.{Override}
+use Rattle.vs_elaborated.specs.Signals.{is_input}
 use Rattle.vs_elaborated.specs.Generate.{Nested, Made}
-use Rattle.vs_elaborated.specs.Constructs.{constructs}
 use Rattle.vs_elaborated.specs.Ports.{Port, Direction, directions_in, item_directions, direction_of, header_ports, ports_of, find_port, find_module}
 use Rattle.vs_elaborated.specs.Pieces.{Task, Connection, IntoInput, FromOutput, Piece, Own, Instance, Within, Said, all_said}
 use Rattle.vs_elaborated.specs.Instances.{Around, output_target, directed, connected, connected_by_order, connected_by_name, connection_name, connection_of, in_port_order, said_connections, said_overrides, instance_said}
-use Rattle.vs_elaborated.specs.Surveys.{items_of, declarations_of, overrides_of, block_entries, Totals, survey, wire_said, assign_said, nested_piece, item_said, items_said}
-use Rattle.vs_elaborated.proofs.SurveyNames.{each_append}
+use Rattle.vs_elaborated.specs.Surveys.{Loops, loops_after, items_of, declarations_of, Totals, survey, wire_said, assign_said, nested_piece, item_said, items_said}
+use Rattle.vs_elaborated.proofs.EachOf.{each_append}
+use Rattle.vs_elaborated.proofs.SurveyParts.{loops_in, made_in, around_in}
 use Rattle.vs_elaborated.proofs.FirstNames.{Has, IsSignalOf, same_is}
 
 -- a declaration of this port
@@ -74,6 +74,8 @@ item_port (tree.ParametersItem t) w b h = cc
 item_port (tree.AssignsItem place assigns) w b h = cc
 item_port (tree.AlwaysItem block) w b h = cc
 item_port (tree.GenvarsItem place names) w b h = cc
+item_port (tree.IntegersItem place names) w b h = cc
+item_port (tree.FunctionItem function) w b h = cc
 item_port (tree.InstancesItem t) w b h = cc
 item_port (tree.GenerateFor head block) w b h = cc
 item_port (tree.GenerateIf place c taken other) w b h = cc
@@ -228,32 +230,26 @@ wire_directed around place d = of d.name d.value
     of w None = tt
     of w (Some e) = (tt, tt)
 
-item_directed : (source : Source) (around : Around) (item : tree.Item) (made : Made) → AreDirectedPieces (item_said source around item made).pieces
-item_directed source around (tree.SignalsItem t) made = all_pieces (wire_said around.env t.place) t.names (wire_directed around t.place)
-item_directed source around (tree.ParametersItem t) made = blocks_directed around made.blocks
-item_directed source around (tree.AssignsItem place assigns) made = all_pieces (assign_said around.env place) assigns (λ a. (tt, tt))
-item_directed source around (tree.AlwaysItem block) made = (tt, tt)
-item_directed source around (tree.GenvarsItem place names) made = blocks_directed around made.blocks
-item_directed source around (tree.InstancesItem t) made =
+item_directed : (limits : Limits) (source : Source) (around : Around) (loops : Loops) (item : tree.Item) (made : Made) → AreDirectedPieces (item_said limits source around loops item made).pieces
+item_directed limits source around loops (tree.SignalsItem t) made = all_pieces (wire_said around.env t.place) t.names (wire_directed around t.place)
+item_directed limits source around loops (tree.ParametersItem t) made = blocks_directed around made.blocks
+item_directed limits source around loops (tree.AssignsItem place assigns) made = all_pieces (assign_said around.env place) assigns (λ a. (tt, tt))
+item_directed limits source around loops (tree.AlwaysItem block) made = (tt, tt)
+item_directed limits source around loops (tree.GenvarsItem place names) made = blocks_directed around made.blocks
+item_directed limits source around loops (tree.IntegersItem place names) made = blocks_directed around made.blocks
+item_directed limits source around loops (tree.FunctionItem function) made = blocks_directed around made.blocks
+item_directed limits source around loops (tree.InstancesItem t) made =
     let m = find_module source t.of.bytes in
     let o = said_overrides t.of m t.overrides around.env in
     all_pieces (instance_said around t.of.place m o.overrides) t.instances (known_directed around t.of.place m o.overrides)
-item_directed source around (tree.GenerateFor head block) made = blocks_directed around made.blocks
-item_directed source around (tree.GenerateIf place c taken other) made = blocks_directed around made.blocks
-item_directed source around (tree.GenerateCase place subject arms other) made = blocks_directed around made.blocks
+item_directed limits source around loops (tree.GenerateFor head block) made = blocks_directed around made.blocks
+item_directed limits source around loops (tree.GenerateIf place c taken other) made = blocks_directed around made.blocks
+item_directed limits source around loops (tree.GenerateCase place subject arms other) made = blocks_directed around made.blocks
 
-items_directed : (source : Source) (around : Around) (items : List tree.Item) (made : List Made) → AreDirectedPieces (items_said source around items made).pieces
-items_directed source around [] made = tt
-items_directed source around (i ∷ is) [] = tt
-items_directed source around (i ∷ is) (m ∷ ms) = each_append IsDirectedPiece (item_said source around i m).pieces (items_said source around is ms).pieces (item_directed source around i m) (items_directed source around is ms)
+items_directed : (limits : Limits) (source : Source) (around : Around) (loops : Loops) (items : List tree.Item) (made : List Made) → AreDirectedPieces (items_said limits source around loops items made).pieces
+items_directed limits source around loops [] made = tt
+items_directed limits source around loops (i ∷ is) [] = tt
+items_directed limits source around loops (i ∷ is) (m ∷ ms) = each_append IsDirectedPiece (item_said limits source around loops i m).pieces (items_said limits source around (loops_after limits around.env loops i) is ms).pieces (item_directed limits source around loops i m) (items_directed limits source around (loops_after limits around.env loops i) is ms)
 
 pub survey_directed : (limits : Limits) (source : Source) (k : Task) (t : Totals) → AreDirectedPieces (survey limits source k t).pieces
-survey_directed limits source k t =
-    let ds = declarations_of k.contents in
-    let names = names_of ds in
-    let parameters = said_parameters k.env (overrides_of k.contents) ds (first_entries names) in
-    let start : Start = record { scope = t.scopes; top = is_none k.parent; signal = t.signals; bit = t.bits } in
-    let entries = put_signals (said_signals (within k.env parameters.entries) start names) parameters.entries in
-    let made = constructs limits (items_of k.contents) (within k.env entries) 1 t.turns in
-    let around : Around = record { scope = t.scopes; depth = k.depth; env = within k.env (entries ++ block_entries (flat_map (λ (m : Made). m.names) made)) } in
-    items_directed source around (items_of k.contents) made
+survey_directed limits source k t = items_directed limits source (around_in limits k t) (loops_in limits k t) (items_of k.contents) (made_in limits k t)

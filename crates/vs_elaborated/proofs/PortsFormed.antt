@@ -1,5 +1,5 @@
 -- The assigns that ports imply are formed, and the signals of a scope without a fault are declared as the law has it.
-use Rattle.std.proofs.Common.{◌≡◌, ℕ, ◌+◌, ◌≤◌, Bool, true, false, not, ◌&&◌, ◌||◌, List, [], ◌∷◌, ◌++◌, map, flat_map, Option, Some, None, is_none, is_some, inl, inr, if◌then◌else◌, refl, sym, ap, ◌∙◌, subst, arith, nat_lt}
+use Rattle.std.proofs.Common.{◌≡◌, ℕ, ◌+◌, ◌≤◌, Bool, true, false, not, ◌&&◌, ◌||◌, List, [], ◌∷◌, ◌++◌, map, Option, Some, None, is_none, is_some, inl, inr, if◌then◌else◌, refl, sym, ap, ◌∙◌, subst, arith, nat_lt}
 use Rattle.std.proofs.lemmas.Bool.{ltb-false}
 use Rattle.vs_four.specs.declared.Range.{Range}
 use Rattle.vs_design.specs.Expressions.{Signal, signal_length, Expression, At, Name as NameOf}
@@ -12,27 +12,26 @@ use Rattle.vs_grammar.specs.Trees as tree
 use Rattle.vs_grammar.specs.Trees.{RangeTree, Source}
 use Rattle.vs_grammar.specs.Shapes.{Each}
 use Rattle.vs_const.specs.Faults.{fault}
-use Rattle.vs_const.specs.declared.rules.Rule.TheVariants.{TooManyBits}
+use Rattle.vs_const.specs.declared.names.Role.TheVariants.{InModule}
+use Rattle.vs_const.specs.declared.rules.Rule.TheVariants.{TooManyBits, WrongKind}
 use Rattle.vs_const.specs.Meanings.{SignalMeaning}
 use Rattle.vs_const.specs.Sound.{IsSound}
-use Rattle.vs_const.proofs.Formed.{both_nil, both, split}
+use Rattle.vs_const.proofs.Formed.{both_nil, no_fault, both, split}
 use Rattle.vs_elaborated.specs.Limits.{Limits}
-use Rattle.vs_elaborated.specs.Environments.{Declared, Later, OfSignal, OfParameter, OfGenvar, OfScope, Entry, Env, within, with_words, find_entry}
+use Rattle.vs_elaborated.specs.Environments.{Declared, Later, OfSignal, OfParameter, OfGenvar, OfInteger, OfFunction, OfScope, Entry, Env, with_words, find_entry}
 use Rattle.vs_elaborated.specs.Targets.{no_signal}
-use Rattle.vs_elaborated.specs.Declarations.{SignalSort, has_addresses, Sort, SignalOf, ParameterOf, GenvarSort, InstanceSort, Declaration, Named, are_sorts_of_one, names_of, first_named, repeated_names}
-use Rattle.vs_elaborated.specs.Parameters.{said_range, said_addresses, said_parameters, first_entries}
-use Rattle.vs_elaborated.specs.Signals.{is_reg, is_input, second_sort, Start, SaidSignal, said_signal, said_signals, after, put_signals, range_faults}
-use Rattle.vs_elaborated.specs.Generate.{Made}
-use Rattle.vs_elaborated.specs.Constructs.{constructs}
+use Rattle.vs_elaborated.specs.Declarations.{SignalSort, has_addresses, Sort, SignalOf, ParameterOf, FunctionOf, GenvarSort, IntegerSort, InstanceSort, Declaration, Named, are_sorts_of_one, names_of, first_named}
+use Rattle.vs_elaborated.specs.Parameters.{said_range, said_addresses}
+use Rattle.vs_elaborated.specs.Signals.{is_reg, is_input, second_sort, Start, SaidSignal, said_signal, said_signals, after, range_faults, array_fault, array_faults}
 use Rattle.vs_elaborated.specs.Pieces.{Task, Connection, IntoInput, FromOutput}
-use Rattle.vs_elaborated.specs.Instances.{Around}
-use Rattle.vs_elaborated.specs.Surveys.{items_of, declarations_of, overrides_of, header_of, block_entries, block_faults, bits_over, items_said, Totals, survey}
+use Rattle.vs_elaborated.specs.Surveys.{declarations_of, overrides_of, block_entries, bits_over, Totals, counts_of, survey}
 use Rattle.vs_elaborated.specs.Elaborated.{entry_signal, port_assign}
 use Rattle.vs_elaborated.specs.Sound.{IsSoundDeclared, AreSoundEntries, AreSoundFrames, IsShapedContents, IsFineConnection, IsSoundTask}
 use Rattle.vs_elaborated.proofs.NumberedSignals.{bits_of_all, signals_of}
-use Rattle.vs_elaborated.proofs.SoundNames.{frames_needed, IsShapedSignal, IsShapedSort, AreShapedDeclarations, range_fine, addresses_fine, first_entries_sound, parameters_good, there}
-use Rattle.vs_elaborated.proofs.SurveyNames.{contents_shaped, names_shaped, names_ranges}
-use Rattle.vs_elaborated.proofs.FirstNames.{same_is, IsFirst, names_first, entry_first, Has, IsFirstOf, first_of, IsDeclaredWith, IsSignalWith, signals_put, parameters_put, entry_within, MayBeInput, sort_may, IsNetNamed, net_of, any_signal, first_with, input_net, said_nets, IsPlainSort, plain_of, said_plain, memory_variable}
+use Rattle.vs_elaborated.proofs.SurveyParts.{names_in, first_in, parameters_in, ranged_in, start_in, signals_in, entries_in, functions_in, blocks_in, faultless}
+use Rattle.vs_elaborated.proofs.SoundNames.{frames_needed, IsShapedSignal, IsShapedSort, AreShapedDeclarations, range_fine, addresses_fine}
+use Rattle.vs_elaborated.proofs.SurveyNames.{contents_shaped, names_shaped, names_ranges, names_arrays, parameters_sound}
+use Rattle.vs_elaborated.proofs.FirstNames.{same_is, IsFirst, names_first, entry_first, Has, IsFirstOf, first_of, IsDeclaredWith, IsSignalWith, signals_put, parameters_put, functions_put, entry_within, MayBeInput, sort_may, IsNetNamed, net_of, any_signal, first_with, input_net, said_nets, IsPlainSort, plain_of, said_plain, memory_variable}
 use Rattle.vs_elaborated.proofs.PortNames.{IsPort, IsDirected}
 
 -- ---- the entry of a port
@@ -64,28 +63,22 @@ first_names w P ds f e m (n ∷ ns) h = ((λ i. subst (λ (u : Declaration). P u
     same k = cc
 
 -- what holds of a signal before it is said, and of each one said of this name, holds of the entry of this name; a port is no memory
-port_entry : (Q : SignalMeaning → Type 0) → Q (record { signal = no_signal; input = false; known = false }) → (b : Bool) (w : List ℕ) (limits : Limits) (source : Source) (k : Task) (t : Totals)
+port_entry : (Q : SignalMeaning → Type 0) → Q (record { signal = no_signal; input = false; role = InModule; known = false }) → (b : Bool) (w : List ℕ) (limits : Limits) (source : Source) (k : Task) (t : Totals)
     → IsShapedContents k.contents → Has (IsPort w b) (declarations_of k.contents) → (survey limits source k t).faults ≡ []
     → ((env : Env) (start : Start) (a f : Declaration) → IsPort w b a → IsFirstOf (declarations_of k.contents) a f → start.top ≡ is_none k.parent → Each (λ (s : SaidSignal). same_name w s.meaning.signal.name ≡ true → Q s.meaning) (said_signals env start (names_of (declarations_of k.contents))))
     → IsSignalWith (PlainWith Q) (find_entry (survey limits source k t).entries w)
 port_entry Q q b w limits source k t x p h said =
     let ds = declarations_of k.contents in
-    let names = names_of ds in
-    let parameters = said_parameters k.env (overrides_of k.contents) ds (first_entries names) in
-    let ranged = within k.env parameters.entries in
-    let start : Start = record { scope = t.scopes; top = is_none k.parent; signal = t.signals; bit = t.bits } in
-    let signals = said_signals ranged start names in
-    let entries = put_signals signals parameters.entries in
-    let made = constructs limits (items_of k.contents) (within k.env entries) 1 t.turns in
-    let blocks = flat_map (λ (m : Made). m.names) made in
-    let h1 = (both_nil (header_of k.contents) _ h).1 in
-    let h2 = (both_nil (repeated_names [] ds) _ h1).0 in
-    first_of (IsShapedPort w b) (IsSignalWith (PlainWith Q) (find_entry (survey limits source k t).entries w)) [] ds h2 (has_shape w b ds (contents_shaped k.contents x) p) λ a f g i.
+    let names = names_in k in
+    let n = faultless limits source k t h in
+    first_of (IsShapedPort w b) (IsSignalWith (PlainWith Q) (find_entry (survey limits source k t).entries w)) [] ds n.repeated (has_shape w b ds (contents_shaped k.contents x) p) λ a f g i.
     let first = ap (λ u. first_named u ds) (sym g.0.name_is) ∙ i.first in
-    let began = subst (IsSignalWith (PlainWith Q)) (sym (entry_first [] ds w f refl first)) (first_with (PlainWith Q) (refl, q) f.sort (any_signal b f.sort a.sort g.0.sort i.sorts)) in
-    let plain = said_plain w ranged names start (first_names w IsPlainSort ds f first (plain_of b f.sort a.sort g.0.sort g.1 i.sorts) names (names_first [] ds)) in
-    entry_within (PlainWith Q) w entries (block_entries blocks)
-    (signals_put (PlainWith Q) w signals parameters.entries (both_said (λ (m : SignalMeaning). m.signal.words ≡ None) Q w signals plain (said ranged start a f g.0 i refl)) (parameters_put (PlainWith Q) w k.env (overrides_of k.contents) ds (first_entries names) began))
+    let began = subst (IsSignalWith (PlainWith Q)) (sym (entry_first t.scopes [] ds w f refl first)) (first_with (PlainWith Q) (refl, q) t.scopes f.sort (any_signal b f.sort a.sort g.0.sort i.sorts)) in
+    let plain = said_plain w (ranged_in k t) names (start_in k t) (first_names w IsPlainSort ds f first (plain_of b f.sort a.sort g.0.sort g.1 i.sorts) names (names_first [] ds)) in
+    entry_within (PlainWith Q) w (functions_in limits k t).entries (block_entries (blocks_in limits k t))
+    (functions_put (PlainWith Q) w limits t.scopes k.env (counts_of t) ds (entries_in k t)
+    (signals_put (PlainWith Q) w (signals_in k t) (parameters_in k t).entries (both_said (λ (m : SignalMeaning). m.signal.words ≡ None) Q w (signals_in k t) plain (said (ranged_in k t) (start_in k t) a f g.0 i refl))
+    (parameters_put (PlainWith Q) w k.env (overrides_of k.contents) ds (first_in k t) began)))
 
 abbrev pub IsNetMeaning : SignalMeaning → Type 0
 IsNetMeaning m = (m.signal.net ≡ true) × (m.signal.input ≡ false)
@@ -126,9 +119,11 @@ entry_in d Q (e ∷ es) w s h = of (same_name e.name w) h (λ k. entry_in d Q es
 
     declared : (x : Declared) → IsSoundDeclared d false x → IsDeclaredWith (PlainWith Q) x → IsDeclaredWith (WithIn d Q) x
     declared Later i k = absurd k
-    declared (OfSignal m) i k = (plain m m.signal.words i k.0, k.1)
+    declared (OfSignal m) i k = (plain m m.signal.words i.0 k.0, k.1)
     declared (OfParameter v r) i k = absurd k
     declared OfGenvar i k = absurd k
+    declared (OfInteger owner) i k = absurd k
+    declared (OfFunction f) i k = absurd k
     declared OfScope i k = absurd k
 
     of : (b : Bool) → IsSignalWith (PlainWith Q) (if b then Some e else find_entry es w) → (IsSignalWith (PlainWith Q) (find_entry es w) → IsSignalWith (WithIn d Q) (find_entry es w)) → IsSignalWith (WithIn d Q) (if b then Some e else find_entry es w)
@@ -151,6 +146,8 @@ input_formed d place e f (Some x) h = of x.name x.place x.declared h
     of n p (OfSignal m) k = four (is_plain d m.signal) m.signal.net m.signal.input (is_formed d e) k.0 k.1.0 k.1.1 f
     of n p (OfParameter v r) k = absurd k
     of n p OfGenvar k = absurd k
+    of n p (OfInteger owner) k = absurd k
+    of n p (OfFunction g) k = absurd k
     of n p OfScope k = absurd k
 
 output_formed : (d : Design) (place target_place : ℕ) (t : Target) → is_formed_target d is_net t ≡ true → has_constant_selects t ≡ true → (o : Option Entry) → IsSignalWith (WithIn d AnyMeaning) o
@@ -169,6 +166,8 @@ output_formed d place target_place t f g (Some x) h = of x.name x.place x.declar
     of n p (OfSignal m) k = four (is_formed_target d is_net t) (has_constant_selects t) (is_plain d m.signal) f g k.0
     of n p (OfParameter v r) k = absurd k
     of n p OfGenvar k = absurd k
+    of n p (OfInteger owner) k = absurd k
+    of n p (OfFunction g) k = absurd k
     of n p OfScope k = absurd k
 
 -- the assign of a connection without a fault
@@ -211,15 +210,17 @@ variable env start n s x h = of s.addresses refl (λ e. h e)
         (two (not (is_reg s.kind || is_reg (second_sort s n.second).kind)) (is_input s.kind || is_input (second_sort s n.second).kind) start.top i.0 i.1)
 
 said_declared : (d : Design) (env : Env) → AreSoundFrames d true env.frames → (ds : List Declaration) (names : List Named) (start : Start) → Each (IsFirst [] ds) names → Each (λ (n : Named). IsShapedSort n.first.sort) names
-    → range_faults env (map (λ (n : Named). n.first) names) ≡ [] → Each (IsDeclaredSaid start.top start.scope) (said_signals env start names)
-said_declared d env s ds [] start f x h = tt
-said_declared d env s ds (n ∷ ns) start f x h = of n.first.name n.first.sort n.second f.0.second x.0 h (λ next e. said_declared d env s ds ns next f.1 x.1 e)
+    → range_faults env (map (λ (n : Named). n.first) names) ≡ [] → array_faults (map (λ (n : Named). n.first) names) ≡ [] → Each (IsDeclaredSaid start.top start.scope) (said_signals env start names)
+said_declared d env s ds [] start f x h l = tt
+said_declared d env s ds (n ∷ ns) start f x h l =
+    let a = both_nil (array_fault n.first.name n.first.sort) (array_faults (map (λ (n : Named). n.first) ns)) l in
+    of n.first.name n.first.sort n.second f.0.second x.0 a.0 h (λ next e. said_declared d env s ds ns next f.1 x.1 e a.1)
   where
-    of : (w : tree.Name) (q : Sort) (second : Option Declaration) → ((b : Declaration) → second ≡ Some b → are_sorts_of_one q b.sort ≡ true) → IsShapedSort q
+    of : (w : tree.Name) (q : Sort) (second : Option Declaration) → ((b : Declaration) → second ≡ Some b → are_sorts_of_one q b.sort ≡ true) → IsShapedSort q → array_fault w q ≡ []
         → range_faults env (record { name = w; sort = q } ∷ map (λ (n : Named). n.first) ns) ≡ []
         → ((next : Start) → range_faults env (map (λ (n : Named). n.first) ns) ≡ [] → Each (IsDeclaredSaid next.top next.scope) (said_signals env next ns))
         → Each (IsDeclaredSaid start.top start.scope) (said_signals env start (record { first = record { name = w; sort = q }; second = second } ∷ ns))
-    of w (SignalOf t) second g x h rest =
+    of w (SignalOf t) second g x y h rest =
         let m : Named = record { first = record { name = w; sort = SignalOf t }; second = second } in
         let one = said_signal env start m t in
         let k = both_nil ((said_range t.range env).faults ++ (said_addresses t.addresses env).faults) (range_faults env (map (λ (n : Named). n.first) ns)) h in
@@ -231,13 +232,15 @@ said_declared d env s ds (n ∷ ns) start f x h = of n.first.name n.first.sort n
             range = r.lawful;
             input = λ e. let i = split (is_input t.kind || is_input (second_sort t second).kind) start.top e in (input_net t second g i.0, i.1);
             scope_is = refl;
-            memory = both (are_lawful_words one.meaning.signal.words) (not (is_memory one.meaning.signal) || is_variable one.meaning.signal) a.lawful (variable env start m t x (λ e. memory_variable t second x g e));
+            memory = both (are_lawful_words one.meaning.signal.words) (not (is_memory one.meaning.signal) || is_variable one.meaning.signal) a.lawful (variable env start m t x (λ e. memory_variable t second x (no_fault (has_addresses t && not (is_reg t.kind)) WrongKind w.place y) g e));
           },
           rest (after start (said_signal env start m t).meaning) k.1,
         )
-    of w (ParameterOf p) second g x h rest = rest start h
-    of w GenvarSort second g x h rest = rest start h
-    of w InstanceSort second g x h rest = rest start h
+    of w (ParameterOf p) second g x y h rest = rest start h
+    of w (FunctionOf q) second g x y h rest = rest start h
+    of w GenvarSort second g x y h rest = rest start h
+    of w IntegerSort second g x y h rest = rest start h
+    of w InstanceSort second g x y h rest = rest start h
 
 not_over : (most total : ℕ) (ss : List SaidSignal) (top : Bool) (scope : ℕ) → Each (IsDeclaredSaid top scope) ss → total ≤ most → bits_over most total ss ≡ [] → total + bits_of_all (signals_of ss) ≤ most
 not_over most total [] top scope x b h = omega (arith, b)
@@ -262,30 +265,10 @@ pub record AreFineSignals (d : Design) (limits : Limits) (source : Source) (k : 
 pub survey_signals : (d : Design) (limits : Limits) (source : Source) (k : Task) (t : Totals) → IsSoundTask d k → t.bits ≤ limits.bits → (survey limits source k t).faults ≡ [] → AreFineSignals d limits source k t
 survey_signals d limits source k t s b h =
     let ds = declarations_of k.contents in
-    let names = names_of ds in
-    let parameters = said_parameters k.env (overrides_of k.contents) ds (first_entries names) in
-    let ranged = within k.env parameters.entries in
-    let start : Start = record { scope = t.scopes; top = is_none k.parent; signal = t.signals; bit = t.bits } in
-    let signals = said_signals ranged start names in
-    let entries = put_signals signals parameters.entries in
-    let made = constructs limits (items_of k.contents) (within k.env entries) 1 t.turns in
-    let blocks = flat_map (λ (m : Made). m.names) made in
-    let around : Around = record { scope = t.scopes; depth = k.depth; env = within k.env (entries ++ block_entries blocks) } in
-    let said = items_said source around (items_of k.contents) made in
-    let h1 = (both_nil (header_of k.contents) _ h).1 in
-    let h2 = (both_nil (repeated_names [] ds) _ h1).1 in
-    let h3 = both_nil parameters.faults _ h2 in
-    let h4 = both_nil (range_faults ranged ds) _ h3.1 in
-    let h5 = (both_nil (flat_map (λ (s : SaidSignal). s.faults) signals) _ h4.1).1 in
-    let h6 = (both_nil (flat_map (λ (m : Made). m.faults) made) _ h5).1 in
-    let h7 = (both_nil (block_faults entries [] blocks) _ h6).1 in
-    let h8 = (both_nil said.faults _ h7).1 in
-    let h9 = (both_nil (bits_over limits.bits t.bits signals) _ h8).0 in
-    let shaped = contents_shaped k.contents s.shaped in
-    let outer = frames_needed d k.env.frames s.frames in
-    let good = parameters_good d k.env (overrides_of k.contents) signals outer s.overrides ds (first_entries names) shaped (record { sound = first_entries_sound d names; settled = there d ranged names start }) h3.0 in
-    let all = said_declared d ranged (good.sound, outer) ds names start (names_first [] ds) (names_shaped [] ds shaped) (names_ranges ranged [] ds h4.0) in
-    record { declared = each signals all; bits = not_over limits.bits t.bits signals (is_none k.parent) t.scopes all b h9 }
+    let n = faultless limits source k t h in
+    let good = parameters_sound d k t s.frames s.overrides s.shaped n.parameters in
+    let all = said_declared d (ranged_in k t) (good.sound, frames_needed d k.env.frames s.frames) ds (names_in k) (start_in k t) (names_first [] ds) (names_shaped [] ds (contents_shaped k.contents s.shaped)) (names_ranges (ranged_in k t) [] ds n.ranges) (names_arrays [] ds n.arrays) in
+    record { declared = each (signals_in k t) all; bits = not_over limits.bits t.bits (signals_in k t) (is_none k.parent) t.scopes all b n.bits }
   where
     each : (ss : List SaidSignal) → Each (IsDeclaredSaid (is_none k.parent) t.scopes) ss → Each (IsDeclaredSignal (is_none k.parent) t.scopes) (signals_of ss)
     each [] x = tt

@@ -1,7 +1,7 @@
 -- The blocks that generate constructs make are shaped as generate blocks are.
 use Rattle.std.proofs.Common.{ℕ, zero, suc, Bool, true, false, List, [], ◌∷◌, Option, Some, None, ℤ}
 use Rattle.vs_grammar.specs.Trees as tree
-use Rattle.vs_grammar.specs.Trees.{item_place, items_list}
+use Rattle.vs_grammar.specs.Trees.{items_list}
 use Rattle.vs_grammar.specs.Shapes.{Each, IsGenerateItem, IsBlock, IsBlockFallback, AreGenerateArms, AreGenerateItems}
 use Rattle.vs_const.specs.declared.faults.Fault.{Fault}
 use Rattle.vs_const.specs.Expressions.{number}
@@ -40,7 +40,7 @@ loop_shaped : (b : Option Block) (genvar : ℕ) (t : Turns) → IsShapedBlock b 
 loop_shaped None genvar t x = tt
 loop_shaped (Some b) genvar t x = turns_shaped b genvar t.values x
 
-from_shaped : (limits : Limits) (head : tree.GenerateHead) (g v : Option ℕ) (fs : List Fault) (b : Option Block) (env : Env) (total : ℕ) → IsShapedBlock b → AreShapedBlocks (loop_from limits head g v fs b env total).blocks
+from_shaped : (limits : Limits) (head : tree.LoopHead) (g v : Option ℕ) (fs : List Fault) (b : Option Block) (env : Env) (total : ℕ) → IsShapedBlock b → AreShapedBlocks (loop_from limits head g v fs b env total).blocks
 from_shaped limits head (Some g) (Some v) fs b env total x = loop_shaped b g (turns_from (suc limits.turns) limits head (same_name head.variable.bytes head.again.bytes) g env [] total v) x
 from_shaped limits head (Some g) None fs b env total x = tt
 from_shaped limits head None v fs b env total x = tt
@@ -76,6 +76,8 @@ mutual
   construct_shaped (tree.AssignsItem place assigns) limits env n total x = tt
   construct_shaped (tree.AlwaysItem block) limits env n total x = tt
   construct_shaped (tree.GenvarsItem place names) limits env n total x = tt
+  construct_shaped (tree.IntegersItem place names) limits env n total x = tt
+  construct_shaped (tree.FunctionItem function) limits env n total x = tt
   construct_shaped (tree.InstancesItem t) limits env n total x = tt
 
   branch_shaped : (b : tree.GenerateBlock) (limits : Limits) (env : Env) (n total : ℕ) → IsBlock b → AreShapedBlocks (branch b limits env n total).blocks

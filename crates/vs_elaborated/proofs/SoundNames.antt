@@ -14,25 +14,25 @@ use Rattle.vs_design.specs.Elaborated.{is_signal, is_plain, is_lawful_range, are
 use Rattle.vs_design.proofs.Lengths.{length_bits_of, length_value, length_assigned}
 use Rattle.vs_design.specs.Clocks.{same_name}
 use Rattle.vs_grammar.specs.Trees as tree
-use Rattle.vs_grammar.specs.Shapes.{Each, Given, IsExpr, IsRange as IsRangeTree}
+use Rattle.vs_grammar.specs.Shapes.{Each, Given, IsExpr, IsRange as IsRangeTree, IsValueType, IsFunction, is_port_kind}
 use Rattle.vs_const.specs.declared.faults.Fault.{Fault}
-use Rattle.vs_const.specs.Meanings.{ConstantValue, SignalMeaning, Unknown, Find, IsFairValue}
+use Rattle.vs_const.specs.declared.rules.Rule.TheVariants.{FunctionRule}
+use Rattle.vs_const.specs.Meanings.{ConstantValue, SignalMeaning, Barred, Unknown, Find, is_local, IsFairValue}
 use Rattle.vs_const.specs.Typed.{Typed, is_over, natural}
 use Rattle.vs_const.specs.Selects.{range_if, range_of, bounds, address_bounds}
-use Rattle.vs_grammar.specs.Trees.{expr_place}
 use Rattle.vs_const.specs.Expressions.{constant}
 use Rattle.vs_const.specs.Sound.{IsSound, AreSound, IsFine}
 use Rattle.vs_const.proofs.Short.{short}
 use Rattle.vs_const.proofs.Formed.{IsNumber, natural_fine, IsRange, both_nil, both, split, bounds_fine, typed_fine, length_some}
-use Rattle.vs_elaborated.specs.Environments.{Declared, Later, OfSignal, OfParameter, OfGenvar, OfScope, Entry, Env, within, up_to, find_entry, find_name, turn_of, is_late, parameter_meaning, turn_meaning, with_words, signal_means, declared_meaning, entry_meaning, named}
-use Rattle.vs_elaborated.specs.Declarations.{SignalSort, has_addresses, ParameterSort, Sort, SignalOf, ParameterOf, GenvarSort, InstanceSort, Declaration, Named}
-use Rattle.vs_elaborated.specs.Parameters.{SaidRange, of_bounds, said_range, descending, of_addresses, said_addresses, Override, override_of, chosen, converted, declared_if, said_parameter, valued, put_value, first_declared, first_entries, said_parameters}
+use Rattle.vs_elaborated.specs.Environments.{Declared, Later, OfSignal, OfParameter, OfGenvar, OfInteger, OfFunction, OfScope, Entry, Env, within, up_to, find_entry, find_name, turn_of, is_late, parameter_meaning, turn_meaning, with_words, signal_means, unless_outside, declared_meaning, entry_meaning, named}
+use Rattle.vs_elaborated.specs.Declarations.{SignalSort, has_addresses, ParameterSort, Sort, SignalOf, ParameterOf, FunctionOf, GenvarSort, IntegerSort, InstanceSort, Declaration, Named}
+use Rattle.vs_elaborated.specs.Parameters.{SaidRange, of_bounds, said_range, descending, of_addresses, said_addresses, said_type, is_signed, Override, override_of, chosen, converted, declared_if, said_parameter, valued, put_value, first_declared, first_entries, said_parameters}
 use Rattle.vs_elaborated.specs.Signals.{Start, said_signal, said_signals, after, SaidSignal, put_signal, put_signals, range_faults}
 use Rattle.vs_elaborated.specs.Sound.{IsSoundDeclared, AreSoundEntries, AreSoundFrames, IsConstantFine, AreFineOverrides}
 
 -- ---- sound names mean sound things
 
-turn_sound : (d : Design) (needed : Bool) (v : Option ℕ) → IsSound d needed (turn_meaning v)
+pub turn_sound : (d : Design) (needed : Bool) (v : Option ℕ) → IsSound d needed (turn_meaning v)
 turn_sound d needed None = tt
 turn_sound d needed (Some v) = (record { some = omega (arith, length_bits_of 32 v); most = omega (arith, length_bits_of 32 v); range = sym (length_bits_of 32 v) }, refl)
 
@@ -42,31 +42,49 @@ parameter_sound d needed false (Some v) (Some r) s = s
 parameter_sound d needed false (Some v) None s = absurd s
 parameter_sound d needed false None r s = absurd s
 
-declared_sound : (d : Design) (needed : Bool) (env : Env) (place : ℕ) (declared : Declared) → IsSoundDeclared d needed declared → IsSound d needed (declared_meaning env place declared)
+-- a function names no signal of its module
+outside_sound : (d : Design) (needed inside : Bool) (s : SignalMeaning) → IsSound d needed (signal_means s) → IsSound d needed (unless_outside inside s)
+outside_sound d needed false s h = h
+outside_sound d needed true s h = of (is_local s)
+  where
+    of : (b : Bool) → IsSound d needed (if b then signal_means s else Barred FunctionRule)
+    of true = h
+    of false = tt
+
+pub declared_sound : (d : Design) (needed : Bool) (env : Env) (place : ℕ) (declared : Declared) → IsSoundDeclared d needed declared → IsSound d needed (declared_meaning env place declared)
 declared_sound d needed env place Later s = tt
-declared_sound d needed env place (OfSignal m) s = s
+declared_sound d needed env place (OfSignal m) s = outside_sound d needed env.in_function m s.0
 declared_sound d needed env place (OfParameter v r) s = parameter_sound d needed (is_late env.before place) v r s
 declared_sound d needed env place OfGenvar s = turn_sound d needed (turn_of env.turns place)
+declared_sound d needed env place (OfInteger owner) s = tt
+declared_sound d needed env place (OfFunction None) s = tt
+declared_sound d needed env place (OfFunction (Some f)) s = s
 declared_sound d needed env place OfScope s = tt
 
-entry_sound : (d : Design) (needed : Bool) (env : Env) (es : List Entry) (name : List ℕ) → AreSoundEntries d needed es → IsSound d needed (entry_meaning env (find_entry es name))
-entry_sound d needed env [] name s = tt
-entry_sound d needed env (e ∷ es) name s = of (same_name e.name name) (entry_sound d needed env es name s.1)
+-- what holds of all that is declared around
+abbrev pub AreAll : (Declared → Type 0) → List (List Entry) → Type 0
+AreAll R fs = Each (λ (f : List Entry). Each (λ (e : Entry). R e.declared) f) fs
+
+entry_sound : (d : Design) (needed : Bool) (env : Env) (R : Declared → Type 0) → ((place : ℕ) (x : Declared) → R x → IsSound d needed (declared_meaning env place x))
+    → (es : List Entry) (name : List ℕ) → Each (λ (e : Entry). R e.declared) es → IsSound d needed (entry_meaning env (find_entry es name))
+entry_sound d needed env R sound [] name s = tt
+entry_sound d needed env R sound (e ∷ es) name s = of (same_name e.name name) (entry_sound d needed env R sound es name s.1)
   where
     of : (b : Bool) → IsSound d needed (entry_meaning env (find_entry es name)) → IsSound d needed (entry_meaning env (if b then Some e else find_entry es name))
-    of true k = declared_sound d needed env e.place e.declared s.0
+    of true k = sound e.place e.declared s.0
     of false k = k
 
-name_sound : (d : Design) (needed : Bool) (env : Env) (fs : List (List Entry)) (name : List ℕ) → AreSoundFrames d needed fs → IsSound d needed (entry_meaning env (find_name fs name))
-name_sound d needed env [] name s = tt
-name_sound d needed env (f ∷ fs) name s = of (find_entry f name) (entry_sound d needed env f name s.0) (name_sound d needed env fs name s.1)
+pub name_sound : (d : Design) (needed : Bool) (env : Env) (R : Declared → Type 0) → ((place : ℕ) (x : Declared) → R x → IsSound d needed (declared_meaning env place x))
+    → (fs : List (List Entry)) (name : List ℕ) → AreAll R fs → IsSound d needed (entry_meaning env (find_name fs name))
+name_sound d needed env R sound [] name s = tt
+name_sound d needed env R sound (f ∷ fs) name s = of (find_entry f name) (entry_sound d needed env R sound f name s.0) (name_sound d needed env R sound fs name s.1)
   where
     of : (o : Option Entry) → IsSound d needed (entry_meaning env o) → IsSound d needed (entry_meaning env (find_name fs name)) → IsSound d needed (entry_meaning env (elim o [ Some e ↦ Some e | None ↦ find_name fs name ]))
     of None k l = l
     of (Some e) k l = k
 
 pub named_sound : (d : Design) (needed : Bool) (env : Env) → AreSoundFrames d needed env.frames → AreSound d needed (named env)
-named_sound d needed env s name = name_sound d needed env env.frames name s
+named_sound d needed env s name = name_sound d needed env (IsSoundDeclared d needed) (declared_sound d needed env) env.frames name s
 
 -- in a constant nothing is asked of signals
 signal_needed : (d : Design) (m : SignalMeaning) (words : Option Range) → IsSound d true (with_words words m)
@@ -75,14 +93,17 @@ signal_needed d m (Some r) = tt
 
 declared_needed : (d : Design) (declared : Declared) → IsSoundDeclared d false declared → IsSoundDeclared d true declared
 declared_needed d Later s = s
-declared_needed d (OfSignal m) s = signal_needed d m m.signal.words
+declared_needed d (OfSignal m) s = (signal_needed d m m.signal.words, tt)
 declared_needed d (OfParameter (Some v) (Some r)) s = s
 declared_needed d (OfParameter (Some v) None) s = s
 declared_needed d (OfParameter None r) s = s
 declared_needed d OfGenvar s = s
+declared_needed d (OfInteger owner) s = s
+declared_needed d (OfFunction None) s = s
+declared_needed d (OfFunction (Some f)) s = tt
 declared_needed d OfScope s = s
 
-entries_needed : (d : Design) (es : List Entry) → AreSoundEntries d false es → AreSoundEntries d true es
+pub entries_needed : (d : Design) (es : List Entry) → AreSoundEntries d false es → AreSoundEntries d true es
 entries_needed d [] s = tt
 entries_needed d (e ∷ es) s = (declared_needed d e.declared s.0, entries_needed d es s.1)
 
@@ -194,6 +215,11 @@ range_fine d (Some t) env s x h =
     bounds_range b.range b.faults
     (bounds_fine d t.bracket (tree.expr_place t.left) (tree.expr_place t.right) (constant t.left (named env)) (constant t.right (named env))
     (typed_fine d (named env) t.left true (named_sound d true env s) x.0) (typed_fine d (named env) t.right true (named_sound d true env s) x.1) (bounds_faults b.range b.faults h))
+
+-- a type
+pub type_fine : (d : Design) (v : tree.ValueType) (env : Env) → AreSoundFrames d true env.frames → IsValueType v → (said_type v env).faults ≡ [] → IsFineRange (said_type v env)
+type_fine d tree.IntegerType env s x h = record { known = refl; lawful = refl }
+type_fine d (tree.RangeType signed range) env s x h = range_fine d range env s x h
 
 -- the addresses of a memory
 pub record AreFineAddresses (r : SaidRange) : Type 0 where
@@ -334,15 +360,16 @@ converted_sound d signed None t h f = own (width t.expression) (width t.expressi
         three false b c h k l = cc
 
 -- a parameter without a fault is sound
-parameter_fine : (d : Design) (env : Env) (os : List Override) (name : tree.Name) (p : ParameterSort) → AreSoundFrames d true env.frames → AreFineOverrides d os → Given IsRangeTree p.range → IsExpr p.value
+parameter_fine : (d : Design) (env : Env) (os : List Override) (name : tree.Name) (p : ParameterSort) → AreSoundFrames d true env.frames → AreFineOverrides d os → IsValueType p.value_type → IsExpr p.value
     → (said_parameter env os name p).faults ≡ [] → IsSoundDeclared d false (said_parameter env os name p).declared
 parameter_fine d env os name p s f x y h =
-    let r = said_range p.range env in
+    let r = said_type p.value_type env in
+    let signed = is_signed p.value_type in
     let t = constant p.value (named env) in
     let n = both_nil r.faults t.faults h in
-    let g = range_fine d p.range env s x n.0 in
+    let g = type_fine d p.value_type env s x n.0 in
     let c = chosen_fine d p os name.bytes t f (constant_fine d p.value (named env) (named_sound d true env s) y n.1) in
-    if_both r.known (chosen p os name.bytes t).good p.signed r.range (chosen p os name.bytes t) g.known c.is_fine.good (converted_sound d p.signed r.range (chosen p os name.bytes t) g.lawful c)
+    if_both r.known (chosen p os name.bytes t).good signed r.range (chosen p os name.bytes t) g.known c.is_fine.good (converted_sound d signed r.range (chosen p os name.bytes t) g.lawful c)
   where
     if_both : (a b : Bool) (signed : Bool) (range : Option Range) (u : Typed) → a ≡ true → b ≡ true → IsSoundDeclared d false (converted signed range u) → IsSoundDeclared d false (declared_if a b signed range u)
     if_both true true signed range u k l q = q
@@ -356,6 +383,8 @@ value_kept d needed value Later k s = k
 value_kept d needed value (OfSignal m) k s = s
 value_kept d needed value (OfParameter v r) k s = s
 value_kept d needed value OfGenvar k s = s
+value_kept d needed value (OfInteger owner) k s = s
+value_kept d needed value (OfFunction f) k s = s
 value_kept d needed value OfScope k s = s
 
 put_sound : (d : Design) (needed : Bool) (name : List ℕ) (value : Declared) (es : List Entry) → IsSoundDeclared d needed value → AreSoundEntries d needed es → AreSoundEntries d needed (put_value name value es)
@@ -366,32 +395,36 @@ put_sound d needed name value (e ∷ es) k s = (of (same_name e.name name), put_
     of true = value_kept d needed value e.declared k s.0
     of false = s.0
 
--- only a `reg` has addresses, and none of a header's ports has
+-- only a `reg` and a `wire` have addresses, and none of a header's ports has
 pub record IsShapedSignal (s : SignalSort) : Type 0 where
   pub range : Given IsRangeTree s.range
   pub addresses : Given IsRangeTree s.addresses
-  pub variable : has_addresses s ≡ true → s.kind ≡ tree.Reg
+  pub inner : has_addresses s ≡ true → is_port_kind s.kind ≡ false
   pub body : has_addresses s ≡ true → s.header ≡ false
 
 -- the shape of what is declared
 abbrev pub IsShapedSort : Sort → Type 0
 IsShapedSort (SignalOf s) = IsShapedSignal s
-IsShapedSort (ParameterOf p) = Given IsRangeTree p.range × IsExpr p.value
+IsShapedSort (ParameterOf p) = IsValueType p.value_type × IsExpr p.value
+IsShapedSort (FunctionOf f) = IsFunction f
 IsShapedSort GenvarSort = Unit {0}
+IsShapedSort IntegerSort = Unit {0}
 IsShapedSort InstanceSort = Unit {0}
 
 abbrev pub AreShapedDeclarations : List Declaration → Type 0
 AreShapedDeclarations ds = Each (λ (x : Declaration). IsShapedSort x.sort) ds
 
-first_sound_declared : (d : Design) (k : Sort) → IsSoundDeclared d true (first_declared k)
-first_sound_declared d (SignalOf s) = tt
-first_sound_declared d (ParameterOf p) = tt
-first_sound_declared d GenvarSort = tt
-first_sound_declared d InstanceSort = tt
+first_sound_declared : (d : Design) (scope : ℕ) (k : Sort) → IsSoundDeclared d true (first_declared scope k)
+first_sound_declared d scope (SignalOf s) = (tt, tt)
+first_sound_declared d scope (ParameterOf p) = tt
+first_sound_declared d scope (FunctionOf f) = tt
+first_sound_declared d scope GenvarSort = tt
+first_sound_declared d scope IntegerSort = tt
+first_sound_declared d scope InstanceSort = tt
 
-pub first_entries_sound : (d : Design) (names : List Named) → AreSoundEntries d true (first_entries names)
-first_entries_sound d [] = tt
-first_entries_sound d (n ∷ ns) = (first_sound_declared d n.first.sort, first_entries_sound d ns)
+pub first_entries_sound : (d : Design) (scope : ℕ) (names : List Named) → AreSoundEntries d true (first_entries scope names)
+first_entries_sound d scope [] = tt
+first_entries_sound d scope (n ∷ ns) = (first_sound_declared d scope n.first.sort, first_entries_sound d scope ns)
 
 -- each entry is sound, or one of these signals has its name
 abbrev pub IsSettled : Design → List SaidSignal → Entry → Type 0
@@ -415,7 +448,9 @@ parameter_good : (d : Design) (outer : Env) (os : List Override) (ss : List Said
     → ((fs : List Entry) → AreGoodEntries d ss fs → (said_parameters outer os ds fs).faults ≡ [] → AreGoodEntries d ss (said_parameters outer os ds fs).entries)
     → (n : tree.Name) (k : Sort) → IsShapedSort k → (said_parameters outer os (record { name = n; sort = k } ∷ ds) es).faults ≡ [] → AreGoodEntries d ss (said_parameters outer os (record { name = n; sort = k } ∷ ds) es).entries
 parameter_good d outer os ss ds es s f g next n (SignalOf q) x h = next es g h
+parameter_good d outer os ss ds es s f g next n (FunctionOf q) x h = next es g h
 parameter_good d outer os ss ds es s f g next n GenvarSort x h = next es g h
+parameter_good d outer os ss ds es s f g next n IntegerSort x h = next es g h
 parameter_good d outer os ss ds es s f g next n InstanceSort x h = next es g h
 parameter_good d outer os ss ds es s f g next n (ParameterOf p) x h =
     let env = up_to (within outer es) n.place in
@@ -437,16 +472,16 @@ same_itself [] = refl
 same_itself (x ∷ xs) = both (x == x) (same_name xs xs) (eq-eqb x x refl) (same_itself xs)
 
 -- at first, each entry of a signal has the name of one that is said
-pub there : (d : Design) (env : Env) (names : List Named) (start : Start) → Each (IsSettled d (said_signals env start names)) (first_entries names)
-there d env [] start = tt
-there d env (n ∷ ns) start = of n.first.name n.first.sort n.second (there d env ns)
+pub there : (d : Design) (scope : ℕ) (env : Env) (names : List Named) (start : Start) → Each (IsSettled d (said_signals env start names)) (first_entries scope names)
+there d scope env [] start = tt
+there d scope env (n ∷ ns) start = of n.first.name n.first.sort n.second (there d scope env ns)
   where
-    of : (w : tree.Name) (k : Sort) (second : Option Declaration) → ((next : Start) → Each (IsSettled d (said_signals env next ns)) (first_entries ns))
-        → Each (IsSettled d (said_signals env start (record { first = record { name = w; sort = k }; second = second } ∷ ns))) (first_entries (record { first = record { name = w; sort = k }; second = second } ∷ ns))
+    of : (w : tree.Name) (k : Sort) (second : Option Declaration) → ((next : Start) → Each (IsSettled d (said_signals env next ns)) (first_entries scope ns))
+        → Each (IsSettled d (said_signals env start (record { first = record { name = w; sort = k }; second = second } ∷ ns))) (first_entries scope (record { first = record { name = w; sort = k }; second = second } ∷ ns))
     of w (SignalOf s) second rest =
         let m : Named = record { first = record { name = w; sort = SignalOf s }; second = second } in
         let one = said_signal env start m s in
-        (inr (here w.bytes (list_any (λ (s : SaidSignal). same_name w.bytes s.meaning.signal.name) (said_signals env (after start one.meaning) ns))), more (after start one.meaning) one (first_entries ns) (rest (after start one.meaning)))
+        (inr (here w.bytes (list_any (λ (s : SaidSignal). same_name w.bytes s.meaning.signal.name) (said_signals env (after start one.meaning) ns))), more (after start one.meaning) one (first_entries scope ns) (rest (after start one.meaning)))
       where
         here : (p : List ℕ) (b : Bool) → (same_name p p || b) ≡ true
         here p b = rw_here (same_name p p) b (same_itself p)
@@ -467,11 +502,17 @@ there d env (n ∷ ns) start = of n.first.name n.first.sort n.second (there d en
                 either true b k = refl
                 either false b k = k
     of w (ParameterOf p) second rest = (inl tt, rest start)
+    of w (FunctionOf f) second rest = (inl tt, rest start)
     of w GenvarSort second rest = (inl tt, rest start)
+    of w IntegerSort second rest = (inl tt, rest start)
     of w InstanceSort second rest = (inl tt, rest start)
 
+-- a signal that is said is sound where its scope declares it
+abbrev pub IsSoundSaid : Design → SaidSignal → Type 0
+IsSoundSaid d s = IsSoundDeclared d false (OfSignal s.meaning)
+
 -- once all signals are put, each entry is sound
-pub all_settled : (d : Design) (ss : List SaidSignal) (es : List Entry) → Each (λ (s : SaidSignal). IsSound d false (signal_means s.meaning)) ss → Each (IsSettled d ss) es → AreSoundEntries d false (put_signals ss es)
+pub all_settled : (d : Design) (ss : List SaidSignal) (es : List Entry) → Each (IsSoundSaid d) ss → Each (IsSettled d ss) es → AreSoundEntries d false (put_signals ss es)
 all_settled d [] [] k g = tt
 all_settled d [] (e ∷ es) k g = (of g.0, all_settled d [] es k g.1)
   where
@@ -502,21 +543,23 @@ signal_sound d m None e h k i = (both (is_signal d m.signal) (not (is_memory m.s
 signal_sound d m (Some r) e h k i = (both (is_signal d m.signal) (is_memory m.signal) h (ap (λ (w : Option Range). is_some w) e), k, i)
 
 pub signals_sound : (d : Design) (env : Env) → AreSoundFrames d true env.frames → (names : List Named) (start : Start) → Each (λ (s : SaidSignal). is_signal d s.meaning.signal ≡ true) (said_signals env start names)
-    → Each (λ (n : Named). IsShapedSort n.first.sort) names → range_faults env (map (λ (n : Named). n.first) names) ≡ [] → Each (λ (s : SaidSignal). IsSound d false (signal_means s.meaning)) (said_signals env start names)
+    → Each (λ (n : Named). IsShapedSort n.first.sort) names → range_faults env (map (λ (n : Named). n.first) names) ≡ [] → Each (IsSoundSaid d) (said_signals env start names)
 signals_sound d env s [] start h x k = tt
 signals_sound d env s (n ∷ ns) start h x k = of n.first.name n.first.sort n.second h x.0 k (λ next g l. signals_sound d env s ns next g x.1 l)
   where
     of : (w : tree.Name) (q : Sort) (second : Option Declaration) → Each (λ (s : SaidSignal). is_signal d s.meaning.signal ≡ true) (said_signals env start (record { first = record { name = w; sort = q }; second = second } ∷ ns)) → IsShapedSort q
         → range_faults env (record { name = w; sort = q } ∷ map (λ (n : Named). n.first) ns) ≡ []
-        → ((next : Start) → Each (λ (s : SaidSignal). is_signal d s.meaning.signal ≡ true) (said_signals env next ns) → range_faults env (map (λ (n : Named). n.first) ns) ≡ [] → Each (λ (s : SaidSignal). IsSound d false (signal_means s.meaning)) (said_signals env next ns))
-        → Each (λ (s : SaidSignal). IsSound d false (signal_means s.meaning)) (said_signals env start (record { first = record { name = w; sort = q }; second = second } ∷ ns))
+        → ((next : Start) → Each (λ (s : SaidSignal). is_signal d s.meaning.signal ≡ true) (said_signals env next ns) → range_faults env (map (λ (n : Named). n.first) ns) ≡ [] → Each (IsSoundSaid d) (said_signals env next ns))
+        → Each (IsSoundSaid d) (said_signals env start (record { first = record { name = w; sort = q }; second = second } ∷ ns))
     of w (SignalOf t) second h x k rest =
         let m : Named = record { first = record { name = w; sort = SignalOf t }; second = second } in
         let f = both_nil ((said_range t.range env).faults ++ (said_addresses t.addresses env).faults) (range_faults env (map (λ (n : Named). n.first) ns)) k in
         let g = both_nil (said_range t.range env).faults (said_addresses t.addresses env).faults f.0 in
         let one = (said_signal env start m t).meaning in
         let known = both (said_range t.range env).known (said_addresses t.addresses env).known (range_fine d t.range env s x.range g.0).known (addresses_fine d t.addresses env s x.addresses g.1).known in
-        (signal_sound d one one.signal.words refl h.0 known (λ i. (split one.input start.top i).0), rest (after start one) h.1 f.1)
+        ((signal_sound d one one.signal.words refl h.0 known (λ i. (split one.input start.top i).0), refl), rest (after start one) h.1 f.1)
     of w (ParameterOf p) second h x k rest = rest start h k
+    of w (FunctionOf f) second h x k rest = rest start h k
     of w GenvarSort second h x k rest = rest start h k
+    of w IntegerSort second h x k rest = rest start h k
     of w InstanceSort second h x k rest = rest start h k

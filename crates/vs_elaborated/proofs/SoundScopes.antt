@@ -1,22 +1,23 @@
 -- The laws of scopes without a fault.
-use Rattle.std.proofs.Common.{◌≡◌, ◌+◌, ◌≤◌, ℕ, true, false, List, [], ◌∷◌, Option, Some, None, is_none, refl, arith}
+use Rattle.std.proofs.Common.{◌≡◌, ◌+◌, ◌≤◌, ℕ, true, false, List, [], ◌∷◌, Option, Some, None, refl, arith}
 use Rattle.vs_design.specs.Designs.{Design}
 use Rattle.vs_grammar.specs.Trees.{Name, Source}
 use Rattle.vs_grammar.specs.Shapes.{Each}
 use Rattle.vs_grammar.specs.Depths.{deepest, item_depth}
 use Rattle.vs_elaborated.specs.Limits.{Limits}
-use Rattle.vs_elaborated.specs.Environments.{Declared, Later, OfSignal, OfParameter, OfGenvar, OfScope, Entry, Env, within, find_entry}
-use Rattle.vs_elaborated.specs.Declarations.{Declaration, Named, Sort, SignalOf, ParameterOf, GenvarSort, InstanceSort, names_of}
-use Rattle.vs_elaborated.specs.Parameters.{said_parameters, first_entries}
+use Rattle.vs_elaborated.specs.Environments.{Declared, Later, OfSignal, OfParameter, OfGenvar, OfInteger, OfFunction, OfScope, Entry, Env, find_entry}
+use Rattle.vs_elaborated.specs.Declarations.{Declaration, Named, Sort, SignalOf, ParameterOf, FunctionOf, GenvarSort, IntegerSort, InstanceSort}
 use Rattle.vs_elaborated.specs.Signals.{Start, said_signal, said_signals, after}
 use Rattle.vs_elaborated.specs.Generate.{Nested, Made}
 use Rattle.vs_elaborated.specs.Constructs.{constructs}
 use Rattle.vs_elaborated.specs.Pieces.{Task, Connection, IntoInput, FromOutput, Piece, Own, Instance, Within}
 use Rattle.vs_elaborated.specs.Instances.{connection_name, instance_said}
-use Rattle.vs_elaborated.specs.Surveys.{Totals, survey, declarations_of, overrides_of}
-use Rattle.vs_elaborated.specs.Sound.{AreSoundEntries, IsShapedContents, AreCounted, MeansSignal, HasPorts, FaultlessIsFair, SignalsAreCounted, PortsAreSignals, BlocksAreLower, OverridesAreFine, InstancesHavePorts}
+use Rattle.vs_elaborated.specs.Surveys.{Totals, survey, declarations_of}
+use Rattle.vs_elaborated.specs.Sound.{AreSoundEntries, IsShapedContents, AreCounted, MeansSignal, HasPorts, FunctionsAreFormed, FunctionsSeeSound, FaultlessIsFair, SignalsAreCounted, PortsAreSignals, BlocksAreLower, OverridesAreFine, InstancesHavePorts}
 use Rattle.vs_elaborated.proofs.NumberedSignals.{signals_of, good_survey}
-use Rattle.vs_elaborated.proofs.SurveyNames.{survey_names}
+use Rattle.vs_elaborated.proofs.SurveyParts.{names_in, ranged_in, start_in}
+use Rattle.vs_elaborated.proofs.FormedFunctions.{function_formed, function_sees}
+use Rattle.vs_elaborated.proofs.SurveyNames.{survey_functions, survey_names}
 use Rattle.vs_elaborated.proofs.FinePieces.{overrides_fine, survey_pieces}
 use Rattle.vs_elaborated.proofs.LowBlocks.{AreLower, constructs_lower}
 use Rattle.vs_elaborated.proofs.FirstNames.{IsDeclaredWith, IsSignalWith}
@@ -24,11 +25,18 @@ use Rattle.vs_elaborated.proofs.PortNames.{IsDirected, IsDirectedPiece, known_di
 use Rattle.vs_elaborated.proofs.PortsFormed.{AnyMeaning, WithIn, entry_in, port_signal, survey_signals}
 
 pub faultless_fair : FaultlessIsFair
-faultless_fair d limits source t totals m s i h = record {
-  names = survey_names d limits source t totals s.frames s.overrides s.shaped i h;
-  pieces = survey_pieces d limits source t totals m s i h;
-  bits = λ b. omega (arith, (survey_signals d limits source t totals s b h).bits, (good_survey limits source t totals).bits);
+faultless_fair d limits source t totals m s b i h = record {
+  names = survey_names d limits source t totals s.frames s.overrides s.shaped b i h;
+  functions = (survey_functions d limits source t totals s.frames s.overrides s.shaped b i h).functions;
+  pieces = survey_pieces d limits source t totals m s b i h;
+  bits = λ c. omega (arith, (survey_signals d limits source t totals s c h).bits, (good_survey limits source t totals).bits);
 }
+
+pub functions_are_formed : FunctionsAreFormed
+functions_are_formed d number most scope env f s x b h = function_formed d number most scope env f s x b h
+
+pub functions_see_sound : FunctionsSeeSound
+functions_see_sound d number most scope env f s x b h = function_sees d number most scope env f s x b h
 
 -- ---- signals
 
@@ -42,14 +50,13 @@ said_counted env (n ∷ ns) start = of n.first.name n.first.sort n.second (λ ne
         let m : Named = record { first = record { name = w; sort = SignalOf s }; second = second } in
         (refl, refl, refl, rest (after start (said_signal env start m s).meaning))
     of w (ParameterOf p) second rest = rest start
+    of w (FunctionOf f) second rest = rest start
     of w GenvarSort second rest = rest start
+    of w IntegerSort second rest = rest start
     of w InstanceSort second rest = rest start
 
 pub signals_counted : SignalsAreCounted
-signals_counted limits source t totals =
-    let names = names_of (declarations_of t.contents) in
-    let parameters = said_parameters t.env (overrides_of t.contents) (declarations_of t.contents) (first_entries names) in
-    said_counted (within t.env parameters.entries) names (record { scope = totals.scopes; top = is_none t.parent; signal = totals.signals; bit = totals.bits })
+signals_counted limits source t totals = said_counted (ranged_in t totals) (names_in t) (start_in t totals)
 
 -- ---- ports
 
@@ -62,6 +69,8 @@ means d es name (Some x) e h = of x.name x.place x.declared e h
     of n p (OfSignal m) e k = record { entry = record { name = n; place = p; declared = OfSignal m }; meaning = m; found = e; declared = refl; there = k.0 }
     of n p (OfParameter v r) e k = absurd k
     of n p OfGenvar e k = absurd k
+    of n p (OfInteger owner) e k = absurd k
+    of n p (OfFunction f) e k = absurd k
     of n p OfScope e k = absurd k
 
 port_means : (d : Design) (limits : Limits) (source : Source) (k : Task) (t : Totals) → IsShapedContents k.contents → (survey limits source k t).faults ≡ [] → AreSoundEntries d false (survey limits source k t).entries

@@ -1,41 +1,36 @@
 -- Where a scope has no fault, all its names are sound.
-use Rattle.std.proofs.Common.{◌≡◌, ℕ, Bool, true, false, List, [], ◌∷◌, ◌++◌, map, Option, Some, None, is_some, refl, sym, ap, ◌∙◌, if◌then◌else◌}
-use Rattle.std.specs.Prelude.{is_none}
+use Rattle.std.proofs.Common.{◌≡◌, ◌<◌, ℕ, Bool, true, false, List, [], ◌∷◌, ◌++◌, map, length, Option, Some, None, is_some, refl, sym, ap, ◌∙◌, if◌then◌else◌}
 use Rattle.std.specs.List.{flat_map, list_any}
 use Rattle.vs_design.specs.Expressions.{Signal}
 use Rattle.vs_design.specs.Designs.{Design}
 use Rattle.vs_design.specs.Clocks.{same_name}
 use Rattle.vs_design.specs.Elaborated.{is_signal}
 use Rattle.vs_grammar.specs.Trees as tree
-use Rattle.vs_grammar.specs.Trees.{Module, Source, SignalKind, Input, InputWire, Output, OutputWire, OutputReg, Reg, Wire, items_list}
+use Rattle.vs_grammar.specs.Trees.{Source, SignalKind, Input, InputWire, Output, OutputWire, OutputReg, Reg, Wire, items_list}
 use Rattle.vs_grammar.specs.Shapes.{Each, OneOrMore, Given, IsRange, IsVariable, IsNet, IsPort, is_port_kind, AreNames, AreSignals, IsSetting, AreParameters, IsItem, AreItems, IsGenerateItem, AreHeaderParameters, ArePorts, IsHeader}
-use Rattle.vs_const.specs.declared.faults.Fault.{Fault}
 use Rattle.vs_const.proofs.Formed.{both_nil}
 use Rattle.vs_elaborated.specs.Limits.{Limits}
-use Rattle.vs_elaborated.specs.Environments.{OfScope, Env, within}
-use Rattle.vs_elaborated.specs.Declarations.{Sort, SignalOf, ParameterOf, GenvarSort, InstanceSort, Declaration, Named, signals_declared, parameters_declared, item_declared, header_declared, second_of, names_after, names_of, repeated_names}
-use Rattle.vs_elaborated.specs.Parameters.{said_range, said_addresses, said_parameters, first_entries}
-use Rattle.vs_elaborated.specs.Signals.{Start, SaidSignal, said_signals, put_signals, range_faults}
-use Rattle.vs_elaborated.specs.Generate.{BlockName, Made}
-use Rattle.vs_elaborated.specs.Constructs.{constructs}
+use Rattle.vs_elaborated.specs.Environments.{OfScope, Env}
+use Rattle.vs_elaborated.specs.Declarations.{SignalOf, ParameterOf, GenvarSort, IntegerSort, InstanceSort, Declaration, Named, signals_declared, parameters_declared, item_declared, header_declared, second_of, names_after}
+use Rattle.vs_elaborated.specs.Signals.{SaidSignal, sort_faults, range_faults, array_fault, array_faults}
+use Rattle.vs_elaborated.specs.Generate.{BlockName}
 use Rattle.vs_elaborated.specs.Pieces.{Contents, OfModule, OfBlock, Task}
-use Rattle.vs_elaborated.specs.Surveys.{items_of, declarations_of, overrides_of, header_of, block_entries, Totals, survey}
+use Rattle.vs_elaborated.specs.Surveys.{declarations_of, overrides_of, block_entries, Totals, counts_of, survey}
 use Rattle.vs_elaborated.specs.Sound.{AreSoundEntries, AreSoundFrames, AreFineOverrides, IsShapedContents}
-use Rattle.vs_elaborated.proofs.SoundNames.{frames_needed, IsShapedSort, AreShapedDeclarations, first_entries_sound, parameters_good, there, all_settled, signals_sound}
+use Rattle.vs_elaborated.proofs.EachOf.{each_append, each_flat}
+use Rattle.vs_elaborated.proofs.SoundNames.{frames_needed, IsShapedSort, AreShapedDeclarations, AreGoodEntries, first_entries_sound, parameters_good, there, all_settled, signals_sound}
+use Rattle.vs_elaborated.proofs.FormedFunctions.{AreSoundFunctions, functions_sound}
+use Rattle.vs_elaborated.proofs.SurveyParts.{names_in, first_in, parameters_in, ranged_in, start_in, signals_in, entries_in, functions_in, blocks_in, faultless}
 
 -- ---- what is declared is shaped
-
-pub each_append : {A : Type 0} (P : A → Type 0) (xs ys : List A) → Each P xs → Each P ys → Each P (xs ++ ys)
-each_append P [] ys h k = k
-each_append P (x ∷ xs) ys h k = (h.0, each_append P xs ys h.1 k)
 
 -- a name of this kind with its addresses
 record IsShapedName (kind : SignalKind) (d : tree.Declarator) : Type 0 where
   addresses : Given IsRange d.addresses
-  variable : is_some d.addresses ≡ true → kind ≡ Reg
+  inner : is_some d.addresses ≡ true → is_port_kind kind ≡ false
 
 no_addresses : (kind : SignalKind) (d : tree.Declarator) (a : Option tree.RangeTree) → d.addresses ≡ a → a ≡ None → IsShapedName kind d
-no_addresses kind d None e h = record { addresses = given d.addresses e; variable = λ k. absurd (no (sym (ap is_some e) ∙ k)) }
+no_addresses kind d None e h = record { addresses = given d.addresses e; inner = λ k. absurd (no (sym (ap is_some e) ∙ k)) }
   where
     given : (o : Option tree.RangeTree) → o ≡ None → Given IsRange o
     given None i = tt
@@ -65,16 +60,16 @@ names_of_kind kind names x = of kind names x
     of Output ds k = each IsPort Output (port Output) ds k
     of OutputWire ds k = each IsPort OutputWire (port OutputWire) ds k
     of OutputReg ds k = each IsPort OutputReg (port OutputReg) ds k
-    of Reg ds k = each IsVariable Reg (λ d i. record { addresses = i.1; variable = λ e. refl }) ds k
-    of Wire ds k = each IsNet Wire (λ d i. no_addresses Wire d d.addresses refl i.1) ds k
+    of Reg ds k = each IsVariable Reg (λ d i. record { addresses = i.1; inner = λ e. refl }) ds k
+    of Wire ds k = each IsNet Wire (λ d i. record { addresses = i.1; inner = λ e. refl }) ds k
 
 signals_shaped : (header : Bool) (t : tree.Signals) → AreSignals t → (header ≡ true → is_port_kind t.kind ≡ true) → AreShapedDeclarations (signals_declared header t)
 signals_shaped header t x h = of t.names (names_of_kind t.kind t.names x.names)
   where
-    -- a `reg` is no port of a header
-    in_body : (b : Bool) (kind : SignalKind) → (b ≡ true → is_port_kind kind ≡ true) → kind ≡ Reg → b ≡ false
+    -- neither a `reg` nor a `wire` is a port of a header
+    in_body : (b : Bool) (kind : SignalKind) → (b ≡ true → is_port_kind kind ≡ true) → is_port_kind kind ≡ false → b ≡ false
     in_body false kind p e = refl
-    in_body true kind p e = absurd (no (sym (p refl) ∙ ap is_port_kind e))
+    in_body true kind p e = absurd (no (sym (p refl) ∙ e))
       where
         no : true ≡ false → ⊥
         no k = cc
@@ -82,7 +77,7 @@ signals_shaped header t x h = of t.names (names_of_kind t.kind t.names x.names)
     of : (names : List tree.Declarator) → Each (IsShapedName t.kind) names
         → AreShapedDeclarations (map (λ (d : tree.Declarator). record { name = d.name; sort = SignalOf (record { kind = t.kind; signed = t.signed; range = t.range; addresses = d.addresses; header = header }) }) names)
     of [] k = tt
-    of (d ∷ ds) k = (record { range = x.range; addresses = k.0.addresses; variable = k.0.variable; body = λ e. in_body header t.kind h (k.0.variable e) }, of ds k.1)
+    of (d ∷ ds) k = (record { range = x.range; addresses = k.0.addresses; inner = k.0.inner; body = λ e. in_body header t.kind h (k.0.inner e) }, of ds k.1)
 
 in_no_header : (kind : SignalKind) → false ≡ true → is_port_kind kind ≡ true
 in_no_header kind h = cc
@@ -94,13 +89,17 @@ parameters_shaped t h = of t.settings (all t.settings h.settings)
     all [] k = absurd k
     all (s ∷ ss) k = k
 
-    of : (ss : List tree.Setting) → Each IsSetting ss → AreShapedDeclarations (map (λ (s : tree.Setting). record { name = s.name; sort = ParameterOf (record { is_local = t.is_local; signed = t.signed; range = t.range; value = s.value }) }) ss)
+    of : (ss : List tree.Setting) → Each IsSetting ss → AreShapedDeclarations (map (λ (s : tree.Setting). record { name = s.name; sort = ParameterOf (record { is_local = t.is_local; value_type = t.value_type; value = s.value }) }) ss)
     of [] k = tt
-    of (s ∷ ss) k = ((h.range, k.0.1), of ss k.1)
+    of (s ∷ ss) k = ((h.value_type, k.0.1), of ss k.1)
 
 genvars_shaped : (ns : List tree.Name) → AreShapedDeclarations (map (λ (n : tree.Name). record { name = n; sort = GenvarSort }) ns)
 genvars_shaped [] = tt
 genvars_shaped (n ∷ ns) = (tt, genvars_shaped ns)
+
+integers_shaped : (ns : List tree.Name) → AreShapedDeclarations (map (λ (n : tree.Name). record { name = n; sort = IntegerSort }) ns)
+integers_shaped [] = tt
+integers_shaped (n ∷ ns) = (tt, integers_shaped ns)
 
 instances_shaped : (is : List tree.Instance) → AreShapedDeclarations (map (λ (i : tree.Instance). record { name = i.name; sort = InstanceSort }) is)
 instances_shaped [] = tt
@@ -112,6 +111,8 @@ generate_item_shaped (tree.ParametersItem t) x = parameters_shaped t x.0
 generate_item_shaped (tree.AssignsItem place assigns) x = tt
 generate_item_shaped (tree.AlwaysItem block) x = tt
 generate_item_shaped (tree.GenvarsItem place names) x = genvars_shaped names
+generate_item_shaped (tree.IntegersItem place names) x = integers_shaped names
+generate_item_shaped (tree.FunctionItem function) x = absurd x
 generate_item_shaped (tree.InstancesItem t) x = instances_shaped t.instances
 generate_item_shaped (tree.GenerateFor head block) x = tt
 generate_item_shaped (tree.GenerateIf place c taken other) x = tt
@@ -123,14 +124,12 @@ item_shaped (tree.ParametersItem t) x = parameters_shaped t x
 item_shaped (tree.AssignsItem place assigns) x = tt
 item_shaped (tree.AlwaysItem block) x = tt
 item_shaped (tree.GenvarsItem place names) x = genvars_shaped names
+item_shaped (tree.IntegersItem place names) x = integers_shaped names
+item_shaped (tree.FunctionItem function) x = (x, tt)
 item_shaped (tree.InstancesItem t) x = instances_shaped t.instances
 item_shaped (tree.GenerateFor head block) x = tt
 item_shaped (tree.GenerateIf place c taken other) x = tt
 item_shaped (tree.GenerateCase place subject arms other) x = tt
-
-flat_shaped : {A : Type 0} (f : A → List Declaration) (P : A → Type 0) → ((a : A) → P a → AreShapedDeclarations (f a)) → (xs : List A) → Each P xs → AreShapedDeclarations (flat_map f xs)
-flat_shaped f P h [] k = tt
-flat_shaped f P h (x ∷ xs) k = each_append _ (f x) (flat_map f xs) (h x k.0) (flat_shaped f P h xs k.1)
 
 items_shaped : (items : tree.Items) → AreItems items → AreShapedDeclarations (flat_map item_declared (items_list items))
 items_shaped tree.NoItem x = tt
@@ -140,13 +139,13 @@ header_shaped : (h : tree.Header) → IsHeader h → AreShapedDeclarations (head
 header_shaped tree.NoPorts x = tt
 header_shaped (tree.PlainPorts names) x = tt
 header_shaped (tree.DeclaredPorts []) x = tt
-header_shaped (tree.DeclaredPorts (p ∷ ps)) x = flat_shaped (signals_declared true) ArePorts (λ t k. signals_shaped true t k.0 (λ e. k.1)) (p ∷ ps) x
+header_shaped (tree.DeclaredPorts (p ∷ ps)) x = each_flat ArePorts _ (signals_declared true) (λ t k. signals_shaped true t k.0 (λ e. k.1)) (p ∷ ps) x
 
 pub contents_shaped : (c : Contents) → IsShapedContents c → AreShapedDeclarations (declarations_of c)
 contents_shaped (OfModule m overrides) x =
-    each_append _ (flat_map parameters_declared m.parameters) (header_declared m.header ++ flat_map item_declared (items_list m.items)) (flat_shaped parameters_declared AreHeaderParameters (λ t k. parameters_shaped t k.0) m.parameters x.parameters)
+    each_append _ (flat_map parameters_declared m.parameters) (header_declared m.header ++ flat_map item_declared (items_list m.items)) (each_flat AreHeaderParameters _ parameters_declared (λ t k. parameters_shaped t k.0) m.parameters x.parameters)
     (each_append _ (header_declared m.header) (flat_map item_declared (items_list m.items)) (header_shaped m.header x.header) (items_shaped m.items x.items))
-contents_shaped (OfBlock items) x = flat_shaped item_declared IsGenerateItem generate_item_shaped items x
+contents_shaped (OfBlock items) x = each_flat IsGenerateItem _ item_declared generate_item_shaped items x
 
 -- ---- names are declarations
 
@@ -166,22 +165,24 @@ nil_append (x ∷ xs) ys h k = cc
 pub names_ranges : (env : Env) (seen : List (List ℕ)) (ds : List Declaration) → range_faults env ds ≡ [] → range_faults env (map (λ (n : Named). n.first) (names_after seen ds)) ≡ []
 names_ranges env seen [] h = refl
 names_ranges env seen (a ∷ rest) h =
-    let k = both_nil (range_faults_of a) (range_faults env rest) h in
-    of (list_any (same_name a.name.bytes) seen) k.0 (names_ranges env seen rest k.1) (names_ranges env (a.name.bytes ∷ seen) rest k.1)
+    let k = both_nil (sort_faults env a.sort) (range_faults env rest) h in
+    of (list_any (same_name a.name.bytes) seen) (names_ranges env seen rest k.1) (names_ranges env (a.name.bytes ∷ seen) rest k.1) k.0
   where
-    range_faults_of : Declaration → List Fault
-    range_faults_of x = range_of_sort x.sort
-      where
-        range_of_sort : Sort → List Fault
-        range_of_sort (SignalOf s) = (said_range s.range env).faults ++ (said_addresses s.addresses env).faults
-        range_of_sort (ParameterOf p) = []
-        range_of_sort GenvarSort = []
-        range_of_sort InstanceSort = []
-
-    of : (b : Bool) → range_faults_of a ≡ [] → range_faults env (map (λ (n : Named). n.first) (names_after seen rest)) ≡ [] → range_faults env (map (λ (n : Named). n.first) (names_after (a.name.bytes ∷ seen) rest)) ≡ []
+    of : (b : Bool) → range_faults env (map (λ (n : Named). n.first) (names_after seen rest)) ≡ [] → range_faults env (map (λ (n : Named). n.first) (names_after (a.name.bytes ∷ seen) rest)) ≡ [] → sort_faults env a.sort ≡ []
         → range_faults env (map (λ (n : Named). n.first) (if b then names_after seen rest else record { first = a; second = second_of a rest } ∷ names_after (a.name.bytes ∷ seen) rest)) ≡ []
-    of true e h k = h
-    of false e h k = nil_append (range_faults_of a) (range_faults env (map (λ (n : Named). n.first) (names_after (a.name.bytes ∷ seen) rest))) e k
+    of true h k e = h
+    of false h k e = nil_append (sort_faults env a.sort) (range_faults env (map (λ (n : Named). n.first) (names_after (a.name.bytes ∷ seen) rest))) e k
+
+pub names_arrays : (seen : List (List ℕ)) (ds : List Declaration) → array_faults ds ≡ [] → array_faults (map (λ (n : Named). n.first) (names_after seen ds)) ≡ []
+names_arrays seen [] h = refl
+names_arrays seen (a ∷ rest) h =
+    let k = both_nil (array_fault a.name a.sort) (array_faults rest) h in
+    of (list_any (same_name a.name.bytes) seen) (names_arrays seen rest k.1) (names_arrays (a.name.bytes ∷ seen) rest k.1) k.0
+  where
+    of : (b : Bool) → array_faults (map (λ (n : Named). n.first) (names_after seen rest)) ≡ [] → array_faults (map (λ (n : Named). n.first) (names_after (a.name.bytes ∷ seen) rest)) ≡ [] → array_fault a.name a.sort ≡ []
+        → array_faults (map (λ (n : Named). n.first) (if b then names_after seen rest else record { first = a; second = second_of a rest } ∷ names_after (a.name.bytes ∷ seen) rest)) ≡ []
+    of true h k e = h
+    of false h k e = nil_append (array_fault a.name a.sort) (array_faults (map (λ (n : Named). n.first) (names_after (a.name.bytes ∷ seen) rest))) e k
 
 blocks_sound : (d : Design) (bs : List BlockName) → AreSoundEntries d false (block_entries bs)
 blocks_sound d [] = tt
@@ -191,29 +192,34 @@ blocks_sound d (b ∷ bs) = of b.written (blocks_sound d bs)
     of true h = (tt, h)
     of false h = h
 
-signals_in : (d : Design) (ss : List SaidSignal) → Each (λ (s : Signal). is_signal d s ≡ true) (map (λ (s : SaidSignal). s.meaning.signal) ss) → Each (λ (s : SaidSignal). is_signal d s.meaning.signal ≡ true) ss
-signals_in d [] h = tt
-signals_in d (s ∷ ss) h = (h.0, signals_in d ss h.1)
+signals_in_design : (d : Design) (ss : List SaidSignal) → Each (λ (s : Signal). is_signal d s ≡ true) (map (λ (s : SaidSignal). s.meaning.signal) ss) → Each (λ (s : SaidSignal). is_signal d s.meaning.signal ≡ true) ss
+signals_in_design d [] h = tt
+signals_in_design d (s ∷ ss) h = (h.0, signals_in_design d ss h.1)
+
+-- all names but for functions, which aren't complete yet
+pub parameters_sound : (d : Design) (k : Task) (t : Totals) → AreSoundFrames d false k.env.frames → AreFineOverrides d (overrides_of k.contents) → IsShapedContents k.contents → (parameters_in k t).faults ≡ []
+    → AreGoodEntries d (signals_in k t) (parameters_in k t).entries
+parameters_sound d k t s f x h =
+    parameters_good d k.env (overrides_of k.contents) (signals_in k t) (frames_needed d k.env.frames s) f (declarations_of k.contents) (first_in k t) (contents_shaped k.contents x)
+    (record { sound = first_entries_sound d t.scopes (names_in k); settled = there d t.scopes (ranged_in k t) (names_in k) (start_in k t) }) h
+
+entries_sound : (d : Design) (limits : Limits) (source : Source) (k : Task) (t : Totals) → AreSoundFrames d false k.env.frames → AreFineOverrides d (overrides_of k.contents) → IsShapedContents k.contents
+    → Each (λ (s : Signal). is_signal d s ≡ true) (survey limits source k t).signals → (survey limits source k t).faults ≡ [] → AreSoundEntries d false (entries_in k t)
+entries_sound d limits source k t s f x i h =
+    let ds = declarations_of k.contents in
+    let n = faultless limits source k t h in
+    let good = parameters_sound d k t s f x n.parameters in
+    let sound = signals_sound d (ranged_in k t) (good.sound, frames_needed d k.env.frames s) (names_in k) (start_in k t) (signals_in_design d (signals_in k t) i) (names_shaped [] ds (contents_shaped k.contents x)) (names_ranges (ranged_in k t) [] ds n.ranges) in
+    all_settled d (signals_in k t) (parameters_in k t).entries sound good.settled
+
+-- all functions of a scope without a fault
+pub survey_functions : (d : Design) (limits : Limits) (source : Source) (k : Task) (t : Totals) → AreSoundFrames d false k.env.frames → AreFineOverrides d (overrides_of k.contents) → IsShapedContents k.contents → t.scopes < length d.scopes
+    → Each (λ (s : Signal). is_signal d s ≡ true) (survey limits source k t).signals → (survey limits source k t).faults ≡ [] → AreSoundFunctions d (functions_in limits k t).entries (functions_in limits k t).functions
+survey_functions d limits source k t s f x b i h =
+    functions_sound d limits t.scopes k.env s b (declarations_of k.contents) (counts_of t) (entries_in k t) (contents_shaped k.contents x) (entries_sound d limits source k t s f x i h) (faultless limits source k t h).functions
 
 -- the names of a scope without a fault
-pub survey_names : (d : Design) (limits : Limits) (source : Source) (k : Task) (t : Totals) → AreSoundFrames d false k.env.frames → AreFineOverrides d (overrides_of k.contents) → IsShapedContents k.contents
+pub survey_names : (d : Design) (limits : Limits) (source : Source) (k : Task) (t : Totals) → AreSoundFrames d false k.env.frames → AreFineOverrides d (overrides_of k.contents) → IsShapedContents k.contents → t.scopes < length d.scopes
     → Each (λ (s : Signal). is_signal d s ≡ true) (survey limits source k t).signals → (survey limits source k t).faults ≡ [] → AreSoundEntries d false (survey limits source k t).entries
-survey_names d limits source k t s f x i h =
-    let ds = declarations_of k.contents in
-    let names = names_of ds in
-    let parameters = said_parameters k.env (overrides_of k.contents) ds (first_entries names) in
-    let ranged = within k.env parameters.entries in
-    let start : Start = record { scope = t.scopes; top = is_none k.parent; signal = t.signals; bit = t.bits } in
-    let signals = said_signals ranged start names in
-    let entries = put_signals signals parameters.entries in
-    let made = constructs limits (items_of k.contents) (within k.env entries) 1 t.turns in
-    let blocks = flat_map (λ (m : Made). m.names) made in
-    let h1 = (both_nil (header_of k.contents) _ h).1 in
-    let h2 = (both_nil (repeated_names [] ds) _ h1).1 in
-    let h3 = both_nil parameters.faults _ h2 in
-    let h4 = both_nil (range_faults ranged ds) _ h3.1 in
-    let shaped = contents_shaped k.contents x in
-    let outer = frames_needed d k.env.frames s in
-    let good = parameters_good d k.env (overrides_of k.contents) signals outer f ds (first_entries names) shaped (record { sound = first_entries_sound d names; settled = there d ranged names start }) h3.0 in
-    let sound = signals_sound d ranged (good.sound, outer) names start (signals_in d signals i) (names_shaped [] ds shaped) (names_ranges ranged [] ds h4.0) in
-    each_append _ entries (block_entries blocks) (all_settled d signals parameters.entries sound good.settled) (blocks_sound d blocks)
+survey_names d limits source k t s f x b i h =
+    each_append _ (functions_in limits k t).entries (block_entries (blocks_in limits k t)) (survey_functions d limits source k t s f x b i h).entries (blocks_sound d (blocks_in limits k t))

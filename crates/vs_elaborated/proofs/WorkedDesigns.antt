@@ -3,7 +3,7 @@ use Rattle.std.specs.Prelude.{refl}
 use Rattle.vs_lexer.specs.Spellings.{signs, keywords, left_out_words, system_names}
 use Rattle.vs_lexer.specs.Tokens.{word_kind, system_kind, sign_kind}
 use Rattle.vs_lexer.specs.Literals.{is_in_range, number_bits, literal_bits, literal_size, is_signed_literal, has_size}
-use Rattle.vs_elaborated.specs.ExampleDesigns.{WholeDesigns, Parameters, Overrides, ConvertedOverrides, Ports, Connections, Numbered, Blocks, Names}
+use Rattle.vs_elaborated.specs.ExampleDesigns.{WholeDesigns, Parameters, Overrides, ConvertedOverrides, Ports, Connections, Numbered, Blocks, Names, LoopsAndFunctions}
 use Rattle.vs_elaborated.proofs.WorkedTexts.{elaborates, shows, alike}
 
 pub whole_designs : WholeDesigns
@@ -113,4 +113,17 @@ names = record {
   branch_apart = elaborates refl;
   unknown_index = elaborates refl;
   no_turn = elaborates refl;
+}
+
+pub loops_and_functions : LoopsAndFunctions
+unfolding is_in_range word_kind system_kind sign_kind signs keywords left_out_words system_names literal_bits is_signed_literal has_size literal_size number_bits
+loops_and_functions = record {
+  parity = alike refl refl;
+  downward = alike refl refl;
+  nested = alike refl refl;
+  no_turn = alike refl refl;
+  max = shows refl;
+  generated = elaborates refl;
+  own = elaborates refl;
+  calls_another = elaborates refl;
 }

@@ -3,7 +3,7 @@ use Rattle.std.specs.Prelude.{refl}
 use Rattle.vs_lexer.specs.Spellings.{signs, keywords, left_out_words, system_names}
 use Rattle.vs_lexer.specs.Tokens.{word_kind, system_kind, sign_kind}
 use Rattle.vs_lexer.specs.Literals.{is_in_range, number_bits, literal_bits, literal_size, is_signed_literal, has_size}
-use Rattle.vs_elaborated.specs.ExampleRefusals.{NotConstants, UnknownConstants, WrongModules, UnknownNames, RepeatedNames, BadRanges, WrongConnections, WrongKinds, OtherKinds, FirstFaults, Limited}
+use Rattle.vs_elaborated.specs.ExampleRefusals.{NotConstants, UnknownConstants, WrongModules, UnknownNames, RepeatedNames, BadRanges, WrongConnections, WrongKinds, OtherKinds, LoopVariables, FunctionRules, FirstFaults, Limited}
 use Rattle.vs_elaborated.proofs.WorkedTexts.{refused, elaborates}
 
 pub not_constants : NotConstants
@@ -175,6 +175,40 @@ other_kinds = record {
   connected_reg = refused refl;
 }
 
+pub loop_variables : LoopVariables
+unfolding is_in_range word_kind system_kind sign_kind signs keywords left_out_words system_names literal_bits is_signed_literal has_size literal_size number_bits
+loop_variables = record {
+  outside = refused refl;
+  assigned = refused refl;
+  within_itself = refused refl;
+  two_blocks = refused refl;
+  first_value = refused refl;
+  generated = refused refl;
+  bound = refused refl;
+  count = refused refl;
+  head = refused refl;
+  signal = refused refl;
+  other = refused refl;
+}
+
+pub function_rules : FunctionRules
+unfolding is_in_range word_kind system_kind sign_kind signs keywords left_out_words system_names literal_bits is_signed_literal has_size literal_size number_bits
+function_rules = record {
+  reads_signal = refused refl;
+  reads_integer = refused refl;
+  writes_input = refused refl;
+  delayed = refused refl;
+  arguments = refused refl;
+  no_input = refused refl;
+  itself = refused refl;
+  before = refused refl;
+  constant = refused refl;
+  no_function = refused refl;
+  unknown = refused refl;
+  net_array = refused refl;
+  block_variable = refused refl;
+}
+
 pub first_faults : FirstFaults
 unfolding is_in_range word_kind system_kind sign_kind signs keywords left_out_words system_names literal_bits is_signed_literal has_size literal_size number_bits
 first_faults = record {
@@ -195,6 +229,10 @@ limited = record {
   turns_most = elaborates refl;
   turns = refused refl;
   all_turns = refused refl;
+  copies_most = elaborates refl;
+  copies_if = elaborates refl;
+  copies = refused refl;
+  all_copies = refused refl;
   bits_most = elaborates refl;
   bits = refused refl;
   memory_most = elaborates refl;

@@ -19,15 +19,15 @@ pub record SignalSort : Type 0 where
 -- a declaration of a parameter, with its default; a local one isn't overridden (4.10.2)
 pub record ParameterSort : Type 0 where
   pub is_local : Bool
-  pub signed : Bool
-  pub range : Option tree.RangeTree
+  pub value_type : tree.ValueType
   pub value : tree.Expr
 
 -- what is declared
 pub data Sort : Type 0 where
   SignalOf : (sort : SignalSort) → Sort
   ParameterOf : (sort : ParameterSort) → Sort
-  GenvarSort InstanceSort : Sort
+  FunctionOf : (function : tree.Function) → Sort
+  GenvarSort IntegerSort InstanceSort : Sort
 
 -- a name and what it is declared as
 pub record Declaration : Type 0 where
@@ -40,13 +40,15 @@ signals_declared header t = map (λ (d : tree.Declarator). record { name = d.nam
 
 -- all names of one declaration
 abbrev pub parameters_declared : tree.Parameters → List Declaration
-parameters_declared t = map (λ (s : tree.Setting). record { name = s.name; sort = ParameterOf (record { is_local = t.is_local; signed = t.signed; range = t.range; value = s.value }) }) t.settings
+parameters_declared t = map (λ (s : tree.Setting). record { name = s.name; sort = ParameterOf (record { is_local = t.is_local; value_type = t.value_type; value = s.value }) }) t.settings
 
 -- the names that an item declares in its scope
 abbrev pub item_declared : tree.Item → List Declaration
 item_declared (tree.SignalsItem t) = signals_declared false t
 item_declared (tree.ParametersItem t) = parameters_declared t
 item_declared (tree.GenvarsItem place names) = map (λ (n : tree.Name). record { name = n; sort = GenvarSort }) names
+item_declared (tree.IntegersItem place names) = map (λ (n : tree.Name). record { name = n; sort = IntegerSort }) names
+item_declared (tree.FunctionItem f) = record { name = f.name; sort = FunctionOf f } ∷ []
 item_declared (tree.InstancesItem t) = map (λ (i : tree.Instance). record { name = i.name; sort = InstanceSort }) t.instances
 item_declared _ = []
 

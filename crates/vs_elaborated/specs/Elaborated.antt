@@ -85,7 +85,7 @@ limit_faults limits t totals = fault_if (is_instance t.contents && nat_lt limits
 
 -- a scope with its signals, before all within it
 abbrev pub scope_design : Task → Survey → Design → Design
-scope_design t s inner = both_designs (record { scopes = record { name = t.name; parent = t.parent; instance = is_instance t.contents } ∷ []; signals = s.signals; processes = []; functions = [] }) inner
+scope_design t s inner = both_designs (record { scopes = record { name = t.name; parent = t.parent; instance = is_instance t.contents } ∷ []; signals = s.signals; processes = []; functions = s.functions }) inner
 
 -- a scope, and then those within it in text order; `left` bounds how deep scopes stand within one another
 abbrev pub read_scope : (left : ℕ) → Limits → Source → Task → Totals → Result Read Fault

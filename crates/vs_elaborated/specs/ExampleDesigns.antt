@@ -2,9 +2,9 @@
 use Rattle.std.specs.Prelude.{◌≡◌, ℕ, true, false, List, [], ◌∷◌, ◌++◌, Option, Some, None, map, codes}
 use Rattle.vs_four.specs.declared.Bit4.TheVariants.{Zero, One}
 use Rattle.vs_four.specs.declared.Range.{Range}
-use Rattle.vs_design.specs.Expressions.{Signal, signal_length, BitNot, BitAnd, Name, Word, Unary, Binary, At}
+use Rattle.vs_design.specs.Expressions.{Signal, signal_length, BitNot, BitAnd, Greater, Header, Name, Word, Unary, Binary, At, Call, NoItem, Item}
 use Rattle.vs_design.specs.Values.{assigned_value}
-use Rattle.vs_design.specs.Statements.{Whole, WordOf, Empty, Assignment, If}
+use Rattle.vs_design.specs.Statements.{Whole, WordOf, Statement, Empty, Assignment, If}
 use Rattle.vs_design.specs.Designs.{Scope, Written, InputPort, OutputPort, Continuous, Design}
 use Rattle.vs_design.specs.ExampleParts.{input_of, wire_of, reg_of, range_of, to_zero, clk_signal, blocking, on_posedge, on_star, top_scope, design_of}
 use Rattle.vs_elaborated.specs.Limits.{the_limits}
@@ -268,3 +268,62 @@ pub record Names : Type 0 where
   pub unknown_index : Elaborates the_limits (items (codes "wire [1:0] w; assign w[1'bx] = 1'b0;"))
   -- a loop without a turn: neither its block nor its step is looked at
   pub no_turn : Elaborates the_limits (items (codes "wire g; genvar i; for (i = 0; i < 0; i = z) begin : g wire w = z; end"))
+
+-- ---- loops of blocks (9.6) and functions (10.4)
+
+-- the parity of four bits, by a loop, and with a copy for each turn in its place
+abbrev pub parity_of : List ℕ → List ℕ
+parity_of turns = codes "module top(input clk, input [3:0] a, output reg p); integer i; always @* begin p = 1'b0; " ++ (turns ++ codes " end endmodule")
+
+-- `module top(input clk, input [3:0] a, input [3:0] b, output [3:0] y); function [3:0] max(..); .. endfunction assign y = max(a, b); endmodule`
+abbrev pub max_text : List ℕ
+max_text =
+    codes "module top(input clk, input [3:0] a, input [3:0] b, output [3:0] y); "
+    ++ (codes "function [3:0] max(input [3:0] u, input [3:0] v); if (u > v) max = u; else max = v; endfunction "
+    ++ codes "assign y = max(a, b); endmodule")
+
+-- its signals
+abbrev pub a1 : Signal
+a1 = input_of (codes "a") 1 (to_zero 3) 1
+
+abbrev pub b2 : Signal
+b2 = input_of (codes "b") 2 (to_zero 3) 5
+
+abbrev pub y3 : Signal
+y3 = wire_of (codes "y") 3 (to_zero 3) 9
+
+-- the function's
+abbrev pub u0 : Signal
+u0 = record (reg_of (codes "u") 0 (to_zero 3) 0) { input = true }
+
+abbrev pub v1 : Signal
+v1 = record (reg_of (codes "v") 1 (to_zero 3) 4) { input = true }
+
+abbrev pub max2 : Signal
+max2 = reg_of (codes "max") 2 (to_zero 3) 8
+
+abbrev pub max_header : Header
+max_header = record { place = 31; inputs = u0 ∷ v1 ∷ []; result = max2; own = [] }
+
+abbrev pub max_statement : Statement
+max_statement = If (At 58 (Binary Greater (At 58 (Name u0)) (At 60 (Name v1)))) (Assignment 62 (Whole max2) (At 64 (Name u0)) true) (Assignment 67 (Whole max2) (At 69 (Name v1)) true)
+
+-- its design
+abbrev pub max_design : Design
+max_design = record (design_of (clk_signal ∷ a1 ∷ b2 ∷ y3 ∷ []) (Continuous 72 Written 73 (Whole y3) (At 75 (Call max_header max_statement (Item (At 77 (Name a1)) (Item (At 79 (Name b2)) NoItem)))) ∷ [])) {
+  functions = record { header = max_header; statement = max_statement } ∷ [];
+}
+
+-- each turn is a copy, with the value of its integer as a literal of 32 bits, signed; a call holds its function
+pub record LoopsAndFunctions : Type 0 where
+  pub parity : AreAlike (parity_of (codes "for (i = 0; i < 4; i = i + 1) p = p ^ a[i];")) (parity_of (codes "begin p = p ^ a[32'sd0]; p = p ^ a[32'sd1]; p = p ^ a[32'sd2]; p = p ^ a[32'sd3]; ; end"))
+  -- down to a negative value, and two loops one within the other
+  pub downward : AreAlike (parity_of (codes "for (i = 1; i >= 0; i = i - 1) p = p ^ a[i];")) (parity_of (codes "begin p = p ^ a[32'sd1]; p = p ^ a[32'sd0]; ; end"))
+  pub nested : AreAlike (parity_of (codes "begin : g integer j; for (i = 0; i < 2; i = i + 1) for (j = 0; j < i; j = j + 1) p = a[i + j]; end")) (parity_of (codes "begin ; begin p = a[32'sd1 + 32'sd0]; ; end ; end"))
+  pub no_turn : AreAlike (parity_of (codes "for (i = 4; i < 4; i = i + 1) p = p ^ a[i];")) (parity_of (codes ";"))
+  pub max : Shows itself max_design max_text
+  -- each turn of a generate loop has an integer of its own
+  pub generated : Elaborates the_limits (codes "module top(input a); genvar g; for (g = 0; g < 2; g = g + 1) begin : b reg r; integer i; always @* for (i = 0; i < 2; i = i + 1) r = a; end endmodule")
+  -- integers and variables of a function are its own
+  pub own : Elaborates the_limits (codes "module top(input a, output y); function f; input [1:0] u; integer i; reg r; begin r = 1'b0; for (i = 0; i < 2; i = i + 1) r = r ^ u[i]; f = r; end endfunction assign y = f({a, a}); endmodule")
+  pub calls_another : Elaborates the_limits (codes "module top(input a, output y); function f(input u); f = ~u; endfunction function g(input u); g = f(u); endfunction assign y = g(f(a)); endmodule")

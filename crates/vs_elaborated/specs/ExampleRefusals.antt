@@ -1,6 +1,6 @@
 -- Worked refusals: each rule of elaboration, and where it is broken. A text stands in two parts, of which the second begins where the rule is broken.
 use Rattle.std.specs.Prelude.{codes}
-use Rattle.vs_const.specs.declared.rules.Rule.TheVariants.{NotConstant, UnknownConstant, NoTop, DuplicateModule, UnknownModule, UnknownName, DuplicateName, BadRange, PortCount, UnknownPort, InstanceDepth, TooManyInstances, GenerateTurns, WrongKind, TooManyBits, TooManyProcesses}
+use Rattle.vs_const.specs.declared.rules.Rule.TheVariants.{NotConstant, UnknownConstant, NoTop, DuplicateModule, UnknownModule, UnknownName, DuplicateName, BadRange, PortCount, UnknownPort, InstanceDepth, TooManyInstances, GenerateTurns, WrongKind, TooManyBits, TooManyProcesses, LoopTurns, LoopVariable, FunctionRule, Recursion}
 use Rattle.vs_elaborated.specs.Limits.{Limits}
 use Rattle.vs_elaborated.specs.Worked.{IsRefusedWithin, IsRefused, AreRefused, Elaborates}
 
@@ -180,6 +180,38 @@ pub record OtherKinds : Type 0 where
   pub connected_word : IsRefused WrongKind (codes "module m(output q); endmodule module top; reg w [0:1]; m u(") (codes "w[0]); endmodule")
   pub connected_reg : IsRefused WrongKind (codes "module m(output q); endmodule module top(input a, output reg y); m u(") (codes "y); endmodule")
 
+-- a loop's integer is named in its loop alone, which doesn't assign it, and heads loops of one block (9.6)
+pub record LoopVariables : Type 0 where
+  pub outside : AreRefused LoopVariable (codes "integer i; assign y = ") (codes "i;")
+  pub assigned : AreRefused LoopVariable (codes "reg r; integer i; always @* for (i = 0; i < 2; i = i + 1) ") (codes "i = 2;")
+  pub within_itself : AreRefused LoopVariable (codes "reg r; integer i; always @* for (i = 0; i < 2; i = i + 1) for (") (codes "i = 0; i < 2; i = i + 1) r = a;")
+  pub two_blocks : AreRefused LoopVariable (codes "reg r, s; integer i; always @* for (i = 0; i < 2; i = i + 1) r = a; always @* for (") (codes "i = 0; i < 2; i = i + 1) s = a;")
+  pub first_value : AreRefused NotConstant (codes "reg r; integer i; always @* for (i = ") (codes "i; i < 2; i = i + 1) r = a;")
+  pub generated : AreRefused LoopVariable (codes "integer i; genvar g; for (g = 0; g < 2; g = g + 1) begin : b reg r; always @* for (") (codes "i = 0; i < 2; i = i + 1) r = a; end")
+  -- in a part's bounds it is no constant, and what heads a loop is an integer
+  pub bound : AreRefused NotConstant (codes "reg [1:0] r; integer i; always @* for (i = 0; i < 2; i = i + 1) r[") (codes "i:0] = a;")
+  pub count : AreRefused NotConstant (codes "reg [1:0] r; integer i; always @* for (i = 1; i < 2; i = i + 1) r = {") (codes "i{a}};")
+  pub head : AreRefused NotConstant (codes "reg r; integer i; always @* for (i = 0; i < ") (codes "a; i = i + 1) r = a;")
+  pub signal : AreRefused WrongKind (codes "reg r; always @* for (") (codes "r = 0; r < 2; r = r + 1) ;")
+  pub other : AreRefused WrongKind (codes "reg r; integer i; always @* for (i = 0; i < 2; ") (codes "r = i + 1) r = a;")
+
+-- what a function may not do (10.4.4), and what calls it
+pub record FunctionRules : Type 0 where
+  pub reads_signal : AreRefused FunctionRule (codes "function f(input u); f = ") (codes "a; endfunction")
+  pub reads_integer : AreRefused FunctionRule (codes "integer i; function f(input u); f = ") (codes "i; endfunction")
+  pub writes_input : AreRefused FunctionRule (codes "function f(input u); ") (codes "u = 1'b0; endfunction")
+  pub delayed : AreRefused FunctionRule (codes "function f(input u); ") (codes "f <= u; endfunction")
+  pub arguments : AreRefused FunctionRule (codes "function f(input u); f = u; endfunction assign y = ") (codes "f(a, a);")
+  pub no_input : AreRefused FunctionRule (codes "") (codes "function f; f = 1'b0; endfunction")
+  pub itself : AreRefused Recursion (codes "function f(input u); f = ") (codes "f(u); endfunction")
+  pub before : AreRefused Recursion (codes "function f(input u); f = ") (codes "g(u); endfunction function g(input u); g = u; endfunction")
+  pub constant : AreRefused NotConstant (codes "function f(input u); f = u; endfunction localparam P = ") (codes "f(1'b0);")
+  pub no_function : AreRefused WrongKind (codes "assign y = ") (codes "a(a);")
+  pub unknown : AreRefused UnknownName (codes "assign y = ") (codes "f(a);")
+  -- nets with addresses, and variables of named blocks, aren't taken
+  pub net_array : AreRefused WrongKind (codes "wire ") (codes "n [0:1];")
+  pub block_variable : AreRefused WrongKind (codes "always @* begin : b reg ") (codes "r; r = a; end")
+
 -- which of several faults is the first: that of the first scope, and there the one at the least place
 pub record FirstFaults : Type 0 where
   pub least : AreRefused UnknownName (codes "wire w = ") (codes "p; wire w = q;")
@@ -190,7 +222,7 @@ pub record FirstFaults : Type 0 where
 
 -- small limits, to reach each of them
 abbrev pub small : Limits
-small = record { depth = 2; instances = 3; turns = 2; all_turns = 3; bits = 4; processes = 2 }
+small = record { depth = 2; instances = 3; turns = 2; all_turns = 3; copies = 4; bits = 4; processes = 2 }
 
 -- the limits: the last that is taken, and the first that isn't
 pub record Limited : Type 0 where
@@ -202,6 +234,12 @@ pub record Limited : Type 0 where
   pub turns_most : Elaborates small (codes "module top; genvar i; for (i = 0; i < 2; i = i + 1) ; endmodule")
   pub turns : IsRefusedWithin small GenerateTurns (codes "module top; genvar i; ") (codes "for (i = 0; i < 3; i = i + 1) ; endmodule")
   pub all_turns : IsRefusedWithin small GenerateTurns (codes "module top; genvar i; for (i = 0; i < 2; i = i + 1) ; ") (codes "for (i = 0; i < 2; i = i + 1) ; endmodule")
+  -- of a loop each copy of its statement counts
+  pub copies_most : Elaborates small (codes "module top(input a); reg r; integer i; always @* for (i = 0; i < 4; i = i + 1) r = a; endmodule")
+  -- a missing `else` is no statement
+  pub copies_if : Elaborates small (codes "module top(input a); reg r; integer i; always @* for (i = 0; i < 2; i = i + 1) if (a) r = a; endmodule")
+  pub copies : IsRefusedWithin small LoopTurns (codes "module top(input a); reg r; integer i; always @* ") (codes "for (i = 0; i < 5; i = i + 1) r = a; endmodule")
+  pub all_copies : IsRefusedWithin small LoopTurns (codes "module top(input a); reg r, s; integer i, j; always @* for (i = 0; i < 2; i = i + 1) r = a; always @* ") (codes "for (j = 0; j < 3; j = j + 1) s = a; endmodule")
   pub bits_most : Elaborates small (codes "module top(input a); wire [2:0] w; endmodule")
   pub bits : IsRefusedWithin small TooManyBits (codes "module top(input a); wire [2:0] w; wire ") (codes "x; endmodule")
   -- a memory's bits are those of all words

@@ -5,6 +5,8 @@ pub mod Statements
 pub mod Declarations
 pub mod Parameters
 pub mod Signals
+pub mod Heads
+pub mod Functions
 pub mod Generate
 pub mod Loops
 pub mod Constructs
@@ -13,6 +15,8 @@ pub mod Pieces
 pub mod Instances
 pub mod Surveys
 pub mod Sound
+pub mod Numbers
+pub mod Runs
 pub mod Elaborated
 pub mod Laws
 pub mod Worked

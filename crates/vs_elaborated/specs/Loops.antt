@@ -6,7 +6,7 @@ use Rattle.vs_four.specs.Logic.{BitList, all_known}
 use Rattle.vs_four.specs.Numbers.{integer}
 use Rattle.vs_design.specs.Values.{constant_value, assigned_value}
 use Rattle.vs_design.specs.Clocks.{same_name}
-use Rattle.vs_grammar.specs.Trees.{Name, Expr, GenerateHead, expr_place}
+use Rattle.vs_grammar.specs.Trees.{Name, Expr, LoopHead, expr_place}
 use Rattle.vs_const.specs.declared.faults.Fault.{Fault}
 use Rattle.vs_const.specs.Faults.{fault}
 use Rattle.vs_const.specs.declared.rules.Rule.TheVariants.{UnknownConstant, UnknownName, DuplicateName, GenerateTurns, WrongKind}
@@ -59,12 +59,12 @@ abbrev pub and_turn : ℕ → List Fault → Turns → Turns
 and_turn v faults t = record { values = v ∷ t.values; faults = faults ++ t.faults; count = t.count }
 
 -- the value of the next turn; where the second assignment is to another variable, it has none
-abbrev pub step : (is_same : Bool) → GenerateHead → Env → Natural
+abbrev pub step : (is_same : Bool) → LoopHead → Env → Natural
 step false head inside = record { number = None; faults = [] }
 step true head inside = genvar_value head.next inside
 
 -- the turns from value v on. `seen` are the values before it, `total` counts the turns of all loops so far, and `left` those that this loop may still take
-abbrev pub turns_from : (left : ℕ) → Limits → GenerateHead → (is_same : Bool) → (genvar : ℕ) → Env → (seen : List ℕ) → (total v : ℕ) → Turns
+abbrev pub turns_from : (left : ℕ) → Limits → LoopHead → (is_same : Bool) → (genvar : ℕ) → Env → (seen : List ℕ) → (total v : ℕ) → Turns
 turns_from zero limits head is_same genvar env seen total v = no_turn (fault GenerateTurns head.place) total
 turns_from (suc left) limits head is_same genvar env seen total v =
     let inside = with_turn env (record { genvar = genvar; value = v }) in
@@ -128,13 +128,13 @@ abbrev pub again_faults : Name → Name → Env → List Fault
 again_faults variable again env = if same_name variable.bytes again.bytes then [] else declared_or again.place (find_name env.frames again.bytes)
 
 -- the blocks of a loop whose variable is a genvar with a first value
-abbrev pub loop_from : Limits → GenerateHead → Option ℕ → Option ℕ → List Fault → Option Block → Env → ℕ → Made
+abbrev pub loop_from : Limits → LoopHead → Option ℕ → Option ℕ → List Fault → Option Block → Env → ℕ → Made
 loop_from limits head (Some genvar) (Some v) faults block env total =
     after_faults faults (loop_blocks block genvar (turns_from (suc limits.turns) limits head (same_name head.variable.bytes head.again.bytes) genvar env [] total v))
 loop_from limits head _ _ faults block env total = nothing_made faults total
 
 -- `for (variable = first; test; again = next) block`
-abbrev pub loop_made : Limits → GenerateHead → Option Block → Env → ℕ → Made
+abbrev pub loop_made : Limits → LoopHead → Option Block → Env → ℕ → Made
 loop_made limits head block env total =
     let v = variable_of head.variable.place (find_name env.frames head.variable.bytes) in
     let first = genvar_value head.first env in

@@ -6,13 +6,14 @@ use Rattle.vs_four.specs.Selects.{range_length}
 use Rattle.vs_design.specs.Expressions.{width, sign}
 use Rattle.vs_design.specs.Values.{constant_value, assigned_value}
 use Rattle.vs_design.specs.Clocks.{same_name}
-use Rattle.vs_grammar.specs.Trees.{Name, RangeTree, expr_place}
+use Rattle.vs_grammar.specs.Trees.{Name, RangeTree, ValueType, IntegerType, RangeType, expr_place}
 use Rattle.vs_const.specs.declared.faults.Fault.{Fault}
+use Rattle.vs_const.specs.declared.names.Role.TheVariants.{InModule}
 use Rattle.vs_const.specs.Typed.{Typed}
 use Rattle.vs_const.specs.Selects.{bounds, address_bounds}
 use Rattle.vs_const.specs.Expressions.{constant}
-use Rattle.vs_elaborated.specs.Environments.{Declared, Later, OfSignal, OfParameter, OfGenvar, OfScope, Entry, Env, within, up_to, named}
-use Rattle.vs_elaborated.specs.Declarations.{ParameterSort, Sort, SignalOf, ParameterOf, GenvarSort, InstanceSort, Declaration, Named}
+use Rattle.vs_elaborated.specs.Environments.{Declared, Later, OfSignal, OfParameter, OfGenvar, OfInteger, OfFunction, OfScope, Entry, Env, within, up_to, named}
+use Rattle.vs_elaborated.specs.Declarations.{ParameterSort, Sort, SignalOf, ParameterOf, FunctionOf, GenvarSort, IntegerSort, InstanceSort, Declaration, Named}
 use Rattle.vs_elaborated.specs.Targets.{no_signal}
 
 -- ---- ranges
@@ -50,6 +51,20 @@ said_addresses None env = record { range = None; known = true; faults = [] }
 said_addresses (Some t) env =
     let b = address_bounds t.bracket (expr_place t.left) (constant t.left (named env)) (expr_place t.right) (constant t.right (named env)) in
     of_addresses b.range b.faults
+
+-- ---- types (A.2)
+
+-- an integer has 32 bits, signed (4.8)
+abbrev pub integer_range : Range
+integer_range = record { left = 31; right = 0 }
+
+abbrev pub said_type : ValueType → Env → SaidRange
+said_type IntegerType env = record { range = Some integer_range; known = true; faults = [] }
+said_type (RangeType signed range) env = said_range range env
+
+abbrev pub is_signed : ValueType → Bool
+is_signed IntegerType = true
+is_signed (RangeType signed range) = signed
 
 -- ---- one parameter
 
@@ -90,9 +105,9 @@ pub record SaidParameter : Type 0 where
 -- the default is checked also where it is overridden
 abbrev pub said_parameter : Env → List Override → Name → ParameterSort → SaidParameter
 said_parameter env overrides name p =
-    let r = said_range p.range env in
+    let r = said_type p.value_type env in
     let t = constant p.value (named env) in
-    record { declared = parameter_declared p.signed r (chosen p overrides name.bytes t); faults = r.faults ++ t.faults }
+    record { declared = parameter_declared (is_signed p.value_type) r (chosen p overrides name.bytes t); faults = r.faults ++ t.faults }
 
 -- ---- all of them
 
@@ -105,16 +120,18 @@ valued value declared = declared
 abbrev pub put_value : List ℕ → Declared → List Entry → List Entry
 put_value name value es = map (λ (e : Entry). if same_name e.name name then record e { declared = valued value e.declared } else e) es
 
--- before anything is known of values and ranges
-abbrev pub first_declared : Sort → Declared
-first_declared (SignalOf s) = OfSignal (record { signal = no_signal; input = false; known = false })
-first_declared (ParameterOf p) = Later
-first_declared GenvarSort = OfGenvar
-first_declared InstanceSort = OfScope
+-- before anything is known of values, ranges and functions
+abbrev pub first_declared : (scope : ℕ) → Sort → Declared
+first_declared scope (SignalOf s) = OfSignal (record { signal = no_signal; input = false; role = InModule; known = false })
+first_declared scope (ParameterOf p) = Later
+first_declared scope (FunctionOf f) = OfFunction None
+first_declared scope GenvarSort = OfGenvar
+first_declared scope IntegerSort = OfInteger (Some scope)
+first_declared scope InstanceSort = OfScope
 
 -- the names in order of declaration
-abbrev pub first_entries : List Named → List Entry
-first_entries names = map (λ (n : Named). record { name = n.first.name.bytes; place = n.first.name.place; declared = first_declared n.first.sort }) names
+abbrev pub first_entries : (scope : ℕ) → List Named → List Entry
+first_entries scope names = map (λ (n : Named). record { name = n.first.name.bytes; place = n.first.name.place; declared = first_declared scope n.first.sort }) names
 
 -- all names with the values so far, and the faults
 pub record SaidEntries : Type 0 where

@@ -6,10 +6,11 @@ use Rattle.vs_design.specs.Elaborated.{same_range}
 use Rattle.vs_grammar.specs.Trees.{Name, SignalKind, Input, InputWire, OutputReg, Reg}
 use Rattle.vs_const.specs.declared.faults.Fault.{Fault}
 use Rattle.vs_const.specs.Faults.{fault_if}
-use Rattle.vs_const.specs.declared.rules.Rule.TheVariants.{BadRange}
+use Rattle.vs_const.specs.declared.rules.Rule.TheVariants.{BadRange, WrongKind}
+use Rattle.vs_const.specs.declared.names.Role.TheVariants.{InModule}
 use Rattle.vs_const.specs.Meanings.{SignalMeaning}
 use Rattle.vs_elaborated.specs.Environments.{OfSignal, Entry, Env}
-use Rattle.vs_elaborated.specs.Declarations.{SignalSort, Sort, SignalOf, Declaration, Named}
+use Rattle.vs_elaborated.specs.Declarations.{SignalSort, Sort, SignalOf, Declaration, Named, has_addresses}
 use Rattle.vs_elaborated.specs.Parameters.{SaidRange, said_range, said_addresses}
 
 -- whether it declares a variable
@@ -45,6 +46,7 @@ signal_meaning env start name s t =
     record {
       signal = record { name = name.bytes; scope = start.scope; number = start.signal; net = not (is_reg s.kind || is_reg t.kind); input = input && start.top; range = r.range; signed = s.signed || t.signed; first = start.bit; words = w.range };
       input = input;
+      role = InModule;
       known = r.known && w.known;
     }
 
@@ -76,13 +78,22 @@ abbrev pub said_signals : Env → Start → List Named → List SaidSignal
 said_signals env start [] = []
 said_signals env start (n ∷ ns) = elim n.first.sort [ SignalOf s ↦ let one = said_signal env start n s in one ∷ said_signals env (after start one.meaning) ns | _ ↦ said_signals env start ns ]
 
+-- of a signal's ranges
+abbrev pub sort_faults : Env → Sort → List Fault
+sort_faults env (SignalOf s) = (said_range s.range env).faults ++ (said_addresses s.addresses env).faults
+sort_faults env _ = []
+
 -- of all declarations of signals
 abbrev pub range_faults : Env → List Declaration → List Fault
-range_faults env ds = flat_map (λ (d : Declaration). of_sort d.sort) ds
-  where
-    of_sort : Sort → List Fault
-    of_sort (SignalOf s) = (said_range s.range env).faults ++ (said_addresses s.addresses env).faults
-    of_sort _ = []
+range_faults env ds = flat_map (λ (d : Declaration). sort_faults env d.sort) ds
+
+-- Addresses make a memory of a variable; nets that have them aren't taken.
+abbrev pub array_fault : Name → Sort → List Fault
+array_fault name (SignalOf s) = fault_if (has_addresses s && not (is_reg s.kind)) WrongKind name.place
+array_fault name _ = []
+
+abbrev pub array_faults : List Declaration → List Fault
+array_faults ds = flat_map (λ (d : Declaration). array_fault d.name d.sort) ds
 
 -- this signal is known now
 abbrev pub put_signal : SignalMeaning → List Entry → List Entry

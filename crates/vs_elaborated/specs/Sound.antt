@@ -1,19 +1,21 @@
 -- What holds of a scope without a fault, in every design that has its signals: what its names mean, and what its pieces are.
-use Rattle.std.specs.Prelude.{◌≡◌, ◌≤◌, ◌+◌, ℕ, Bool, true, false, List, [], ◌∷◌, Option, Some, None}
+use Rattle.std.specs.Prelude.{◌≡◌, ◌≤◌, ◌<◌, ◌+◌, ℕ, Bool, true, false, List, [], ◌∷◌, length, Option, Some, None}
 use Rattle.vs_design.specs.Expressions.{Signal, signal_length, width}
+use Rattle.vs_design.specs.Statements.{Function as WholeFunction}
 use Rattle.vs_design.specs.Designs.{Design}
 use Rattle.vs_design.specs.Footprints.{is_net}
-use Rattle.vs_design.specs.Elaborated.{is_signal, is_plain, is_lawful_range, is_formed, is_formed_target, has_constant_selects, is_formed_process, has_clocked_words}
-use Rattle.vs_grammar.specs.Trees.{Name, Connections, Item, Module, Source}
+use Rattle.vs_design.specs.Elaborated.{inside, is_signal, is_plain, is_lawful_range, is_formed, is_formed_target, has_constant_selects, is_formed_process, is_formed_function, has_clocked_words}
+use Rattle.vs_grammar.specs.Trees.{Name, Connections, Function, Item, Module, Source}
 use Rattle.vs_grammar.specs.Trees as tree
-use Rattle.vs_grammar.specs.Shapes.{Each, AreConnections, IsGenerateItem, IsModule}
+use Rattle.vs_grammar.specs.Shapes.{Each, AreConnections, IsFunction, IsGenerateItem, IsModule}
 use Rattle.vs_grammar.specs.Depths.{deepest, item_depth}
-use Rattle.vs_const.specs.Meanings.{SignalMeaning, IsFairValue}
+use Rattle.vs_const.specs.Meanings.{SignalMeaning, is_local, IsFairValue}
 use Rattle.vs_const.specs.Typed.{Typed}
-use Rattle.vs_const.specs.Sound.{IsSound, AreSound, IsFine}
+use Rattle.vs_const.specs.Sound.{IsSoundFunction, IsSound, AreSound, IsFine}
 use Rattle.vs_elaborated.specs.Limits.{Limits}
-use Rattle.vs_elaborated.specs.Environments.{Declared, Later, OfSignal, OfParameter, OfGenvar, OfScope, Entry, Env, find_entry, signal_means, named}
+use Rattle.vs_elaborated.specs.Environments.{Declared, Later, OfSignal, OfParameter, OfGenvar, OfInteger, OfFunction, OfScope, Entry, Env, find_entry, signal_means, inside_function, named}
 use Rattle.vs_elaborated.specs.Parameters.{Override}
+use Rattle.vs_elaborated.specs.Functions.{function_locals, header_of, function_names, function_body, said_function}
 use Rattle.vs_elaborated.specs.Instances.{Around, connection_name, said_overrides, instance_said}
 use Rattle.vs_elaborated.specs.Generate.{Nested, Made}
 use Rattle.vs_elaborated.specs.Constructs.{constructs}
@@ -22,14 +24,22 @@ use Rattle.vs_elaborated.specs.Surveys.{Totals, overrides_of, survey}
 
 -- ---- names
 
--- a known signal or memory of the design, a value, or nothing that an expression can name
+-- a scope declares no local signal of a function; in a constant that is no matter
+abbrev pub IsOutside : Bool → SignalMeaning → Type 0
+IsOutside true s = Unit {0}
+IsOutside false s = is_local s ≡ false
+
+-- a known signal, memory or function of the design, a value, or nothing that an expression can name
 abbrev pub IsSoundDeclared : Design → Bool → Declared → Type 0
 IsSoundDeclared d needed Later = Unit {0}
-IsSoundDeclared d needed (OfSignal s) = IsSound d needed (signal_means s)
+IsSoundDeclared d needed (OfSignal s) = IsSound d needed (signal_means s) × IsOutside needed s
 IsSoundDeclared d needed (OfParameter (Some v) (Some r)) = IsFairValue v r × (is_lawful_range (Some r) ≡ true)
 IsSoundDeclared d needed (OfParameter (Some v) None) = ⊥
 IsSoundDeclared d needed (OfParameter None r) = ⊥
 IsSoundDeclared d needed OfGenvar = Unit {0}
+IsSoundDeclared d needed (OfInteger owner) = Unit {0}
+IsSoundDeclared d needed (OfFunction (Some f)) = IsSoundFunction d needed f
+IsSoundDeclared d needed (OfFunction None) = Unit {0}
 IsSoundDeclared d needed OfScope = Unit {0}
 
 -- those of a scope
@@ -109,15 +119,31 @@ HasPorts d limits source (Within task) = Unit {0}
 abbrev pub NamesAreSound : Type 0
 NamesAreSound = (d : Design) (needed : Bool) (env : Env) → AreSoundFrames d needed env.frames → AreSound d needed (named env)
 
--- what is said of a scope that has no fault: in a design that has its signals its names and its pieces are sound, and its bits are within the limit
+-- a function without a fault is complete, and what a call of it holds is formed, in every design that has its scope (10.4)
+abbrev pub FunctionsAreFormed : Type 0
+FunctionsAreFormed = (d : Design) (number most scope : ℕ) (env : Env) (f : Function) → AreSoundFrames d false env.frames → IsFunction f → scope < length d.scopes → (said_function number most scope env f).faults ≡ []
+    → IsSoundFunction d false (said_function number most scope env f).meaning
+
+-- in a function names mean known local signals, functions that are formed, values, or nothing that an expression can name (10.4.4), and so do the variables of its named blocks
+pub record SeesSound (d : Design) (scope : ℕ) (env : Env) (f : Function) : Type 0 where
+  pub names : AreSound (inside d (header_of f (function_locals scope (inside_function env []) f))) false (function_names scope env f)
+  pub declared : (place : ℕ) → IsSound (inside d (header_of f (function_locals scope (inside_function env []) f))) false ((function_body (function_locals scope (inside_function env []) f)).declared place)
+
+-- if it has no fault, in every design that has its scope
+abbrev pub FunctionsSeeSound : Type 0
+FunctionsSeeSound = (d : Design) (number most scope : ℕ) (env : Env) (f : Function) → AreSoundFrames d false env.frames → IsFunction f → scope < length d.scopes → (said_function number most scope env f).faults ≡ []
+    → SeesSound d scope env f
+
+-- what is said of a scope that has no fault: in a design that has it and its signals its names, its functions and its pieces are sound, and its bits are within the limit
 pub record IsFair (d : Design) (limits : Limits) (source : Source) (t : Task) (totals : Totals) : Type 0 where
   pub names : AreSoundEntries d false (survey limits source t totals).entries
+  pub functions : Each (λ (f : WholeFunction). is_formed_function d f ≡ true) (survey limits source t totals).functions
   pub pieces : AreFinePieces d (survey limits source t totals).pieces
   pub bits : totals.bits ≤ limits.bits → (survey limits source t totals).totals.bits ≤ limits.bits
 
 -- a scope without a fault is fair
 abbrev pub FaultlessIsFair : Type 0
-FaultlessIsFair = (d : Design) (limits : Limits) (source : Source) (t : Task) (totals : Totals) → AreModules source.modules → IsSoundTask d t
+FaultlessIsFair = (d : Design) (limits : Limits) (source : Source) (t : Task) (totals : Totals) → AreModules source.modules → IsSoundTask d t → totals.scopes < length d.scopes
     → Each (λ (s : Signal). is_signal d s ≡ true) (survey limits source t totals).signals → (survey limits source t totals).faults ≡ [] → IsFair d limits source t totals
 
 -- the signals of every scope follow on

@@ -1,27 +1,42 @@
 -- All that one scope says: its names, its signals, its pieces in text order, and its faults (IEEE 1364-2005, clause 12).
-use Rattle.std.specs.Prelude.{ℕ, ◌+◌, Bool, false, List, [], ◌∷◌, ◌++◌, map, flat_map, length, max, sum_by, if◌then◌else◌, nat_lt, is_none, Option, Some, None}
+use Rattle.std.specs.Prelude.{ℕ, ◌+◌, ◌-◌, Bool, true, false, List, [], ◌∷◌, ◌++◌, map, flat_map, length, max, sum_by, if◌then◌else◌, nat_lt, is_none, Option, Some, None}
 use Rattle.std.specs.List.{list_any}
 use Rattle.vs_design.specs.Expressions.{Signal, signal_length}
+use Rattle.vs_design.specs.Statements.{Function}
 use Rattle.vs_design.specs.Designs.{Written, Continuous, Always, process_place}
 use Rattle.vs_design.specs.Clocks.{same_name}
 use Rattle.vs_grammar.specs.Trees as tree
 use Rattle.vs_grammar.specs.Trees.{Source, items_list, target_place}
 use Rattle.vs_const.specs.declared.faults.Fault.{Fault}
 use Rattle.vs_const.specs.Faults.{fault, fault_if}
-use Rattle.vs_const.specs.declared.rules.Rule.TheVariants.{DuplicateName, TooManyBits, TooManyProcesses}
+use Rattle.vs_const.specs.declared.rules.Rule.TheVariants.{DuplicateName, WrongKind, TooManyBits, TooManyProcesses}
+use Rattle.vs_const.specs.Meanings.{Barred}
 use Rattle.vs_const.specs.Expressions.{typed}
 use Rattle.vs_elaborated.specs.Limits.{Limits}
 use Rattle.vs_elaborated.specs.Environments.{OfScope, Entry, Env, within, with_turn, find_entry, named, Turn}
 use Rattle.vs_elaborated.specs.Targets.{typed_target}
-use Rattle.vs_elaborated.specs.Statements.{typed_statement, typed_control, is_clocked_by, unclocked_faults}
+use Rattle.vs_elaborated.specs.Statements.{Body, TypedStatement, typed_control, is_clocked_by, unrolled_within}
+use Rattle.vs_elaborated.specs.Heads.{Integer, Head, headed, shared_heads}
+use Rattle.vs_elaborated.specs.Functions.{Counts, said_functions}
 use Rattle.vs_elaborated.specs.Declarations.{Declaration, item_declared, module_declared, names_of, repeated_names}
 use Rattle.vs_elaborated.specs.Parameters.{Override, first_entries, said_parameters}
-use Rattle.vs_elaborated.specs.Signals.{SaidSignal, said_signals, range_faults, put_signals}
+use Rattle.vs_elaborated.specs.Signals.{SaidSignal, said_signals, range_faults, array_faults, put_signals}
 use Rattle.vs_elaborated.specs.Generate.{Nested, BlockName, Made}
 use Rattle.vs_elaborated.specs.Constructs.{constructs}
 use Rattle.vs_elaborated.specs.Ports.{header_faults}
 use Rattle.vs_elaborated.specs.Pieces.{Contents, OfModule, OfBlock, Task, Piece, Own, Instance, Within, Said, nothing_said, one_said, both_said, all_said}
 use Rattle.vs_elaborated.specs.Instances.{Around, instances_said}
+
+-- ---- loops of blocks and of functions (9.6)
+
+-- so far, in the order in which scopes are read: the statements that they copied, and the integers that head loops of blocks
+pub record Loops : Type 0 where
+  pub copies : ℕ
+  pub headed : List Integer
+
+-- before the top
+abbrev pub no_loops : Loops
+no_loops = record { copies = 0; headed = [] }
 
 -- ---- the items that aren't declarations
 
@@ -40,12 +55,35 @@ wire_said env place d = of_value d.value
     of_value None = nothing_said []
     of_value (Some e) = assign_said env place (record { target = tree.NamedTarget d.name tree.Whole; e = e })
 
+-- An always block stands by itself: no variable of a named block in it is taken.
+abbrev pub block_body : tree.AlwaysBlock → Body
+block_body b = record { declared = λ place. Barred WrongKind; in_function = false; clocked = is_clocked_by b.control; unrolls = true }
+
+-- the statement of an always block, behind so many copies
+abbrev pub block_statement : Limits → Env → Loops → tree.AlwaysBlock → TypedStatement
+block_statement limits env loops b = unrolled_within (limits.copies - loops.copies) b.statement (block_body b) (named env)
+
+-- the loops of an always block
+abbrev pub block_heads : Env → tree.AlwaysBlock → List Head
+block_heads env b = headed b.statement [] env
+
 -- an always block (9.9.2)
-abbrev pub block_said : Env → tree.AlwaysBlock → Said
-block_said env b =
+abbrev pub block_said : Limits → Env → Loops → tree.AlwaysBlock → Said
+block_said limits env loops b =
     let c = typed_control b.control (named env) in
-    let s = typed_statement b.statement (named env) in
-    one_said (Own (Always b.place c.star c.events s.statement)) (c.faults ++ (s.faults ++ unclocked_faults (is_clocked_by b.control) b.statement (named env)))
+    let s = block_statement limits env loops b in
+    one_said (Own (Always b.place c.star c.events s.statement)) (c.faults ++ (s.faults ++ shared_heads loops.headed (block_heads env b)))
+
+-- behind an item: an always block has loops
+abbrev pub loops_after : Limits → Env → Loops → tree.Item → Loops
+loops_after limits env loops (tree.AlwaysItem b) =
+    record { copies = loops.copies + (block_statement limits env loops b).copies; headed = loops.headed ++ map (λ (h : Head). h.integer) (block_heads env b) }
+loops_after limits env loops item = loops
+
+-- behind items
+abbrev pub loops_behind : Limits → Env → Loops → List tree.Item → Loops
+loops_behind limits env loops [] = loops
+loops_behind limits env loops (i ∷ is) = loops_behind limits env (loops_after limits env loops i) is
 
 -- a block's loop value is known within it
 abbrev pub turned : Env → Option Turn → Env
@@ -57,17 +95,18 @@ abbrev pub nested_piece : Around → Nested → Piece
 nested_piece around b = Within (record { name = b.name; parent = Some around.scope; contents = OfBlock b.items; depth = around.depth; place = 0; env = turned around.env b.turn })
 
 -- `made` is what the item makes if it is a generate construct
-abbrev pub item_said : Source → Around → tree.Item → Made → Said
-item_said source around (tree.SignalsItem t) made = all_said (wire_said around.env t.place) t.names
-item_said source around (tree.AssignsItem place assigns) made = all_said (assign_said around.env place) assigns
-item_said source around (tree.AlwaysItem block) made = block_said around.env block
-item_said source around (tree.InstancesItem t) made = instances_said source around t
-item_said source around item made = record { pieces = map (nested_piece around) made.blocks; faults = [] }
+abbrev pub item_said : Limits → Source → Around → Loops → tree.Item → Made → Said
+item_said limits source around loops (tree.SignalsItem t) made = all_said (wire_said around.env t.place) t.names
+item_said limits source around loops (tree.AssignsItem place assigns) made = all_said (assign_said around.env place) assigns
+item_said limits source around loops (tree.AlwaysItem block) made = block_said limits around.env loops block
+item_said limits source around loops (tree.InstancesItem t) made = instances_said source around t
+item_said limits source around loops item made = record { pieces = map (nested_piece around) made.blocks; faults = [] }
 
--- each item with what it makes
-abbrev pub items_said : Source → Around → List tree.Item → List Made → Said
-items_said source around (i ∷ is) (m ∷ ms) = both_said (item_said source around i m) (items_said source around is ms)
-items_said source around _ _ = nothing_said []
+-- each item with what it makes, behind the loops of those before it
+abbrev pub items_said : Limits → Source → Around → Loops → List tree.Item → List Made → Said
+items_said limits source around loops (i ∷ is) (m ∷ ms) =
+    both_said (item_said limits source around loops i m) (items_said limits source around (loops_after limits around.env loops i) is ms)
+items_said limits source around loops _ _ = nothing_said []
 
 -- ---- the names of blocks
 
@@ -98,11 +137,17 @@ pub record Totals : Type 0 where
   pub bits : ℕ
   pub instances : ℕ
   pub turns : ℕ
+  pub functions : ℕ
+  pub loops : Loops
   pub processes : ℕ
 
 -- before the top
 abbrev pub no_totals : Totals
-no_totals = record { scopes = 0; signals = 0; bits = 0; instances = 0; turns = 0; processes = 0 }
+no_totals = record { scopes = 0; signals = 0; bits = 0; instances = 0; turns = 0; functions = 0; loops = no_loops; processes = 0 }
+
+-- before the functions of a scope
+abbrev pub counts_of : Totals → Counts
+counts_of totals = record { copies = totals.loops.copies; functions = totals.functions }
 
 -- the first signal with whose bits there are more than the most
 abbrev pub bits_over : (most total : ℕ) → List SaidSignal → List Fault
@@ -139,6 +184,7 @@ turns_after total (m ∷ ms) = turns_after m.turns ms
 pub record Survey : Type 0 where
   pub entries : List Entry
   pub signals : List Signal
+  pub functions : List Function
   pub pieces : List Piece
   pub faults : List Fault
   pub totals : Totals
@@ -163,32 +209,37 @@ abbrev pub header_of : Contents → List Fault
 header_of (OfModule m overrides) = header_faults m
 header_of (OfBlock items) = []
 
--- parameters don't see ranges, nor ranges and generate constructs the names of the scope's own blocks
+-- parameters don't see ranges, nor ranges, functions and generate constructs the names of the scope's own blocks
 abbrev pub survey : Limits → Source → Task → Totals → Survey
 survey limits source t totals =
     let ds = declarations_of t.contents in
     let names = names_of ds in
-    let parameters = said_parameters t.env (overrides_of t.contents) ds (first_entries names) in
+    let parameters = said_parameters t.env (overrides_of t.contents) ds (first_entries totals.scopes names) in
     let ranged = within t.env parameters.entries in
     let signals = said_signals ranged (record { scope = totals.scopes; top = is_none t.parent; signal = totals.signals; bit = totals.bits }) names in
-    let entries = put_signals signals parameters.entries in
+    let functions = said_functions limits totals.scopes t.env (counts_of totals) ds (put_signals signals parameters.entries) in
+    let entries = functions.entries in
+    let loops = record totals.loops { copies = functions.counts.copies } in
     let made = constructs limits (items_of t.contents) (within t.env entries) 1 totals.turns in
     let blocks = flat_map (λ (m : Made). m.names) made in
     let whole = entries ++ block_entries blocks in
-    let said = items_said source (record { scope = totals.scopes; depth = t.depth; env = within t.env whole }) (items_of t.contents) made in
+    let said = items_said limits source (record { scope = totals.scopes; depth = t.depth; env = within t.env whole }) loops (items_of t.contents) made in
     record {
       entries = whole;
       signals = map (λ (s : SaidSignal). s.meaning.signal) signals;
+      functions = functions.functions;
       pieces = said.pieces;
       faults =
-          header_of t.contents ++ (repeated_names [] ds ++ (parameters.faults ++ (range_faults ranged ds ++ (flat_map (λ (s : SaidSignal). s.faults) signals
-          ++ (flat_map (λ (m : Made). m.faults) made ++ (block_faults entries [] blocks ++ (said.faults ++ (bits_over limits.bits totals.bits signals ++ processes_over limits.processes totals.processes said.pieces))))))));
+          header_of t.contents ++ (repeated_names [] ds ++ (parameters.faults ++ (range_faults ranged ds ++ (array_faults ds ++ (flat_map (λ (s : SaidSignal). s.faults) signals
+          ++ (functions.faults ++ (flat_map (λ (m : Made). m.faults) made ++ (block_faults entries [] blocks ++ (said.faults ++ (bits_over limits.bits totals.bits signals ++ processes_over limits.processes totals.processes said.pieces))))))))));
       totals =
           record totals {
             scopes = totals.scopes + 1;
             signals = totals.signals + length signals;
             bits = totals.bits + sum_by (λ (s : SaidSignal). signal_length s.meaning.signal) signals;
             turns = turns_after totals.turns made;
+            functions = functions.counts.functions;
+            loops = loops_behind limits (within t.env whole) loops (items_of t.contents);
             processes = totals.processes + sum_by piece_processes said.pieces;
           };
     }

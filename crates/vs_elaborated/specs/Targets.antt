@@ -1,14 +1,15 @@
 -- What an assign or an assignment writes (IEEE 1364-2005, table 6-1).
-use Rattle.std.specs.Prelude.{ℕ, Bool, true, false, not, ◌&&◌, ◌||◌, List, [], ◌++◌, Option, Some, None}
+use Rattle.std.specs.Prelude.{ℕ, Bool, true, false, not, ◌&&◌, ◌||◌, List, [], ◌++◌, if◌then◌else◌, Option, Some, None}
 use Rattle.vs_design.specs.Expressions.{Signal}
 use Rattle.vs_design.specs.Statements.{Target, Whole, PartOf, WordOf, Both}
 use Rattle.vs_grammar.specs.Trees as tree
 use Rattle.vs_grammar.specs.Trees.{expr_place}
 use Rattle.vs_const.specs.declared.faults.Fault.{Fault}
 use Rattle.vs_const.specs.Faults.{fault, fault_if}
-use Rattle.vs_const.specs.declared.rules.Rule.TheVariants.{UnknownName, WrongKind}
-use Rattle.vs_const.specs.Meanings.{SignalMeaning, Meaning, ASignal, AMemory, Unknown, Find}
-use Rattle.vs_const.specs.Selects.{Base, no_base, signal_base, is_scalar, Taken, taken, slice_taken, first_needed}
+use Rattle.vs_const.specs.declared.rules.Rule.TheVariants.{WrongKind, LoopVariable, FunctionRule}
+use Rattle.vs_const.specs.declared.rules.Rule.{Rule}
+use Rattle.vs_const.specs.Meanings.{SignalMeaning, Meaning, AValue, ASignal, AMemory, Find, steady, is_local}
+use Rattle.vs_const.specs.Selects.{Base, no_base, signal_base, is_scalar, Taken, taken, slice_taken, first_needed, first_names, wrong_rule}
 use Rattle.vs_const.specs.Typed.{Typed}
 use Rattle.vs_const.specs.Expressions.{typed}
 
@@ -30,11 +31,20 @@ pub record TypedTarget : Type 0 where
 abbrev pub is_wrong_target : Bool → SignalMeaning → Bool
 is_wrong_target procedural s = s.input || (procedural && s.signal.net || not procedural && not s.signal.net)
 
+-- what a target breaks that is none: of a function's input that the function writes it (10.4.4)
+abbrev pub target_rule : SignalMeaning → Rule
+target_rule s = if is_local s then FunctionRule else WrongKind
+
+-- The rule that a name breaks which means no signal: an integer isn't written within its loop (9.6).
+abbrev pub unwritten_rule : Meaning → Rule
+unwritten_rule (AValue v range true) = LoopVariable
+unwritten_rule m = wrong_rule false m
+
 -- what a target names, alone or as what a select takes bits of
 abbrev pub target_base : (procedural : Bool) → (place : ℕ) → (is_selected : Bool) → Meaning → Base
-target_base procedural place is_selected (ASignal s) = signal_base (fault_if (is_wrong_target procedural s || (is_selected && is_scalar s)) WrongKind place) s
-target_base procedural place is_selected Unknown = no_base None (fault UnknownName place)
-target_base procedural place is_selected _ = no_base None (fault WrongKind place)
+target_base procedural place is_selected (ASignal s) =
+    signal_base (fault_if (is_wrong_target procedural s) (target_rule s) place ++ fault_if (is_selected && is_scalar s) WrongKind place) s
+target_base procedural place is_selected m = no_base None (fault (unwritten_rule m) place)
 
 -- a select of a signal
 abbrev pub part_target : Signal → Base → Taken → TypedTarget
@@ -56,7 +66,8 @@ selected_target tree.Whole name find procedural =
 selected_target (tree.BitAt bracket index) name find procedural = bit_target procedural name.place (find name.bytes) (typed index find (not procedural))
 selected_target (tree.Slice bracket kind e f) name find procedural =
     let b = target_base procedural name.place true (find name.bytes) in
-    part_target (meant_signal (find name.bytes)) b (slice_taken b.range bracket kind (expr_place e) (typed e find (first_needed kind (not procedural))) (expr_place f) (typed f find true))
+    part_target (meant_signal (find name.bytes)) b (slice_taken b.range bracket kind (expr_place e) (typed e (first_names kind find) (first_needed kind (not procedural))) (expr_place f) (typed f (steady find) true))
+selected_target (tree.OfWord bracket address part) name find procedural = record { target = Whole no_signal; faults = fault (unwritten_rule (find name.bytes)) name.place }
 
 -- the left one has the higher bits
 abbrev pub both_targets : TypedTarget → TypedTarget → TypedTarget

@@ -5,4 +5,7 @@
 
 mod laws;
 
-pub use laws::{design_examples, elaborated_law, instance_law, refusal_examples, scope_law};
+pub use laws::{
+    design_examples, elaborated_law, instance_law, number_law, refusal_examples, scope_law,
+    unroll_law,
+};

@@ -6,13 +6,12 @@ use Rattle.vs_grammar.specs.Kinds.{number_of}
 use Rattle.vs_grammar.specs.Grammars.{Phrase, Terminal, opt, star, depth}
 use Rattle.vs_grammar.specs.Grammars.Phrase.{tok, eps, seq, alt, last, many, level}
 use Rattle.vs_grammar.specs.Grammars.Tree.{leaf, nothing, both, former, latter, without, within, start, grown, alone, behind, nested, named}
-use Rattle.vs_grammar.specs.Verilog.{braced, braces, call, slice_end, case_statement, sequence, assigned, ◌⨾◌, t, r, phrase_of, separated, selected_name, conditional, Rule as rule}
-use Rattle.vs_grammar.specs.Trees.{Declarator, Signals, Setting, Parameters}
+use Rattle.vs_grammar.specs.Verilog.{braced, braces, call, slice_end, select_end, case_statement, sequence, loop, assigned, ◌⨾◌, ◌∣◌, t, r, phrase_of, separated, named_primary, sign_and_range, reg_type, conditional, Rule as rule}
 use Rattle.vs_grammar.specs.Trees.{AndExpr, AndTarget, AndStatement, AndArm, AndGenerateArm, AndItem}
 use Rattle.vs_grammar.specs.Trees as tree
 use Rattle.vs_grammar.specs.Meaning.{D, each_onto, behind_sign, list_of, option_of}
 use Rattle.vs_grammar.specs.Meaning as meaning
-use Rattle.vs_grammar.specs.Depths.{deepest, option_depth, expr_depth, exprs_depth, select_depth, target_depth, targets_depth, statement_depth, fallback_depth, statements_depth, arms_depth}
+use Rattle.vs_grammar.specs.Depths.{deepest, option_depth, expr_depth, exprs_depth, select_depth, range_depth, value_type_depth, variables_depth, scope_depth, setting_depth, head_depth, target_depth, targets_depth, statement_depth, fallback_depth, statements_depth, arms_depth}
 
 -- ---- phrases without levels
 
@@ -70,19 +69,34 @@ module _ (bytes : ℕ → List ℕ) (s : ℕ) (smaller : (e : D (r rule.Expressi
   exprs_is : (d : D (separated (r rule.Expression))) → size d ≤ s → exprs_depth (meaning.exprs_of bytes d) ≡ depth d
   exprs_is (both e l) w = let h = smaller e (omega arith) in let i = exprs_onto_is l tree.NoExpr (omega arith) in omega arith
 
-  slice_is : (a : Terminal) (e : D (r rule.Expression)) (b : D (slice_end ⨾ t kind.CloseBracket)) → size e < s → size b ≤ s → select_depth (meaning.select_of bytes (named (nested (both (leaf a) (both e b))))) ≡ 1 + max (depth e) (depth b)
+  slice_is : (a : Terminal) (e : D (r rule.Expression)) (b : D (slice_end ⨾ t kind.CloseBracket)) → size e < s → size b ≤ s → select_depth (meaning.part_of bytes (named (nested (both (leaf a) (both e b))))) ≡ 1 + max (depth e) (depth b)
   slice_is a e (both (latter z) c) v w = let h = smaller e v in let f = flat z refl in let g = flat c refl in omega arith
   slice_is a e (both (former (both o u)) c) v w = let h = smaller e v in let i = smaller u (omega arith) in let f = flat o refl in let g = flat c refl in omega arith
 
+  part_is : (d : D (r rule.Part)) → size d ≤ s → select_depth (meaning.part_of bytes d) ≡ depth d
+  part_is (named (nested (both (leaf a) (both e b)))) w = let h = slice_is a e b (omega arith) (omega arith) in omega arith
+
+  select_end_is : (a : Terminal) (e : D (r rule.Expression)) (b : D select_end) → size e < s → size b ≤ s → select_depth (meaning.select_of bytes (named (nested (both (leaf a) (both e b))))) ≡ 1 + max (depth e) (depth b)
+  select_end_is a e (former (both o (both u c))) v w = let h = smaller e v in let i = smaller u (omega arith) in let f = flat o refl in let g = flat c refl in omega arith
+  select_end_is a e (latter (both c (former p))) v w = let h = smaller e v in let i = part_is p (omega arith) in let g = flat c refl in omega arith
+  select_end_is a e (latter (both c (latter z))) v w = let h = smaller e v in let f = flat z refl in let g = flat c refl in omega arith
+
   select_is : (d : D (r rule.Select)) → size d ≤ s → select_depth (meaning.select_of bytes d) ≡ depth d
-  select_is (named (nested (both (leaf a) (both e b)))) w = let h = slice_is a e b (omega arith) (omega arith) in omega arith
+  select_is (named (nested (both (leaf a) (both e b)))) w = let h = select_end_is a e b (omega arith) (omega arith) in omega arith
+
+  arguments_is : (d : D (r rule.Arguments)) → size d ≤ s → 1 + exprs_depth (meaning.arguments_of bytes d) ≡ depth d
+  arguments_is (named (nested (both o (both l z)))) w = let h = exprs_is l (omega arith) in let f = flat o refl in let g = flat z refl in omega arith
 
   select_or_whole_is : (d : D (opt (r rule.Select))) → size d ≤ s → select_depth (meaning.select_or_whole bytes d) ≡ depth d
   select_or_whole_is (former d) w = select_is d (omega arith)
   select_or_whole_is (latter z) w = sym (flat z refl)
 
-  selected_is : (d : D selected_name) → size d ≤ s → expr_depth (meaning.primary_of bytes (named (latter (former d)))) ≡ depth d
-  selected_is (both n d) w = let h = select_or_whole_is d (omega arith) in let f = flat n refl in omega arith
+  operand_is : (n : D (t kind.Identifier)) (d : D (r rule.Arguments ∣ opt (r rule.Select))) → size d ≤ s → expr_depth (meaning.primary_of bytes (named (latter (former (both n d))))) ≡ depth d
+  operand_is n (former l) w = arguments_is l (omega arith)
+  operand_is n (latter d) w = select_or_whole_is d (omega arith)
+
+  selected_is : (d : D named_primary) → size d ≤ s → expr_depth (meaning.primary_of bytes (named (latter (former d)))) ≡ depth d
+  selected_is (both n d) w = let h = operand_is n d (omega arith) in let f = flat n refl in omega arith
 
   brackets_is : (d : D (level (t kind.OpenParen ⨾ r rule.Expression ⨾ t kind.CloseParen))) → size d ≤ s → expr_depth (meaning.primary_of bytes (named (latter (latter (former d))))) ≡ depth d
   brackets_is (nested (both (leaf a) (both e z))) w = let h = smaller e (omega arith) in let f = flat z refl in omega arith
@@ -209,6 +223,43 @@ pub option_is : {A : Type 0} {x : Phrase} (f : D x → A) (m : A → ℕ) → ((
 option_is f m h (former a) = h a
 option_is f m h (latter z) = sym (flat z refl)
 
+-- ---- types, variables and the heads of loops
+
+module _ (bytes : ℕ → List ℕ) where
+  pub range_is : (d : D (r rule.Range)) → range_depth (meaning.range_of bytes d) ≡ depth d
+  range_is (named (both (leaf a) (both e (both c (both u z))))) = let h = expr_is bytes e in let i = expr_is bytes u in let f = flat c refl in let g = flat z refl in omega arith
+
+  range_type_is : (d : D sign_and_range) → value_type_depth (meaning.range_type_of bytes d) ≡ depth d
+  range_type_is (both u g) = let h = option_is (meaning.range_of bytes) range_depth range_is g in let f = flat u refl in omega arith
+
+  pub value_type_is : (d : D (r rule.ValueType)) → value_type_depth (meaning.value_type_of bytes d) ≡ depth d
+  value_type_is (named (former i)) = sym (flat i refl)
+  value_type_is (named (latter y)) = range_type_is y
+
+  reg_type_is : (d : D reg_type) → value_type_depth (meaning.reg_type_of bytes d) ≡ depth d
+  reg_type_is (both w y) = let h = range_type_is y in let f = flat w refl in omega arith
+
+  variable_type_is : (d : D (r rule.VariableType)) → value_type_depth (meaning.variable_type_of bytes d) ≡ depth d
+  variable_type_is (named (former y)) = reg_type_is y
+  variable_type_is (named (latter i)) = sym (flat i refl)
+
+  pub input_type_is : (d : D (r rule.InputType)) → value_type_depth (meaning.input_type_of bytes d) ≡ depth d
+  input_type_is (named (former y)) = reg_type_is y
+  input_type_is (named (latter y)) = value_type_is y
+
+  pub variables_is : (d : D (r rule.Variables)) → variables_depth (meaning.variables_of bytes d) ≡ depth d
+  variables_is (named (both y (both (named l) z))) = let h = variable_type_is y in let f = flat l refl in let g = flat z refl in omega arith
+
+  scope_is : (d : D (r rule.BlockScope)) → scope_depth (meaning.scope_of bytes d) ≡ depth d
+  scope_is (named (both c (both n l))) = let h = each_is (meaning.variables_of bytes) variables_depth variables_is l [] in let f = flat c refl in let g = flat n refl in omega arith
+
+  pub setting_is : (d : D (r rule.Setting)) → setting_depth (meaning.setting_of bytes d) ≡ depth d
+  setting_is (named (both n (both o e))) = let h = expr_is bytes e in let f = flat n refl in let g = flat o refl in omega arith
+
+  pub head_is : (d : D (r rule.LoopHead)) → head_depth (meaning.head_of bytes d) ≡ depth d
+  head_is (named (both (leaf a) (both o (both u (both c (both e (both d (both v z)))))))) =
+      let h = setting_is u in let i = expr_is bytes e in let j = setting_is v in let f = flat o refl in let g = flat c refl in let k = flat d refl in let m = flat z refl in omega arith
+
 -- ---- targets
 
 module _ (bytes : ℕ → List ℕ) where
@@ -265,9 +316,13 @@ module _ (bytes : ℕ → List ℕ) (s : ℕ) (smaller : (d : D (r rule.Statemen
       let h = expr_is bytes e in let i = cases_is a (omega arith) in let f = flat k refl in let g = flat o refl in let j = flat c refl in let m = flat z refl in omega arith
 
   sequence_is : (d : D sequence) → size d ≤ s → statement_depth (meaning.statement_of bytes (named (nested (latter (latter (latter (former d))))))) ≡ 1 + depth d
-  sequence_is (both (leaf a) (both n (both l z))) w = let h = statements_onto_is l tree.NoStatement (omega arith) in let f = flat n refl in let g = flat z refl in omega arith
+  sequence_is (both (leaf a) (both n (both l z))) w =
+      let h = statements_onto_is l tree.NoStatement (omega arith) in let i = option_is (meaning.scope_of bytes) scope_depth (scope_is bytes) n in let g = flat z refl in omega arith
 
-  assigned_is : (d : D assigned) → statement_depth (meaning.statement_of bytes (named (nested (latter (latter (latter (latter d))))))) ≡ 1 + depth d
+  loop_is : (d : D loop) → size d ≤ s → statement_depth (meaning.statement_of bytes (named (nested (latter (latter (latter (latter (former d)))))))) ≡ 1 + depth d
+  loop_is (both u d) w = let h = head_is bytes u in let i = smaller d (omega arith) in omega arith
+
+  assigned_is : (d : D assigned) → statement_depth (meaning.statement_of bytes (named (nested (latter (latter (latter (latter (latter d)))))))) ≡ 1 + depth d
   assigned_is (both x (both o (both e z))) = let h = target_is bytes x in let i = expr_is bytes e in let f = flat o refl in let g = flat z refl in omega arith
 
   statement_next : (d : D (r rule.Statement)) → size d ≤ s → statement_depth (meaning.statement_of bytes d) ≡ depth d
@@ -275,7 +330,8 @@ module _ (bytes : ℕ → List ℕ) (s : ℕ) (smaller : (d : D (r rule.Statemen
   statement_next (named (nested (latter (former d)))) w = if_is d (omega arith)
   statement_next (named (nested (latter (latter (former d))))) w = case_is d (omega arith)
   statement_next (named (nested (latter (latter (latter (former d)))))) w = sequence_is d (omega arith)
-  statement_next (named (nested (latter (latter (latter (latter d)))))) w = assigned_is d
+  statement_next (named (nested (latter (latter (latter (latter (former d))))))) w = loop_is d (omega arith)
+  statement_next (named (nested (latter (latter (latter (latter (latter d))))))) w = assigned_is d
 
 module _ (bytes : ℕ → List ℕ) where
   statement_below : (s : ℕ) (d : D (r rule.Statement)) → size d < s → statement_depth (meaning.statement_of bytes d) ≡ depth d

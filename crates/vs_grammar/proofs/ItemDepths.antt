@@ -6,13 +6,13 @@ use Rattle.vs_grammar.specs.Kinds.{number_of}
 use Rattle.vs_grammar.specs.Grammars.{Phrase, opt, star, depth}
 use Rattle.vs_grammar.specs.Grammars.Phrase.{last}
 use Rattle.vs_grammar.specs.Grammars.Tree.{leaf, both, former, latter, without, within, start, grown, nested, named}
-use Rattle.vs_grammar.specs.Verilog.{◌⨾◌, ◌∣◌, t, r, separated, signed_range, variable_name, wire_name, assignment, named_connection, overrides, reg_item, wire_item, local_item, assign_item, always_item, genvar_item, instance_item, for_item, if_item, generate_case, Rule as rule}
-use Rattle.vs_grammar.specs.Trees.{Declarator, Signals, Setting, Parameters, AndItem}
+use Rattle.vs_grammar.specs.Verilog.{◌⨾◌, ◌∣◌, t, r, separated, signed_range, variable_name, wire_name, assignment, named_connection, overrides, reg_item, wire_item, local_item, assign_item, always_item, genvar_item, integer_item, instance_item, input_declaration, for_item, if_item, generate_case, Rule as rule}
+use Rattle.vs_grammar.specs.Trees.{Name, Variables, Declarator, Signals, Setting, Parameters, AndItem}
 use Rattle.vs_grammar.specs.Trees as tree
 use Rattle.vs_grammar.specs.Meaning.{D, each_onto, behind_sign, list_of, option_of}
 use Rattle.vs_grammar.specs.Meaning as meaning
-use Rattle.vs_grammar.specs.Depths.{deepest, option_depth, expr_depth, range_depth, declarator_depth, signals_depth, setting_depth, parameters_depth, assign_depth, connection_depth, connections_depth, instance_depth, item_depth, block_depth, block_fallback_depth, generate_arms_depth, items_depth, header_depth, module_depth, TreeIsAsDeep}
-use Rattle.vs_grammar.proofs.DepthFacts.{is_flat, flat, size, each_is, behind_is, list_is, option_is, expr_is, labels_is, target_is, statement_is}
+use Rattle.vs_grammar.specs.Depths.{deepest, option_depth, expr_depth, range_depth, value_type_depth, variables_depth, declarator_depth, signals_depth, setting_depth, parameters_depth, assign_depth, connection_depth, connections_depth, instance_depth, function_depth, item_depth, block_depth, block_fallback_depth, generate_arms_depth, items_depth, header_depth, module_depth, TreeIsAsDeep}
+use Rattle.vs_grammar.proofs.DepthFacts.{is_flat, flat, size, each_is, behind_is, list_is, option_is, expr_is, labels_is, range_is, value_type_is, input_type_is, variables_is, setting_is, head_is, target_is, statement_is}
 
 -- ---- events have no levels
 
@@ -32,9 +32,6 @@ control_flat (named (both a (latter (latter (both o (both (latter (both e l)) z)
 direction_flat : (d : D (r rule.Direction)) → depth d ≡ 0
 direction_flat (named d) = flat d refl
 
-names_flat : (d : D (r rule.Names)) → depth d ≡ 0
-names_flat (named d) = flat d refl
-
 -- ---- without what has no levels
 
 skip : {x : Phrase} (a : D x) → is_flat x ≡ true → (n : ℕ) → max (depth a) n ≡ n
@@ -45,15 +42,6 @@ max_left a b c = omega arith
 
 max_zero : (a : ℕ) → max 0 a ≡ a
 max_zero a = omega arith
-
-four_same : {a b c d p q u v : ℕ} → a ≡ p → b ≡ q → c ≡ u → d ≡ v → max (max a (max b c)) d ≡ max p (max q (max u v))
-four_same {a} {b} {c} {d} {p} {q} {u} {v} e f g h =
-    max_left a (max b c) d
-    ∙ ap (max a) (max_left b c d)
-    ∙ ap (λ (z : ℕ). max z (max b (max c d))) e
-    ∙ ap (λ (z : ℕ). max p (max z (max c d))) f
-    ∙ ap (λ (z : ℕ). max p (max q (max z d))) g
-    ∙ ap (λ (z : ℕ). max p (max q (max u z))) h
 
 -- one declaration of parameters more, with the settings behind it
 group : {p k : ℕ} (w v f l m n : ℕ) → p ≡ max w (max f m) → f ≡ v → k ≡ max 0 (max w v) → max l (max 0 (max p n)) ≡ max (0 + max l k) (max m n)
@@ -69,9 +57,6 @@ group {p} {k} w v f l m n e g h =
 module _ (bytes : ℕ → List ℕ) where
   -- ---- declarations
 
-  range_is : (d : D (r rule.Range)) → range_depth (meaning.range_of bytes d) ≡ depth d
-  range_is (named (both (leaf a) (both e (both c (both u z))))) = let h = expr_is bytes e in let i = expr_is bytes u in let f = flat c refl in let g = flat z refl in omega arith
-
   name_is : (d : D (t kind.Identifier)) → declarator_depth (meaning.plain_name bytes d) ≡ depth d
   name_is n = sym (flat n refl)
 
@@ -79,13 +64,14 @@ module _ (bytes : ℕ → List ℕ) where
   value_is d = behind_is refl (meaning.expr_of bytes) expr_depth (expr_is bytes) d
 
   wire_is : (d : D wire_name) → declarator_depth (meaning.wire_of bytes d) ≡ depth d
-  wire_is (both n v) = let h = option_is (behind_sign (meaning.expr_of bytes)) expr_depth value_is v in let f = flat n refl in omega arith
+  wire_is (both n (former g)) = let h = range_is bytes g in let f = flat n refl in omega arith
+  wire_is (both n (latter v)) = let h = option_is (behind_sign (meaning.expr_of bytes)) expr_depth value_is v in let f = flat n refl in omega arith
 
   variable_is : (d : D variable_name) → declarator_depth (meaning.variable_of bytes d) ≡ depth d
-  variable_is (both n g) = let h = option_is (meaning.range_of bytes) range_depth range_is g in let f = flat n refl in omega arith
+  variable_is (both n g) = let h = option_is (meaning.range_of bytes) range_depth (range_is bytes) g in let f = flat n refl in omega arith
 
-  variables_is : (d : D (separated variable_name)) → deepest declarator_depth (list_of (meaning.variable_of bytes) d) ≡ depth d
-  variables_is d = list_is (meaning.variable_of bytes) declarator_depth variable_is d
+  declared_names_are : (d : D (separated variable_name)) → deepest declarator_depth (list_of (meaning.variable_of bytes) d) ≡ depth d
+  declared_names_are d = list_is (meaning.variable_of bytes) declarator_depth variable_is d
 
   names_is : (d : D (r rule.Names)) → deepest declarator_depth (meaning.names_of bytes d) ≡ depth d
   names_is (named l) = list_is (meaning.plain_name bytes) declarator_depth name_is l
@@ -97,16 +83,13 @@ module _ (bytes : ℕ → List ℕ) where
   ended_is f h (both l z) = let i = h l in let g = flat z refl in omega arith
 
   signals_is : {x : Phrase} (place : ℕ) (k : tree.SignalKind) (f : D x → List Declarator) → ((d : D x) → deepest declarator_depth (f d) ≡ depth d) → (d : D (signed_range x)) → signals_depth (meaning.signals_of bytes place k f d) ≡ depth d
-  signals_is place k f h (both s (both g l)) = let i = h l in let j = option_is (meaning.range_of bytes) range_depth range_is g in let u = flat s refl in omega arith
+  signals_is place k f h (both s (both g l)) = let i = h l in let j = option_is (meaning.range_of bytes) range_depth (range_is bytes) g in let u = flat s refl in omega arith
 
-  setting_is : (d : D (r rule.ParameterSetting)) → setting_depth (meaning.setting_of bytes d) ≡ depth d
-  setting_is (named (both n (both o e))) = let h = expr_is bytes e in let f = flat n refl in let g = flat o refl in omega arith
+  parameters_is : (place : ℕ) (is_local : Bool) (y : D (r rule.ValueType)) (settings : List Setting) → parameters_depth (meaning.parameters_of bytes place is_local y settings) ≡ max (depth y) (deepest setting_depth settings)
+  parameters_is place is_local y settings = let j = value_type_is bytes y in omega arith
 
-  parameters_is : (place : ℕ) (is_local : Bool) (y : D (r rule.ParameterType)) (settings : List Setting) → parameters_depth (meaning.parameters_of bytes place is_local y settings) ≡ max (depth y) (deepest setting_depth settings)
-  parameters_is place is_local (named (both s g)) settings = let j = option_is (meaning.range_of bytes) range_depth range_is g in let u = flat s refl in omega arith
-
-  settings_is : (d : D (separated (r rule.ParameterSetting))) → deepest setting_depth (list_of (meaning.setting_of bytes) d) ≡ depth d
-  settings_is d = list_is (meaning.setting_of bytes) setting_depth setting_is d
+  settings_is : (d : D (separated (r rule.Setting))) → deepest setting_depth (list_of (meaning.setting_of bytes) d) ≡ depth d
+  settings_is d = list_is (meaning.setting_of bytes) setting_depth (setting_is bytes) d
 
   assign_is : (d : D assignment) → assign_depth (meaning.assign_of bytes d) ≡ depth d
   assign_is (both x (both o e)) = let h = target_is bytes x in let i = expr_is bytes e in let f = flat o refl in omega arith
@@ -137,7 +120,7 @@ module _ (bytes : ℕ → List ℕ) where
   -- ---- items without blocks
 
   reg_is : (d : D reg_item) → item_depth (meaning.reg_item_of bytes d) ≡ depth d
-  reg_is (both (leaf a) d) = let h = signals_is a.place tree.Reg (meaning.ended bytes (list_of (meaning.variable_of bytes))) (ended_is (list_of (meaning.variable_of bytes)) variables_is) d in omega arith
+  reg_is (both (leaf a) d) = let h = signals_is a.place tree.Reg (meaning.ended bytes (list_of (meaning.variable_of bytes))) (ended_is (list_of (meaning.variable_of bytes)) declared_names_are) d in omega arith
 
   wire_item_is : (d : D wire_item) → item_depth (meaning.wire_item_of bytes d) ≡ depth d
   wire_item_is (both (leaf a) d) = let h = signals_is a.place tree.Wire (meaning.ended bytes (list_of (meaning.wire_of bytes))) (ended_is (list_of (meaning.wire_of bytes)) wires_is) d in omega arith
@@ -153,6 +136,9 @@ module _ (bytes : ℕ → List ℕ) where
 
   genvar_is : (d : D genvar_item) → item_depth (meaning.genvar_item_of bytes d) ≡ depth d
   genvar_is (both (leaf a) (both (named l) z)) = let f = flat l refl in let g = flat z refl in omega arith
+
+  integer_is : (d : D integer_item) → item_depth (meaning.integer_item_of bytes d) ≡ depth d
+  integer_is (both (leaf a) (both (named l) z)) = let f = flat l refl in let g = flat z refl in omega arith
 
   instances_is : (d : D instance_item) → item_depth (meaning.instance_item_of bytes d) ≡ depth d
   instances_is (both n (both o (both l z))) = let h = overrides_is o in let i = list_is (meaning.instance_of bytes) instance_depth instance_is l in let f = flat n refl in let g = flat z refl in omega arith
@@ -194,9 +180,7 @@ module _ (bytes : ℕ → List ℕ) (s : ℕ) (smaller : (d : D (r rule.Generate
       omega arith
 
   for_is : (d : D for_item) → size d ≤ s → item_depth (meaning.for_item_of bytes d) ≡ depth d
-  for_is (both (leaf a) (both o (both v (both b (both e (both c (both f (both d (both u (both g (both h (both z x)))))))))))) w =
-      four_same (expr_is bytes e) (expr_is bytes f) (expr_is bytes h) (block_is x (omega arith))
-      ∙ sym (max_zero _ ∙ skip o refl _ ∙ skip v refl _ ∙ skip b refl _ ∙ ap (max (depth e)) (skip c refl _ ∙ ap (max (depth f)) (skip d refl _ ∙ skip u refl _ ∙ skip g refl _ ∙ ap (max (depth h)) (skip z refl (depth x)))))
+  for_is (both u x) w = let h = head_is bytes u in let i = block_is x (omega arith) in omega arith
 
   if_is : (d : D if_item) → size d ≤ s → item_depth (meaning.if_item_of bytes d) ≡ depth d
   if_is (both (leaf a) (both o (both e (both c (both x f))))) w =
@@ -213,10 +197,11 @@ module _ (bytes : ℕ → List ℕ) (s : ℕ) (smaller : (d : D (r rule.Generate
   item_next (named (latter (latter (latter (former i))))) w = assigns_is bytes i
   item_next (named (latter (latter (latter (latter (former i)))))) w = always_is bytes i
   item_next (named (latter (latter (latter (latter (latter (former i))))))) w = genvar_is bytes i
-  item_next (named (latter (latter (latter (latter (latter (latter (former i)))))))) w = instances_is bytes i
-  item_next (named (latter (latter (latter (latter (latter (latter (latter (former i))))))))) w = for_is i (omega arith)
-  item_next (named (latter (latter (latter (latter (latter (latter (latter (latter (former i)))))))))) w = if_is i (omega arith)
-  item_next (named (latter (latter (latter (latter (latter (latter (latter (latter (latter i)))))))))) w = case_is i (omega arith)
+  item_next (named (latter (latter (latter (latter (latter (latter (former i)))))))) w = integer_is bytes i
+  item_next (named (latter (latter (latter (latter (latter (latter (latter (former i))))))))) w = instances_is bytes i
+  item_next (named (latter (latter (latter (latter (latter (latter (latter (latter (former i)))))))))) w = for_is i (omega arith)
+  item_next (named (latter (latter (latter (latter (latter (latter (latter (latter (latter (former i))))))))))) w = if_is i (omega arith)
+  item_next (named (latter (latter (latter (latter (latter (latter (latter (latter (latter (latter i))))))))))) w = case_is i (omega arith)
 
 module _ (bytes : ℕ → List ℕ) where
   item_below : (s : ℕ) (d : D (r rule.GenerateItem)) → size d < s → item_depth (meaning.item_of bytes d) ≡ depth d
@@ -229,6 +214,36 @@ module _ (bytes : ℕ → List ℕ) where
   generate_items_is : (l : D (star (r rule.GenerateItem))) (rest : tree.Items) → items_depth (meaning.generate_items_onto bytes l rest) ≡ max (depth l) (items_depth rest)
   generate_items_is l rest = items_onto_is bytes (size l) (λ d h. item_is d) l rest (omega arith)
 
+  -- ---- functions
+
+  input_is : (p : D (r rule.FunctionInput)) (others : List Name) → variables_depth (meaning.input_of bytes p others) ≡ depth p
+  input_is (named (both (leaf a) (both y n))) others = let h = input_type_is bytes y in let f = flat n refl in omega arith
+
+  inputs_onto_is : (p : D (r rule.FunctionInput)) (l : D (star (t kind.Comma ⨾ (r rule.FunctionInput ∣ t kind.Identifier)))) (names : List Name) (inputs : List Variables) → deepest variables_depth (meaning.inputs_onto bytes p l names inputs) ≡ max (depth p) (max (depth l) (deepest variables_depth inputs))
+  inputs_onto_is p (start z) names inputs = let h = input_is p names in let f = flat z refl in omega arith
+  inputs_onto_is p (grown l (both c (former q))) names inputs = let h = inputs_onto_is p l [] (meaning.input_of bytes q names ∷ inputs) in let i = input_is q names in let f = flat c refl in omega arith
+  inputs_onto_is p (grown l (both c (latter n))) names inputs = let h = inputs_onto_is p l (meaning.name_of bytes n ∷ names) inputs in let f = flat c refl in let g = flat n refl in omega arith
+
+  inputs_is : (d : D (r rule.FunctionInputs)) → deepest variables_depth (meaning.inputs_of bytes d) ≡ depth d
+  inputs_is (named (both p l)) = let h = inputs_onto_is p l [] [] in omega arith
+
+  input_declaration_is : (d : D input_declaration) → variables_depth (meaning.input_declaration_of bytes d) ≡ depth d
+  input_declaration_is (both (leaf a) (both y (both (named l) z))) = let h = input_type_is bytes y in let f = flat l refl in let g = flat z refl in omega arith
+
+  declared_is : (l : D (star (r rule.FunctionDeclaration))) (inputs variables : List Variables) → max (deepest variables_depth (meaning.declared_inputs bytes l inputs)) (deepest variables_depth (meaning.declared_variables bytes l variables)) ≡ max (depth l) (max (deepest variables_depth inputs) (deepest variables_depth variables))
+  declared_is (start z) inputs variables = let f = flat z refl in omega arith
+  declared_is (grown l (named (former i))) inputs variables = let h = declared_is l (meaning.input_declaration_of bytes i ∷ inputs) variables in let j = input_declaration_is i in omega arith
+  declared_is (grown l (named (latter v))) inputs variables = let h = declared_is l inputs (meaning.variables_of bytes v ∷ variables) in let j = variables_is bytes v in omega arith
+
+  function_head_is : (d : D (r rule.FunctionHead)) → max (deepest variables_depth (meaning.head_inputs bytes d)) (deepest variables_depth (meaning.head_variables bytes d)) ≡ depth d
+  function_head_is (named (former (both o (both l (both c (both s v)))))) =
+      let h = inputs_is l in let i = each_is (meaning.variables_of bytes) variables_depth (variables_is bytes) v [] in let f = flat o refl in let g = flat c refl in let j = flat s refl in omega arith
+  function_head_is (named (latter (both s l))) = let h = declared_is l [] [] in let f = flat s refl in omega arith
+
+  function_is : (d : D (r rule.Function)) → function_depth (meaning.function_of bytes d) ≡ depth d
+  function_is (named (both (leaf a) (both y (both n (both u (both d z)))))) =
+      let h = value_type_is bytes y in let i = function_head_is u in let j = statement_is bytes d in let f = flat n refl in let g = flat z refl in omega arith
+
   -- ---- modules
 
   item_onto_is : (d : D (r rule.Item)) (rest : tree.Items) → items_depth (meaning.item_onto bytes d rest) ≡ max (depth d) (items_depth rest)
@@ -237,7 +252,8 @@ module _ (bytes : ℕ → List ℕ) where
   item_onto_is (named (latter (former (both (leaf a) (both y (both l z)))))) rest =
       let h = parameters_is bytes a.place false y (list_of (meaning.setting_of bytes) l) in let i = settings_is bytes l in let f = flat z refl in omega arith
   item_onto_is (named (latter (latter (former (both g (both l z)))))) rest = let h = generate_items_is l rest in let f = flat g refl in let i = flat z refl in omega arith
-  item_onto_is (named (latter (latter (latter i)))) rest = let h = item_is i in omega arith
+  item_onto_is (named (latter (latter (latter (former d))))) rest = let h = function_is d in omega arith
+  item_onto_is (named (latter (latter (latter (latter i))))) rest = let h = item_is i in omega arith
 
   module_items_is : (l : D (star (r rule.Item))) (rest : tree.Items) → items_depth (meaning.items_onto bytes l rest) ≡ max (depth l) (items_depth rest)
   module_items_is (start z) rest = let f = flat z refl in omega arith
@@ -264,7 +280,7 @@ module _ (bytes : ℕ → List ℕ) where
   header_is (former (both o (both (latter n) z))) = let f = flat o refl in let g = flat z refl in let h = flat n refl in omega arith
   header_is (latter z) = sym (flat z refl)
 
-  parameters_onto_is : (place : ℕ) (y : D (r rule.ParameterType)) (u : D (r rule.ParameterSetting)) (l : D (star (t kind.Comma ⨾ ((t kind.KeywordParameter ⨾ r rule.ParameterType ⨾ r rule.ParameterSetting) ∣ r rule.ParameterSetting)))) (settings : List Setting) (others : List Parameters) → deepest parameters_depth (meaning.parameters_onto bytes place y u l settings others) ≡ max (max (depth y) (depth u)) (max (depth l) (max (deepest setting_depth settings) (deepest parameters_depth others)))
+  parameters_onto_is : (place : ℕ) (y : D (r rule.ValueType)) (u : D (r rule.Setting)) (l : D (star (t kind.Comma ⨾ ((t kind.KeywordParameter ⨾ r rule.ValueType ⨾ r rule.Setting) ∣ r rule.Setting)))) (settings : List Setting) (others : List Parameters) → deepest parameters_depth (meaning.parameters_onto bytes place y u l settings others) ≡ max (max (depth y) (depth u)) (max (depth l) (max (deepest setting_depth settings) (deepest parameters_depth others)))
   parameters_onto_is place y u (start z) settings others =
       let h = parameters_is bytes place false y (meaning.setting_of bytes u ∷ settings) in let i = setting_is bytes u in let f = flat z refl in omega arith
   parameters_onto_is place y u (grown l (both c (former (both (leaf a) (both w v))))) settings others =

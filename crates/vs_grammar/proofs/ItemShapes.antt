@@ -6,20 +6,17 @@ use Rattle.vs_grammar.specs.Kinds.{number_of}
 use Rattle.vs_grammar.specs.Grammars.{Phrase, Terminal, opt, star}
 use Rattle.vs_grammar.specs.Grammars.Phrase.{last}
 use Rattle.vs_grammar.specs.Grammars.Tree.{leaf, both, former, latter, without, within, start, grown, nested, named}
-use Rattle.vs_grammar.specs.Verilog.{◌⨾◌, ◌∣◌, t, r, phrase_of, separated, signed_range, variable_name, wire_name, assignment, named_connection, overrides, reg_item, wire_item, local_item, assign_item, always_item, genvar_item, instance_item, for_item, if_item, generate_case, Rule as rule}
-use Rattle.vs_grammar.specs.Trees.{Declarator, Signals, Setting, Parameters, AndItem}
+use Rattle.vs_grammar.specs.Verilog.{◌⨾◌, ◌∣◌, t, r, phrase_of, separated, signed_range, variable_name, wire_name, assignment, named_connection, overrides, reg_item, wire_item, local_item, assign_item, always_item, genvar_item, integer_item, instance_item, input_declaration, for_item, if_item, generate_case, Rule as rule}
+use Rattle.vs_grammar.specs.Trees.{Name, Variables, Declarator, Signals, Setting, Parameters, AndItem}
 use Rattle.vs_grammar.specs.Trees as tree
 use Rattle.vs_grammar.specs.Meaning.{D, each_onto, behind_sign, list_of, option_of}
 use Rattle.vs_grammar.specs.Meaning as meaning
-use Rattle.vs_grammar.specs.Shapes.{IsName, IsLiteral, Each, OneOrMore, Given, IsExpr, IsRange, IsVariable, IsNet, IsPort, is_port_kind, AreNames, AreSignals, IsSetting, AreParameters, IsAssign, IsEvent, IsControl, IsConnection, AreConnections, IsInstance, IsGenerateItem, IsBlock, IsBlockFallback, AreGenerateArms, HasGenerateArm, AreGenerateItems, IsItem, AreItems, ArePorts, AreHeaderParameters, IsHeader, IsModule}
+use Rattle.vs_grammar.specs.Shapes.{IsName, IsLiteral, Each, OneOrMore, Given, IsExpr, IsRange, AreVariables, IsVariable, IsNet, IsPort, is_port_kind, AreNames, AreSignals, IsSetting, AreParameters, IsAssign, IsEvent, IsControl, IsConnection, AreConnections, IsInstance, IsFunction, IsGenerateItem, IsBlock, IsBlockFallback, AreGenerateArms, HasGenerateArm, AreGenerateItems, IsItem, AreItems, ArePorts, AreHeaderParameters, IsHeader, IsModule}
 use Rattle.vs_grammar.proofs.DepthFacts.{size}
-use Rattle.vs_grammar.proofs.ShapeFacts.{Sound, name_ok, each_ok, behind_ok, list_ok, option_ok, expr_ok, labels_ok, target_ok, statement_ok}
+use Rattle.vs_grammar.proofs.ShapeFacts.{Sound, name_ok, each_ok, behind_ok, list_ok, option_ok, expr_ok, labels_ok, range_ok, value_type_ok, input_type_ok, variables_ok, setting_ok, head_ok, target_ok, statement_ok}
 
 module _ (bytes : ℕ → List ℕ) (numbers : (a : Terminal) → IsLiteral (meaning.literal_at bytes a)) where
   -- ---- declarations
-
-  range_ok : (d : D (r rule.Range)) → Sound bytes d → IsRange (meaning.range_of bytes d)
-  range_ok (named (both (leaf a) (both e (both c (both u z))))) p = (expr_ok bytes numbers e p.1.0, expr_ok bytes numbers u p.1.1.1.0)
 
   plain_ok : (d : D (t kind.Identifier)) → Sound bytes d → IsPort (meaning.plain_name bytes d)
   plain_ok n p = ((name_ok bytes n p, refl), refl)
@@ -28,13 +25,14 @@ module _ (bytes : ℕ → List ℕ) (numbers : (a : Terminal) → IsLiteral (mea
   value_ok d p = behind_ok bytes (meaning.expr_of bytes) IsExpr (expr_ok bytes numbers) d p
 
   wire_ok : (d : D wire_name) → Sound bytes d → IsNet (meaning.wire_of bytes d)
-  wire_ok (both n v) p = ((name_ok bytes n p.0, option_ok bytes (behind_sign (meaning.expr_of bytes)) IsExpr value_ok v p.1), refl)
+  wire_ok (both n (former g)) p = ((name_ok bytes n p.0, tt), range_ok bytes numbers g p.1, tt)
+  wire_ok (both n (latter v)) p = ((name_ok bytes n p.0, option_ok bytes (behind_sign (meaning.expr_of bytes)) IsExpr value_ok v p.1), tt, tt)
 
   variable_ok : (d : D variable_name) → Sound bytes d → IsVariable (meaning.variable_of bytes d)
-  variable_ok (both n g) p = ((name_ok bytes n p.0, refl), option_ok bytes (meaning.range_of bytes) IsRange range_ok g p.1)
+  variable_ok (both n g) p = ((name_ok bytes n p.0, refl), option_ok bytes (meaning.range_of bytes) IsRange (range_ok bytes numbers) g p.1)
 
-  variables_ok : (d : D (separated variable_name)) → Sound bytes d → OneOrMore IsVariable (list_of (meaning.variable_of bytes) d)
-  variables_ok d p = list_ok bytes (meaning.variable_of bytes) IsVariable variable_ok d p
+  declared_variables_ok : (d : D (separated variable_name)) → Sound bytes d → OneOrMore IsVariable (list_of (meaning.variable_of bytes) d)
+  declared_variables_ok d p = list_ok bytes (meaning.variable_of bytes) IsVariable variable_ok d p
 
   names_ok : (d : D (r rule.Names)) → Sound bytes d → OneOrMore IsPort (meaning.names_of bytes d)
   names_ok (named l) p = list_ok bytes (meaning.plain_name bytes) IsPort plain_ok l p
@@ -42,20 +40,14 @@ module _ (bytes : ℕ → List ℕ) (numbers : (a : Terminal) → IsLiteral (mea
   wires_ok : (d : D (separated wire_name)) → Sound bytes d → OneOrMore IsNet (list_of (meaning.wire_of bytes) d)
   wires_ok d p = list_ok bytes (meaning.wire_of bytes) IsNet wire_ok d p
 
-  setting_ok : (d : D (r rule.ParameterSetting)) → Sound bytes d → IsSetting (meaning.setting_of bytes d)
-  setting_ok (named (both n (both o e))) p = (name_ok bytes n p.0, expr_ok bytes numbers e p.1.1)
+  settings_ok : (d : D (separated (r rule.Setting))) → Sound bytes d → OneOrMore IsSetting (list_of (meaning.setting_of bytes) d)
+  settings_ok d p = list_ok bytes (meaning.setting_of bytes) IsSetting (setting_ok bytes numbers) d p
 
-  settings_ok : (d : D (separated (r rule.ParameterSetting))) → Sound bytes d → OneOrMore IsSetting (list_of (meaning.setting_of bytes) d)
-  settings_ok d p = list_ok bytes (meaning.setting_of bytes) IsSetting setting_ok d p
-
-  parameters_ok : (place : ℕ) (is_local : Bool) (y : D (r rule.ParameterType)) (settings : List Setting) → Sound bytes y → OneOrMore IsSetting settings → AreParameters (meaning.parameters_of bytes place is_local y settings)
-  parameters_ok place is_local (named (both s g)) settings p q = record { range = option_ok bytes (meaning.range_of bytes) IsRange range_ok g p.1; settings = q }
-
-  local_is : (place : ℕ) (is_local : Bool) (y : D (r rule.ParameterType)) (settings : List Setting) → (meaning.parameters_of bytes place is_local y settings).is_local ≡ is_local
-  local_is place is_local (named (both s g)) settings = refl
+  parameters_ok : (place : ℕ) (is_local : Bool) (y : D (r rule.ValueType)) (settings : List Setting) → Sound bytes y → OneOrMore IsSetting settings → AreParameters (meaning.parameters_of bytes place is_local y settings)
+  parameters_ok place is_local y settings p q = record { value_type = value_type_ok bytes numbers y p; settings = q }
 
   signals_ok : {x : Phrase} (place : ℕ) (k : tree.SignalKind) (f : D x → List Declarator) → ((d : D x) → Sound bytes d → AreNames k (f d)) → (d : D (signed_range x)) → Sound bytes d → AreSignals (meaning.signals_of bytes place k f d)
-  signals_ok place k f h (both s (both g l)) p = record { range = option_ok bytes (meaning.range_of bytes) IsRange range_ok g p.1.0; names = h l p.1.1 }
+  signals_ok place k f h (both s (both g l)) p = record { range = option_ok bytes (meaning.range_of bytes) IsRange (range_ok bytes numbers) g p.1.0; names = h l p.1.1 }
 
   kind_is : {x : Phrase} (place : ℕ) (k : tree.SignalKind) (f : D x → List Declarator) (d : D (signed_range x)) → (meaning.signals_of bytes place k f d).kind ≡ k
   kind_is place k f (both s (both g l)) = refl
@@ -64,7 +56,7 @@ module _ (bytes : ℕ → List ℕ) (numbers : (a : Terminal) → IsLiteral (mea
   ended_names (both l z) p = names_ok l p.0
 
   ended_variables : (d : D (separated variable_name ⨾ t kind.Semicolon)) → Sound bytes d → OneOrMore IsVariable (meaning.ended bytes (list_of (meaning.variable_of bytes)) d)
-  ended_variables (both l z) p = variables_ok l p.0
+  ended_variables (both l z) p = declared_variables_ok l p.0
 
   ended_wires : (d : D (separated wire_name ⨾ t kind.Semicolon)) → Sound bytes d → OneOrMore IsNet (meaning.ended bytes (list_of (meaning.wire_of bytes)) d)
   ended_wires (both l z) p = wires_ok l p.0
@@ -116,7 +108,7 @@ module _ (bytes : ℕ → List ℕ) (numbers : (a : Terminal) → IsLiteral (mea
 
   local_ok : (d : D local_item) → Sound bytes d → IsGenerateItem (meaning.local_item_of bytes d)
   local_ok (both (leaf a) (both y (both l z))) p =
-      (parameters_ok a.place true y (list_of (meaning.setting_of bytes) l) p.1.0 (settings_ok l p.1.1.0), local_is a.place true y (list_of (meaning.setting_of bytes) l))
+      (parameters_ok a.place true y (list_of (meaning.setting_of bytes) l) p.1.0 (settings_ok l p.1.1.0), refl)
 
   assigns_ok : (d : D assign_item) → Sound bytes d → IsGenerateItem (meaning.assign_item_of bytes d)
   assigns_ok (both (leaf a) (both l z)) p = list_ok bytes (meaning.assign_of bytes) IsAssign assign_ok l p.1.0
@@ -126,6 +118,9 @@ module _ (bytes : ℕ → List ℕ) (numbers : (a : Terminal) → IsLiteral (mea
 
   genvar_ok : (d : D genvar_item) → Sound bytes d → IsGenerateItem (meaning.genvar_item_of bytes d)
   genvar_ok (both (leaf a) (both (named l) z)) p = list_ok bytes (meaning.name_of bytes) IsName (name_ok bytes) l p.1.0
+
+  integer_ok : (d : D integer_item) → Sound bytes d → IsGenerateItem (meaning.integer_item_of bytes d)
+  integer_ok (both (leaf a) (both (named l) z)) p = list_ok bytes (meaning.name_of bytes) IsName (name_ok bytes) l p.1.0
 
   instances_ok : (d : D instance_item) → Sound bytes d → IsGenerateItem (meaning.instance_item_of bytes d)
   instances_ok (both n (both o (both l z))) p =
@@ -182,16 +177,7 @@ module _ (bytes : ℕ → List ℕ) (numbers : (a : Terminal) → IsLiteral (mea
   has_ok (named (latter (both a (both l (former (both d m)))))) = arm_has a (meaning.generate_arms_onto bytes l (meaning.generate_arms_onto bytes m tree.NoGenerateArm)) (meaning.default_block_of bytes d)
 
   for_ok : (d : D for_item) → size d ≤ s → Sound bytes d → IsGenerateItem (meaning.for_item_of bytes d)
-  for_ok (both (leaf a) (both o (both v (both b (both e (both c (both f (both d (both u (both g (both h (both z x)))))))))))) w p = (
-    record {
-      variable = name_ok bytes v p.1.1.0;
-      first = expr_ok bytes numbers e p.1.1.1.1.0;
-      test = expr_ok bytes numbers f p.1.1.1.1.1.1.0;
-      again = name_ok bytes u p.1.1.1.1.1.1.1.1.0;
-      next = expr_ok bytes numbers h p.1.1.1.1.1.1.1.1.1.1.0;
-    },
-    block_ok x (omega arith) p.1.1.1.1.1.1.1.1.1.1.1.1,
-  )
+  for_ok (both u x) w p = (head_ok bytes numbers u p.0, block_ok x (omega arith) p.1)
 
   if_ok : (d : D if_item) → size d ≤ s → Sound bytes d → IsGenerateItem (meaning.if_item_of bytes d)
   if_ok (both (leaf a) (both o (both e (both c (both x f))))) w p = (expr_ok bytes numbers e p.1.1.0, block_ok x (omega arith) p.1.1.1.1.0, else_ok f (omega arith) p.1.1.1.1.1)
@@ -206,10 +192,11 @@ module _ (bytes : ℕ → List ℕ) (numbers : (a : Terminal) → IsLiteral (mea
   item_next (named (latter (latter (latter (former i))))) w p = assigns_ok bytes numbers i p
   item_next (named (latter (latter (latter (latter (former i)))))) w p = always_ok bytes numbers i p
   item_next (named (latter (latter (latter (latter (latter (former i))))))) w p = genvar_ok bytes numbers i p
-  item_next (named (latter (latter (latter (latter (latter (latter (former i)))))))) w p = instances_ok bytes numbers i p
-  item_next (named (latter (latter (latter (latter (latter (latter (latter (former i))))))))) w p = for_ok i (omega arith) p
-  item_next (named (latter (latter (latter (latter (latter (latter (latter (latter (former i)))))))))) w p = if_ok i (omega arith) p
-  item_next (named (latter (latter (latter (latter (latter (latter (latter (latter (latter i)))))))))) w p = case_ok i (omega arith) p
+  item_next (named (latter (latter (latter (latter (latter (latter (former i)))))))) w p = integer_ok bytes numbers i p
+  item_next (named (latter (latter (latter (latter (latter (latter (latter (former i))))))))) w p = instances_ok bytes numbers i p
+  item_next (named (latter (latter (latter (latter (latter (latter (latter (latter (former i)))))))))) w p = for_ok i (omega arith) p
+  item_next (named (latter (latter (latter (latter (latter (latter (latter (latter (latter (former i))))))))))) w p = if_ok i (omega arith) p
+  item_next (named (latter (latter (latter (latter (latter (latter (latter (latter (latter (latter i))))))))))) w p = case_ok i (omega arith) p
 
 module _ (bytes : ℕ → List ℕ) (numbers : (a : Terminal) → IsLiteral (meaning.literal_at bytes a)) where
   item_below : (s : ℕ) (d : D (r rule.GenerateItem)) → size d < s → Sound bytes d → IsGenerateItem (meaning.item_of bytes d)
@@ -223,7 +210,9 @@ module _ (bytes : ℕ → List ℕ) (numbers : (a : Terminal) → IsLiteral (mea
   item_in_module (tree.AssignsItem place assigns) p = p
   item_in_module (tree.AlwaysItem block) p = p
   item_in_module (tree.GenvarsItem place names) p = p
+  item_in_module (tree.IntegersItem place names) p = p
   item_in_module (tree.InstancesItem instances) p = p
+  item_in_module (tree.FunctionItem function) p = absurd p
   item_in_module (tree.GenerateFor head block) p = p
   item_in_module (tree.GenerateIf place c taken other) p = p
   item_in_module (tree.GenerateCase place subject arms other) p = p
@@ -234,6 +223,50 @@ module _ (bytes : ℕ → List ℕ) (numbers : (a : Terminal) → IsLiteral (mea
   generate_items_ok : (l : D (star (r rule.GenerateItem))) (rest : tree.Items) → Sound bytes l → AreItems rest → AreItems (meaning.generate_items_onto bytes l rest)
   generate_items_ok (start z) rest p q = q
   generate_items_ok (grown l d) rest p q = generate_items_ok l (AndItem (meaning.item_of bytes d) rest) p.0 (item_ok d p.1, q)
+
+  -- ---- functions
+
+  input_ok : (p : D (r rule.FunctionInput)) (others : List Name) → Sound bytes p → Each IsName others → AreVariables (meaning.input_of bytes p others)
+  input_ok (named (both (leaf a) (both y n))) others p q = record { value_type = input_type_ok bytes numbers y p.1.0; names = (name_ok bytes n p.1.1, q) }
+
+  inputs_onto_ok : (p : D (r rule.FunctionInput)) (l : D (star (t kind.Comma ⨾ (r rule.FunctionInput ∣ t kind.Identifier)))) (names : List Name) (inputs : List Variables) → Sound bytes p → Sound bytes l → Each IsName names → Each AreVariables inputs → Each AreVariables (meaning.inputs_onto bytes p l names inputs)
+  inputs_onto_ok p (start z) names inputs u v w x = (input_ok p names u w, x)
+  inputs_onto_ok p (grown l (both c (former q))) names inputs u v w x = inputs_onto_ok p l [] (meaning.input_of bytes q names ∷ inputs) u v.0 tt (input_ok q names v.1.1 w, x)
+  inputs_onto_ok p (grown l (both c (latter n))) names inputs u v w x = inputs_onto_ok p l (meaning.name_of bytes n ∷ names) inputs u v.0 (name_ok bytes n v.1.1, w) x
+
+  inputs_ok : (d : D (r rule.FunctionInputs)) → Sound bytes d → Each AreVariables (meaning.inputs_of bytes d)
+  inputs_ok (named (both p l)) q = inputs_onto_ok p l [] [] q.0 q.1 tt tt
+
+  input_declaration_ok : (d : D input_declaration) → Sound bytes d → AreVariables (meaning.input_declaration_of bytes d)
+  input_declaration_ok (both (leaf a) (both y (both (named l) z))) p = record { value_type = input_type_ok bytes numbers y p.1.0; names = list_ok bytes (meaning.name_of bytes) IsName (name_ok bytes) l p.1.1.0 }
+
+  declared_inputs_ok : (l : D (star (r rule.FunctionDeclaration))) (rest : List Variables) → Sound bytes l → Each AreVariables rest → Each AreVariables (meaning.declared_inputs bytes l rest)
+  declared_inputs_ok (start z) rest p q = q
+  declared_inputs_ok (grown l (named (former i))) rest p q = declared_inputs_ok l (meaning.input_declaration_of bytes i ∷ rest) p.0 (input_declaration_ok i p.1, q)
+  declared_inputs_ok (grown l (named (latter v))) rest p q = declared_inputs_ok l rest p.0 q
+
+  declared_variables_of : (l : D (star (r rule.FunctionDeclaration))) (rest : List Variables) → Sound bytes l → Each AreVariables rest → Each AreVariables (meaning.declared_variables bytes l rest)
+  declared_variables_of (start z) rest p q = q
+  declared_variables_of (grown l (named (former i))) rest p q = declared_variables_of l rest p.0 q
+  declared_variables_of (grown l (named (latter v))) rest p q = declared_variables_of l (meaning.variables_of bytes v ∷ rest) p.0 (variables_ok bytes numbers v p.1, q)
+
+  head_inputs_ok : (d : D (r rule.FunctionHead)) → Sound bytes d → Each AreVariables (meaning.head_inputs bytes d)
+  head_inputs_ok (named (former (both o (both l (both c (both s v)))))) p = inputs_ok l p.1.0
+  head_inputs_ok (named (latter (both s l))) p = declared_inputs_ok l [] p.1 tt
+
+  head_variables_ok : (d : D (r rule.FunctionHead)) → Sound bytes d → Each AreVariables (meaning.head_variables bytes d)
+  head_variables_ok (named (former (both o (both l (both c (both s v)))))) p = each_ok bytes (meaning.variables_of bytes) AreVariables (variables_ok bytes numbers) v [] p.1.1.1.1 tt
+  head_variables_ok (named (latter (both s l))) p = declared_variables_of l [] p.1 tt
+
+  function_ok : (d : D (r rule.Function)) → Sound bytes d → IsFunction (meaning.function_of bytes d)
+  function_ok (named (both (leaf a) (both y (both n (both h (both d z)))))) p =
+      record {
+        name = name_ok bytes n p.1.1.0;
+        value_type = value_type_ok bytes numbers y p.1.0;
+        inputs = head_inputs_ok h p.1.1.1.0;
+        variables = head_variables_ok h p.1.1.1.0;
+        statement = statement_ok bytes numbers d p.1.1.1.1.0;
+      }
 
   -- ---- modules
 
@@ -257,7 +290,8 @@ module _ (bytes : ℕ → List ℕ) (numbers : (a : Terminal) → IsLiteral (mea
   item_onto_ok (named (latter (former (both (leaf a) (both y (both l z)))))) rest p q =
       (parameters_ok bytes numbers a.place false y (list_of (meaning.setting_of bytes) l) p.1.0 (settings_ok bytes numbers l p.1.1.0), q)
   item_onto_ok (named (latter (latter (former (both g (both l z)))))) rest p q = generate_items_ok l rest p.1.0 q
-  item_onto_ok (named (latter (latter (latter i)))) rest p q = (item_ok i p, q)
+  item_onto_ok (named (latter (latter (latter (former d))))) rest p q = (function_ok d p, q)
+  item_onto_ok (named (latter (latter (latter (latter i))))) rest p q = (item_ok i p, q)
 
   items_ok : (l : D (star (r rule.Item))) (rest : tree.Items) → Sound bytes l → AreItems rest → AreItems (meaning.items_onto bytes l rest)
   items_ok (start z) rest p q = q
@@ -286,10 +320,10 @@ module _ (bytes : ℕ → List ℕ) (numbers : (a : Terminal) → IsLiteral (mea
   header_ok (former (both o (both (latter n) z))) p = tt
   header_ok (latter z) p = tt
 
-  header_parameters_at : (place : ℕ) (y : D (r rule.ParameterType)) (settings : List Setting) → Sound bytes y → OneOrMore IsSetting settings → AreHeaderParameters (meaning.parameters_of bytes place false y settings)
-  header_parameters_at place y settings p q = (parameters_ok bytes numbers place false y settings p q, local_is bytes numbers place false y settings)
+  header_parameters_at : (place : ℕ) (y : D (r rule.ValueType)) (settings : List Setting) → Sound bytes y → OneOrMore IsSetting settings → AreHeaderParameters (meaning.parameters_of bytes place false y settings)
+  header_parameters_at place y settings p q = (parameters_ok bytes numbers place false y settings p q, refl)
 
-  parameters_onto_ok : (place : ℕ) (y : D (r rule.ParameterType)) (u : D (r rule.ParameterSetting)) (l : D (star (t kind.Comma ⨾ ((t kind.KeywordParameter ⨾ r rule.ParameterType ⨾ r rule.ParameterSetting) ∣ r rule.ParameterSetting)))) (settings : List Setting) (others : List Parameters) → Sound bytes y → Sound bytes u → Sound bytes l → Each IsSetting settings → Each AreHeaderParameters others → Each AreHeaderParameters (meaning.parameters_onto bytes place y u l settings others)
+  parameters_onto_ok : (place : ℕ) (y : D (r rule.ValueType)) (u : D (r rule.Setting)) (l : D (star (t kind.Comma ⨾ ((t kind.KeywordParameter ⨾ r rule.ValueType ⨾ r rule.Setting) ∣ r rule.Setting)))) (settings : List Setting) (others : List Parameters) → Sound bytes y → Sound bytes u → Sound bytes l → Each IsSetting settings → Each AreHeaderParameters others → Each AreHeaderParameters (meaning.parameters_onto bytes place y u l settings others)
   parameters_onto_ok place y u (start z) settings others p q v w x = (header_parameters_at place y (meaning.setting_of bytes u ∷ settings) p (setting_ok bytes numbers u q, w), x)
   parameters_onto_ok place y u (grown l (both c (former (both (leaf a) (both m n))))) settings others p q v w x =
       parameters_onto_ok place y u l [] (meaning.parameters_of bytes a.place false m (meaning.setting_of bytes n ∷ settings) ∷ others) p q v.0 tt (

@@ -1,18 +1,18 @@
 -- What is derived from tokens that are what they seem has the shape of a syntax tree: expressions and statements.
 use Rattle.std.proofs.Common.{◌≡◌, ℕ, zero, suc, ◌<◌, ◌≤◌, List, [], ◌∷◌, arith}
-use Rattle.std.specs.Prelude.{Some}
+use Rattle.std.specs.Prelude.{true, refl, Some}
 use Rattle.vs_lexer.specs.declared.token.TokenKind.TheVariants as kind
 use Rattle.vs_lexer.specs.Tokens.{token_kind}
 use Rattle.vs_grammar.specs.Kinds.{number_of}
 use Rattle.vs_grammar.specs.Grammars.{Phrase, Terminal, opt, star, onto, Fits}
 use Rattle.vs_grammar.specs.Grammars.Phrase.{seq, last, level}
 use Rattle.vs_grammar.specs.Grammars.Tree.{leaf, nothing, both, former, latter, without, within, start, grown, alone, behind, nested, named}
-use Rattle.vs_grammar.specs.Verilog.{braced, braces, call, slice_end, case_statement, sequence, assigned, ◌⨾◌, t, r, phrase_of, separated, selected_name, number, conditional, Rule as rule}
+use Rattle.vs_grammar.specs.Verilog.{braced, braces, call, slice_end, select_end, case_statement, sequence, loop, assigned, ◌⨾◌, ◌∣◌, t, r, phrase_of, separated, named_primary, sign_and_range, reg_type, number, conditional, Rule as rule}
 use Rattle.vs_grammar.specs.Trees.{AndExpr, AndTarget, AndStatement}
 use Rattle.vs_grammar.specs.Trees as tree
 use Rattle.vs_grammar.specs.Meaning.{D, each_onto, behind_sign, list_of, option_of}
 use Rattle.vs_grammar.specs.Meaning as meaning
-use Rattle.vs_grammar.specs.Shapes.{IsName, IsLiteral, Each, OneOrMore, Given, IsExpr, AreParts, AreExprs, IsSelect, IsTarget, AreTargets, IsStatement, IsFallback, AreStatements, AreArms, HasArm}
+use Rattle.vs_grammar.specs.Shapes.{IsName, IsLiteral, Each, OneOrMore, Given, IsExpr, AreParts, AreExprs, is_part, IsSelect, IsRange, IsValueType, AreVariables, IsScope, IsSetting, IsHead, IsTarget, AreTargets, IsStatement, IsFallback, AreStatements, AreArms, HasArm}
 use Rattle.vs_grammar.proofs.DepthFacts.{size}
 
 -- ---- tokens that are what they seem
@@ -83,19 +83,38 @@ module _ (bytes : ℕ → List ℕ) (numbers : (a : Terminal) → IsLiteral (mea
   exprs_ok : (d : D (separated (r rule.Expression))) → size d ≤ s → Sound bytes d → AreParts (meaning.exprs_of bytes d)
   exprs_ok (both e l) w p = (smaller e (omega arith) p.0, exprs_onto_ok l tree.NoExpr (omega arith) p.1 tt)
 
-  slice_ok : (a : Terminal) (e : D (r rule.Expression)) (b : D (slice_end ⨾ t kind.CloseBracket)) → size e < s → size b ≤ s → Sound bytes e → Sound bytes b → IsSelect (meaning.select_of bytes (named (nested (both (leaf a) (both e b)))))
+  slice_ok : (a : Terminal) (e : D (r rule.Expression)) (b : D (slice_end ⨾ t kind.CloseBracket)) → size e < s → size b ≤ s → Sound bytes e → Sound bytes b → IsSelect (meaning.part_of bytes (named (nested (both (leaf a) (both e b)))))
   slice_ok a e (both (latter z) c) v w p q = smaller e v p
   slice_ok a e (both (former (both o u)) c) v w p q = (smaller e v p, smaller u (omega arith) q.0.1)
 
+  part_ok : (d : D (r rule.Part)) → size d ≤ s → Sound bytes d → IsSelect (meaning.part_of bytes d)
+  part_ok (named (nested (both (leaf a) (both e b)))) w p = slice_ok a e b (omega arith) (omega arith) p.1.0 p.1.1
+
+  part_is_one : (d : D (r rule.Part)) → is_part (meaning.part_of bytes d) ≡ true
+  part_is_one (named (nested (both (leaf a) (both e (both (latter z) c))))) = refl
+  part_is_one (named (nested (both (leaf a) (both e (both (former (both o u)) c))))) = refl
+
+  select_end_ok : (a : Terminal) (e : D (r rule.Expression)) (b : D select_end) → size e < s → size b ≤ s → Sound bytes e → Sound bytes b → IsSelect (meaning.select_of bytes (named (nested (both (leaf a) (both e b)))))
+  select_end_ok a e (former (both o (both u c))) v w p q = (smaller e v p, smaller u (omega arith) q.1.0)
+  select_end_ok a e (latter (both c (former d))) v w p q = (smaller e v p, part_ok d (omega arith) q.1, part_is_one d)
+  select_end_ok a e (latter (both c (latter z))) v w p q = smaller e v p
+
   select_ok : (d : D (r rule.Select)) → size d ≤ s → Sound bytes d → IsSelect (meaning.select_of bytes d)
-  select_ok (named (nested (both (leaf a) (both e b)))) w p = slice_ok a e b (omega arith) (omega arith) p.1.0 p.1.1
+  select_ok (named (nested (both (leaf a) (both e b)))) w p = select_end_ok a e b (omega arith) (omega arith) p.1.0 p.1.1
+
+  arguments_ok : (d : D (r rule.Arguments)) → size d ≤ s → Sound bytes d → AreParts (meaning.arguments_of bytes d)
+  arguments_ok (named (nested (both o (both l z)))) w p = exprs_ok l (omega arith) p.1.0
 
   pub select_or_whole_ok : (d : D (opt (r rule.Select))) → size d ≤ s → Sound bytes d → IsSelect (meaning.select_or_whole bytes d)
   select_or_whole_ok (former d) w p = select_ok d (omega arith) p
   select_or_whole_ok (latter z) w p = tt
 
-  selected_ok : (d : D selected_name) → size d ≤ s → Sound bytes d → IsExpr (meaning.primary_of bytes (named (latter (former d))))
-  selected_ok (both n d) w p = (name_ok bytes n p.0, select_or_whole_ok d (omega arith) p.1)
+  operand_ok : (n : D (t kind.Identifier)) (d : D (r rule.Arguments ∣ opt (r rule.Select))) → size d ≤ s → Sound bytes n → Sound bytes d → IsExpr (meaning.primary_of bytes (named (latter (former (both n d)))))
+  operand_ok n (former l) w p q = (name_ok bytes n p, arguments_ok l (omega arith) q)
+  operand_ok n (latter d) w p q = (name_ok bytes n p, select_or_whole_ok d (omega arith) q)
+
+  selected_ok : (d : D named_primary) → size d ≤ s → Sound bytes d → IsExpr (meaning.primary_of bytes (named (latter (former d))))
+  selected_ok (both n d) w p = operand_ok n d (omega arith) p.0 p.1
 
   brackets_ok : (d : D (level (t kind.OpenParen ⨾ r rule.Expression ⨾ t kind.CloseParen))) → size d ≤ s → Sound bytes d → IsExpr (meaning.primary_of bytes (named (latter (latter (former d)))))
   brackets_ok (nested (both (leaf a) (both e z))) w p = smaller e (omega arith) p.1.0
@@ -226,6 +245,44 @@ module _ (bytes : ℕ → List ℕ) (numbers : (a : Terminal) → IsLiteral (mea
   pub labels_ok : (d : D (separated (r rule.Expression))) → Sound bytes d → OneOrMore IsExpr (list_of (meaning.expr_of bytes) d)
   labels_ok d p = list_ok bytes (meaning.expr_of bytes) IsExpr expr_ok d p
 
+  -- ---- types, variables and the heads of loops
+
+  pub range_ok : (d : D (r rule.Range)) → Sound bytes d → IsRange (meaning.range_of bytes d)
+  range_ok (named (both (leaf a) (both e (both c (both u z))))) p = (expr_ok e p.1.0, expr_ok u p.1.1.1.0)
+
+  range_type_ok : (d : D sign_and_range) → Sound bytes d → IsValueType (meaning.range_type_of bytes d)
+  range_type_ok (both u g) p = option_ok bytes (meaning.range_of bytes) IsRange range_ok g p.1
+
+  pub value_type_ok : (d : D (r rule.ValueType)) → Sound bytes d → IsValueType (meaning.value_type_of bytes d)
+  value_type_ok (named (former i)) p = tt
+  value_type_ok (named (latter y)) p = range_type_ok y p
+
+  reg_type_ok : (d : D reg_type) → Sound bytes d → IsValueType (meaning.reg_type_of bytes d)
+  reg_type_ok (both w y) p = range_type_ok y p.1
+
+  variable_type_ok : (d : D (r rule.VariableType)) → Sound bytes d → IsValueType (meaning.variable_type_of bytes d)
+  variable_type_ok (named (former y)) p = reg_type_ok y p
+  variable_type_ok (named (latter i)) p = tt
+
+  pub input_type_ok : (d : D (r rule.InputType)) → Sound bytes d → IsValueType (meaning.input_type_of bytes d)
+  input_type_ok (named (former y)) p = reg_type_ok y p
+  input_type_ok (named (latter y)) p = value_type_ok y p
+
+  pub variables_ok : (d : D (r rule.Variables)) → Sound bytes d → AreVariables (meaning.variables_of bytes d)
+  variables_ok (named (both y (both (named l) z))) p = record { value_type = variable_type_ok y p.0; names = list_ok bytes (meaning.name_of bytes) IsName (name_ok bytes) l p.1.0 }
+
+  pub scope_ok : (d : D (r rule.BlockScope)) → Sound bytes d → IsScope (meaning.scope_of bytes d)
+  scope_ok (named (both c (both n l))) p = record { name = name_ok bytes n p.1.0; variables = each_ok bytes (meaning.variables_of bytes) AreVariables variables_ok l [] p.1.1 tt }
+
+  pub setting_ok : (d : D (r rule.Setting)) → Sound bytes d → IsSetting (meaning.setting_of bytes d)
+  setting_ok (named (both n (both o e))) p = (name_ok bytes n p.0, expr_ok e p.1.1)
+
+  pub head_ok : (d : D (r rule.LoopHead)) → Sound bytes d → IsHead (meaning.head_of bytes d)
+  head_ok (named (both (leaf a) (both o (both u (both c (both e (both d (both v z)))))))) p =
+      let g = setting_ok u p.1.1.0 in
+      let h = setting_ok v p.1.1.1.1.1.1.0 in
+      record { variable = g.0; first = g.1; test = expr_ok e p.1.1.1.1.0; again = h.0; next = h.1 }
+
   -- ---- targets
 
   mutual
@@ -288,9 +345,12 @@ module _ (bytes : ℕ → List ℕ) (numbers : (a : Terminal) → IsLiteral (mea
   case_ok (both k (both o (both e (both c (both a z))))) w p = (expr_ok bytes numbers e p.1.1.0, arms_ok a (omega arith) p.1.1.1.1.0, other_ok a (omega arith) p.1.1.1.1.0, has_ok a)
 
   sequence_ok : (d : D sequence) → size d ≤ s → Sound bytes d → IsStatement (meaning.statement_of bytes (named (nested (latter (latter (latter (former d)))))))
-  sequence_ok (both (leaf a) (both n (both l z))) w p = statements_onto_ok l tree.NoStatement (omega arith) p.1.1.0 tt
+  sequence_ok (both (leaf a) (both n (both l z))) w p = (option_ok bytes (meaning.scope_of bytes) IsScope (scope_ok bytes numbers) n p.1.0, statements_onto_ok l tree.NoStatement (omega arith) p.1.1.0 tt)
 
-  assigned_ok : (d : D assigned) → Sound bytes d → IsStatement (meaning.statement_of bytes (named (nested (latter (latter (latter (latter d)))))))
+  loop_ok : (d : D loop) → size d ≤ s → Sound bytes d → IsStatement (meaning.statement_of bytes (named (nested (latter (latter (latter (latter (former d))))))))
+  loop_ok (both u d) w p = (head_ok bytes numbers u p.0, smaller d (omega arith) p.1)
+
+  assigned_ok : (d : D assigned) → Sound bytes d → IsStatement (meaning.statement_of bytes (named (nested (latter (latter (latter (latter (latter d))))))))
   assigned_ok (both x (both o (both e z))) p = (target_ok bytes numbers x p.0, expr_ok bytes numbers e p.1.1.0)
 
   statement_next : (d : D (r rule.Statement)) → size d ≤ s → Sound bytes d → IsStatement (meaning.statement_of bytes d)
@@ -298,7 +358,8 @@ module _ (bytes : ℕ → List ℕ) (numbers : (a : Terminal) → IsLiteral (mea
   statement_next (named (nested (latter (former d)))) w p = if_ok d (omega arith) p
   statement_next (named (nested (latter (latter (former d))))) w p = case_ok d (omega arith) p
   statement_next (named (nested (latter (latter (latter (former d)))))) w p = sequence_ok d (omega arith) p
-  statement_next (named (nested (latter (latter (latter (latter d)))))) w p = assigned_ok d p
+  statement_next (named (nested (latter (latter (latter (latter (former d))))))) w p = loop_ok d (omega arith) p
+  statement_next (named (nested (latter (latter (latter (latter (latter d))))))) w p = assigned_ok d p
 
 module _ (bytes : ℕ → List ℕ) (numbers : (a : Terminal) → IsLiteral (meaning.literal_at bytes a)) where
   statement_below : (s : ℕ) (d : D (r rule.Statement)) → size d < s → Sound bytes d → IsStatement (meaning.statement_of bytes d)

@@ -18,7 +18,7 @@ use Rattle.vs_pre.specs.Laws.{HasNoAttribute, HasNoSize, first_is}
 use Rattle.vs_pre.proofs.SizeFacts.{plain_stays}
 use Rattle.vs_grammar.specs.Grammars.{depth}
 use Rattle.vs_grammar.specs.Kinds.{terminals, end_of_text}
-use Rattle.vs_grammar.specs.Verilog.{verilog, phrase_of, r, Rule as rule}
+use Rattle.vs_grammar.specs.Verilog.{verilog, index_of, phrase_of, r, Rule as rule}
 use Rattle.vs_grammar.specs.Meaning.{text_of}
 use Rattle.vs_grammar.specs.Trees.{Source}
 use Rattle.vs_grammar.specs.Spelled.{NoneLeftOut, Spells, depth_limit}
@@ -142,7 +142,7 @@ read_as text ts cut e =
 -- ---- what is found of a text
 
 abbrev pub reading : (ts : List Token) → Run verilog (phrase_of rule.Text) (terminals ts)
-reading ts = run_rule verilog 60 39 (terminals ts)
+reading ts = run_rule verilog 60 (index_of rule.Text) (terminals ts)
 
 pub record Found (text : List ℕ) : Type 0 where
   pub source : Source

@@ -47,8 +47,20 @@ block : ex.HasDepth ex.dangling_generate_text 2
 unfolding is_in_range cut_text word_kind system_kind sign_kind signs keywords left_out_words system_names literal_bits is_signed_literal has_size literal_size number_bits
 block = let f = found ex.dangling_generate_text refl refl refl refl in record { source = f.source; spelled = f.spelled; deep = refl }
 
+application : ex.HasDepth (ex.assign_text (codes "f((a))")) 2
+unfolding is_in_range cut_text word_kind system_kind sign_kind signs keywords left_out_words system_names literal_bits is_signed_literal has_size literal_size number_bits
+application = let f = found (ex.assign_text (codes "f((a))")) refl refl refl refl in record { source = f.source; spelled = f.spelled; deep = refl }
+
+word : ex.HasDepth (ex.assign_text (codes "m[a][b[c]]")) 3
+unfolding is_in_range cut_text word_kind system_kind sign_kind signs keywords left_out_words system_names literal_bits is_signed_literal has_size literal_size number_bits
+word = let f = found (ex.assign_text (codes "m[a][b[c]]")) refl refl refl refl in record { source = f.source; spelled = f.spelled; deep = refl }
+
+loop : ex.HasDepth ex.loop_text 4
+unfolding is_in_range cut_text word_kind system_kind sign_kind signs keywords left_out_words system_names literal_bits is_signed_literal has_size literal_size number_bits
+loop = let f = found ex.loop_text refl refl refl refl in record { source = f.source; spelled = f.spelled; deep = refl }
+
 pub depths_are : ex.DepthsAre
-depths_are = record { flat = flat; operator = operator; chain = chain; brackets = brackets; select = select; parts = parts; call = call; choice = choice; statement = statement; block = block }
+depths_are = record { flat = flat; operator = operator; chain = chain; brackets = brackets; select = select; parts = parts; call = call; application = application; word = word; choice = choice; statement = statement; loop = loop; block = block }
 
 empty : ex.StopsAt [] 0
 unfolding is_in_range cut_text word_kind system_kind sign_kind signs keywords left_out_words system_names
@@ -74,5 +86,33 @@ chained_targets : ex.StopsAt (codes "module m; assign a = b = c; endmodule") 7
 unfolding is_in_range cut_text word_kind system_kind sign_kind signs keywords left_out_words system_names
 chained_targets = stops_at (codes "module m; assign a = b = c; endmodule") 7 (record { cut = refl; kept = refl; stopped = refl; left = refl })
 
+select_of_several : ex.StopsAt (ex.assign_text (codes "m[3:0][1]")) 12
+unfolding is_in_range cut_text word_kind system_kind sign_kind signs keywords left_out_words system_names
+select_of_several = stops_at (ex.assign_text (codes "m[3:0][1]")) 12 (record { cut = refl; kept = refl; stopped = refl; left = refl })
+
+third_select : ex.StopsAt (ex.assign_text (codes "m[1][2][3]")) 13
+unfolding is_in_range cut_text word_kind system_kind sign_kind signs keywords left_out_words system_names
+third_select = stops_at (ex.assign_text (codes "m[1][2][3]")) 13 (record { cut = refl; kept = refl; stopped = refl; left = refl })
+
+no_argument : ex.StopsAt (ex.assign_text (codes "f()")) 8
+unfolding is_in_range cut_text word_kind system_kind sign_kind signs keywords left_out_words system_names
+no_argument = stops_at (ex.assign_text (codes "f()")) 8 (record { cut = refl; kept = refl; stopped = refl; left = refl })
+
+unnamed_block : ex.StopsAt (codes "module m; always @* begin reg t; end endmodule") 7
+unfolding is_in_range cut_text word_kind system_kind sign_kind signs keywords left_out_words system_names
+unnamed_block = stops_at (codes "module m; always @* begin reg t; end endmodule") 7 (record { cut = refl; kept = refl; stopped = refl; left = refl })
+
+array_value : ex.StopsAt (codes "module m; wire p [0:3] = a; endmodule") 10
+unfolding is_in_range cut_text word_kind system_kind sign_kind signs keywords left_out_words system_names
+array_value = stops_at (codes "module m; wire p [0:3] = a; endmodule") 10 (record { cut = refl; kept = refl; stopped = refl; left = refl })
+
+two_steps : ex.StopsAt (codes "module m; always @* for (i = 0; i < 4; i = i + 1, j = 2) ; endmodule") 21
+unfolding is_in_range cut_text word_kind system_kind sign_kind signs keywords left_out_words system_names
+two_steps = stops_at (codes "module m; always @* for (i = 0; i < 4; i = i + 1, j = 2) ; endmodule") 21 (record { cut = refl; kept = refl; stopped = refl; left = refl })
+
+generated_function : ex.StopsAt (codes "module m; if (a) function f; ; endfunction endmodule") 7
+unfolding is_in_range cut_text word_kind system_kind sign_kind signs keywords left_out_words system_names
+generated_function = stops_at (codes "module m; if (a) function f; ; endfunction endmodule") 7 (record { cut = refl; kept = refl; stopped = refl; left = refl })
+
 pub faults_are : ex.FaultsAre
-faults_are = record { empty = empty; cut_off = cut_off; surplus_else = surplus_else; second_default = second_default; no_operand = no_operand; chained_targets = chained_targets }
+faults_are = record { empty = empty; cut_off = cut_off; surplus_else = surplus_else; second_default = second_default; no_operand = no_operand; chained_targets = chained_targets; select_of_several = select_of_several; third_select = third_select; no_argument = no_argument; unnamed_block = unnamed_block; array_value = array_value; two_steps = two_steps; generated_function = generated_function }

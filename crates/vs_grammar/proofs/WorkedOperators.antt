@@ -79,5 +79,9 @@ primaries : ex.IsGrouped (codes "{a, {2{b, 8'h1}}, $signed(c[3:0]), $clog2(d[e])
 unfolding is_in_range cut_text word_kind system_kind sign_kind signs keywords left_out_words system_names literal_bits is_signed_literal has_size literal_size number_bits
 primaries = let f = found (ex.assign_text (codes "{a, {2{b, 8'h1}}, $signed(c[3:0]), $clog2(d[e])}")) refl refl refl refl in record { source = f.source; spelled = f.spelled; grouped = refl }
 
+applications : ex.IsGrouped (codes "f(a) + g(b + c, {d})") (codes "[f(a)+g([b+c],{d})]")
+unfolding is_in_range cut_text word_kind system_kind sign_kind signs keywords left_out_words system_names literal_bits is_signed_literal has_size literal_size number_bits
+applications = let f = found (ex.assign_text (codes "f(a) + g(b + c, {d})")) refl refl refl refl in record { source = f.source; spelled = f.spelled; grouped = refl }
+
 pub operators_are : ex.OperatorsAre
-operators_are = record { rising = rising; falling = falling; unaries = unaries; joined_unaries = joined_unaries; products = products; sums = sums; shifts = shifts; relations = relations; equalities = equalities; ands = ands; xors = xors; ors = ors; logical_ands = logical_ands; logical_ors = logical_ors; choices = choices; choices_within = choices_within; brackets = brackets; primaries = primaries }
+operators_are = record { rising = rising; falling = falling; unaries = unaries; joined_unaries = joined_unaries; products = products; sums = sums; shifts = shifts; relations = relations; equalities = equalities; ands = ands; xors = xors; ors = ors; logical_ands = logical_ands; logical_ors = logical_ors; choices = choices; choices_within = choices_within; brackets = brackets; primaries = primaries; applications = applications }

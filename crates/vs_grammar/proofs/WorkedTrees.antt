@@ -56,5 +56,29 @@ region : Spells ex.region_text ex.region_source
 unfolding is_in_range cut_text word_kind system_kind sign_kind signs keywords left_out_words system_names literal_bits is_signed_literal has_size literal_size number_bits
 region = (found ex.region_text refl refl refl refl).spelled
 
+loop : Spells ex.loop_text ex.loop_source
+unfolding is_in_range cut_text word_kind system_kind sign_kind signs keywords left_out_words system_names literal_bits is_signed_literal has_size literal_size number_bits
+loop = (found ex.loop_text refl refl refl refl).spelled
+
+block_variables : Spells ex.block_variables_text ex.block_variables_source
+unfolding is_in_range cut_text word_kind system_kind sign_kind signs keywords left_out_words system_names literal_bits is_signed_literal has_size literal_size number_bits
+block_variables = (found ex.block_variables_text refl refl refl refl).spelled
+
+function : Spells ex.function_text ex.function_source
+unfolding is_in_range cut_text word_kind system_kind sign_kind signs keywords left_out_words system_names literal_bits is_signed_literal has_size literal_size number_bits
+function = (found ex.function_text refl refl refl refl).spelled
+
+declared_function : Spells ex.declared_function_text ex.declared_function_source
+unfolding is_in_range cut_text word_kind system_kind sign_kind signs keywords left_out_words system_names literal_bits is_signed_literal has_size literal_size number_bits
+declared_function = (found ex.declared_function_text refl refl refl refl).spelled
+
+words : Spells ex.words_text ex.words_source
+unfolding is_in_range cut_text word_kind system_kind sign_kind signs keywords left_out_words system_names literal_bits is_signed_literal has_size literal_size number_bits
+words = (found ex.words_text refl refl refl refl).spelled
+
+integer_parameters : Spells ex.integer_parameters_text ex.integer_parameters_source
+unfolding is_in_range cut_text word_kind system_kind sign_kind signs keywords left_out_words system_names literal_bits is_signed_literal has_size literal_size number_bits
+integer_parameters = (found ex.integer_parameters_text refl refl refl refl).spelled
+
 pub trees_are : ex.TreesAre
-trees_are = record { thin = thin; dangling = dangling; dangling_generate = dangling_generate; begin_name = begin_name; block_name = block_name; empty = empty; default = default; header = header; declarations = declarations; generate = generate; selects = selects; region = region }
+trees_are = record { thin = thin; dangling = dangling; dangling_generate = dangling_generate; begin_name = begin_name; block_name = block_name; empty = empty; default = default; header = header; declarations = declarations; generate = generate; selects = selects; region = region; loop = loop; block_variables = block_variables; function = function; declared_function = declared_function; words = words; integer_parameters = integer_parameters }

@@ -4,8 +4,8 @@ use Rattle.std.specs.Prelude.{◌≡◌, ℕ, ◌+◌, max, List, [], ◌∷◌,
 use Rattle.vs_grammar.specs.Grammars.{depth}
 use Rattle.vs_grammar.specs.Verilog.{phrase_of, Rule as rule}
 use Rattle.vs_grammar.specs.Meaning.{D, text_of}
-use Rattle.vs_grammar.specs.Trees.{Expr, Exprs, Select, Target, Targets, Statement, Fallback, Statements, CaseArms, RangeTree, Declarator, Signals, Setting, Parameters, Assign, NamedConnection, Connections, Instance, Instances, GenerateHead, Item, GenerateBlock, BlockFallback, GenerateArms, Items, Header, Module, Source}
-use Rattle.vs_grammar.specs.Trees.{Number, Named, Unary, Binary, Choice, Concatenation, Replication, Call, Brackets, NoExpr, AndExpr, Whole, BitAt, Slice, NamedTarget, Targeted, NoTarget, AndTarget, Empty, Assignment, If, Case, Sequence, NoFallback, Otherwise, NoStatement, AndStatement, NoArm, AndArm, Unconnected, ByOrder, ByName, SignalsItem, ParametersItem, AssignsItem, AlwaysItem, GenvarsItem, InstancesItem, GenerateFor, GenerateIf, GenerateCase, NoBlock, Alone, Enclosed, NoBlockFallback, OtherwiseBlock, NoGenerateArm, AndGenerateArm, NoItem, AndItem, NoPorts, PlainPorts, DeclaredPorts}
+use Rattle.vs_grammar.specs.Trees.{Expr, Exprs, Select, RangeTree, ValueType, Variables, BlockScope, LoopHead, Target, Targets, Statement, Fallback, Statements, CaseArms, Declarator, Signals, Setting, Parameters, Assign, NamedConnection, Connections, Instance, Instances, Function, Item, GenerateBlock, BlockFallback, GenerateArms, Items, Header, Module, Source}
+use Rattle.vs_grammar.specs.Trees.{Number, Named, Apply, Unary, Binary, Choice, Concatenation, Replication, Call, Brackets, NoExpr, AndExpr, Whole, BitAt, Slice, OfWord, IntegerType, RangeType, NamedTarget, Targeted, NoTarget, AndTarget, Empty, Assignment, If, Case, Sequence, For, NoFallback, Otherwise, NoStatement, AndStatement, NoArm, AndArm, Unconnected, ByOrder, ByName, SignalsItem, ParametersItem, AssignsItem, AlwaysItem, GenvarsItem, IntegersItem, InstancesItem, FunctionItem, GenerateFor, GenerateIf, GenerateCase, NoBlock, Alone, Enclosed, NoBlockFallback, OtherwiseBlock, NoGenerateArm, AndGenerateArm, NoItem, AndItem, NoPorts, PlainPorts, DeclaredPorts}
 
 -- the greatest depth of several, and that of one which may be missing
 abbrev pub deepest : {A : Type 0} → (A → ℕ) → List A → ℕ
@@ -22,6 +22,7 @@ abbrev mutual
   pub expr_depth : Expr → ℕ
   expr_depth (Number literal) = 0
   expr_depth (Named name select) = select_depth select
+  expr_depth (Apply name arguments) = 1 + exprs_depth arguments
   expr_depth (Unary place op a) = 1 + expr_depth a
   expr_depth (Binary op a b) = 1 + max (expr_depth a) (expr_depth b)
   expr_depth (Choice c p q) = 1 + max (expr_depth c) (max (expr_depth p) (expr_depth q))
@@ -38,6 +39,25 @@ abbrev mutual
   select_depth Whole = 0
   select_depth (BitAt bracket index) = 1 + expr_depth index
   select_depth (Slice bracket kind a b) = 1 + max (expr_depth a) (expr_depth b)
+  select_depth (OfWord bracket address part) = 1 + max (expr_depth address) (select_depth part)
+
+-- ---- types, variables and the heads of loops
+
+abbrev pub range_depth : RangeTree → ℕ
+range_depth r = max (expr_depth r.left) (expr_depth r.right)
+
+abbrev pub value_type_depth : ValueType → ℕ
+value_type_depth IntegerType = 0
+value_type_depth (RangeType signed range) = option_depth range_depth range
+
+abbrev pub variables_depth : Variables → ℕ
+variables_depth v = value_type_depth v.value_type
+
+abbrev pub scope_depth : BlockScope → ℕ
+scope_depth s = deepest variables_depth s.variables
+
+abbrev pub head_depth : LoopHead → ℕ
+head_depth h = max (expr_depth h.first) (max (expr_depth h.test) (expr_depth h.next))
 
 -- ---- statements
 
@@ -56,7 +76,8 @@ abbrev mutual
   statement_depth (Assignment target e blocking) = 1 + max (target_depth target) (expr_depth e)
   statement_depth (If place c taken other) = 1 + max (expr_depth c) (max (statement_depth taken) (fallback_depth other))
   statement_depth (Case place kind subject arms other) = 1 + max (expr_depth subject) (max (arms_depth arms) (fallback_depth other))
-  statement_depth (Sequence place parts) = 1 + statements_depth parts
+  statement_depth (Sequence place scope parts) = 1 + max (option_depth scope_depth scope) (statements_depth parts)
+  statement_depth (For head body) = 1 + max (head_depth head) (statement_depth body)
 
   pub fallback_depth : Fallback → ℕ
   fallback_depth NoFallback = 0
@@ -72,9 +93,6 @@ abbrev mutual
 
 -- ---- declarations and items
 
-abbrev pub range_depth : RangeTree → ℕ
-range_depth r = max (expr_depth r.left) (expr_depth r.right)
-
 abbrev pub declarator_depth : Declarator → ℕ
 declarator_depth d = max (option_depth range_depth d.addresses) (option_depth expr_depth d.value)
 
@@ -85,7 +103,7 @@ abbrev pub setting_depth : Setting → ℕ
 setting_depth s = expr_depth s.value
 
 abbrev pub parameters_depth : Parameters → ℕ
-parameters_depth p = max (option_depth range_depth p.range) (deepest setting_depth p.settings)
+parameters_depth p = max (value_type_depth p.value_type) (deepest setting_depth p.settings)
 
 abbrev pub assign_depth : Assign → ℕ
 assign_depth a = max (target_depth a.target) (expr_depth a.e)
@@ -104,8 +122,8 @@ instance_depth i = connections_depth i.connections
 abbrev pub instances_depth : Instances → ℕ
 instances_depth i = max (connections_depth i.overrides) (deepest instance_depth i.instances)
 
-abbrev pub head_depth : GenerateHead → ℕ
-head_depth h = max (expr_depth h.first) (max (expr_depth h.test) (expr_depth h.next))
+abbrev pub function_depth : Function → ℕ
+function_depth f = max (value_type_depth f.value_type) (max (deepest variables_depth f.inputs) (max (deepest variables_depth f.variables) (statement_depth f.statement)))
 
 abbrev mutual
   pub item_depth : Item → ℕ
@@ -114,7 +132,9 @@ abbrev mutual
   item_depth (AssignsItem place assigns) = deepest assign_depth assigns
   item_depth (AlwaysItem block) = statement_depth block.statement
   item_depth (GenvarsItem place names) = 0
+  item_depth (IntegersItem place names) = 0
   item_depth (InstancesItem instances) = instances_depth instances
+  item_depth (FunctionItem function) = function_depth function
   item_depth (GenerateFor head block) = max (head_depth head) (block_depth block)
   item_depth (GenerateIf place c taken other) = max (expr_depth c) (max (block_depth taken) (block_fallback_depth other))
   item_depth (GenerateCase place subject arms other) = max (expr_depth subject) (max (generate_arms_depth arms) (block_fallback_depth other))

@@ -6,10 +6,10 @@ use Rattle.vs_pre.specs.Reads.{ReadsAs}
 use Rattle.vs_four.specs.declared.Bit4.TheVariants.{Zero, One, X}
 use Rattle.vs_lexer.specs.Literals.{number_bits}
 use Rattle.vs_grammar.specs.Grammars.{depth}
-use Rattle.vs_grammar.specs.Trees.{Declarator, PlainPorts, Name, Expr, Exprs, UnaryOp, BinaryOp, SystemFunction, Assign, Item, Module, Source, items_list}
+use Rattle.vs_grammar.specs.Trees.{Declarator, PlainPorts, Name, RangeTree, ValueType, Variables, Expr, Exprs, UnaryOp, BinaryOp, SystemFunction, Assign, Item, Module, Source, items_list}
 use Rattle.vs_base.specs.declared.operators.UnaryOp.TheVariants as unary
 use Rattle.vs_base.specs.declared.operators.BinaryOp.TheVariants as binary
-use Rattle.vs_grammar.specs.Trees.{Alone, AlwaysItem, AndArm, AndExpr, AndGenerateArm, AndItem, AndStatement, AndTarget, Any, AsSigned, AsUnsigned, Assignment, AssignsItem, Between, Binary, BitAt, Brackets, ByName, ByOrder, Call, Case, CaseX, CaseZ, Choice, Clog2, Concatenation, DeclaredPorts, Downward, Empty, Enclosed, Exact, GenerateCase, GenerateFor, GenerateIf, GenvarsItem, If, Input, InstancesItem, Listed, Named, NamedTarget, Negedge, NoArm, NoBlock, NoBlockFallback, NoExpr, NoFallback, NoGenerateArm, NoItem, NoPorts, NoStatement, NoTarget, Number, Otherwise, OtherwiseBlock, Output, OutputReg, OutputWire, ParametersItem, Posedge, Reg, Replication, Sequence, SignalsItem, Slice, Star, Targeted, Unary, Unconnected, Upward, Whole, Wire}
+use Rattle.vs_grammar.specs.Trees.{Alone, AlwaysItem, AndArm, AndExpr, AndGenerateArm, AndItem, AndStatement, AndTarget, Any, Apply, AsSigned, AsUnsigned, Assignment, AssignsItem, Between, Binary, BitAt, Brackets, ByName, ByOrder, Call, Case, CaseX, CaseZ, Choice, Clog2, Concatenation, DeclaredPorts, Downward, Empty, Enclosed, Exact, For, FunctionItem, GenerateCase, GenerateFor, GenerateIf, GenvarsItem, If, Input, InstancesItem, IntegersItem, IntegerType, Listed, Named, NamedTarget, Negedge, NoArm, NoBlock, NoBlockFallback, NoExpr, NoFallback, NoGenerateArm, NoItem, NoPorts, NoStatement, NoTarget, Number, OfWord, Otherwise, OtherwiseBlock, Output, OutputReg, OutputWire, ParametersItem, Posedge, RangeType, Reg, Replication, Sequence, SignalsItem, Slice, Star, Targeted, Unary, Unconnected, Upward, Whole, Wire}
 use Rattle.vs_grammar.specs.Spelled.{Spells, HasSyntaxFault}
 
 -- ---- whole trees
@@ -73,7 +73,7 @@ abbrev pub dangling_generate_source : Source
 dangling_generate_source =
     module_of (GenerateIf 3 (read (codes "a") 5) (Alone (GenerateIf 7 (read (codes "b") 9) (Alone (wire_block (codes "c") 11)) (OtherwiseBlock (Alone (wire_block (codes "d") 15))))) NoBlockFallback)
 
--- the name after `begin` has no effect in a statement, and names a generate block (9.8.3, 12.4.3)
+-- the name after `begin` is that of a block, or of a generate block (9.8.3, 12.4.3)
 abbrev pub begin_name_text : List ℕ
 begin_name_text = codes "module m; always @(*) begin : s y <= a; ; end endmodule"
 
@@ -82,7 +82,7 @@ begin_name_source =
     module_of (AlwaysItem (record {
       place = 3;
       control = Star;
-      statement = Sequence 8 (AndStatement (Assignment (NamedTarget (name (codes "y") 11) Whole) (read (codes "a") 13) false) (AndStatement (Empty 15) NoStatement));
+      statement = Sequence 8 (Some (record { name = name (codes "s") 10; variables = [] })) (AndStatement (Assignment (NamedTarget (name (codes "y") 11) Whole) (read (codes "a") 13) false) (AndStatement (Empty 15) NoStatement));
     }))
 
 abbrev pub block_name_text : List ℕ
@@ -128,6 +128,12 @@ count n place = Number (record { place = place; bits = number_bits 32 n; signed 
 abbrev declared : List ℕ → ℕ → Declarator
 declared bytes place = record { name = name bytes place; addresses = None; value = None }
 
+abbrev range : ℕ → Expr → Expr → RangeTree
+range bracket left right = record { bracket = bracket; left = left; right = right }
+
+abbrev variables : ℕ → ValueType → List Name → Variables
+variables place value_type names = record { place = place; value_type = value_type; names = names }
+
 abbrev modules_of : List Module → Source
 modules_of modules = record { modules = modules }
 
@@ -146,15 +152,13 @@ header_source =
           record {
             place = 4;
             is_local = false;
-            signed = false;
-            range = None;
+            value_type = RangeType false None;
             settings = record { name = name (codes "N") 5; value = count 1 7 } ∷ record { name = name (codes "M") 9; value = count 2 11 } ∷ [];
           }
           ∷ record {
             place = 13;
             is_local = false;
-            signed = true;
-            range = Some (record { bracket = 15; left = count 3 16; right = count 0 18 });
+            value_type = RangeType true (Some (range 15 (count 3 16) (count 0 18)));
             settings = record { name = name (codes "P") 20; value = count 3 22 } ∷ [];
           }
           ∷ [];
@@ -191,11 +195,10 @@ declarations_source =
           (AndItem (ParametersItem (record {
             place = 19;
             is_local = false;
-            signed = false;
-            range = None;
+            value_type = RangeType false None;
             settings = record { name = name (codes "S") 20; value = Number (record { place = 22; bits = Zero ∷ X ∷ One ∷ Zero ∷ []; signed = true; sized = true }) } ∷ [];
           }))
-          (AndItem (ParametersItem (record { place = 24; is_local = true; signed = false; range = None; settings = record { name = name (codes "T") 25; value = read (codes "S") 27 } ∷ [] }))
+          (AndItem (ParametersItem (record { place = 24; is_local = true; value_type = RangeType false None; settings = record { name = name (codes "T") 25; value = read (codes "S") 27 } ∷ [] }))
           (AndItem (SignalsItem (record { place = 29; kind = Wire; signed = false; range = None; names = record { name = name (codes "w") 30; addresses = None; value = Some (read (codes "a") 32) } ∷ declared (codes "v") 34 ∷ [] }))
           (AndItem (SignalsItem (record { place = 36; kind = Reg; signed = true; range = None; names = declared (codes "r") 38 ∷ record { name = name (codes "m") 40; addresses = Some (record { bracket = 41; left = count 1 42; right = count 0 44 }); value = None } ∷ [] }))
           (AndItem (GenvarsItem 47 (name (codes "i") 48 ∷ [])) NoItem))))));
@@ -302,6 +305,181 @@ region_source =
     }
     ∷ [])
 
+-- integers, and a loop (4.8, 9.6)
+abbrev pub loop_text : List ℕ
+loop_text = codes "module m; integer i, j; always @* for (i = 0; i < 4; i = i + 1) p = p ^ a[i]; endmodule"
+
+abbrev pub loop_source : Source
+loop_source =
+    modules_of (record {
+      place = 0;
+      name = name (codes "m") 1;
+      parameters = [];
+      header = NoPorts;
+      items =
+          AndItem (IntegersItem 3 (name (codes "i") 4 ∷ name (codes "j") 6 ∷ []))
+          (AndItem
+          (AlwaysItem (record {
+            place = 8;
+            control = Star;
+            statement =
+                For
+                (record {
+                  place = 11;
+                  variable = name (codes "i") 13;
+                  first = count 0 15;
+                  test = Binary binary.Less (read (codes "i") 17) (count 4 19);
+                  again = name (codes "i") 21;
+                  next = Binary binary.Add (read (codes "i") 23) (count 1 25);
+                })
+                (Assignment (NamedTarget (name (codes "p") 27) Whole) (Binary binary.BitXor (read (codes "p") 29) (Named (name (codes "a") 31) (BitAt 32 (read (codes "i") 33)))) true);
+          }))
+          NoItem);
+    } ∷ [])
+
+-- the variables of a named block (9.8.3)
+abbrev pub block_variables_text : List ℕ
+block_variables_text = codes "module m; always @* begin : b reg signed [1:0] t, u; integer n; t = a; end endmodule"
+
+abbrev pub block_variables_source : Source
+block_variables_source =
+    module_of (AlwaysItem (record {
+      place = 3;
+      control = Star;
+      statement =
+          Sequence 6
+          (Some (record {
+            name = name (codes "b") 8;
+            variables =
+                variables 9 (RangeType true (Some (range 11 (count 1 12) (count 0 14)))) (name (codes "t") 16 ∷ name (codes "u") 18 ∷ [])
+                ∷ variables 20 IntegerType (name (codes "n") 21 ∷ [])
+                ∷ [];
+          }))
+          (AndStatement (Assignment (NamedTarget (name (codes "t") 23) Whole) (read (codes "a") 25) true) NoStatement);
+    }))
+
+-- a function with its inputs in brackets, and a call of it (10.4.1, 10.4.3)
+abbrev pub function_text : List ℕ
+function_text =
+    codes "module m; function signed [3:0] f(input [3:0] u, v, input integer n); reg t; integer k; f = u; endfunction "
+    ++ codes "assign y = f(a, b, 1); endmodule"
+
+abbrev pub function_source : Source
+function_source =
+    modules_of (record {
+      place = 0;
+      name = name (codes "m") 1;
+      parameters = [];
+      header = NoPorts;
+      items =
+          AndItem
+          (FunctionItem (record {
+            place = 3;
+            name = name (codes "f") 10;
+            value_type = RangeType true (Some (range 5 (count 3 6) (count 0 8)));
+            inputs =
+                variables 12 (RangeType false (Some (range 13 (count 3 14) (count 0 16)))) (name (codes "u") 18 ∷ name (codes "v") 20 ∷ [])
+                ∷ variables 22 IntegerType (name (codes "n") 24 ∷ [])
+                ∷ [];
+            variables = variables 27 (RangeType false None) (name (codes "t") 28 ∷ []) ∷ variables 30 IntegerType (name (codes "k") 31 ∷ []) ∷ [];
+            statement = Assignment (NamedTarget (name (codes "f") 33) Whole) (read (codes "u") 35) true;
+          }))
+          (AndItem
+          (AssignsItem 38 (record {
+            target = NamedTarget (name (codes "y") 39) Whole;
+            e = Apply (name (codes "f") 41) (AndExpr (read (codes "a") 43) (AndExpr (read (codes "b") 45) (AndExpr (count 1 47) NoExpr)));
+          } ∷ []))
+          NoItem);
+    } ∷ [])
+
+-- functions with their inputs among their variables, and without any (10.4.1)
+abbrev pub declared_function_text : List ℕ
+declared_function_text =
+    codes "module m; function integer f; input reg signed [1:0] u, v; integer n; input w; f = u; endfunction "
+    ++ codes "function g; ; endfunction endmodule"
+
+abbrev pub declared_function_source : Source
+declared_function_source =
+    modules_of (record {
+      place = 0;
+      name = name (codes "m") 1;
+      parameters = [];
+      header = NoPorts;
+      items =
+          AndItem
+          (FunctionItem (record {
+            place = 3;
+            name = name (codes "f") 5;
+            value_type = IntegerType;
+            inputs =
+                variables 7 (RangeType true (Some (range 10 (count 1 11) (count 0 13)))) (name (codes "u") 15 ∷ name (codes "v") 17 ∷ [])
+                ∷ variables 22 (RangeType false None) (name (codes "w") 23 ∷ [])
+                ∷ [];
+            variables = variables 19 IntegerType (name (codes "n") 20 ∷ []) ∷ [];
+            statement = Assignment (NamedTarget (name (codes "f") 25) Whole) (read (codes "u") 27) true;
+          }))
+          (AndItem
+          (FunctionItem (record { place = 30; name = name (codes "g") 31; value_type = RangeType false None; inputs = []; variables = []; statement = Empty 33 }))
+          NoItem);
+    } ∷ [])
+
+-- an array of nets, and parts of words (4.9, 5.2.2)
+abbrev pub words_text : List ℕ
+words_text = codes "module m; wire [1:0] p [0:3], q, r = a; assign {p[1][0], p[0][1:0]} = m[e][i +: 4]; endmodule"
+
+abbrev pub words_source : Source
+words_source =
+    modules_of (record {
+      place = 0;
+      name = name (codes "m") 1;
+      parameters = [];
+      header = NoPorts;
+      items =
+          AndItem
+          (SignalsItem (record {
+            place = 3;
+            kind = Wire;
+            signed = false;
+            range = Some (range 4 (count 1 5) (count 0 7));
+            names =
+                record { name = name (codes "p") 9; addresses = Some (range 10 (count 0 11) (count 3 13)); value = None }
+                ∷ declared (codes "q") 16
+                ∷ record { name = name (codes "r") 18; addresses = None; value = Some (read (codes "a") 20) }
+                ∷ [];
+          }))
+          (AndItem
+          (AssignsItem 22 (record {
+            target = Targeted 23 (
+                AndTarget (NamedTarget (name (codes "p") 24) (OfWord 25 (count 1 26) (BitAt 28 (count 0 29))))
+                (AndTarget (NamedTarget (name (codes "p") 32) (OfWord 33 (count 0 34) (Slice 36 Between (count 1 37) (count 0 39)))) NoTarget));
+            e = Named (name (codes "m") 43) (OfWord 44 (read (codes "e") 45) (Slice 47 Upward (read (codes "i") 48) (count 4 50)));
+          } ∷ []))
+          NoItem);
+    } ∷ [])
+
+-- parameters that are integers (4.10)
+abbrev pub integer_parameters_text : List ℕ
+integer_parameters_text = codes "module m #(parameter integer P = 1, Q = 2); parameter integer R = 3; localparam integer S = 4; endmodule"
+
+abbrev pub integer_parameters_source : Source
+integer_parameters_source =
+    modules_of (record {
+      place = 0;
+      name = name (codes "m") 1;
+      parameters =
+          record {
+            place = 4;
+            is_local = false;
+            value_type = IntegerType;
+            settings = record { name = name (codes "P") 6; value = count 1 8 } ∷ record { name = name (codes "Q") 10; value = count 2 12 } ∷ [];
+          }
+          ∷ [];
+      header = NoPorts;
+      items =
+          AndItem (ParametersItem (record { place = 15; is_local = false; value_type = IntegerType; settings = record { name = name (codes "R") 17; value = count 3 19 } ∷ [] }))
+          (AndItem (ParametersItem (record { place = 21; is_local = true; value_type = IntegerType; settings = record { name = name (codes "S") 23; value = count 4 25 } ∷ [] })) NoItem);
+    } ∷ [])
+
 -- ---- operators
 
 abbrev pub unary_sign : UnaryOp → List ℕ
@@ -353,6 +531,7 @@ abbrev mutual
   pub written : Expr → List ℕ
   written (Number literal) = codes "#"
   written (Named name select) = name.bytes
+  written (Apply name arguments) = name.bytes ++ codes "(" ++ all_written arguments ++ codes ")"
   written (Unary place op a) = codes "[" ++ unary_sign op ++ written a ++ codes "]"
   written (Binary op a b) = codes "[" ++ written a ++ binary_sign op ++ written b ++ codes "]"
   written (Choice c p q) = codes "[" ++ written c ++ codes "?" ++ written p ++ codes ":" ++ written q ++ codes "]"
@@ -405,6 +584,7 @@ pub record OperatorsAre : Type 0 where
   pub choices_within : IsGrouped (codes "a ? b ? c : d : e") (codes "[a?[b?c:d]:e]")
   pub brackets : IsGrouped (codes "a - (b - c)") (codes "[a-([b-c])]")
   pub primaries : IsGrouped (codes "{a, {2{b, 8'h1}}, $signed(c[3:0]), $clog2(d[e])}") (codes "{a,{#{b,#}},$signed(c),$clog2(d)}")
+  pub applications : IsGrouped (codes "f(a) + g(b + c, {d})") (codes "[f(a)+g([b+c],{d})]")
 
 -- ---- depth
 
@@ -414,8 +594,8 @@ pub record HasDepth (text : List ℕ) (levels : ℕ) : Type 0 where
   pub spelled : Spells text source
   pub deep : depth spelled.spelled.derivation ≡ levels
 
--- Each pair of round brackets of a primary, each operator, select, concatenation, call, statement and generate block is a level; brackets of other
--- constructs, modules and items are none.
+-- Each pair of round brackets of a primary, each operator, select, concatenation, call, statement and generate block is a level; what is selected of
+-- a word stands within the select of the word. Brackets of other constructs, modules and items are none.
 pub record DepthsAre : Type 0 where
   pub flat : HasDepth (assign_text (codes "a")) 0
   pub operator : HasDepth (assign_text (codes "a + b * c")) 2
@@ -424,8 +604,11 @@ pub record DepthsAre : Type 0 where
   pub select : HasDepth (assign_text (codes "a[b[c]]")) 2
   pub parts : HasDepth (assign_text (codes "{2{a, b[c]}}")) 2
   pub call : HasDepth (assign_text (codes "$signed((a))")) 2
+  pub application : HasDepth (assign_text (codes "f((a))")) 2
+  pub word : HasDepth (assign_text (codes "m[a][b[c]]")) 3
   pub choice : HasDepth (assign_text (codes "a ? b : c ? d : e")) 2
   pub statement : HasDepth dangling_text 3
+  pub loop : HasDepth loop_text 4
   pub block : HasDepth dangling_generate_text 2
 
 -- ---- texts that spell nothing
@@ -446,6 +629,15 @@ pub record FaultsAre : Type 0 where
   -- an operator without its operand, and an assign of an assign
   pub no_operand : StopsAt (assign_text (codes "a +")) 8
   pub chained_targets : StopsAt (codes "module m; assign a = b = c; endmodule") 7
+  -- a select of several bits, and a third select; a call of a function without arguments
+  pub select_of_several : StopsAt (assign_text (codes "m[3:0][1]")) 12
+  pub third_select : StopsAt (assign_text (codes "m[1][2][3]")) 13
+  pub no_argument : StopsAt (assign_text (codes "f()")) 8
+  -- a variable of a block that has no name, an array of nets with a value, two steps of a loop, and a function in a generate block
+  pub unnamed_block : StopsAt (codes "module m; always @* begin reg t; end endmodule") 7
+  pub array_value : StopsAt (codes "module m; wire p [0:3] = a; endmodule") 10
+  pub two_steps : StopsAt (codes "module m; always @* for (i = 0; i < 4; i = i + 1, j = 2) ; endmodule") 21
+  pub generated_function : StopsAt (codes "module m; if (a) function f; ; endfunction endmodule") 7
 
 -- ---- all of them
 
@@ -462,3 +654,9 @@ pub record TreesAre : Type 0 where
   pub generate : Spells generate_text generate_source
   pub selects : Spells selects_text selects_source
   pub region : Spells region_text region_source
+  pub loop : Spells loop_text loop_source
+  pub block_variables : Spells block_variables_text block_variables_source
+  pub function : Spells function_text function_source
+  pub declared_function : Spells declared_function_text declared_function_source
+  pub words : Spells words_text words_source
+  pub integer_parameters : Spells integer_parameters_text integer_parameters_source

@@ -91,10 +91,13 @@ number_of kind.PlusColon = 80
 number_of kind.MinusColon = 81
 number_of kind.Power = 82
 number_of kind.Arrow = 83
+number_of kind.KeywordFunction = 84
+number_of kind.KeywordEndFunction = 85
+number_of kind.KeywordInteger = 86
 
 -- the kind of the end of a text
 abbrev pub end_of_text : ℕ
-end_of_text = 84
+end_of_text = 87
 
 abbrev pub numbers_of : List TokenKind → List ℕ
 numbers_of ks = map number_of ks

@@ -6,12 +6,12 @@ use Rattle.vs_grammar.specs.Kinds.{number_of}
 use Rattle.vs_grammar.specs.Grammars.{Phrase, Tree, Terminal, onto, opt, star}
 use Rattle.vs_grammar.specs.Grammars.Phrase.{seq, last}
 use Rattle.vs_grammar.specs.Grammars.Tree.{leaf, both, former, latter, without, within, start, grown, alone, behind, nested, named}
-use Rattle.vs_grammar.specs.Verilog.{◌⨾◌, ◌∣◌, verilog, t, r, phrase_of, separated, signed_range, variable_name, wire_name, assignment, named_connection, number, unary_operator, product_operator, sum_operator, shift_operator, relation_operator, equality_operator, xor_operator, reg_item, wire_item, local_item, assign_item, always_item, genvar_item, overrides, instance_item, for_item, if_item, generate_case}
+use Rattle.vs_grammar.specs.Verilog.{◌⨾◌, ◌∣◌, verilog, t, r, phrase_of, separated, signed_range, sign_and_range, reg_type, variable_name, wire_name, assignment, named_connection, number, slice_sign, unary_operator, product_operator, sum_operator, shift_operator, relation_operator, equality_operator, xor_operator, reg_item, wire_item, local_item, assign_item, always_item, genvar_item, integer_item, overrides, instance_item, for_item, if_item, generate_case, input_declaration}
 use Rattle.vs_grammar.specs.Verilog.{Rule as rule}
-use Rattle.vs_grammar.specs.Trees.{Name, Literal, Expr, Exprs, Select, SliceKind, SystemFunction, UnaryOp, BinaryOp, Target, Targets, CaseKind, Statement, Fallback, Statements, CaseArms, RangeTree, SignalKind, Declarator, Signals, Setting, Parameters, Assign, Edge, Event, EventControl, NamedConnection, Connections, Instance, Item, GenerateBlock, BlockFallback, GenerateArms, Items, Header, Module, Source}
+use Rattle.vs_grammar.specs.Trees.{Name, Literal, Expr, Exprs, Select, SliceKind, SystemFunction, UnaryOp, BinaryOp, RangeTree, ValueType, Variables, BlockScope, LoopHead, Target, Targets, CaseKind, Statement, Fallback, Statements, CaseArms, SignalKind, Declarator, Signals, Setting, Parameters, Assign, Edge, Event, EventControl, NamedConnection, Connections, Instance, Function, Item, GenerateBlock, BlockFallback, GenerateArms, Items, Header, Module, Source}
 use Rattle.vs_base.specs.declared.operators.UnaryOp.TheVariants as unary
 use Rattle.vs_base.specs.declared.operators.BinaryOp.TheVariants as binary
-use Rattle.vs_grammar.specs.Trees.{AsSigned, AsUnsigned, Clog2, Between, Upward, Downward, Number, Named, Unary, Binary, Choice, Concatenation, Replication, Call, Brackets, NoExpr, AndExpr, Whole, BitAt, Slice, NamedTarget, Targeted, NoTarget, AndTarget, Exact, CaseZ, CaseX, Empty, Assignment, If, Case, Sequence, NoFallback, Otherwise, NoStatement, AndStatement, NoArm, AndArm, Input, InputWire, Output, OutputWire, OutputReg, Reg, Wire, Any, Posedge, Negedge, Star, Listed, Unconnected, ByOrder, ByName, SignalsItem, ParametersItem, AssignsItem, AlwaysItem, GenvarsItem, InstancesItem, GenerateFor, GenerateIf, GenerateCase, NoBlock, Alone, Enclosed, NoBlockFallback, OtherwiseBlock, NoGenerateArm, AndGenerateArm, NoItem, AndItem, NoPorts, PlainPorts, DeclaredPorts}
+use Rattle.vs_grammar.specs.Trees.{AsSigned, AsUnsigned, Clog2, Between, Upward, Downward, Number, Named, Apply, Unary, Binary, Choice, Concatenation, Replication, Call, Brackets, NoExpr, AndExpr, Whole, BitAt, Slice, OfWord, IntegerType, RangeType, NamedTarget, Targeted, NoTarget, AndTarget, Exact, CaseZ, CaseX, Empty, Assignment, If, Case, Sequence, For, NoFallback, Otherwise, NoStatement, AndStatement, NoArm, AndArm, Input, InputWire, Output, OutputWire, OutputReg, Reg, Wire, Any, Posedge, Negedge, Star, Listed, Unconnected, ByOrder, ByName, SignalsItem, ParametersItem, AssignsItem, AlwaysItem, GenvarsItem, IntegersItem, InstancesItem, FunctionItem, GenerateFor, GenerateIf, GenerateCase, NoBlock, Alone, Enclosed, NoBlockFallback, OtherwiseBlock, NoGenerateArm, AndGenerateArm, NoItem, AndItem, NoPorts, PlainPorts, DeclaredPorts}
 
 -- a derivation of a phrase in the grammar of design texts
 abbrev pub D : Phrase → Type 0
@@ -93,7 +93,7 @@ abbrev pub xor_op : D xor_operator → BinaryOp
 xor_op (former o) = binary.BitXor
 xor_op (latter o) = binary.BitXnor
 
-abbrev pub slice_kind : D (t kind.Colon ∣ t kind.PlusColon ∣ t kind.MinusColon) → SliceKind
+abbrev pub slice_kind : D slice_sign → SliceKind
 slice_kind (former o) = Between
 slice_kind (latter (former o)) = Upward
 slice_kind (latter (latter o)) = Downward
@@ -222,7 +222,8 @@ module _ (bytes : ℕ → List ℕ) where
 
     pub primary_of : D (r rule.Primary) → Expr
     primary_of (named (former n)) = Number (literal_of n)
-    primary_of (named (latter (former (both n s)))) = Named (name_of n) (select_or_whole s)
+    primary_of (named (latter (former (both n (former l))))) = Apply (name_of n) (arguments_of l)
+    primary_of (named (latter (former (both n (latter s))))) = Named (name_of n) (select_or_whole s)
     primary_of (named (latter (latter (former (nested (both (leaf a) (both e z))))))) = Brackets a.place (expr_of e)
     primary_of (named (latter (latter (latter (former (nested (both (leaf a) (both e (former (both o (both l z))))))))))) = Replication a.place (expr_of e) (exprs_of l)
     primary_of (named (latter (latter (latter (former (nested (both (leaf a) (both e (latter (both l z)))))))))) = Concatenation a.place (AndExpr (expr_of e) (exprs_onto l NoExpr))
@@ -233,8 +234,16 @@ module _ (bytes : ℕ → List ℕ) where
     select_or_whole (latter z) = Whole
 
     pub select_of : D (r rule.Select) → Select
-    select_of (named (nested (both (leaf a) (both e (both (latter z) c))))) = BitAt a.place (expr_of e)
-    select_of (named (nested (both (leaf a) (both e (both (former (both o f)) c))))) = Slice a.place (slice_kind o) (expr_of e) (expr_of f)
+    select_of (named (nested (both (leaf a) (both e (former (both o (both f c))))))) = Slice a.place (slice_kind o) (expr_of e) (expr_of f)
+    select_of (named (nested (both (leaf a) (both e (latter (both c (former p))))))) = OfWord a.place (expr_of e) (part_of p)
+    select_of (named (nested (both (leaf a) (both e (latter (both c (latter z))))))) = BitAt a.place (expr_of e)
+
+    pub part_of : D (r rule.Part) → Select
+    part_of (named (nested (both (leaf a) (both e (both (latter z) c))))) = BitAt a.place (expr_of e)
+    part_of (named (nested (both (leaf a) (both e (both (former (both o f)) c))))) = Slice a.place (slice_kind o) (expr_of e) (expr_of f)
+
+    pub arguments_of : D (r rule.Arguments) → Exprs
+    arguments_of (named (nested (both o (both l z)))) = exprs_of l
 
     pub exprs_of : D (separated (r rule.Expression)) → Exprs
     exprs_of (both e l) = AndExpr (expr_of e) (exprs_onto l NoExpr)
@@ -242,6 +251,43 @@ module _ (bytes : ℕ → List ℕ) where
     pub exprs_onto : D (star (t kind.Comma ⨾ r rule.Expression)) → Exprs → Exprs
     exprs_onto (start z) rest = rest
     exprs_onto (grown l (both c e)) rest = exprs_onto l (AndExpr (expr_of e) rest)
+
+  -- ---- types, and variables of functions and of named blocks
+
+  abbrev pub range_of : D (r rule.Range) → RangeTree
+  range_of (named (both (leaf a) (both e (both c (both f z))))) = record { bracket = a.place; left = expr_of e; right = expr_of f }
+
+  abbrev pub range_type_of : D sign_and_range → ValueType
+  range_type_of (both s g) = RangeType (is_there s) (option_of range_of g)
+
+  abbrev pub value_type_of : D (r rule.ValueType) → ValueType
+  value_type_of (named (former i)) = IntegerType
+  value_type_of (named (latter y)) = range_type_of y
+
+  abbrev pub reg_type_of : D reg_type → ValueType
+  reg_type_of (both w y) = range_type_of y
+
+  abbrev pub variable_type_of : D (r rule.VariableType) → ValueType
+  variable_type_of (named (former y)) = reg_type_of y
+  variable_type_of (named (latter i)) = IntegerType
+
+  abbrev pub input_type_of : D (r rule.InputType) → ValueType
+  input_type_of (named (former y)) = reg_type_of y
+  input_type_of (named (latter y)) = value_type_of y
+
+  abbrev pub variables_of : D (r rule.Variables) → Variables
+  variables_of (named (both y (both (named l) z))) = record { place = first_place y; value_type = variable_type_of y; names = list_of name_of l }
+
+  abbrev pub scope_of : D (r rule.BlockScope) → BlockScope
+  scope_of (named (both c (both n l))) = record { name = name_of n; variables = each_onto variables_of l [] }
+
+  -- `name = value`
+  abbrev pub setting_of : D (r rule.Setting) → Setting
+  setting_of (named (both n (both o e))) = record { name = name_of n; value = expr_of e }
+
+  abbrev pub head_of : D (r rule.LoopHead) → LoopHead
+  head_of (named (both (leaf a) (both o (both s (both c (both e (both d (both u z)))))))) =
+      record { place = a.place; variable = (setting_of s).name; first = (setting_of s).value; test = expr_of e; again = (setting_of u).name; next = (setting_of u).value }
 
   -- ---- statements
 
@@ -259,8 +305,9 @@ module _ (bytes : ℕ → List ℕ) where
     statement_of (named (nested (former (leaf a)))) = Empty a.place
     statement_of (named (nested (latter (former (both (leaf a) (both o (both e (both c (both s f))))))))) = If a.place (expr_of e) (statement_of s) (else_of f)
     statement_of (named (nested (latter (latter (former (both k (both o (both e (both c (both a z)))))))))) = Case (first_place k) (case_kind k) (expr_of e) (arms_of a) (default_of a)
-    statement_of (named (nested (latter (latter (latter (former (both (leaf a) (both n (both s z))))))))) = Sequence a.place (statements_onto s NoStatement)
-    statement_of (named (nested (latter (latter (latter (latter (both x (both o (both e z))))))))) = Assignment (target_of x) (expr_of e) (is_blocking o)
+    statement_of (named (nested (latter (latter (latter (former (both (leaf a) (both n (both s z))))))))) = Sequence a.place (option_of scope_of n) (statements_onto s NoStatement)
+    statement_of (named (nested (latter (latter (latter (latter (former (both h s)))))))) = For (head_of h) (statement_of s)
+    statement_of (named (nested (latter (latter (latter (latter (latter (both x (both o (both e z)))))))))) = Assignment (target_of x) (expr_of e) (is_blocking o)
 
     pub else_of : D (last (number_of kind.KeywordElse) (r rule.Statement)) → Fallback
     else_of without = NoFallback
@@ -292,9 +339,6 @@ module _ (bytes : ℕ → List ℕ) where
 
   -- ---- declarations
 
-  abbrev pub range_of : D (r rule.Range) → RangeTree
-  range_of (named (both (leaf a) (both e (both c (both f z))))) = record { bracket = a.place; left = expr_of e; right = expr_of f }
-
   abbrev pub plain_name : D (t kind.Identifier) → Declarator
   plain_name n = record { name = name_of n; addresses = None; value = None }
 
@@ -302,17 +346,14 @@ module _ (bytes : ℕ → List ℕ) where
   variable_of (both n g) = record { name = name_of n; addresses = option_of range_of g; value = None }
 
   abbrev pub wire_of : D wire_name → Declarator
-  wire_of (both n v) = record { name = name_of n; addresses = None; value = option_of (behind_sign expr_of) v }
+  wire_of (both n (former g)) = record { name = name_of n; addresses = Some (range_of g); value = None }
+  wire_of (both n (latter v)) = record { name = name_of n; addresses = None; value = option_of (behind_sign expr_of) v }
 
   abbrev pub names_of : D (r rule.Names) → List Declarator
   names_of (named l) = list_of plain_name l
 
-  abbrev pub setting_of : D (r rule.ParameterSetting) → Setting
-  setting_of (named (both n (both o e))) = record { name = name_of n; value = expr_of e }
-
-  abbrev pub parameters_of : ℕ → Bool → D (r rule.ParameterType) → List Setting → Parameters
-  parameters_of place is_local (named (both s g)) settings =
-      record { place = place; is_local = is_local; signed = is_there s; range = option_of range_of g; settings = settings }
+  abbrev pub parameters_of : ℕ → Bool → D (r rule.ValueType) → List Setting → Parameters
+  parameters_of place is_local y settings = record { place = place; is_local = is_local; value_type = value_type_of y; settings = settings }
 
   abbrev pub signals_of : {x : Phrase} → ℕ → SignalKind → (D x → List Declarator) → D (signed_range x) → Signals
   signals_of place k names (both s (both g l)) = record { place = place; kind = k; signed = is_there s; range = option_of range_of g; names = names l }
@@ -375,6 +416,9 @@ module _ (bytes : ℕ → List ℕ) where
   abbrev pub genvar_item_of : D genvar_item → Item
   genvar_item_of (both (leaf a) (both (named l) z)) = GenvarsItem a.place (list_of name_of l)
 
+  abbrev pub integer_item_of : D integer_item → Item
+  integer_item_of (both (leaf a) (both (named l) z)) = IntegersItem a.place (list_of name_of l)
+
   abbrev pub instance_item_of : D instance_item → Item
   instance_item_of (both n (both o (both l z))) = InstancesItem (record { of = name_of n; overrides = overrides_of o; instances = list_of instance_of l })
 
@@ -386,14 +430,14 @@ module _ (bytes : ℕ → List ℕ) where
     item_of (named (latter (latter (latter (former i))))) = assign_item_of i
     item_of (named (latter (latter (latter (latter (former i)))))) = always_item_of i
     item_of (named (latter (latter (latter (latter (latter (former i))))))) = genvar_item_of i
-    item_of (named (latter (latter (latter (latter (latter (latter (former i)))))))) = instance_item_of i
-    item_of (named (latter (latter (latter (latter (latter (latter (latter (former i))))))))) = for_item_of i
-    item_of (named (latter (latter (latter (latter (latter (latter (latter (latter (former i)))))))))) = if_item_of i
-    item_of (named (latter (latter (latter (latter (latter (latter (latter (latter (latter i)))))))))) = generate_case_of i
+    item_of (named (latter (latter (latter (latter (latter (latter (former i)))))))) = integer_item_of i
+    item_of (named (latter (latter (latter (latter (latter (latter (latter (former i))))))))) = instance_item_of i
+    item_of (named (latter (latter (latter (latter (latter (latter (latter (latter (former i)))))))))) = for_item_of i
+    item_of (named (latter (latter (latter (latter (latter (latter (latter (latter (latter (former i))))))))))) = if_item_of i
+    item_of (named (latter (latter (latter (latter (latter (latter (latter (latter (latter (latter i))))))))))) = generate_case_of i
 
     pub for_item_of : D for_item → Item
-    for_item_of (both (leaf a) (both o (both v (both b (both e (both c (both f (both d (both w (both g (both h (both z x)))))))))))) =
-        GenerateFor (record { place = a.place; variable = name_of v; first = expr_of e; test = expr_of f; again = name_of w; next = expr_of h }) (block_of x)
+    for_item_of (both h x) = GenerateFor (head_of h) (block_of x)
 
     pub if_item_of : D if_item → Item
     if_item_of (both (leaf a) (both o (both e (both c (both x f))))) = GenerateIf a.place (expr_of e) (block_of x) (else_block f)
@@ -434,12 +478,54 @@ module _ (bytes : ℕ → List ℕ) where
     pub default_block_of : D (r rule.GenerateCaseDefault) → BlockFallback
     default_block_of (named (both d (both c x))) = OtherwiseBlock (block_of x)
 
+  -- ---- functions
+
+  -- an input in brackets, and the names behind it that share its declaration
+  abbrev pub input_of : D (r rule.FunctionInput) → List Name → Variables
+  input_of (named (both (leaf a) (both y n))) others = record { place = a.place; value_type = input_type_of y; names = name_of n ∷ others }
+
+  -- the inputs in brackets from the first one on, where the names and then the inputs behind are known
+  abbrev pub inputs_onto : D (r rule.FunctionInput) → D (star (t kind.Comma ⨾ (r rule.FunctionInput ∣ t kind.Identifier))) → List Name → List Variables → List Variables
+  inputs_onto p (start z) names inputs = input_of p names ∷ inputs
+  inputs_onto p (grown l (both c (former q))) names inputs = inputs_onto p l [] (input_of q names ∷ inputs)
+  inputs_onto p (grown l (both c (latter n))) names inputs = inputs_onto p l (name_of n ∷ names) inputs
+
+  abbrev pub inputs_of : D (r rule.FunctionInputs) → List Variables
+  inputs_of (named (both p l)) = inputs_onto p l [] []
+
+  abbrev pub input_declaration_of : D input_declaration → Variables
+  input_declaration_of (both (leaf a) (both y (both (named l) z))) = record { place = a.place; value_type = input_type_of y; names = list_of name_of l }
+
+  -- the inputs among declarations, and the variables
+  abbrev pub declared_inputs : D (star (r rule.FunctionDeclaration)) → List Variables → List Variables
+  declared_inputs (start z) rest = rest
+  declared_inputs (grown l (named (former i))) rest = declared_inputs l (input_declaration_of i ∷ rest)
+  declared_inputs (grown l (named (latter v))) rest = declared_inputs l rest
+
+  abbrev pub declared_variables : D (star (r rule.FunctionDeclaration)) → List Variables → List Variables
+  declared_variables (start z) rest = rest
+  declared_variables (grown l (named (former i))) rest = declared_variables l rest
+  declared_variables (grown l (named (latter v))) rest = declared_variables l (variables_of v ∷ rest)
+
+  abbrev pub head_inputs : D (r rule.FunctionHead) → List Variables
+  head_inputs (named (former (both o (both l (both c (both s v)))))) = inputs_of l
+  head_inputs (named (latter (both s l))) = declared_inputs l []
+
+  abbrev pub head_variables : D (r rule.FunctionHead) → List Variables
+  head_variables (named (former (both o (both l (both c (both s v)))))) = each_onto variables_of v []
+  head_variables (named (latter (both s l))) = declared_variables l []
+
+  abbrev pub function_of : D (r rule.Function) → Function
+  function_of (named (both (leaf a) (both y (both n (both h (both s z)))))) =
+      record { place = a.place; name = name_of n; value_type = value_type_of y; inputs = head_inputs h; variables = head_variables h; statement = statement_of s }
+
   -- an item of a module in front of others; `generate` and `endgenerate` leave nothing
   abbrev pub item_onto : D (r rule.Item) → Items → Items
   item_onto (named (former (both d l))) rest = AndItem (SignalsItem (signals_of (first_place d) (port_kind d) (ended names_of) l)) rest
   item_onto (named (latter (former (both (leaf a) (both y (both l z)))))) rest = AndItem (ParametersItem (parameters_of a.place false y (list_of setting_of l))) rest
   item_onto (named (latter (latter (former (both g (both l z)))))) rest = generate_items_onto l rest
-  item_onto (named (latter (latter (latter i)))) rest = AndItem (item_of i) rest
+  item_onto (named (latter (latter (latter (former f))))) rest = AndItem (FunctionItem (function_of f)) rest
+  item_onto (named (latter (latter (latter (latter i))))) rest = AndItem (item_of i) rest
 
   abbrev pub items_onto : D (star (r rule.Item)) → Items → Items
   items_onto (start z) rest = rest
@@ -467,7 +553,7 @@ module _ (bytes : ℕ → List ℕ) where
   header_of (latter z) = NoPorts
 
   -- the declarations of parameters from the first one on, where the settings and then the declarations behind are known
-  abbrev pub parameters_onto : ℕ → D (r rule.ParameterType) → D (r rule.ParameterSetting) → D (star (t kind.Comma ⨾ ((t kind.KeywordParameter ⨾ r rule.ParameterType ⨾ r rule.ParameterSetting) ∣ r rule.ParameterSetting))) → List Setting → List Parameters → List Parameters
+  abbrev pub parameters_onto : ℕ → D (r rule.ValueType) → D (r rule.Setting) → D (star (t kind.Comma ⨾ ((t kind.KeywordParameter ⨾ r rule.ValueType ⨾ r rule.Setting) ∣ r rule.Setting))) → List Setting → List Parameters → List Parameters
   parameters_onto place y s (start z) settings others = parameters_of place false y (setting_of s ∷ settings) ∷ others
   parameters_onto place y s (grown l (both c (former (both (leaf a) (both w u))))) settings others = parameters_onto place y s l [] (parameters_of a.place false w (setting_of u ∷ settings) ∷ others)
   parameters_onto place y s (grown l (both c (latter u))) settings others = parameters_onto place y s l (setting_of u ∷ settings) others

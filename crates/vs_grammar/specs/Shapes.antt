@@ -7,8 +7,8 @@ use Rattle.vs_lexer.specs.Tokens.{token_kind}
 use Rattle.vs_lexer.specs.Laws.{AreTokens}
 use Rattle.vs_grammar.specs.Depths.{source_depth}
 use Rattle.vs_grammar.specs.Spelled.{SpelledBy, depth_limit}
-use Rattle.vs_grammar.specs.Trees.{Name, Literal, Expr, Exprs, Select, Target, Targets, Statement, Fallback, Statements, CaseArms, RangeTree, SignalKind, Declarator, Signals, Setting, Parameters, Assign, Event, EventControl, NamedConnection, Connections, Instance, Instances, GenerateHead, Item, GenerateBlock, BlockFallback, GenerateArms, Items, Header, Module, Source}
-use Rattle.vs_grammar.specs.Trees.{Number, Named, Unary, Binary, Choice, Concatenation, Replication, Call, Brackets, NoExpr, AndExpr, Whole, BitAt, Slice, NamedTarget, Targeted, NoTarget, AndTarget, Empty, Assignment, If, Case, Sequence, NoFallback, Otherwise, NoStatement, AndStatement, NoArm, AndArm, Reg, Wire, Star, Listed, Unconnected, ByOrder, ByName, SignalsItem, ParametersItem, AssignsItem, AlwaysItem, GenvarsItem, InstancesItem, GenerateFor, GenerateIf, GenerateCase, NoBlock, Alone, Enclosed, NoBlockFallback, OtherwiseBlock, NoGenerateArm, AndGenerateArm, NoItem, AndItem, NoPorts, PlainPorts, DeclaredPorts}
+use Rattle.vs_grammar.specs.Trees.{Name, Literal, Expr, Exprs, Select, RangeTree, ValueType, Variables, BlockScope, LoopHead, Target, Targets, Statement, Fallback, Statements, CaseArms, SignalKind, Declarator, Signals, Setting, Parameters, Assign, Event, EventControl, NamedConnection, Connections, Instance, Instances, Function, Item, GenerateBlock, BlockFallback, GenerateArms, Items, Header, Module, Source}
+use Rattle.vs_grammar.specs.Trees.{Number, Named, Apply, Unary, Binary, Choice, Concatenation, Replication, Call, Brackets, NoExpr, AndExpr, Whole, BitAt, Slice, OfWord, IntegerType, RangeType, NamedTarget, Targeted, NoTarget, AndTarget, Empty, Assignment, If, Case, Sequence, For, NoFallback, Otherwise, NoStatement, AndStatement, NoArm, AndArm, Reg, Wire, Star, Listed, Unconnected, ByOrder, ByName, SignalsItem, ParametersItem, AssignsItem, AlwaysItem, GenvarsItem, IntegersItem, InstancesItem, FunctionItem, GenerateFor, GenerateIf, GenerateCase, NoBlock, Alone, Enclosed, NoBlockFallback, OtherwiseBlock, NoGenerateArm, AndGenerateArm, NoItem, AndItem, NoPorts, PlainPorts, DeclaredPorts}
 
 -- a simple identifier that is no reserved word (IEEE 1364-2005, 3.7)
 abbrev pub IsName : Name → Type 0
@@ -36,10 +36,17 @@ Given P (Some a) = P a
 
 -- ---- expressions
 
+-- one bit, or several
+abbrev pub is_part : Select → Bool
+is_part (BitAt bracket index) = true
+is_part (Slice bracket kind a b) = true
+is_part _ = false
+
 abbrev mutual
   pub IsExpr : Expr → Type 0
   IsExpr (Number literal) = IsLiteral literal
   IsExpr (Named name select) = IsName name × IsSelect select
+  IsExpr (Apply name arguments) = IsName name × AreParts arguments
   IsExpr (Unary place op a) = IsExpr a
   IsExpr (Binary op a b) = IsExpr a × IsExpr b
   IsExpr (Choice c p q) = IsExpr c × IsExpr p × IsExpr q
@@ -61,6 +68,31 @@ abbrev mutual
   IsSelect Whole = Unit {0}
   IsSelect (BitAt bracket index) = IsExpr index
   IsSelect (Slice bracket kind a b) = IsExpr a × IsExpr b
+  IsSelect (OfWord bracket address part) = IsExpr address × IsSelect part × (is_part part ≡ true)
+
+-- ---- types, variables and the heads of loops
+
+abbrev pub IsRange : RangeTree → Type 0
+IsRange r = IsExpr r.left × IsExpr r.right
+
+abbrev pub IsValueType : ValueType → Type 0
+IsValueType IntegerType = Unit {0}
+IsValueType (RangeType signed range) = Given IsRange range
+
+pub record AreVariables (v : Variables) : Type 0 where
+  pub value_type : IsValueType v.value_type
+  pub names : OneOrMore IsName v.names
+
+pub record IsScope (s : BlockScope) : Type 0 where
+  pub name : IsName s.name
+  pub variables : Each AreVariables s.variables
+
+pub record IsHead (h : LoopHead) : Type 0 where
+  pub variable : IsName h.variable
+  pub first : IsExpr h.first
+  pub test : IsExpr h.test
+  pub again : IsName h.again
+  pub next : IsExpr h.next
 
 -- ---- statements
 
@@ -84,7 +116,8 @@ abbrev mutual
   IsStatement (Assignment target e blocking) = IsTarget target × IsExpr e
   IsStatement (If place c taken other) = IsExpr c × IsStatement taken × IsFallback other
   IsStatement (Case place kind subject arms other) = IsExpr subject × AreArms arms × IsFallback other × HasArm arms other
-  IsStatement (Sequence place parts) = AreStatements parts
+  IsStatement (Sequence place scope parts) = Given IsScope scope × AreStatements parts
+  IsStatement (For head body) = IsHead head × IsStatement body
 
   pub IsFallback : Fallback → Type 0
   IsFallback NoFallback = Unit {0}
@@ -105,9 +138,6 @@ abbrev mutual
 
 -- ---- declarations
 
-abbrev pub IsRange : RangeTree → Type 0
-IsRange r = IsExpr r.left × IsExpr r.right
-
 -- a declared name without a value
 abbrev pub IsPlain : Declarator → Type 0
 IsPlain d = IsName d.name × (d.value ≡ None)
@@ -125,15 +155,20 @@ is_port_kind _ = true
 abbrev pub IsVariable : Declarator → Type 0
 IsVariable d = IsPlain d × Given IsRange d.addresses
 
--- a net is none
-abbrev pub IsNet : Declarator → Type 0
-IsNet d = IsDeclarator d × (d.addresses ≡ None)
+-- addresses or a value, or none of them
+abbrev pub HasOneAtMost : Option RangeTree → Option Expr → Type 0
+HasOneAtMost (Some addresses) (Some value) = ⊥
+HasOneAtMost addresses value = Unit {0}
 
--- nor is a port
+-- a net may be an array of nets, or have a value
+abbrev pub IsNet : Declarator → Type 0
+IsNet d = IsDeclarator d × Given IsRange d.addresses × HasOneAtMost d.addresses d.value
+
+-- a port is neither a memory nor an array
 abbrev pub IsPort : Declarator → Type 0
 IsPort d = IsPlain d × (d.addresses ≡ None)
 
--- only a `reg` has addresses, and only a `wire` is given a value where it is declared
+-- only a `reg` and a `wire` have addresses, and only a `wire` is given a value where it is declared
 abbrev pub AreNames : SignalKind → List Declarator → Type 0
 AreNames Reg names = OneOrMore IsVariable names
 AreNames Wire names = OneOrMore IsNet names
@@ -147,7 +182,7 @@ abbrev pub IsSetting : Setting → Type 0
 IsSetting s = IsName s.name × IsExpr s.value
 
 pub record AreParameters (p : Parameters) : Type 0 where
-  pub range : Given IsRange p.range
+  pub value_type : IsValueType p.value_type
   pub settings : OneOrMore IsSetting p.settings
 
 -- ---- items
@@ -184,12 +219,12 @@ pub record AreInstances (i : Instances) : Type 0 where
   pub overrides : AreConnections i.overrides
   pub instances : OneOrMore IsInstance i.instances
 
-pub record IsHead (h : GenerateHead) : Type 0 where
-  pub variable : IsName h.variable
-  pub first : IsExpr h.first
-  pub test : IsExpr h.test
-  pub again : IsName h.again
-  pub next : IsExpr h.next
+pub record IsFunction (f : Function) : Type 0 where
+  pub name : IsName f.name
+  pub value_type : IsValueType f.value_type
+  pub inputs : Each AreVariables f.inputs
+  pub variables : Each AreVariables f.variables
+  pub statement : IsStatement f.statement
 
 abbrev mutual
   -- an item of a generate block, and of a module
@@ -199,7 +234,9 @@ abbrev mutual
   IsGenerateItem (AssignsItem place assigns) = OneOrMore IsAssign assigns
   IsGenerateItem (AlwaysItem block) = IsControl block.control × IsStatement block.statement
   IsGenerateItem (GenvarsItem place names) = OneOrMore IsName names
+  IsGenerateItem (IntegersItem place names) = OneOrMore IsName names
   IsGenerateItem (InstancesItem instances) = AreInstances instances
+  IsGenerateItem (FunctionItem function) = ⊥
   IsGenerateItem (GenerateFor head block) = IsHead head × IsBlock block
   IsGenerateItem (GenerateIf place c taken other) = IsExpr c × IsBlock taken × IsBlockFallback other
   IsGenerateItem (GenerateCase place subject arms other) = IsExpr subject × AreGenerateArms arms × IsBlockFallback other × HasGenerateArm arms other
@@ -226,10 +263,11 @@ abbrev mutual
   AreGenerateItems NoItem = Unit {0}
   AreGenerateItems (AndItem item rest) = IsGenerateItem item × AreGenerateItems rest
 
--- a module may declare ports and parameters besides
+-- a module may declare ports, parameters and functions besides
 abbrev pub IsItem : Item → Type 0
 IsItem (SignalsItem signals) = AreSignals signals
 IsItem (ParametersItem parameters) = AreParameters parameters
+IsItem (FunctionItem function) = IsFunction function
 IsItem item = IsGenerateItem item
 
 abbrev pub AreItems : Items → Type 0

@@ -41,6 +41,8 @@ mutual
     Number : (literal : Literal) → Expr
     -- a name, with what is selected of it
     Named : (name : Name) (select : Select) → Expr
+    -- a call of a function, `name(a, b, ..)` (10.4.3)
+    Apply : (name : Name) (arguments : Exprs) → Expr
     Unary : (place : ℕ) (op : UnaryOp) (a : Expr) → Expr
     Binary : (op : BinaryOp) (a b : Expr) → Expr
     -- `c ? p : q` (5.1.13)
@@ -58,11 +60,47 @@ mutual
     NoExpr : Exprs
     AndExpr : (e : Expr) (rest : Exprs) → Exprs
 
-  -- all of a name, one bit, or several; `bracket` is the place of the `[` (5.2.1)
+  -- all of a name, one bit, or several (5.2.1), or one bit or several of a word of a memory or of an array of nets (5.2.2); `bracket` is the
+  -- place of the `[`
   pub data Select : Type 0 where
     Whole : Select
     BitAt : (bracket : ℕ) (index : Expr) → Select
     Slice : (bracket : ℕ) (kind : SliceKind) (a b : Expr) → Select
+    -- `[address]`, and what is selected of the word, which is a bit or several
+    OfWord : (bracket : ℕ) (address : Expr) (part : Select) → Select
+
+-- ---- types, and variables of functions and of named blocks (A.2)
+
+-- `[left:right]`, from its `[` on
+pub record RangeTree : Type 0 where
+  pub bracket : ℕ
+  pub left : Expr
+  pub right : Expr
+
+-- `integer` (4.8), or else a sign and a range, which both may be missing (A.2.1.1, A.2.6)
+pub data ValueType : Type 0 where
+  IntegerType : ValueType
+  RangeType : (signed : Bool) (range : Option RangeTree) → ValueType
+
+-- a declaration of variables, from its `reg` or `integer` on (A.2.8), or of inputs of a function, from its `input` on (A.2.7)
+pub record Variables : Type 0 where
+  pub place : ℕ
+  pub value_type : ValueType
+  pub names : List Name
+
+-- the name of a block, and the variables that are declared there (9.8.2, 9.8.3)
+pub record BlockScope : Type 0 where
+  pub name : Name
+  pub variables : List Variables
+
+-- `for (variable = first; test; again = next)` (9.6, 12.4.1)
+pub record LoopHead : Type 0 where
+  pub place : ℕ
+  pub variable : Name
+  pub first : Expr
+  pub test : Expr
+  pub again : Name
+  pub next : Expr
 
 -- ---- statements (A.6)
 
@@ -87,8 +125,10 @@ mutual
     If : (place : ℕ) (c : Expr) (taken : Statement) (other : Fallback) → Statement
     -- 9.5; the arms in the order of the text, and apart from them the default
     Case : (place : ℕ) (kind : CaseKind) (subject : Expr) (arms : CaseArms) (other : Fallback) → Statement
-    -- `begin` to `end` (9.8.1); a name after `begin` has no effect
-    Sequence : (place : ℕ) (parts : Statements) → Statement
+    -- `begin` to `end` (9.8.1), perhaps with a name
+    Sequence : (place : ℕ) (scope : Option BlockScope) (parts : Statements) → Statement
+    -- 9.6
+    For : (head : LoopHead) (body : Statement) → Statement
 
   -- what is done where nothing else is taken: an `else` or a `default`
   pub data Fallback : Type 0 where
@@ -105,17 +145,11 @@ mutual
 
 -- ---- declarations (A.2)
 
--- `[left:right]`, from its `[` on
-pub record RangeTree : Type 0 where
-  pub bracket : ℕ
-  pub left : Expr
-  pub right : Expr
-
 -- `input`, `input wire`, `output`, `output wire`, `output reg`, `reg` and `wire`
 pub data SignalKind : Type 0 where
   Input InputWire Output OutputWire OutputReg Reg Wire : SignalKind
 
--- a declared name, the addresses of a memory (4.9), and what a `wire` is assigned where it is declared (6.1.1)
+-- a declared name, the addresses of a memory or of an array of nets (4.9), and what a `wire` is assigned where it is declared (6.1.1)
 pub record Declarator : Type 0 where
   pub name : Name
   pub addresses : Option RangeTree
@@ -138,8 +172,7 @@ pub record Setting : Type 0 where
 pub record Parameters : Type 0 where
   pub place : ℕ
   pub is_local : Bool
-  pub signed : Bool
-  pub range : Option RangeTree
+  pub value_type : ValueType
   pub settings : List Setting
 
 -- ---- items (A.1.4, A.4)
@@ -187,14 +220,14 @@ pub record Instances : Type 0 where
   pub overrides : Connections
   pub instances : List Instance
 
--- `for (variable = first; test; again = next)` (12.4.1)
-pub record GenerateHead : Type 0 where
+-- a function (10.4.1): the type of its value, its inputs, its own variables, and what it does
+pub record Function : Type 0 where
   pub place : ℕ
-  pub variable : Name
-  pub first : Expr
-  pub test : Expr
-  pub again : Name
-  pub next : Expr
+  pub name : Name
+  pub value_type : ValueType
+  pub inputs : List Variables
+  pub variables : List Variables
+  pub statement : Statement
 
 mutual
   -- `generate` and `endgenerate` leave nothing
@@ -204,8 +237,11 @@ mutual
     AssignsItem : (place : ℕ) (assigns : List Assign) → Item
     AlwaysItem : (block : AlwaysBlock) → Item
     GenvarsItem : (place : ℕ) (names : List Name) → Item
+    -- integers (4.8)
+    IntegersItem : (place : ℕ) (names : List Name) → Item
     InstancesItem : (instances : Instances) → Item
-    GenerateFor : (head : GenerateHead) (block : GenerateBlock) → Item
+    FunctionItem : (function : Function) → Item
+    GenerateFor : (head : LoopHead) (block : GenerateBlock) → Item
     GenerateIf : (place : ℕ) (c : Expr) (taken : GenerateBlock) (other : BlockFallback) → Item
     -- the arms in the order of the text, and apart from them the default
     GenerateCase : (place : ℕ) (subject : Expr) (arms : GenerateArms) (other : BlockFallback) → Item
@@ -253,6 +289,7 @@ pub record Source : Type 0 where
 abbrev pub expr_place : Expr → ℕ
 expr_place (Number literal) = literal.place
 expr_place (Named name select) = name.place
+expr_place (Apply name arguments) = name.place
 expr_place (Unary place op a) = place
 expr_place (Binary op a b) = expr_place a
 expr_place (Choice c p q) = expr_place c
@@ -270,7 +307,8 @@ statement_place (Empty place) = place
 statement_place (Assignment target e blocking) = target_place target
 statement_place (If place c taken other) = place
 statement_place (Case place kind subject arms other) = place
-statement_place (Sequence place parts) = place
+statement_place (Sequence place scope parts) = place
+statement_place (For head body) = head.place
 
 abbrev pub item_place : Item → ℕ
 item_place (SignalsItem signals) = signals.place
@@ -278,7 +316,9 @@ item_place (ParametersItem parameters) = parameters.place
 item_place (AssignsItem place assigns) = place
 item_place (AlwaysItem block) = block.place
 item_place (GenvarsItem place names) = place
+item_place (IntegersItem place names) = place
 item_place (InstancesItem instances) = instances.of.place
+item_place (FunctionItem function) = function.place
 item_place (GenerateFor head block) = head.place
 item_place (GenerateIf place c taken other) = place
 item_place (GenerateCase place subject arms other) = place

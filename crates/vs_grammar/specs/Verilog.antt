@@ -19,66 +19,80 @@ x ∣ y = alt x y
 -- ---- the rules
 
 pub data Rule : Type 0 where
-  Source Module HeaderParameters ParameterType ParameterSetting Range Ports Port Direction Names : Rule
+  Source Module HeaderParameters ValueType Setting Range Ports Port Direction Names : Rule
+  VariableType Variables InputType FunctionInput FunctionInputs FunctionDeclaration FunctionHead Function : Rule
   Item GenerateItem Instance Connections GenerateCaseItem GenerateCaseDefault GenerateCases GenerateBlock : Rule
-  EventControl Event Statement CaseItem CaseDefault Cases Target Select : Rule
+  EventControl Event BlockScope LoopHead Statement CaseItem CaseDefault Cases Target Select Part Arguments : Rule
   Primary Unary Product Sum Shift Relation Equality BitAnd BitXor BitOr LogicalAnd LogicalOr Expression : Rule
   Text : Rule
 
 -- the rules by number
 abbrev pub rules : List Rule
 rules =
-    Source ∷ Module ∷ HeaderParameters ∷ ParameterType ∷ ParameterSetting ∷ Range ∷ Ports ∷ Port ∷ Direction ∷ Names
+    Source ∷ Module ∷ HeaderParameters ∷ ValueType ∷ Setting ∷ Range ∷ Ports ∷ Port ∷ Direction ∷ Names
+    ∷ VariableType ∷ Variables ∷ InputType ∷ FunctionInput ∷ FunctionInputs ∷ FunctionDeclaration ∷ FunctionHead ∷ Function
     ∷ Item ∷ GenerateItem ∷ Instance ∷ Connections ∷ GenerateCaseItem ∷ GenerateCaseDefault ∷ GenerateCases ∷ GenerateBlock
-    ∷ EventControl ∷ Event ∷ Statement ∷ CaseItem ∷ CaseDefault ∷ Cases ∷ Target ∷ Select
+    ∷ EventControl ∷ Event ∷ BlockScope ∷ LoopHead ∷ Statement ∷ CaseItem ∷ CaseDefault ∷ Cases ∷ Target ∷ Select ∷ Part ∷ Arguments
     ∷ Primary ∷ Unary ∷ Product ∷ Sum ∷ Shift ∷ Relation ∷ Equality ∷ BitAnd ∷ BitXor ∷ BitOr ∷ LogicalAnd ∷ LogicalOr ∷ Expression
     ∷ Text ∷ []
 
 -- how many there are
 abbrev pub rule_count : ℕ
-rule_count = 40
+rule_count = 52
 
 abbrev pub index_of : Rule → ℕ
 index_of Source = 0
 index_of Module = 1
 index_of HeaderParameters = 2
-index_of ParameterType = 3
-index_of ParameterSetting = 4
+index_of ValueType = 3
+index_of Setting = 4
 index_of Range = 5
 index_of Ports = 6
 index_of Port = 7
 index_of Direction = 8
 index_of Names = 9
-index_of Item = 10
-index_of GenerateItem = 11
-index_of Instance = 12
-index_of Connections = 13
-index_of GenerateCaseItem = 14
-index_of GenerateCaseDefault = 15
-index_of GenerateCases = 16
-index_of GenerateBlock = 17
-index_of EventControl = 18
-index_of Event = 19
-index_of Statement = 20
-index_of CaseItem = 21
-index_of CaseDefault = 22
-index_of Cases = 23
-index_of Target = 24
-index_of Select = 25
-index_of Primary = 26
-index_of Unary = 27
-index_of Product = 28
-index_of Sum = 29
-index_of Shift = 30
-index_of Relation = 31
-index_of Equality = 32
-index_of BitAnd = 33
-index_of BitXor = 34
-index_of BitOr = 35
-index_of LogicalAnd = 36
-index_of LogicalOr = 37
-index_of Expression = 38
-index_of Text = 39
+index_of VariableType = 10
+index_of Variables = 11
+index_of InputType = 12
+index_of FunctionInput = 13
+index_of FunctionInputs = 14
+index_of FunctionDeclaration = 15
+index_of FunctionHead = 16
+index_of Function = 17
+index_of Item = 18
+index_of GenerateItem = 19
+index_of Instance = 20
+index_of Connections = 21
+index_of GenerateCaseItem = 22
+index_of GenerateCaseDefault = 23
+index_of GenerateCases = 24
+index_of GenerateBlock = 25
+index_of EventControl = 26
+index_of Event = 27
+index_of BlockScope = 28
+index_of LoopHead = 29
+index_of Statement = 30
+index_of CaseItem = 31
+index_of CaseDefault = 32
+index_of Cases = 33
+index_of Target = 34
+index_of Select = 35
+index_of Part = 36
+index_of Arguments = 37
+index_of Primary = 38
+index_of Unary = 39
+index_of Product = 40
+index_of Sum = 41
+index_of Shift = 42
+index_of Relation = 43
+index_of Equality = 44
+index_of BitAnd = 45
+index_of BitXor = 46
+index_of BitOr = 47
+index_of LogicalAnd = 48
+index_of LogicalOr = 49
+index_of Expression = 50
+index_of Text = 51
 
 -- a token, and a rule, as parts of a phrase
 abbrev pub t : TokenKind → Phrase
@@ -93,13 +107,21 @@ r n = var (index_of n)
 abbrev pub separated : Phrase → Phrase
 separated x = x ⨾ star (t kind.Comma ⨾ x)
 
--- ['signed'] [range]
+-- ['signed'] [range] x
 abbrev pub signed_range : Phrase → Phrase
 signed_range x = opt (t kind.KeywordSigned) ⨾ opt (r Range) ⨾ x
 
 -- [':' ID]
 abbrev pub block_name : Phrase
 block_name = opt (t kind.Colon ⨾ t kind.Identifier)
+
+-- ['signed'] [range]
+abbrev pub sign_and_range : Phrase
+sign_and_range = opt (t kind.KeywordSigned) ⨾ opt (r Range)
+
+-- 'reg' ['signed'] [range]
+abbrev pub reg_type : Phrase
+reg_type = t kind.KeywordReg ⨾ sign_and_range
 
 -- 'if' '(' expr ')' x ['else' x], where `else` belongs to the nearest `if`
 abbrev pub conditional : Phrase → Phrase
@@ -121,9 +143,9 @@ case_items item default = (default ⨾ star item) ∣ (item ⨾ star item ⨾ op
 abbrev pub variable_name : Phrase
 variable_name = t kind.Identifier ⨾ opt (r Range)
 
--- ID ['=' expr]
+-- ID (range | ['=' expr])
 abbrev pub wire_name : Phrase
-wire_name = t kind.Identifier ⨾ opt (t kind.Assign ⨾ r Expression)
+wire_name = t kind.Identifier ⨾ (r Range ∣ opt (t kind.Assign ⨾ r Expression))
 
 -- lval '=' expr
 abbrev pub assignment : Phrase
@@ -171,6 +193,10 @@ operations x operator = many true x (operator ⨾ x)
 
 -- ---- the parts of primaries, statements and events
 
+-- ID (args | [select])
+abbrev pub named_primary : Phrase
+named_primary = t kind.Identifier ⨾ (r Arguments ∣ opt (r Select))
+
 -- '(' expr ')', a level
 abbrev pub brackets : Phrase
 brackets = level (t kind.OpenParen ⨾ r Expression ⨾ t kind.CloseParen)
@@ -187,17 +213,29 @@ braces = level (t kind.OpenBrace ⨾ r Expression ⨾ braced)
 abbrev pub call : Phrase
 call = level ((t kind.SystemSigned ∣ t kind.SystemUnsigned ∣ t kind.SystemClog2) ⨾ t kind.OpenParen ⨾ r Expression ⨾ t kind.CloseParen)
 
+-- ':' | '+:' | '-:'
+abbrev pub slice_sign : Phrase
+slice_sign = t kind.Colon ∣ t kind.PlusColon ∣ t kind.MinusColon
+
 -- [(':' | '+:' | '-:') expr]
 abbrev pub slice_end : Phrase
-slice_end = opt ((t kind.Colon ∣ t kind.PlusColon ∣ t kind.MinusColon) ⨾ r Expression)
+slice_end = opt (slice_sign ⨾ r Expression)
+
+-- (':' | '+:' | '-:') expr ']' | ']' [part], behind '[' expr
+abbrev pub select_end : Phrase
+select_end = (slice_sign ⨾ r Expression ⨾ t kind.CloseBracket) ∣ (t kind.CloseBracket ⨾ opt (r Part))
 
 -- ('case' | 'casez' | 'casex') '(' expr ')' citem {citem} 'endcase'
 abbrev pub case_statement : Phrase
 case_statement = (t kind.KeywordCase ∣ t kind.KeywordCasez ∣ t kind.KeywordCasex) ⨾ t kind.OpenParen ⨾ r Expression ⨾ t kind.CloseParen ⨾ r Cases ⨾ t kind.KeywordEndCase
 
--- 'begin' [':' ID] {stmt} 'end'
+-- 'begin' [scope] {stmt} 'end'
 abbrev pub sequence : Phrase
-sequence = t kind.KeywordBegin ⨾ block_name ⨾ star (r Statement) ⨾ t kind.KeywordEnd
+sequence = t kind.KeywordBegin ⨾ opt (r BlockScope) ⨾ star (r Statement) ⨾ t kind.KeywordEnd
+
+-- head stmt
+abbrev pub loop : Phrase
+loop = r LoopHead ⨾ r Statement
 
 -- lval ('=' | '<=') expr ';'
 abbrev pub assigned : Phrase
@@ -217,13 +255,13 @@ event_list = t kind.OpenParen ⨾ (t kind.Star ∣ (r Event ⨾ star ((t kind.Ke
 abbrev pub reg_item : Phrase
 reg_item = t kind.KeywordReg ⨾ signed_range (separated variable_name ⨾ t kind.Semicolon)
 
--- 'wire' ['signed'] [range] ID ['=' expr] {',' ID ['=' expr]} ';'
+-- 'wire' ['signed'] [range] ID (range | ['=' expr]) {',' ID (range | ['=' expr])} ';'
 abbrev pub wire_item : Phrase
 wire_item = t kind.KeywordWire ⨾ signed_range (separated wire_name ⨾ t kind.Semicolon)
 
--- 'localparam' ptype pset {',' pset} ';'
+-- 'localparam' type set {',' set} ';'
 abbrev pub local_item : Phrase
-local_item = t kind.KeywordLocalParam ⨾ r ParameterType ⨾ separated (r ParameterSetting) ⨾ t kind.Semicolon
+local_item = t kind.KeywordLocalParam ⨾ r ValueType ⨾ separated (r Setting) ⨾ t kind.Semicolon
 
 -- 'assign' lval '=' expr {',' lval '=' expr} ';'
 abbrev pub assign_item : Phrase
@@ -237,6 +275,10 @@ always_item = t kind.KeywordAlways ⨾ r EventControl ⨾ r Statement
 abbrev pub genvar_item : Phrase
 genvar_item = t kind.KeywordGenvar ⨾ r Names ⨾ t kind.Semicolon
 
+-- 'integer' names ';'
+abbrev pub integer_item : Phrase
+integer_item = t kind.KeywordInteger ⨾ r Names ⨾ t kind.Semicolon
+
 -- ['#' '(' conns ')']
 abbrev pub overrides : Phrase
 overrides = opt (t kind.Hash ⨾ t kind.OpenParen ⨾ r Connections ⨾ t kind.CloseParen)
@@ -245,11 +287,9 @@ overrides = opt (t kind.Hash ⨾ t kind.OpenParen ⨾ r Connections ⨾ t kind.C
 abbrev pub instance_item : Phrase
 instance_item = t kind.Identifier ⨾ overrides ⨾ separated (r Instance) ⨾ t kind.Semicolon
 
--- 'for' '(' ID '=' expr ';' expr ';' ID '=' expr ')' gblock
+-- head gblock
 abbrev pub for_item : Phrase
-for_item =
-    t kind.KeywordFor ⨾ t kind.OpenParen ⨾ t kind.Identifier ⨾ t kind.Assign ⨾ r Expression ⨾ t kind.Semicolon ⨾ r Expression ⨾ t kind.Semicolon
-    ⨾ t kind.Identifier ⨾ t kind.Assign ⨾ r Expression ⨾ t kind.CloseParen ⨾ r GenerateBlock
+for_item = r LoopHead ⨾ r GenerateBlock
 
 -- 'if' '(' expr ')' gblock ['else' gblock]
 abbrev pub if_item : Phrase
@@ -258,6 +298,20 @@ if_item = conditional (r GenerateBlock)
 -- 'case' '(' expr ')' gcases 'endcase'
 abbrev pub generate_case : Phrase
 generate_case = t kind.KeywordCase ⨾ t kind.OpenParen ⨾ r Expression ⨾ t kind.CloseParen ⨾ r GenerateCases ⨾ t kind.KeywordEndCase
+
+-- ---- functions
+
+-- '(' inputs ')' ';' {vars}, behind the name of a function
+abbrev pub inputs_in_brackets : Phrase
+inputs_in_brackets = t kind.OpenParen ⨾ r FunctionInputs ⨾ t kind.CloseParen ⨾ t kind.Semicolon ⨾ star (r Variables)
+
+-- ';' {fdecl}, behind the name of a function
+abbrev pub inputs_behind : Phrase
+inputs_behind = t kind.Semicolon ⨾ star (r FunctionDeclaration)
+
+-- 'input' itype names ';'
+abbrev pub input_declaration : Phrase
+input_declaration = t kind.KeywordInput ⨾ r InputType ⨾ r Names ⨾ t kind.Semicolon
 
 -- ---- what each rule is
 
@@ -270,14 +324,14 @@ phrase_of Module =
     ⨾ opt (t kind.Hash ⨾ t kind.OpenParen ⨾ r HeaderParameters ⨾ t kind.CloseParen)
     ⨾ opt (t kind.OpenParen ⨾ opt (r Ports) ⨾ t kind.CloseParen)
     ⨾ t kind.Semicolon ⨾ star (r Item) ⨾ t kind.KeywordEndModule
--- 'parameter' ptype pset {',' ['parameter' ptype] pset}
+-- 'parameter' type set {',' ['parameter' type] set}
 phrase_of HeaderParameters =
-    t kind.KeywordParameter ⨾ r ParameterType ⨾ r ParameterSetting
-    ⨾ star (t kind.Comma ⨾ ((t kind.KeywordParameter ⨾ r ParameterType ⨾ r ParameterSetting) ∣ r ParameterSetting))
--- ['signed'] [range]
-phrase_of ParameterType = opt (t kind.KeywordSigned) ⨾ opt (r Range)
+    t kind.KeywordParameter ⨾ r ValueType ⨾ r Setting
+    ⨾ star (t kind.Comma ⨾ ((t kind.KeywordParameter ⨾ r ValueType ⨾ r Setting) ∣ r Setting))
+-- 'integer' | ['signed'] [range]
+phrase_of ValueType = t kind.KeywordInteger ∣ sign_and_range
 -- ID '=' expr
-phrase_of ParameterSetting = t kind.Identifier ⨾ t kind.Assign ⨾ r Expression
+phrase_of Setting = t kind.Identifier ⨾ t kind.Assign ⨾ r Expression
 -- '[' expr ':' expr ']'
 phrase_of Range = t kind.OpenBracket ⨾ r Expression ⨾ t kind.Colon ⨾ r Expression ⨾ t kind.CloseBracket
 -- ID {',' ID} | port {',' (port | ID)}
@@ -288,14 +342,32 @@ phrase_of Port = r Direction ⨾ signed_range (t kind.Identifier)
 phrase_of Direction = (t kind.KeywordInput ⨾ opt (t kind.KeywordWire)) ∣ (t kind.KeywordOutput ⨾ opt (t kind.KeywordWire ∣ t kind.KeywordReg))
 -- ID {',' ID}
 phrase_of Names = separated (t kind.Identifier)
--- dir ['signed'] [range] names ';' | 'parameter' ptype pset {',' pset} ';' | 'generate' {gitem} 'endgenerate' | gitem
+-- 'reg' ['signed'] [range] | 'integer'
+phrase_of VariableType = reg_type ∣ t kind.KeywordInteger
+-- vtype names ';'
+phrase_of Variables = r VariableType ⨾ r Names ⨾ t kind.Semicolon
+-- 'reg' ['signed'] [range] | type
+phrase_of InputType = reg_type ∣ r ValueType
+-- 'input' itype ID
+phrase_of FunctionInput = t kind.KeywordInput ⨾ r InputType ⨾ t kind.Identifier
+-- input {',' (input | ID)}
+phrase_of FunctionInputs = r FunctionInput ⨾ star (t kind.Comma ⨾ (r FunctionInput ∣ t kind.Identifier))
+-- 'input' itype names ';' | vars
+phrase_of FunctionDeclaration = input_declaration ∣ r Variables
+-- '(' inputs ')' ';' {vars} | ';' {fdecl}
+phrase_of FunctionHead = inputs_in_brackets ∣ inputs_behind
+-- 'function' type ID fhead stmt 'endfunction'
+phrase_of Function = t kind.KeywordFunction ⨾ r ValueType ⨾ t kind.Identifier ⨾ r FunctionHead ⨾ r Statement ⨾ t kind.KeywordEndFunction
+-- dir ['signed'] [range] names ';' | 'parameter' type set {',' set} ';' | 'generate' {gitem} 'endgenerate' | function | gitem
 phrase_of Item =
     (r Direction ⨾ signed_range (r Names ⨾ t kind.Semicolon))
-    ∣ (t kind.KeywordParameter ⨾ r ParameterType ⨾ separated (r ParameterSetting) ⨾ t kind.Semicolon)
+    ∣ (t kind.KeywordParameter ⨾ r ValueType ⨾ separated (r Setting) ⨾ t kind.Semicolon)
     ∣ (t kind.KeywordGenerate ⨾ star (r GenerateItem) ⨾ t kind.KeywordEndGenerate)
+    ∣ r Function
     ∣ r GenerateItem
--- declarations of signals, of local parameters and of genvars, assigns, blocks, instances, and generate constructs
-phrase_of GenerateItem = reg_item ∣ wire_item ∣ local_item ∣ assign_item ∣ always_item ∣ genvar_item ∣ instance_item ∣ for_item ∣ if_item ∣ generate_case
+-- declarations of signals, of local parameters, of genvars and of integers, assigns, blocks, instances, and generate constructs
+phrase_of GenerateItem =
+    reg_item ∣ wire_item ∣ local_item ∣ assign_item ∣ always_item ∣ genvar_item ∣ integer_item ∣ instance_item ∣ for_item ∣ if_item ∣ generate_case
 -- ID '(' conns ')'
 phrase_of Instance = t kind.Identifier ⨾ t kind.OpenParen ⨾ r Connections ⨾ t kind.CloseParen
 -- named {',' named} | [expr] {',' [expr]}
@@ -312,9 +384,14 @@ phrase_of GenerateBlock = level (block ∣ r GenerateItem ∣ t kind.Semicolon)
 phrase_of EventControl = t kind.At ⨾ (t kind.Identifier ∣ t kind.Star ∣ event_list)
 -- ['posedge' | 'negedge'] ID
 phrase_of Event = opt (t kind.KeywordPosedge ∣ t kind.KeywordNegedge) ⨾ t kind.Identifier
--- ';' | 'if' '(' expr ')' stmt ['else' stmt] | ('case' | 'casez' | 'casex') '(' expr ')' cases 'endcase' | 'begin' [':' ID] {stmt} 'end'
--- | lval ('=' | '<=') expr ';'; a level
-phrase_of Statement = level (t kind.Semicolon ∣ conditional (r Statement) ∣ case_statement ∣ sequence ∣ assigned)
+-- ':' ID {vars}
+phrase_of BlockScope = t kind.Colon ⨾ t kind.Identifier ⨾ star (r Variables)
+-- 'for' '(' set ';' expr ';' set ')'
+phrase_of LoopHead =
+    t kind.KeywordFor ⨾ t kind.OpenParen ⨾ r Setting ⨾ t kind.Semicolon ⨾ r Expression ⨾ t kind.Semicolon ⨾ r Setting ⨾ t kind.CloseParen
+-- ';' | 'if' '(' expr ')' stmt ['else' stmt] | ('case' | 'casez' | 'casex') '(' expr ')' cases 'endcase' | 'begin' [scope] {stmt} 'end'
+-- | head stmt | lval ('=' | '<=') expr ';'; a level
+phrase_of Statement = level (t kind.Semicolon ∣ conditional (r Statement) ∣ case_statement ∣ sequence ∣ loop ∣ assigned)
 -- expr {',' expr} ':' stmt
 phrase_of CaseItem = case_item (r Statement)
 -- 'default' [':'] stmt
@@ -323,11 +400,15 @@ phrase_of CaseDefault = case_default (r Statement)
 phrase_of Cases = case_items (r CaseItem) (r CaseDefault)
 -- ID [select] | '{' lval {',' lval} '}', the second a level
 phrase_of Target = selected_name ∣ level (t kind.OpenBrace ⨾ separated (r Target) ⨾ t kind.CloseBrace)
+-- '[' expr ((':' | '+:' | '-:') expr ']' | ']' [part]); a level
+phrase_of Select = level (t kind.OpenBracket ⨾ r Expression ⨾ select_end)
 -- '[' expr [(':' | '+:' | '-:') expr] ']'; a level
-phrase_of Select = level (t kind.OpenBracket ⨾ r Expression ⨾ slice_end ⨾ t kind.CloseBracket)
--- NUM | ID [select] | '(' expr ')' | '{' expr ('{' expr {',' expr} '}' '}' | {',' expr} '}') | ('$signed' | '$unsigned' | '$clog2') '(' expr ')';
+phrase_of Part = level (t kind.OpenBracket ⨾ r Expression ⨾ slice_end ⨾ t kind.CloseBracket)
+-- '(' expr {',' expr} ')'; a level
+phrase_of Arguments = level (t kind.OpenParen ⨾ separated (r Expression) ⨾ t kind.CloseParen)
+-- NUM | ID (args | [select]) | '(' expr ')' | '{' expr ('{' expr {',' expr} '}' '}' | {',' expr} '}') | ('$signed' | '$unsigned' | '$clog2') '(' expr ')';
 -- each of the last three a level
-phrase_of Primary = number ∣ selected_name ∣ brackets ∣ braces ∣ call
+phrase_of Primary = number ∣ named_primary ∣ brackets ∣ braces ∣ call
 -- ('+' | '-' | '!' | '~' | '&' | '~&' | '|' | '~|' | '^' | '~^' | '^~') unary | prim, the first a level
 phrase_of Unary = level (unary_operator ⨾ r Unary) ∣ r Primary
 -- unary {('*' | '/' | '%') unary}
@@ -358,7 +439,8 @@ phrase_of Text = r Source ⨾ tok end_of_text
 -- ---- what a rule's lists can begin with, and what can follow them
 
 abbrev pub derives_nothing : Rule → Bool
-derives_nothing ParameterType = true
+derives_nothing ValueType = true
+derives_nothing InputType = true
 derives_nothing Connections = true
 derives_nothing _ = false
 
@@ -374,26 +456,38 @@ expression_firsts =
 abbrev pub generate_item_firsts : List TokenKind
 generate_item_firsts =
     kind.Identifier ∷ kind.KeywordReg ∷ kind.KeywordWire ∷ kind.KeywordLocalParam ∷ kind.KeywordAssign ∷ kind.KeywordAlways ∷ kind.KeywordGenvar
-    ∷ kind.KeywordFor ∷ kind.KeywordIf ∷ kind.KeywordCase ∷ []
+    ∷ kind.KeywordInteger ∷ kind.KeywordFor ∷ kind.KeywordIf ∷ kind.KeywordCase ∷ []
 
 abbrev pub item_firsts : List TokenKind
-item_firsts = kind.KeywordInput ∷ kind.KeywordOutput ∷ kind.KeywordParameter ∷ kind.KeywordGenerate ∷ generate_item_firsts
+item_firsts = kind.KeywordInput ∷ kind.KeywordOutput ∷ kind.KeywordParameter ∷ kind.KeywordGenerate ∷ kind.KeywordFunction ∷ generate_item_firsts
 
 abbrev pub statement_firsts : List TokenKind
 statement_firsts =
-    kind.Identifier ∷ kind.OpenBrace ∷ kind.Semicolon ∷ kind.KeywordIf ∷ kind.KeywordCase ∷ kind.KeywordCasez ∷ kind.KeywordCasex ∷ kind.KeywordBegin ∷ []
+    kind.Identifier ∷ kind.OpenBrace ∷ kind.Semicolon ∷ kind.KeywordIf ∷ kind.KeywordCase ∷ kind.KeywordCasez ∷ kind.KeywordCasex ∷ kind.KeywordBegin
+    ∷ kind.KeywordFor ∷ []
+
+abbrev pub variable_firsts : List TokenKind
+variable_firsts = kind.KeywordReg ∷ kind.KeywordInteger ∷ []
 
 abbrev pub firsts_of_rule : Rule → List TokenKind
 firsts_of_rule Source = kind.KeywordModule ∷ []
 firsts_of_rule Module = kind.KeywordModule ∷ []
 firsts_of_rule HeaderParameters = kind.KeywordParameter ∷ []
-firsts_of_rule ParameterType = kind.KeywordSigned ∷ kind.OpenBracket ∷ []
-firsts_of_rule ParameterSetting = kind.Identifier ∷ []
+firsts_of_rule ValueType = kind.KeywordInteger ∷ kind.KeywordSigned ∷ kind.OpenBracket ∷ []
+firsts_of_rule Setting = kind.Identifier ∷ []
 firsts_of_rule Range = kind.OpenBracket ∷ []
 firsts_of_rule Ports = kind.Identifier ∷ kind.KeywordInput ∷ kind.KeywordOutput ∷ []
 firsts_of_rule Port = kind.KeywordInput ∷ kind.KeywordOutput ∷ []
 firsts_of_rule Direction = kind.KeywordInput ∷ kind.KeywordOutput ∷ []
 firsts_of_rule Names = kind.Identifier ∷ []
+firsts_of_rule VariableType = variable_firsts
+firsts_of_rule Variables = variable_firsts
+firsts_of_rule InputType = kind.KeywordReg ∷ kind.KeywordInteger ∷ kind.KeywordSigned ∷ kind.OpenBracket ∷ []
+firsts_of_rule FunctionInput = kind.KeywordInput ∷ []
+firsts_of_rule FunctionInputs = kind.KeywordInput ∷ []
+firsts_of_rule FunctionDeclaration = kind.KeywordInput ∷ variable_firsts
+firsts_of_rule FunctionHead = kind.OpenParen ∷ kind.Semicolon ∷ []
+firsts_of_rule Function = kind.KeywordFunction ∷ []
 firsts_of_rule Item = item_firsts
 firsts_of_rule GenerateItem = generate_item_firsts
 firsts_of_rule Instance = kind.Identifier ∷ []
@@ -404,12 +498,16 @@ firsts_of_rule GenerateCases = kind.KeywordDefault ∷ expression_firsts
 firsts_of_rule GenerateBlock = kind.KeywordBegin ∷ kind.Semicolon ∷ generate_item_firsts
 firsts_of_rule EventControl = kind.At ∷ []
 firsts_of_rule Event = kind.Identifier ∷ kind.KeywordPosedge ∷ kind.KeywordNegedge ∷ []
+firsts_of_rule BlockScope = kind.Colon ∷ []
+firsts_of_rule LoopHead = kind.KeywordFor ∷ []
 firsts_of_rule Statement = statement_firsts
 firsts_of_rule CaseItem = expression_firsts
 firsts_of_rule CaseDefault = kind.KeywordDefault ∷ []
 firsts_of_rule Cases = kind.KeywordDefault ∷ expression_firsts
 firsts_of_rule Target = kind.Identifier ∷ kind.OpenBrace ∷ []
 firsts_of_rule Select = kind.OpenBracket ∷ []
+firsts_of_rule Part = kind.OpenBracket ∷ []
+firsts_of_rule Arguments = kind.OpenParen ∷ []
 firsts_of_rule Primary = primary_firsts
 firsts_of_rule Text = kind.KeywordModule ∷ []
 firsts_of_rule _ = expression_firsts
@@ -461,13 +559,21 @@ abbrev pub follows_of_rule : Rule → List TokenKind
 follows_of_rule Source = []
 follows_of_rule Module = kind.KeywordModule ∷ []
 follows_of_rule HeaderParameters = kind.CloseParen ∷ []
-follows_of_rule ParameterType = kind.Identifier ∷ []
-follows_of_rule ParameterSetting = kind.CloseParen ∷ kind.Semicolon ∷ kind.Comma ∷ []
+follows_of_rule ValueType = kind.Identifier ∷ []
+follows_of_rule Setting = kind.CloseParen ∷ kind.Semicolon ∷ kind.Comma ∷ []
 follows_of_rule Range = kind.Identifier ∷ kind.Semicolon ∷ kind.Comma ∷ []
 follows_of_rule Ports = kind.CloseParen ∷ []
 follows_of_rule Port = kind.CloseParen ∷ kind.Comma ∷ []
 follows_of_rule Direction = kind.Identifier ∷ kind.KeywordSigned ∷ kind.OpenBracket ∷ []
 follows_of_rule Names = kind.Semicolon ∷ []
+follows_of_rule VariableType = kind.Identifier ∷ []
+follows_of_rule Variables = kind.KeywordEnd ∷ kind.KeywordInput ∷ variable_firsts ++ statement_firsts
+follows_of_rule InputType = kind.Identifier ∷ []
+follows_of_rule FunctionInput = kind.CloseParen ∷ kind.Comma ∷ []
+follows_of_rule FunctionInputs = kind.CloseParen ∷ []
+follows_of_rule FunctionDeclaration = kind.KeywordInput ∷ variable_firsts ++ statement_firsts
+follows_of_rule FunctionHead = statement_firsts
+follows_of_rule Function = kind.KeywordEndModule ∷ item_firsts
 follows_of_rule Item = kind.KeywordEndModule ∷ item_firsts
 follows_of_rule GenerateItem = after_generate_item
 follows_of_rule Instance = kind.Semicolon ∷ kind.Comma ∷ []
@@ -478,12 +584,16 @@ follows_of_rule GenerateCases = kind.KeywordEndCase ∷ []
 follows_of_rule GenerateBlock = after_generate_item
 follows_of_rule EventControl = statement_firsts
 follows_of_rule Event = kind.CloseParen ∷ kind.Comma ∷ kind.KeywordOr ∷ []
-follows_of_rule Statement = statement_firsts ++ after_generate_item
+follows_of_rule BlockScope = kind.KeywordEnd ∷ statement_firsts
+follows_of_rule LoopHead = kind.KeywordBegin ∷ kind.Semicolon ∷ generate_item_firsts ++ statement_firsts
+follows_of_rule Statement = kind.KeywordEndFunction ∷ statement_firsts ++ after_generate_item
 follows_of_rule CaseItem = kind.KeywordEndCase ∷ kind.KeywordDefault ∷ expression_firsts
 follows_of_rule CaseDefault = kind.KeywordEndCase ∷ expression_firsts
 follows_of_rule Cases = kind.KeywordEndCase ∷ []
 follows_of_rule Target = kind.CloseBrace ∷ kind.Comma ∷ kind.Assign ∷ kind.LessEqual ∷ []
 follows_of_rule Select = kind.Assign ∷ after_unary
+follows_of_rule Part = kind.Assign ∷ after_unary
+follows_of_rule Arguments = after_unary
 follows_of_rule Primary = after_unary
 follows_of_rule Unary = after_unary
 follows_of_rule Product = after_product

@@ -3,7 +3,7 @@ use Rattle.std.specs.Prelude.{ℕ, List, [], codes}
 use Rattle.vs_refusal.specs.declared.names.BareName.{BareName}
 use Rattle.vs_refusal.specs.declared.names.BareName.TheVariants.{Usage, TooLong, NoTop, NoClock}
 use Rattle.vs_refusal.specs.declared.names.AtName.{AtName}
-use Rattle.vs_refusal.specs.declared.names.AtName.TheVariants.{NoToken, OpenComment, BadLiteral, TooManyTokens, BadDirective, UnknownMacro, MacroLoop, MacroArguments, MacroLimit, LeftOut, Syntax, TooDeep, NotConstant, UnknownConstant, DuplicateModule, UnknownModule, UnknownName, DuplicateName, BadRange, PortCount, UnknownPort, InstanceDepth, TooManyInstances, GenerateTurns, WrongKind, TooManyBits, TooManyProcesses, TooWide, Division, MixedAssign, FunctionLatch}
+use Rattle.vs_refusal.specs.declared.names.AtName.TheVariants.{NoToken, OpenComment, BadLiteral, TooManyTokens, BadDirective, UnknownMacro, MacroLoop, MacroArguments, MacroLimit, LeftOut, Syntax, TooDeep, NotConstant, UnknownConstant, DuplicateModule, UnknownModule, UnknownName, DuplicateName, BadRange, PortCount, UnknownPort, InstanceDepth, TooManyInstances, GenerateTurns, WrongKind, TooManyBits, TooManyProcesses, LoopTurns, LoopVariable, FunctionRule, Recursion, TooWide, Division, MixedAssign, FunctionLatch}
 use Rattle.vs_refusal.specs.declared.names.ProcessName.{ProcessName}
 use Rattle.vs_refusal.specs.declared.names.ProcessName.TheVariants.{ClockRead, NotTheClock, TimeZero, ResetForm}
 use Rattle.vs_refusal.specs.declared.names.LaneName.{LaneName}
@@ -53,6 +53,10 @@ at_sentence GenerateTurns = codes "a generate loop takes more than 4,096 turns, 
 at_sentence WrongKind = codes "a name of another kind stands here"
 at_sentence TooManyBits = codes "the signals have more than 1,048,576 bits"
 at_sentence TooManyProcesses = codes "the design has more than 65,536 assigns and blocks"
+at_sentence LoopTurns = codes "a loop of a block or a function takes more than 4,096 turns, or all of them copy more than 1,048,576 statements"
+at_sentence LoopVariable = codes "an integer is named outside its loops, assigned in its loop, heads a loop within it, or heads loops of two blocks"
+at_sentence FunctionRule = codes "a function names a signal or an integer of its module, writes an input, has a <=, no input, too many bits or calls that nest too deep, or a call has another number of arguments"
+at_sentence Recursion = codes "a function calls itself, or one that isn't declared before it"
 at_sentence TooWide = codes "an expression or target is longer than 64 bits"
 at_sentence Division = codes "/ or % has an operand that names a signal"
 at_sentence MixedAssign = codes "<= stands in a combinational block, or = in a clocked one"
@@ -86,6 +90,10 @@ at_remedy GenerateTurns = codes "check the loop's condition"
 at_remedy WrongKind = codes "check the declaration; read m[a] into a wire; write words in always @(posedge clk)"
 at_remedy TooManyBits = codes "split the design"
 at_remedy TooManyProcesses = codes "split the design"
+at_remedy LoopTurns = codes "check the loop's condition"
+at_remedy LoopVariable = codes "give each block integers of its own, and a reg signed [31:0] what is kept"
+at_remedy FunctionRule = codes "pass signals as inputs, and give each input its argument"
+at_remedy Recursion = codes "declare it before its calls, or write a loop"
 at_remedy TooWide = codes "split it"
 at_remedy Division = codes "only constants are divided"
 at_remedy MixedAssign = codes "use the other assignment"

@@ -66,6 +66,13 @@ fn at_sentence(name: AtName) -> &'static str
         AtName::WrongKind => "a name of another kind stands here",
         AtName::TooManyBits => "the signals have more than 1,048,576 bits",
         AtName::TooManyProcesses => "the design has more than 65,536 assigns and blocks",
+        AtName::LoopTurns =>
+            "a loop of a block or a function takes more than 4,096 turns, or all of them copy more than 1,048,576 statements",
+        AtName::LoopVariable =>
+            "an integer is named outside its loops, assigned in its loop, heads a loop within it, or heads loops of two blocks",
+        AtName::FunctionRule =>
+            "a function names a signal or an integer of its module, writes an input, has a <=, no input, too many bits or calls that nest too deep, or a call has another number of arguments",
+        AtName::Recursion => "a function calls itself, or one that isn't declared before it",
         AtName::TooWide => "an expression or target is longer than 64 bits",
         AtName::Division => "/ or % has an operand that names a signal",
         AtName::MixedAssign => "<= stands in a combinational block, or = in a clocked one",
@@ -110,6 +117,11 @@ fn at_remedy(name: AtName) -> &'static str
             "check the declaration; read m[a] into a wire; write words in always @(posedge clk)",
         AtName::TooManyBits => "split the design",
         AtName::TooManyProcesses => "split the design",
+        AtName::LoopTurns => "check the loop's condition",
+        AtName::LoopVariable =>
+            "give each block integers of its own, and a reg signed [31:0] what is kept",
+        AtName::FunctionRule => "pass signals as inputs, and give each input its argument",
+        AtName::Recursion => "declare it before its calls, or write a loop",
         AtName::TooWide => "split it",
         AtName::Division => "only constants are divided",
         AtName::MixedAssign => "use the other assignment",

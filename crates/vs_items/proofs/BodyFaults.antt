@@ -1,5 +1,5 @@
 -- The faults of items, one after the other.
-use Rattle.std.proofs.Common.{◌≡◌, ℕ, ◌+◌, ◌<◌, ◌≤◌, false, List, [], ◌∷◌, ◌++◌, length, get_or, take, map, flat_map, Option, Some, None, refl, sym, ap, ◌∙◌, append_assoc, arith, add-zero}
+use Rattle.std.proofs.Common.{◌≡◌, ℕ, ◌+◌, ◌-◌, ◌<◌, ◌≤◌, false, List, [], ◌∷◌, ◌++◌, length, get_or, take, map, flat_map, Option, Some, None, refl, sym, ap, ◌∙◌, append_assoc, arith, add-zero}
 use Rattle.std.proofs.lemmas.List.{append-nil, length-map, length-take-le}
 use Rattle.vs_grammar.specs.Trees as tree
 use Rattle.vs_ast.specs.declared.items.Item.{Item}
@@ -11,14 +11,18 @@ use Rattle.vs_const.specs.Expressions.{typed}
 use Rattle.vs_const.proofs.Least.{least_append}
 use Rattle.vs_elaborated.specs.Environments.{Env, named}
 use Rattle.vs_elaborated.specs.Targets.{target_base, typed_target}
-use Rattle.vs_elaborated.specs.Statements.{typed_statement, typed_control, is_clocked_by, unclocked_faults}
+use Rattle.vs_elaborated.specs.Statements.{unrolled_within, typed_control}
 use Rattle.vs_elaborated.specs.Generate.{Made}
 use Rattle.vs_elaborated.specs.Pieces.{all_said}
 use Rattle.vs_elaborated.specs.Instances.{Around}
-use Rattle.vs_elaborated.specs.Surveys.{assign_said, wire_said, block_said, item_said, items_said}
+use Rattle.vs_elaborated.specs.Limits.{Limits}
+use Rattle.vs_elaborated.specs.Heads.{Head, shared_heads}
+use Rattle.vs_elaborated.specs.Surveys.{Loops, assign_said, wire_said, block_body, block_heads, block_said, item_said, items_said, loops_after, loops_behind}
 use Rattle.vs_items.specs.declared.counts.Count.{Count}
 use Rattle.vs_items.specs.Counts.{IsCounted}
+use Rattle.vs_items.specs.Loops.{SeeTheSame}
 use Rattle.vs_items.specs.Items.{assign_faults, value_faults, wire_faults}
+use Rattle.vs_items.proofs.HeadFacts.{heads_alike}
 use Rattle.vs_items.proofs.ItemFaults.{assigns_have, wires_have}
 use Rattle.vs_items.proofs.ItemLists.{made_at, made_more}
 use Rattle.vs_items.proofs.Repeats.{one_more}
@@ -43,41 +47,72 @@ module _ (e1 e2 : Env) (h : named e1 ≡ named e2) where
   pub wires_alike : (place : ℕ) (xs : List tree.Declarator) → (all_said (wire_said e1 place) xs).faults ≡ (all_said (wire_said e2 place) xs).faults
   wires_alike place xs = wires_have e1 place xs ∙ flat_alike (wire_faults e1) (wire_faults e2) (λ d. value_alike d.name d.value) xs ∙ sym (wires_have e2 place xs)
 
-  pub block_alike : (b : tree.AlwaysBlock) → (block_said e1 b).faults ≡ (block_said e2 b).faults
-  block_alike b = ap (λ (find : Find). (typed_control b.control find).faults ++ ((typed_statement b.statement find).faults ++ unclocked_faults (is_clocked_by b.control) b.statement find)) h
+module _ (limits : Limits) (loops : Loops) (e1 e2 : Env) (h : SeeTheSame e1 e2) where
+  pub block_alike : (b : tree.AlwaysBlock) → (block_said limits e1 loops b).faults ≡ (block_said limits e2 loops b).faults
+  block_alike b =
+      ap (λ (find : Find). (typed_control b.control find).faults ++ ((unrolled_within (limits.copies - loops.copies) b.statement (block_body b) find).faults ++ shared_heads loops.headed (block_heads e1 b))) h.names
+      ∙ ap (λ (hs : List Head). (typed_control b.control (named e2)).faults ++ ((unrolled_within (limits.copies - loops.copies) b.statement (block_body b) (named e2)).faults ++ shared_heads loops.headed hs)) (heads_alike e1 e2 h.finds b.statement [])
+
+  pub after_alike : (i : tree.Item) → loops_after limits e1 loops i ≡ loops_after limits e2 loops i
+  after_alike (tree.SignalsItem t) = refl
+  after_alike (tree.ParametersItem t) = refl
+  after_alike (tree.AssignsItem place assigns) = refl
+  after_alike (tree.AlwaysItem b) =
+      let behind : ℕ → List Head → Loops = λ n hs. record { copies = loops.copies + n; headed = loops.headed ++ map (λ (x : Head). x.integer) hs } in
+      ap (λ (find : Find). behind (unrolled_within (limits.copies - loops.copies) b.statement (block_body b) find).copies (block_heads e1 b)) h.names
+      ∙ ap (λ hs. behind (unrolled_within (limits.copies - loops.copies) b.statement (block_body b) (named e2)).copies hs) (heads_alike e1 e2 h.finds b.statement [])
+  after_alike (tree.GenvarsItem place names) = refl
+  after_alike (tree.IntegersItem place names) = refl
+  after_alike (tree.InstancesItem t) = refl
+  after_alike (tree.FunctionItem f) = refl
+  after_alike (tree.GenerateFor head block) = refl
+  after_alike (tree.GenerateIf place c taken other) = refl
+  after_alike (tree.GenerateCase place subject arms other) = refl
+
+pub behind_more : (limits : Limits) (env : Env) (loops : Loops) (is : List tree.Item) (i : tree.Item) → loops_behind limits env loops (is ++ i ∷ []) ≡ loops_after limits env (loops_behind limits env loops is) i
+behind_more limits env loops [] i = refl
+behind_more limits env loops (j ∷ is) i = behind_more limits env (loops_after limits env loops j) is i
+
+-- behind one item more
+pub item_behind : (limits : Limits) (env : Env) (loops : Loops) (items : List Item) (i : ℕ) (x : Item) (now more : Loops) → i < length items → x ≡ get_or items i x → now ≡ loops_behind limits env loops (map view.item (take i items))
+    → more ≡ loops_after limits env now (view.item x) → more ≡ loops_behind limits env loops (map view.item (take (i + 1) items))
+item_behind limits env loops items i x now more h e is after =
+    after ∙ ap (λ (l : Loops). loops_after limits env l (view.item x)) is ∙ sym (behind_more limits env loops (map view.item (take i items)) (view.item x))
+    ∙ ap (loops_behind limits env loops) (sym (one_more view.item items i x h e))
 
 -- ---- one item more
 
-faults_behind : (source : tree.Source) (around : Around) (is : List tree.Item) (i : tree.Item) (ms : List Made) (m : Made) → length is ≡ length ms
-    → (items_said source around (is ++ i ∷ []) (ms ++ m ∷ [])).faults ≡ (items_said source around is ms).faults ++ (item_said source around i m).faults
-faults_behind source around [] i [] m h = append-nil (item_said source around i m).faults
-faults_behind source around [] i (n ∷ ms) m h = absurd (let no : ⊥ = omega (arith, h) in no)
-faults_behind source around (j ∷ is) i [] m h = absurd (let no : ⊥ = omega (arith, h) in no)
-faults_behind source around (j ∷ is) i (n ∷ ms) m h =
-    ap (λ r. (item_said source around j n).faults ++ r) (faults_behind source around is i ms m (omega (arith, h)))
-    ∙ sym (append_assoc (item_said source around j n).faults (items_said source around is ms).faults (item_said source around i m).faults)
+faults_behind : (limits : Limits) (source : tree.Source) (around : Around) (loops : Loops) (is : List tree.Item) (i : tree.Item) (ms : List Made) (m : Made) → length is ≡ length ms
+    → (items_said limits source around loops (is ++ i ∷ []) (ms ++ m ∷ [])).faults ≡ (items_said limits source around loops is ms).faults ++ (item_said limits source around (loops_behind limits around.env loops is) i m).faults
+faults_behind limits source around loops [] i [] m h = append-nil (item_said limits source around loops i m).faults
+faults_behind limits source around loops [] i (n ∷ ms) m h = absurd (let no : ⊥ = omega (arith, h) in no)
+faults_behind limits source around loops (j ∷ is) i [] m h = absurd (let no : ⊥ = omega (arith, h) in no)
+faults_behind limits source around loops (j ∷ is) i (n ∷ ms) m h =
+    let after = loops_after limits around.env loops j in
+    ap (λ r. (item_said limits source around loops j n).faults ++ r) (faults_behind limits source around after is i ms m (omega (arith, h)))
+    ∙ sym (append_assoc (item_said limits source around loops j n).faults (items_said limits source around after is ms).faults (item_said limits source around (loops_behind limits around.env after is) i m).faults)
 
-pub item_found : (source : tree.Source) (around : Around) (items : List Item) (made : List Made) (i : ℕ) (x : Item) (a b both : Option Fault) → i < length items → x ≡ get_or items i x → length made ≡ length items
-    → both ≡ better a b → a ≡ least (items_said source around (map view.item (take i items)) (take i made)).faults → b ≡ least (item_said source around (view.item x) (made_at made i)).faults
-    → both ≡ least (items_said source around (map view.item (take (i + 1) items)) (take (i + 1) made)).faults
-item_found source around items made i x a b both h e same is before own =
+pub item_found : (limits : Limits) (source : tree.Source) (around : Around) (loops : Loops) (items : List Item) (made : List Made) (i : ℕ) (x : Item) (a b both : Option Fault) → i < length items → x ≡ get_or items i x → length made ≡ length items
+    → both ≡ better a b → a ≡ least (items_said limits source around loops (map view.item (take i items)) (take i made)).faults → b ≡ least (item_said limits source around (loops_behind limits around.env loops (map view.item (take i items))) (view.item x) (made_at made i)).faults
+    → both ≡ least (items_said limits source around loops (map view.item (take (i + 1) items)) (take (i + 1) made)).faults
+item_found limits source around loops items made i x a b both h e same is before own =
     let within : i < length made = omega (arith, h, same) in
     let p = length-map (take i items) view.item in
     let q = length-take-le i items (omega (arith, h)) in
     let r = length-take-le i made (omega (arith, within)) in
-    let done = (items_said source around (map view.item (take i items)) (take i made)).faults in
+    let done = (items_said limits source around loops (map view.item (take i items)) (take i made)).faults in
     is ∙ ap (λ z. better z b) before ∙ ap (better (least done)) own
-    ∙ sym (least_append done (item_said source around (view.item x) (made_at made i)).faults)
-    ∙ ap least (sym (faults_behind source around (map view.item (take i items)) (view.item x) (take i made) (made_at made i) (p ∙ q ∙ sym r)))
-    ∙ ap (λ is. least (items_said source around is (take i made ++ made_at made i ∷ [])).faults) (sym (one_more view.item items i x h e))
-    ∙ ap (λ ms. least (items_said source around (map view.item (take (i + 1) items)) ms).faults) (sym (made_more made i within))
+    ∙ sym (least_append done (item_said limits source around (loops_behind limits around.env loops (map view.item (take i items))) (view.item x) (made_at made i)).faults)
+    ∙ ap least (sym (faults_behind limits source around loops (map view.item (take i items)) (view.item x) (take i made) (made_at made i) (p ∙ q ∙ sym r)))
+    ∙ ap (λ is. least (items_said limits source around loops is (take i made ++ made_at made i ∷ [])).faults) (sym (one_more view.item items i x h e))
+    ∙ ap (λ ms. least (items_said limits source around loops (map view.item (take (i + 1) items)) ms).faults) (sym (made_more made i within))
 
 -- the one item of a block
-pub one_found : (source : tree.Source) (around : Around) (i : tree.Item) (made : List Made) (f : Option Fault) → length made ≡ 1
-    → f ≡ least (item_said source around i (made_at made 0)).faults → f ≡ least (items_said source around (i ∷ []) made).faults
-one_found source around i [] f h k = absurd (let no : ⊥ = omega (arith, h) in no)
-one_found source around i (m ∷ []) f h k = k ∙ ap least (sym (append-nil (item_said source around i m).faults))
-one_found source around i (m ∷ n ∷ ms) f h k = absurd (let no : ⊥ = omega (arith, h) in no)
+pub one_found : (limits : Limits) (source : tree.Source) (around : Around) (loops : Loops) (i : tree.Item) (made : List Made) (f : Option Fault) → length made ≡ 1
+    → f ≡ least (item_said limits source around loops i (made_at made 0)).faults → f ≡ least (items_said limits source around loops (i ∷ []) made).faults
+one_found limits source around loops i [] f h k = absurd (let no : ⊥ = omega (arith, h) in no)
+one_found limits source around loops i (m ∷ []) f h k = k ∙ ap least (sym (append-nil (item_said limits source around loops i m).faults))
+one_found limits source around loops i (m ∷ n ∷ ms) f h k = absurd (let no : ⊥ = omega (arith, h) in no)
 
 -- ---- with the count
 

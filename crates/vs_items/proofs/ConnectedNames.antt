@@ -7,7 +7,7 @@ use Rattle.vs_grammar.specs.Trees as tree
 use Rattle.vs_grammar.specs.Trees.{Name}
 use Rattle.vs_elaborated.specs.Ports.{is_named}
 use Rattle.vs_elaborated.specs.Instances.{connected_names}
-use Rattle.vs_scope.specs.Maps.{Pair, value_at}
+use Rattle.vs_maps.specs.Maps.{Pair, value_at}
 use Rattle.vs_items.specs.Noted.{named}
 use Rattle.vs_items.specs.Connected.{name_faults}
 

@@ -11,7 +11,7 @@ use Rattle.vs_elaborated.specs.Environments.{Env}
 use Rattle.vs_elaborated.specs.Pieces.{Connection}
 use Rattle.vs_elaborated.specs.Ports.{Port, find_port}
 use Rattle.vs_elaborated.specs.Instances.{output_target, connected, connected_by_order, connected_by_name, connection_name, connection_of, in_port_order}
-use Rattle.vs_scope.specs.Maps.{Pair, value_at}
+use Rattle.vs_maps.specs.Maps.{Pair, value_at}
 use Rattle.vs_items.specs.Noted.{AreFirst, named}
 use Rattle.vs_items.specs.Counts.{has_name, HasNames}
 use Rattle.vs_items.proofs.Firsts.{value_behind}

@@ -13,7 +13,7 @@ use Rattle.vs_grammar.specs.Trees as tree
 use Rattle.vs_ast.specs.declared.names.Name.{Name}
 use Rattle.vs_elaborated.specs.Ports as ports
 use Rattle.vs_elaborated.specs.Ports.{directions_in, item_directions}
-use Rattle.vs_scope.specs.Maps.{Pair, value_at}
+use Rattle.vs_maps.specs.Maps.{Pair, value_at}
 use Rattle.vs_items.specs.Noted.{named}
 use Rattle.vs_items.specs.Ports.{named_direction, declared_port}
 use Rattle.vs_items.proofs.Repeats.{one_more}

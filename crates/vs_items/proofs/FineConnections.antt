@@ -12,7 +12,7 @@ use Rattle.vs_const.proofs.Formed.{both_nil}
 use Rattle.vs_elaborated.specs.Environments.{Env}
 use Rattle.vs_elaborated.specs.Ports.{Port, find_port}
 use Rattle.vs_elaborated.specs.Instances.{connected, connected_by_order, connected_by_name}
-use Rattle.vs_scope.specs.Maps.{value_at}
+use Rattle.vs_maps.specs.Maps.{value_at}
 use Rattle.vs_scope.proofs.Entries.{same_is}
 use Rattle.vs_items.specs.Connections.{named_value}
 use Rattle.vs_items.specs.Fine.{IsFineValue, AreFineOrdered, IsFineNamed}

@@ -2,7 +2,7 @@
 use Rattle.std.proofs.Common.{◌≡◌, ℕ, Bool, true, false, List, [], ◌∷◌, ◌++◌, Option, Some, None, option_map, if◌then◌else◌, refl, sym, ap, ◌∙◌, subst}
 use Rattle.std.specs.Prelude.{is_some}
 use Rattle.vs_design.specs.Clocks.{same_name}
-use Rattle.vs_scope.specs.Maps.{Pair, value_at, with_value}
+use Rattle.vs_maps.specs.Maps.{Pair, value_at, with_value}
 use Rattle.vs_scope.proofs.Entries.{same_is}
 use Rattle.vs_items.specs.Noted.{AreFirst, named}
 

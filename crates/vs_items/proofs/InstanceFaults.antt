@@ -16,8 +16,8 @@ use Rattle.vs_elaborated.specs.Ports.{Port, find_port, ports_of, find_module}
 use Rattle.vs_elaborated.specs.Instances.{Around, Overrides, Connected, known_instance, instance_said, unknown_module, instances_said, said_overrides, said_connections, directed, connected, connected_by_order, connected_by_name, module_ports, is_port}
 use Rattle.vs_elaborated.specs.Parameters.{Override}
 use Rattle.vs_elaborated.specs.Pieces.{all_said}
-use Rattle.vs_scope.specs.Maps.{value_at}
-use Rattle.vs_scope.specs.MapViews.{pairs}
+use Rattle.vs_maps.specs.Maps.{value_at}
+use Rattle.vs_maps.specs.MapViews.{pairs}
 use Rattle.vs_items.specs.declared.interfaces.Interface.{Interface}
 use Rattle.vs_items.specs.Instances.{instance_faults}
 use Rattle.vs_items.specs.Interfaces.{IsKnown}

@@ -12,20 +12,22 @@ use Rattle.vs_ast.specs.Views as view
 use Rattle.vs_elaborated.specs.Generate.{Nested, Made, nothing_made}
 use Rattle.vs_elaborated.specs.Pieces.{Piece}
 use Rattle.vs_elaborated.specs.Instances.{Around}
-use Rattle.vs_elaborated.specs.Surveys.{nested_piece, item_said, items_said}
+use Rattle.vs_elaborated.specs.Limits.{Limits}
+use Rattle.vs_elaborated.specs.Surveys.{Loops, nested_piece, item_said, items_said, loops_after, loops_behind}
 use Rattle.vs_items.specs.declared.counts.Count.{Count}
 use Rattle.vs_items.specs.Counts.{IsCounted}
 use Rattle.vs_items.proofs.CountSteps.{counted_nothing, counted_within}
 use Rattle.vs_items.proofs.Repeats.{one_more}
 
-pub pieces_behind : (source : tree.Source) (around : Around) (is : List tree.Item) (i : tree.Item) (ms : List Made) (m : Made) → length is ≡ length ms
-    → (items_said source around (is ++ i ∷ []) (ms ++ m ∷ [])).pieces ≡ (items_said source around is ms).pieces ++ (item_said source around i m).pieces
-pieces_behind source around [] i [] m h = append-nil (item_said source around i m).pieces
-pieces_behind source around [] i (n ∷ ms) m h = absurd (let no : ⊥ = omega (arith, h) in no)
-pieces_behind source around (j ∷ is) i [] m h = absurd (let no : ⊥ = omega (arith, h) in no)
-pieces_behind source around (j ∷ is) i (n ∷ ms) m h =
-    ap (λ r. (item_said source around j n).pieces ++ r) (pieces_behind source around is i ms m (omega (arith, h)))
-    ∙ sym (append_assoc (item_said source around j n).pieces (items_said source around is ms).pieces (item_said source around i m).pieces)
+pub pieces_behind : (limits : Limits) (source : tree.Source) (around : Around) (loops : Loops) (is : List tree.Item) (i : tree.Item) (ms : List Made) (m : Made) → length is ≡ length ms
+    → (items_said limits source around loops (is ++ i ∷ []) (ms ++ m ∷ [])).pieces ≡ (items_said limits source around loops is ms).pieces ++ (item_said limits source around (loops_behind limits around.env loops is) i m).pieces
+pieces_behind limits source around loops [] i [] m h = append-nil (item_said limits source around loops i m).pieces
+pieces_behind limits source around loops [] i (n ∷ ms) m h = absurd (let no : ⊥ = omega (arith, h) in no)
+pieces_behind limits source around loops (j ∷ is) i [] m h = absurd (let no : ⊥ = omega (arith, h) in no)
+pieces_behind limits source around loops (j ∷ is) i (n ∷ ms) m h =
+    let after = loops_after limits around.env loops j in
+    ap (λ r. (item_said limits source around loops j n).pieces ++ r) (pieces_behind limits source around after is i ms m (omega (arith, h)))
+    ∙ sym (append_assoc (item_said limits source around loops j n).pieces (items_said limits source around after is ms).pieces (item_said limits source around (loops_behind limits around.env after is) i m).pieces)
 
 -- the i-th item makes this
 abbrev pub made_at : List Made → ℕ → Made
@@ -35,28 +37,28 @@ pub made_more : (ms : List Made) (i : ℕ) → i < length ms → take (i + 1) ms
 made_more ms i h = ap (λ n. take n ms) (add-one i) ∙ take-suc ms i (nothing_made [] 0) h
 
 -- one item more is counted
-pub item_counted : (source : tree.Source) (around : Around) (items : List Item) (made : List Made) (i : ℕ) (x : Item) (c : Count) (before : ℕ) (ps : List Piece)
+pub item_counted : (limits : Limits) (source : tree.Source) (around : Around) (loops : Loops) (items : List Item) (made : List Made) (i : ℕ) (x : Item) (c : Count) (before : ℕ) (ps : List Piece)
     → i < length items → x ≡ get_or items i x → length made ≡ length items
-    → IsCounted c before ((ps ++ (items_said source around (map view.item (take i items)) (take i made)).pieces) ++ (item_said source around (view.item x) (made_at made i)).pieces)
-    → IsCounted c before (ps ++ (items_said source around (map view.item (take (i + 1) items)) (take (i + 1) made)).pieces)
-item_counted source around items made i x c before ps h e same k =
+    → IsCounted c before ((ps ++ (items_said limits source around loops (map view.item (take i items)) (take i made)).pieces) ++ (item_said limits source around (loops_behind limits around.env loops (map view.item (take i items))) (view.item x) (made_at made i)).pieces)
+    → IsCounted c before (ps ++ (items_said limits source around loops (map view.item (take (i + 1) items)) (take (i + 1) made)).pieces)
+item_counted limits source around loops items made i x c before ps h e same k =
     let within : i < length made = omega (arith, h, same) in
     let a = length-map (take i items) view.item in
     let b = length-take-le i items (omega (arith, h)) in
     let d = length-take-le i made (omega (arith, within)) in
     subst (IsCounted c before)
-    (append_assoc ps (items_said source around (map view.item (take i items)) (take i made)).pieces (item_said source around (view.item x) (made_at made i)).pieces
-    ∙ ap (λ qs. ps ++ qs) (sym (pieces_behind source around (map view.item (take i items)) (view.item x) (take i made) (made_at made i) (a ∙ b ∙ sym d)))
-    ∙ ap (λ is. ps ++ (items_said source around is (take i made ++ made_at made i ∷ [])).pieces) (sym (one_more view.item items i x h e))
-    ∙ ap (λ ms. ps ++ (items_said source around (map view.item (take (i + 1) items)) ms).pieces) (sym (made_more made i within)))
+    (append_assoc ps (items_said limits source around loops (map view.item (take i items)) (take i made)).pieces (item_said limits source around (loops_behind limits around.env loops (map view.item (take i items))) (view.item x) (made_at made i)).pieces
+    ∙ ap (λ qs. ps ++ qs) (sym (pieces_behind limits source around loops (map view.item (take i items)) (view.item x) (take i made) (made_at made i) (a ∙ b ∙ sym d)))
+    ∙ ap (λ is. ps ++ (items_said limits source around loops is (take i made ++ made_at made i ∷ [])).pieces) (sym (one_more view.item items i x h e))
+    ∙ ap (λ ms. ps ++ (items_said limits source around loops (map view.item (take (i + 1) items)) ms).pieces) (sym (made_more made i within)))
     k
 
 -- the one item of a block
-pub one_counted : (source : tree.Source) (around : Around) (i : tree.Item) (made : List Made) (c : Count) (before : ℕ) (ps : List Piece) → length made ≡ 1
-    → IsCounted c before (ps ++ (item_said source around i (made_at made 0)).pieces) → IsCounted c before (ps ++ (items_said source around (i ∷ []) made).pieces)
-one_counted source around i [] c before ps h k = absurd (let no : ⊥ = omega (arith, h) in no)
-one_counted source around i (m ∷ []) c before ps h k = subst (λ qs. IsCounted c before (ps ++ qs)) (sym (append-nil (item_said source around i m).pieces)) k
-one_counted source around i (m ∷ n ∷ ms) c before ps h k = absurd (let no : ⊥ = omega (arith, h) in no)
+pub one_counted : (limits : Limits) (source : tree.Source) (around : Around) (loops : Loops) (i : tree.Item) (made : List Made) (c : Count) (before : ℕ) (ps : List Piece) → length made ≡ 1
+    → IsCounted c before (ps ++ (item_said limits source around loops i (made_at made 0)).pieces) → IsCounted c before (ps ++ (items_said limits source around loops (i ∷ []) made).pieces)
+one_counted limits source around loops i [] c before ps h k = absurd (let no : ⊥ = omega (arith, h) in no)
+one_counted limits source around loops i (m ∷ []) c before ps h k = subst (λ qs. IsCounted c before (ps ++ qs)) (sym (append-nil (item_said limits source around loops i m).pieces)) k
+one_counted limits source around loops i (m ∷ n ∷ ms) c before ps h k = absurd (let no : ⊥ = omega (arith, h) in no)
 
 -- blocks have no process of their own
 blocks_counted : (around : Around) (bs : List Nested) (c : Count) (before : ℕ) (ps : List Piece) → IsCounted c before ps → IsCounted c before (ps ++ map (nested_piece around) bs)
@@ -72,16 +74,18 @@ IsOther (tree.AlwaysItem b) = ⊥
 IsOther (tree.InstancesItem t) = ⊥
 IsOther item = Unit {0}
 
-pub other_counted : (source : tree.Source) (around : Around) (item : tree.Item) (made : Made) (c : Count) (before : ℕ) (ps : List Piece) → IsOther item → IsCounted c before ps → IsCounted c before (ps ++ (item_said source around item made).pieces)
-other_counted source around (tree.SignalsItem t) made c before ps o k = absurd o
-other_counted source around (tree.AssignsItem place assigns) made c before ps o k = absurd o
-other_counted source around (tree.AlwaysItem b) made c before ps o k = absurd o
-other_counted source around (tree.InstancesItem t) made c before ps o k = absurd o
-other_counted source around (tree.ParametersItem t) made c before ps o k = blocks_counted around made.blocks c before ps k
-other_counted source around (tree.GenvarsItem place names) made c before ps o k = blocks_counted around made.blocks c before ps k
-other_counted source around (tree.GenerateFor head block) made c before ps o k = blocks_counted around made.blocks c before ps k
-other_counted source around (tree.GenerateIf place e taken other) made c before ps o k = blocks_counted around made.blocks c before ps k
-other_counted source around (tree.GenerateCase place subject arms other) made c before ps o k = blocks_counted around made.blocks c before ps k
+pub other_counted : (limits : Limits) (source : tree.Source) (around : Around) (loops : Loops) (item : tree.Item) (made : Made) (c : Count) (before : ℕ) (ps : List Piece) → IsOther item → IsCounted c before ps → IsCounted c before (ps ++ (item_said limits source around loops item made).pieces)
+other_counted limits source around loops (tree.SignalsItem t) made c before ps o k = absurd o
+other_counted limits source around loops (tree.AssignsItem place assigns) made c before ps o k = absurd o
+other_counted limits source around loops (tree.AlwaysItem b) made c before ps o k = absurd o
+other_counted limits source around loops (tree.InstancesItem t) made c before ps o k = absurd o
+other_counted limits source around loops (tree.ParametersItem t) made c before ps o k = blocks_counted around made.blocks c before ps k
+other_counted limits source around loops (tree.IntegersItem place names) made c before ps o k = blocks_counted around made.blocks c before ps k
+other_counted limits source around loops (tree.FunctionItem f) made c before ps o k = blocks_counted around made.blocks c before ps k
+other_counted limits source around loops (tree.GenvarsItem place names) made c before ps o k = blocks_counted around made.blocks c before ps k
+other_counted limits source around loops (tree.GenerateFor head block) made c before ps o k = blocks_counted around made.blocks c before ps k
+other_counted limits source around loops (tree.GenerateIf place e taken other) made c before ps o k = blocks_counted around made.blocks c before ps k
+other_counted limits source around loops (tree.GenerateCase place subject arms other) made c before ps o k = blocks_counted around made.blocks c before ps k
 
 -- an item of another kind
 pub are_others : (x : Item) → ((s : Signals) → x ≡ code.Signals s → ⊥) → ((place : ℕ) (all : Vec Assign Global) → x ≡ code.Assigns place all → ⊥) → ((b : AlwaysBlock) → x ≡ code.Always b → ⊥)
@@ -91,6 +95,8 @@ are_others (code.Parameters p) f g h k = tt
 are_others (code.Assigns place all) f g h k = g place all refl
 are_others (code.Always b) f g h k = h b refl
 are_others (code.Genvars place names) f g h k = tt
+are_others (code.Integers place names) f g h k = tt
+are_others (code.Function fn) f g h k = tt
 are_others (code.Instances t) f g h k = k t refl
 are_others (code.GenerateFor' head p b) f g h k = tt
 are_others (code.GenerateIf' place e p b other) f g h k = tt

@@ -8,9 +8,6 @@ mod ConnectionSteps
 mod NamedConnections
 mod FaultLists
 mod OverrideFaults
-mod WrittenNames
-mod SelectFaults
-mod TargetFaults
 mod OutputFaults
 mod InstanceFaults
 mod ItemFaults
@@ -20,7 +17,9 @@ mod OverridingSteps
 mod CountedPorts
 mod SameNames
 mod ItemLists
-mod StatementFacts
-mod MemoryFacts
+mod HeadFacts
+mod HeadSteps
+mod LoopSteps
+mod BlockSteps
 mod BodyFaults
 mod FineConnections

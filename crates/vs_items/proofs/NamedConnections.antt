@@ -13,7 +13,7 @@ use Rattle.vs_elaborated.specs.Pieces as pieces
 use Rattle.vs_elaborated.specs.Ports.{Port, find_port}
 use Rattle.vs_elaborated.specs.Targets.{as_target}
 use Rattle.vs_elaborated.specs.Instances.{connected, directed, output_target, connected_by_name, connection_name, connection_of, in_port_order}
-use Rattle.vs_scope.specs.Maps.{Pair, value_at}
+use Rattle.vs_maps.specs.Maps.{Pair, value_at}
 use Rattle.vs_scope.proofs.Entries.{same_is}
 use Rattle.vs_items.specs.declared.ports.Port.{Port as Port'}
 use Rattle.vs_items.specs.Ports.{port_of}

@@ -49,6 +49,7 @@ mutual
   found_are (tree.Choice c p q) find t h = cc
   found_are (tree.Replication place count parts) find t h = cc
   found_are (tree.Call place function a) find t h = cc
+  found_are (tree.Apply name arguments) find t h = cc
 
   parts_are : (es : tree.Exprs) (find : Find) (ts : tree.Targets) → as_targets es ≡ Some ts → found_parts es find ≡ (typed_targets ts find false).faults
   parts_are tree.NoExpr find ts h = let same : tree.NoTarget ≡ ts = cc in ap (λ x. (typed_targets x find false).faults) same

@@ -11,8 +11,8 @@ use Rattle.vs_const.specs.declared.rules.Rule.TheVariants.{DuplicateName, Unknow
 use Rattle.vs_elaborated.specs.Environments.{Env}
 use Rattle.vs_elaborated.specs.Ports.{overridable, is_named}
 use Rattle.vs_elaborated.specs.Instances.{Overrides, and_override, overrides_by_order, overrides_by_name, connected_names, is_overridable}
-use Rattle.vs_scope.specs.Maps.{value_at}
-use Rattle.vs_scope.specs.MapViews.{pairs}
+use Rattle.vs_maps.specs.Maps.{value_at}
+use Rattle.vs_maps.specs.MapViews.{pairs}
 use Rattle.vs_scope.proofs.Entries.{same_is}
 use Rattle.vs_scope.proofs.NamedLists.{same_self}
 use Rattle.vs_items.specs.declared.interfaces.Interface.{Interface}

@@ -12,10 +12,10 @@ use Rattle.vs_elaborated.specs.Instances.{Overrides, and_override, overrides_by_
 use Rattle.vs_elaborated.specs.Parameters as spec
 use Rattle.vs_elaborated.specs.Parameters.{override_of}
 use Rattle.vs_scope.specs.declared.frames.Frame.{Frame}
-use Rattle.vs_scope.specs.declared.maps.NameMap.{NameMap}
+use Rattle.vs_maps.specs.declared.maps.NameMap.{NameMap}
 use Rattle.vs_scope.specs.declared.parameters.Override.{Override}
-use Rattle.vs_scope.specs.Maps.{AreDistinct, Pair, value_at, with_value}
-use Rattle.vs_scope.specs.MapViews.{pairs}
+use Rattle.vs_maps.specs.Maps.{AreDistinct, Pair, value_at, with_value}
+use Rattle.vs_maps.specs.MapViews.{pairs}
 use Rattle.vs_scope.specs.Overrides.{override_typed, overrides_of, EachOverride, AreOverrides}
 use Rattle.vs_items.specs.Noted.{AreFirst, MayHave, named}
 use Rattle.vs_items.specs.Overriding.{AreAlike, AreSaid, one_override, said_override}

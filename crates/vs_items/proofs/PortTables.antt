@@ -3,9 +3,9 @@ use Rattle.std.proofs.Common.{◌≡◌, ℕ, Bool, true, false, List, [], ◌�
 use Rattle.vs_design.specs.Clocks.{same_name}
 use Rattle.vs_elaborated.specs.Ports as ports
 use Rattle.vs_elaborated.specs.Ports.{find_port}
-use Rattle.vs_scope.specs.Maps.{value_at}
+use Rattle.vs_maps.specs.Maps.{value_at}
 use Rattle.vs_scope.proofs.Entries.{same_is}
-use Rattle.vs_scope.specs.MapViews.{pairs}
+use Rattle.vs_maps.specs.MapViews.{pairs}
 use Rattle.vs_items.specs.declared.ports.Ports.{Ports}
 use Rattle.vs_items.specs.Ports.{named_port}
 use Rattle.vs_items.specs.PortTables.{ArePorts}

@@ -4,7 +4,7 @@ use Rattle.std.specs.Prelude.{is_some}
 use Rattle.vs_ast.specs.declared.items.Item.{Item}
 use Rattle.vs_ast.specs.Views as view
 use Rattle.vs_grammar.specs.Trees.{items_list}
-use Rattle.vs_scope.specs.Maps.{Pair, value_at}
+use Rattle.vs_maps.specs.Maps.{Pair, value_at}
 use Rattle.vs_items.specs.Noted.{AreFirst, named}
 use Rattle.vs_items.specs.declared.modules.Known.{Known}
 use Rattle.vs_items.specs.Modules.{IsKnownOf, IsOf}

@@ -5,9 +5,9 @@ use Rattle.vs_grammar.specs.Trees.{Name}
 use Rattle.vs_const.specs.declared.faults.Fault.{Fault}
 use Rattle.vs_const.specs.Faults.{fault, fault_if}
 use Rattle.vs_const.specs.declared.rules.Rule.TheVariants.{DuplicateName, UnknownPort}
-use Rattle.vs_scope.specs.declared.maps.NameMap.{NameMap}
-use Rattle.vs_scope.specs.Maps.{value_at}
-use Rattle.vs_scope.specs.MapViews.{pairs}
+use Rattle.vs_maps.specs.declared.maps.NameMap.{NameMap}
+use Rattle.vs_maps.specs.Maps.{value_at}
+use Rattle.vs_maps.specs.MapViews.{pairs}
 
 -- one of these, or any where nothing is known of them
 abbrev pub is_known : {V : Type 0} → Option (Bor (NameMap V)) → List ℕ → Bool

@@ -10,7 +10,7 @@ use Rattle.vs_elaborated.specs.Environments.{Env}
 use Rattle.vs_elaborated.specs.Pieces as pieces
 use Rattle.vs_elaborated.specs.Ports.{Port, find_port}
 use Rattle.vs_elaborated.specs.Instances.{connected, directed}
-use Rattle.vs_scope.specs.Maps.{Pair, value_at}
+use Rattle.vs_maps.specs.Maps.{Pair, value_at}
 use Rattle.vs_items.specs.declared.connections.Connection.{Connection}
 use Rattle.vs_items.specs.Noted.{AreFirst, named}
 

@@ -6,7 +6,7 @@ use Rattle.vs_const.specs.Faults.{least}
 use Rattle.vs_elaborated.specs.Pieces.{Connection, Piece}
 use Rattle.vs_elaborated.specs.Instances.{connection_name}
 use Rattle.vs_elaborated.specs.Surveys.{processes_over, piece_processes}
-use Rattle.vs_scope.specs.Maps.{Pair, value_at}
+use Rattle.vs_maps.specs.Maps.{Pair, value_at}
 use Rattle.vs_items.specs.declared.counts.Count.{Count}
 
 -- behind these pieces, where there were so many before them: the first with which there are too many, and else how many there are

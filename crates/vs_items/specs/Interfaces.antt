@@ -3,7 +3,7 @@ use Rattle.std.specs.Prelude.{◌≡◌, map, Option, Some, None}
 use Rattle.std.specs.Borrow.{Bor}
 use Rattle.vs_grammar.specs.Trees as tree
 use Rattle.vs_elaborated.specs.Ports.{ports_of, overridable}
-use Rattle.vs_scope.specs.MapViews.{pairs}
+use Rattle.vs_maps.specs.MapViews.{pairs}
 use Rattle.vs_items.specs.declared.interfaces.Interface.{Interface}
 use Rattle.vs_items.specs.Noted.{AreFirst}
 use Rattle.vs_items.specs.Ports.{name_bytes, name_only}

@@ -8,13 +8,11 @@ pub mod Connections
 pub mod Fine
 pub mod Overriding
 pub mod Values
-pub mod Written
-pub mod Selects
 pub mod Outputs
 pub mod Items
-pub mod Memories
 pub mod Instances
-pub mod StatementFaults
 pub mod Stated
 pub mod Counts
+pub mod Loops
+pub mod Heads
 pub mod Said

@@ -1,6 +1,6 @@
 -- Maps that keep the first value of each name.
 use Rattle.std.specs.Prelude.{◌≡◌, ◌⊎◌, ℕ, List}
-use Rattle.vs_scope.specs.Maps.{Pair, value_at, with_value}
+use Rattle.vs_maps.specs.Maps.{Pair, value_at, with_value}
 
 abbrev pub named : {V : Type 0} → List ℕ → V → Pair V
 named name value = record { name = name; value = value }

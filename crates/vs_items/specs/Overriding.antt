@@ -6,10 +6,10 @@ use Rattle.vs_elaborated.specs.Instances as instances
 use Rattle.vs_elaborated.specs.Parameters as spec
 use Rattle.vs_elaborated.specs.Parameters.{override_of}
 use Rattle.vs_scope.specs.declared.frames.Frame.{Frame}
-use Rattle.vs_scope.specs.declared.maps.NameMap.{NameMap}
+use Rattle.vs_maps.specs.declared.maps.NameMap.{NameMap}
 use Rattle.vs_scope.specs.declared.parameters.Override.{Override}
-use Rattle.vs_scope.specs.Maps.{Pair}
-use Rattle.vs_scope.specs.MapViews.{pairs}
+use Rattle.vs_maps.specs.Maps.{Pair}
+use Rattle.vs_maps.specs.MapViews.{pairs}
 use Rattle.vs_scope.specs.Overrides.{override_typed}
 use Rattle.vs_items.specs.Noted.{AreFirst}
 

@@ -1,7 +1,7 @@
 -- What a table of ports has.
 use Rattle.std.specs.Prelude.{◌≡◌, List, map}
 use Rattle.vs_elaborated.specs.Ports as ports
-use Rattle.vs_scope.specs.MapViews.{pairs}
+use Rattle.vs_maps.specs.MapViews.{pairs}
 use Rattle.vs_items.specs.declared.ports.Ports.{Ports}
 use Rattle.vs_items.specs.Noted.{AreFirst}
 use Rattle.vs_items.specs.Ports.{port_of, named_port}

@@ -7,7 +7,7 @@ use Rattle.vs_ast.specs.Views as view
 use Rattle.vs_elaborated.specs.Ports as ports
 use Rattle.vs_items.specs.declared.ports.Port.{Port}
 use Rattle.vs_items.specs.Noted.{named}
-use Rattle.vs_scope.specs.Maps.{Pair}
+use Rattle.vs_maps.specs.Maps.{Pair}
 
 -- a port
 abbrev pub port_of : Port → ports.Port

@@ -1,28 +1,32 @@
 //! The faults of all items of a scope, and how many processes they have (IEEE 1364-2005, A.1.4).
 
-ghost use Rattle.std.specs.Prelude.{◌≡◌, ◌≤◌, [], ◌∷◌, List, IfOk, map, length};
+ghost use Rattle.std.specs.Prelude.{◌≡◌, ◌≤◌, [], ◌∷◌, List, IfOk, OnOk, map, length};
 ghost use Rattle.vs_grammar.specs.Trees as tree;
 ghost use Rattle.vs_ast.specs.Views as view;
 ghost use Rattle.vs_const.specs.Faults.{least};
-ghost use Rattle.vs_elaborated.specs.Environments.{named};
+ghost use Rattle.vs_elaborated.specs.Limits.{the_limits};
+ghost use Rattle.vs_elaborated.specs.Environments.{Env};
 ghost use Rattle.vs_elaborated.specs.Generate.{Made};
 ghost use Rattle.vs_elaborated.specs.Instances.{Around};
-ghost use Rattle.vs_elaborated.specs.Surveys.{item_said, items_said};
+ghost use Rattle.vs_elaborated.specs.Surveys.{item_said, items_said, loops_after, loops_behind};
 ghost use Rattle.vs_scope.specs.Contents.{contents_items};
 ghost use Rattle.vs_scope.specs.Frames.{view_env};
+ghost use Rattle.vs_items.specs.Loops.{SeeTheSame};
 ghost use Rattle.vs_items.specs.Modules.{AreOf};
 ghost use Rattle.vs_items.specs.Said.{IsSaid};
 ghost use Rattle.vs_items.specs.Stated.{AreStated, IsStated};
 
+use crate::blocks::block_fault;
 use crate::counts::{Count, count_contents};
 use crate::instances::instances_fault;
 use crate::items::{assigns_fault, wires_fault};
+use crate::loops::Loops;
 use crate::modules::{Known, seen_by};
-use crate::statements::block_fault;
 use std::alloc::{AllocError, Global};
 use vs_ast::Item;
 use vs_const::{Fault, first_of};
-use vs_scope::{BlockItems, Contents, NameMap, View};
+use vs_maps::NameMap;
+use vs_scope::{BlockItems, Contents, View};
 
 /// The first rule that an item breaks, but for those of its generate blocks and their heads.
 fn item_fault<'a>(
@@ -30,15 +34,17 @@ fn item_fault<'a>(
     modules: &NameMap<'a, Known<'a>>,
     item: &'a Item,
     here: &View<'_, '_>,
+    loops: &mut Loops,
 ) -> Result<Option<Fault>, AllocError>
     requires { IsStated (view.item item.now) }
-    ensures { (source : tree.Source) (around : Around) (made : Made) → AreOf modules.now source → named around.env ≡ named (view_env here.now)
-        → IfOk result (λ f. f ≡ least (item_said source around (view.item item.now) made).faults) }
+    ensures fault { (source : tree.Source) (around : Around) (made : Made) → AreOf modules.now source → SeeTheSame around.env (view_env here.now)
+        → IfOk result (λ f. f ≡ least (item_said the_limits source around loops.old (view.item item.now) made).faults) }
+    ensures loops { (env : Env) → SeeTheSame env (view_env here.now) → OnOk result (loops.new ≡ loops_after the_limits env loops.old (view.item item.now)) }
 {
     match item {
         Item::Signals(s) => wires_fault(alloc, &s.names, here),
         Item::Assigns { assigns, .. } => assigns_fault(alloc, assigns, here),
-        Item::Always(b) => block_fault(alloc, b, here),
+        Item::Always(b) => block_fault(alloc, b, here, loops),
         Item::Instances(t) => instances_fault(alloc, seen_by(modules, &t.of), t, here),
         _ => Ok(None),
     }
@@ -50,14 +56,16 @@ fn items_fault<'a>(
     modules: &NameMap<'a, Known<'a>>,
     items: &'a [Item],
     here: &View<'_, '_>,
+    loops: &mut Loops,
 ) -> Result<Option<Fault>, AllocError>
     requires { AreStated (map view.item items.now) }
-    ensures { (source : tree.Source) (around : Around) (made : List Made) → AreOf modules.now source → named around.env ≡ named (view_env here.now) → length made ≡ length items.now
-        → IfOk result (λ f. f ≡ least (items_said source around (map view.item items.now) made).faults) }
+    ensures fault { (source : tree.Source) (around : Around) (made : List Made) → AreOf modules.now source → SeeTheSame around.env (view_env here.now) → length made ≡ length items.now
+        → IfOk result (λ f. f ≡ least (items_said the_limits source around loops.old (map view.item items.now) made).faults) }
+    ensures loops { (env : Env) → SeeTheSame env (view_env here.now) → OnOk result (loops.new ≡ loops_behind the_limits env loops.old (map view.item items.now)) }
 {
     let mut fault = None;
     for item in items {
-        let found = item_fault(alloc, modules, item, here)?;
+        let found = item_fault(alloc, modules, item, here, loops)?;
         fault = first_of(fault, found);
     }
     Ok(fault)
@@ -69,12 +77,14 @@ fn one_fault<'a>(
     modules: &NameMap<'a, Known<'a>>,
     item: &'a Item,
     here: &View<'_, '_>,
+    loops: &mut Loops,
 ) -> Result<Option<Fault>, AllocError>
     requires { AreStated (view.item item.now ∷ []) }
-    ensures { (source : tree.Source) (around : Around) (made : List Made) → AreOf modules.now source → named around.env ≡ named (view_env here.now) → length made ≡ 1
-        → IfOk result (λ f. f ≡ least (items_said source around (view.item item.now ∷ []) made).faults) }
+    ensures fault { (source : tree.Source) (around : Around) (made : List Made) → AreOf modules.now source → SeeTheSame around.env (view_env here.now) → length made ≡ 1
+        → IfOk result (λ f. f ≡ least (items_said the_limits source around loops.old (view.item item.now ∷ []) made).faults) }
+    ensures loops { (env : Env) → SeeTheSame env (view_env here.now) → OnOk result (loops.new ≡ loops_behind the_limits env loops.old (view.item item.now ∷ [])) }
 {
-    let fault = item_fault(alloc, modules, item, here)?;
+    let fault = item_fault(alloc, modules, item, here, loops)?;
     Ok(fault)
 }
 
@@ -84,15 +94,17 @@ fn contents_fault<'a>(
     modules: &NameMap<'a, Known<'a>>,
     contents: Contents<'a>,
     here: &View<'_, '_>,
+    loops: &mut Loops,
 ) -> Result<Option<Fault>, AllocError>
     requires { AreStated (contents_items contents) }
-    ensures { (source : tree.Source) (around : Around) (made : List Made) → AreOf modules.now source → named around.env ≡ named (view_env here.now) → length made ≡ length (contents_items contents.entry)
-        → IfOk result (λ f. f ≡ least (items_said source around (contents_items contents.entry) made).faults) }
+    ensures fault { (source : tree.Source) (around : Around) (made : List Made) → AreOf modules.now source → SeeTheSame around.env (view_env here.now) → length made ≡ length (contents_items contents.entry)
+        → IfOk result (λ f. f ≡ least (items_said the_limits source around loops.old (contents_items contents.entry) made).faults) }
+    ensures loops { (env : Env) → SeeTheSame env (view_env here.now) → OnOk result (loops.new ≡ loops_behind the_limits env loops.old (contents_items contents.entry)) }
 {
     match contents {
-        Contents::Module(m) => items_fault(alloc, modules, &m.items, here),
-        Contents::Block(BlockItems::One(item)) => one_fault(alloc, modules, item, here),
-        Contents::Block(BlockItems::Many(items)) => items_fault(alloc, modules, items, here),
+        Contents::Module(m) => items_fault(alloc, modules, &m.items, here, loops),
+        Contents::Block(BlockItems::One(item)) => one_fault(alloc, modules, item, here, loops),
+        Contents::Block(BlockItems::Many(items)) => items_fault(alloc, modules, items, here, loops),
     }
 }
 
@@ -106,7 +118,8 @@ pub struct SaidItems {
 }
 
 /// What is found of the items of a scope, in a text of these modules. `here` is the scope with its own names, `total` how many processes there are
-/// before it and `most` how many there may be. What generate constructs make is no matter: neither their faults nor those of their blocks are looked for.
+/// before it and `most` how many there may be, and `loops` is what loops did before its items, and then behind them. What generate constructs make is no
+/// matter: neither their faults nor those of their blocks are looked for.
 ///
 /// The fault is the first of these, where an expression, a target or a statement may break any rule on them (clauses 4, 5, 6 and 9):
 /// - `UnknownModule`: an instance of a module that the text doesn't have (12.1.2).
@@ -114,9 +127,11 @@ pub struct SaidItems {
 ///   a name that the module doesn't have (12.2.2, 12.3.5, 12.3.6).
 /// - `WrongKind`: what is assigned to, or connected to an output, is no net where it has to be one, or no variable (6.1, 9.2, 12.3.9.2), or a block without an
 ///   edge among its events writes a word of a memory (4.9).
+/// - `LoopTurns`: a loop takes more than 4,096 turns, or with its block all loops so far copy more than 1,048,576 statements, at the `for` (9.6).
+/// - `LoopVariable`: an integer heads a loop within another one of it, or loops of two always blocks, at its name (9.6).
 /// - `TooManyProcesses`: where the first piece begins with which there are more than `most`.
 ///
-/// An error is want of memory.
+/// An error is want of memory; more copies than 32 bits count are too many, too.
 pub fn said_items<'a>(
     alloc: Global,
     modules: &NameMap<'a, Known<'a>>,
@@ -124,13 +139,15 @@ pub fn said_items<'a>(
     here: &View<'_, '_>,
     most: u32,
     total: u32,
+    loops: &mut Loops,
 ) -> Result<SaidItems, AllocError>
     requires stated { AreStated (contents_items contents) }
     requires few { total ≤ most }
-    ensures { (source : tree.Source) (around : Around) (made : List Made) → AreOf modules.now source → named around.env ≡ named (view_env here.now) → length made ≡ length (contents_items contents.entry)
-        → IfOk result (λ r. IsSaid r most total (items_said source around (contents_items contents.entry) made)) }
+    ensures said { (source : tree.Source) (around : Around) (made : List Made) → AreOf modules.now source → SeeTheSame around.env (view_env here.now) → length made ≡ length (contents_items contents.entry)
+        → IfOk result (λ r. IsSaid r most total (items_said the_limits source around loops.old (contents_items contents.entry) made)) }
+    ensures loops { (env : Env) → SeeTheSame env (view_env here.now) → OnOk result (loops.new ≡ loops_behind the_limits env loops.old (contents_items contents.entry)) }
 {
-    let found = contents_fault(alloc, modules, contents, here)?;
+    let found = contents_fault(alloc, modules, contents, here, loops)?;
     let mut count = Count {
         most,
         total,

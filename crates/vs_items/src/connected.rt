@@ -12,7 +12,7 @@ use crate::noted::note;
 use std::alloc::{AllocError, Global};
 use vs_ast::{Name, NamedConnection};
 use vs_const::{Fault, Rule, fault_at, fault_if, first_of};
-use vs_scope::NameMap;
+use vs_maps::NameMap;
 
 /// Whether a name may be connected: it is one of these, or all are where nothing is known of them.
 fn is_known<V: Drop>(known: Option<&NameMap<'_, V>>, name: &[u8]) -> bool

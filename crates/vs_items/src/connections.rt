@@ -11,7 +11,7 @@ ghost use Rattle.vs_elaborated.specs.Instances.{connected, connected_by_name, co
 ghost use Rattle.vs_elaborated.specs.Ports as spec;
 ghost use Rattle.vs_items.specs.Fine.{AreFineOrdered, IsFineConnected, IsFineNamed, IsFineValue};
 ghost use Rattle.vs_items.specs.Connections.{AreApart, AreNamed, connected_at, said};
-ghost use Rattle.vs_scope.specs.MapViews.{pairs};
+ghost use Rattle.vs_maps.specs.MapViews.{pairs};
 ghost use Rattle.vs_items.specs.Interfaces.{IsInterface};
 ghost use Rattle.vs_items.specs.PortTables.{ArePorts};
 ghost use Rattle.vs_items.specs.Ports.{port_of};
@@ -21,7 +21,7 @@ use crate::noted::note;
 use crate::ports::{Port, Ports};
 use std::alloc::{AllocError, Global};
 use vs_ast::{Connections, Expr, NamedConnection};
-use vs_scope::NameMap;
+use vs_maps::NameMap;
 
 /// A port of an instance that is connected: its name in the module, whether it is an input, and the expression, which is seen where the instance stands.
 #[derive(Clone, Copy)]

@@ -3,6 +3,7 @@
 ghost use Rattle.std.specs.Prelude.{◌≡◌, ◌++◌, [], ◌∷◌, ℕ, List, Some, IfOk, OnOk, map, option_map, length, if◌then◌else◌};
 ghost use Rattle.vs_grammar.specs.Trees as tree;
 ghost use Rattle.vs_ast.specs.Views as view;
+ghost use Rattle.vs_elaborated.specs.Limits.{Limits};
 ghost use Rattle.vs_elaborated.specs.Environments.{Env};
 ghost use Rattle.vs_elaborated.specs.Generate.{Made};
 ghost use Rattle.vs_elaborated.specs.Parameters.{Override};
@@ -12,7 +13,7 @@ ghost use Rattle.vs_elaborated.specs.Surveys.{piece_place, piece_processes};
 ghost use Rattle.vs_elaborated.specs.Instances as spec;
 ghost use Rattle.vs_elaborated.specs.Ports as spec_ports;
 ghost use Rattle.vs_scope.specs.Contents.{contents_items};
-ghost use Rattle.vs_scope.specs.MapViews.{pairs};
+ghost use Rattle.vs_maps.specs.MapViews.{pairs};
 ghost use Rattle.vs_items.specs.Counts.{HasNames, IsCounted};
 ghost use Rattle.vs_items.specs.Interfaces.{IsInterface};
 ghost use Rattle.vs_items.specs.Modules.{AreOf};
@@ -27,7 +28,8 @@ use crate::ports::{Port, Ports};
 use std::alloc::{AllocError, Global};
 use vs_ast::{Assign, Connections, Declarator, Expr, Instance, Instances, Item, NamedConnection};
 use vs_const::{Fault, Rule};
-use vs_scope::{BlockItems, Contents, NameMap};
+use vs_maps::NameMap;
+use vs_scope::{BlockItems, Contents};
 
 /// A count of processes, which goes up to the most that there may be.
 #[derive(Clone, Copy)]
@@ -240,8 +242,8 @@ fn count_item<'a>(
     count: &mut Count,
 ) -> Result<(), AllocError>
     ensures most { OnOk result (count.new.most ≡ count.old.most) }
-    ensures counted { (source : tree.Source) (around : spec.Around) (made : Made) (before : ℕ) (ps : List Piece) → AreOf modules.now source → IsCounted count.old before ps
-        → OnOk result (IsCounted count.new before (ps ++ (survey.item_said source around (view.item item.now) made).pieces)) }
+    ensures counted { (limits : Limits) (source : tree.Source) (around : spec.Around) (loops : survey.Loops) (made : Made) (before : ℕ) (ps : List Piece) → AreOf modules.now source → IsCounted count.old before ps
+        → OnOk result (IsCounted count.new before (ps ++ (survey.item_said limits source around loops (view.item item.now) made).pieces)) }
 {
     match item {
         Item::Signals(s) => {
@@ -269,8 +271,8 @@ fn count_items<'a>(
     count: &mut Count,
 ) -> Result<(), AllocError>
     ensures most { OnOk result (count.new.most ≡ count.old.most) }
-    ensures counted { (source : tree.Source) (around : spec.Around) (made : List Made) (before : ℕ) (ps : List Piece) → AreOf modules.now source → length made ≡ length items.now → IsCounted count.old before ps
-        → OnOk result (IsCounted count.new before (ps ++ (survey.items_said source around (map view.item items.now) made).pieces)) }
+    ensures counted { (limits : Limits) (source : tree.Source) (around : spec.Around) (loops : survey.Loops) (made : List Made) (before : ℕ) (ps : List Piece) → AreOf modules.now source → length made ≡ length items.now → IsCounted count.old before ps
+        → OnOk result (IsCounted count.new before (ps ++ (survey.items_said limits source around loops (map view.item items.now) made).pieces)) }
 {
     for item in items {
         count_item(alloc, modules, item, count)?;
@@ -286,8 +288,8 @@ pub(crate) fn count_contents<'a>(
     count: &mut Count,
 ) -> Result<(), AllocError>
     ensures most { OnOk result (count.new.most ≡ count.old.most) }
-    ensures counted { (source : tree.Source) (around : spec.Around) (made : List Made) (before : ℕ) (ps : List Piece) → AreOf modules.now source → length made ≡ length (contents_items contents.entry) → IsCounted count.old before ps
-        → OnOk result (IsCounted count.new before (ps ++ (survey.items_said source around (contents_items contents.entry) made).pieces)) }
+    ensures counted { (limits : Limits) (source : tree.Source) (around : spec.Around) (loops : survey.Loops) (made : List Made) (before : ℕ) (ps : List Piece) → AreOf modules.now source → length made ≡ length (contents_items contents.entry) → IsCounted count.old before ps
+        → OnOk result (IsCounted count.new before (ps ++ (survey.items_said limits source around loops (contents_items contents.entry) made).pieces)) }
 {
     match contents {
         Contents::Module(m) => count_items(alloc, modules, &m.items, count),
@@ -304,8 +306,8 @@ fn count_one<'a>(
     count: &mut Count,
 ) -> Result<(), AllocError>
     ensures most { OnOk result (count.new.most ≡ count.old.most) }
-    ensures counted { (source : tree.Source) (around : spec.Around) (made : List Made) (before : ℕ) (ps : List Piece) → AreOf modules.now source → length made ≡ 1 → IsCounted count.old before ps
-        → OnOk result (IsCounted count.new before (ps ++ (survey.items_said source around (view.item item.now ∷ []) made).pieces)) }
+    ensures counted { (limits : Limits) (source : tree.Source) (around : spec.Around) (loops : survey.Loops) (made : List Made) (before : ℕ) (ps : List Piece) → AreOf modules.now source → length made ≡ 1 → IsCounted count.old before ps
+        → OnOk result (IsCounted count.new before (ps ++ (survey.items_said limits source around loops (view.item item.now ∷ []) made).pieces)) }
 {
     count_item(alloc, modules, item, count)?;
     Ok(())

@@ -23,7 +23,8 @@ use crate::values::expr_fault;
 use std::alloc::{AllocError, Global};
 use vs_ast::{Connections, Expr, Instance, Instances, Name, NamedConnection};
 use vs_const::{Fault, Rule, fault_if, first_of};
-use vs_scope::{NameMap, View};
+use vs_maps::NameMap;
+use vs_scope::View;
 
 /// The first rule that an expression breaks that is connected to a port; `input` says whether it is one, if it has a direction.
 fn directed_fault(

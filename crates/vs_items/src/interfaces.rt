@@ -4,7 +4,7 @@ ghost use Rattle.std.specs.Prelude.{◌≡◌, ℕ, List, Option, IfOk, map};
 ghost use Rattle.vs_grammar.specs.Trees as tree;
 ghost use Rattle.vs_ast.specs.Views as view;
 ghost use Rattle.vs_elaborated.specs.Instances as spec;
-ghost use Rattle.vs_scope.specs.MapViews.{pairs};
+ghost use Rattle.vs_maps.specs.MapViews.{pairs};
 ghost use Rattle.vs_items.specs.Connected.{is_known};
 ghost use Rattle.vs_items.specs.Noted.{AreFirst};
 ghost use Rattle.vs_items.specs.Ports.{name_bytes, name_only};
@@ -14,7 +14,7 @@ use crate::noted::note;
 use crate::ports::{Ports, overridable, port_table};
 use std::alloc::{AllocError, Global};
 use vs_ast::Module;
-use vs_scope::NameMap;
+use vs_maps::NameMap;
 
 /// What an instance sees of its module: the ports, and the parameters that it may override. `modules_of` makes it.
 #[derive(Drop)]

@@ -9,20 +9,20 @@ ghost use Rattle.vs_elaborated.specs.Pieces.{all_said};
 ghost use Rattle.vs_scope.specs.Frames.{view_env};
 ghost use Rattle.vs_items.specs.Items.{assign_faults, wire_faults};
 
-use crate::targets::target_fault;
 use crate::values::expr_fault;
-use crate::written::base_of;
 use std::alloc::{AllocError, Global};
-use vs_ast::{Assign, Declarator};
+use vs_ast::{Assign, Declarator, Select};
+use vs_bodies::{check_selected, check_target};
 use vs_const::{Fault, first_of};
-use vs_scope::View;
+use vs_scope::{View, fair_law};
 
 /// The first rule that an assign breaks.
 fn assign_fault(alloc: Global, a: &Assign, here: &View<'_, '_>) -> Result<Option<Fault>, AllocError>
     requires { IsAssign (view.assign a.now) }
     ensures { IfOk result (λ f. f ≡ least (assign_faults (view_env here.now) (view.assign a.now))) }
 {
-    let target = target_fault(alloc, &a.target, here, false)?;
+    fair_law();
+    let target = check_target(alloc, &a.target, here, false)?;
     let value = expr_fault(alloc, &a.value, here, false)?;
     Ok(first_of(target, value))
 }
@@ -53,12 +53,13 @@ fn wire_fault(
     requires { IsDeclarator (view.declarator d.now) }
     ensures { IfOk result (λ f. f ≡ least (wire_faults (view_env here.now) (view.declarator d.now))) }
 {
+    fair_law();
     match &d.value {
         None => Ok(None),
         Some(e) => {
-            let target = base_of(here, &d.name, false, false);
+            let target = check_selected(alloc, &d.name, &Select::Whole, here, false)?;
             let value = expr_fault(alloc, e, here, false)?;
-            Ok(first_of(target.fault, value))
+            Ok(first_of(target, value))
         }
     }
 }

@@ -2,29 +2,27 @@
 //! instance what its ports are connected to and what overrides the parameters of its module.
 #![tactic(auto)]
 
+mod blocks;
 mod bodies;
 mod connected;
 mod connections;
 mod counts;
+mod heads;
 mod instances;
 mod interfaces;
 mod items;
-mod memories;
+mod loops;
 mod modules;
 mod noted;
-mod numbers;
 mod outputs;
 mod overrides;
 mod overriding;
 mod ports;
-mod selects;
-mod statements;
-mod targets;
 mod values;
-mod written;
 
 pub use bodies::{SaidItems, said_items};
 pub use connections::{Connection, connections_of};
 pub use interfaces::Interface;
+pub use loops::Loops;
 pub use modules::{Known, Modules, modules_of};
 pub use overriding::overrides_of;

@@ -14,7 +14,7 @@ use crate::noted::note;
 use std::alloc::{AllocError, Global};
 use vs_ast::{Module, Name, Source};
 use vs_const::{Fault, Rule, fault_if, first_of};
-use vs_scope::NameMap;
+use vs_maps::NameMap;
 
 /// A module of a text, and what its instances see of it.
 #[derive(Drop)]

@@ -1,12 +1,12 @@
 //! Maps that keep the first value of each name.
 
 ghost use Rattle.std.specs.Prelude.{◌≡◌, ◌++◌, [], ◌∷◌, List, IfOk, OnOk, is_some};
-ghost use Rattle.vs_scope.specs.Maps.{AreDistinct, Pair, value_at};
-ghost use Rattle.vs_scope.specs.MapViews.{pairs};
+ghost use Rattle.vs_maps.specs.Maps.{AreDistinct, Pair, value_at};
+ghost use Rattle.vs_maps.specs.MapViews.{pairs};
 ghost use Rattle.vs_items.specs.Noted.{AreFirst, MayHave, named};
 
 use std::alloc::AllocError;
-use vs_scope::NameMap;
+use vs_maps::NameMap;
 
 /// Gives the name this value where it has none yet, and answers whether it had one.
 pub(crate) fn note<'a, V: Drop>(

@@ -10,12 +10,12 @@ ghost use Rattle.vs_elaborated.specs.Instances.{output_target};
 ghost use Rattle.vs_scope.specs.Frames.{view_env};
 ghost use Rattle.vs_items.specs.Outputs.{found_faults, found_parts};
 
-use crate::selects::selected_fault;
 use crate::values::expr_fault;
 use std::alloc::{AllocError, Global};
 use vs_ast::Expr;
+use vs_bodies::check_selected;
 use vs_const::{Fault, Rule, fault_at, first_of, place_of};
-use vs_scope::View;
+use vs_scope::{View, fair_law};
 
 /// Whether an expression is a target; brackets round it are no matter.
 #[cycle(shapes)]
@@ -49,8 +49,9 @@ fn part_fault(alloc: Global, e: &Expr, here: &View<'_, '_>) -> Result<Option<Fau
     requires { IsExpr (view.expr e.now) }
     ensures { IfOk result (λ f. f ≡ least (found_faults (view.expr e.now) (named (view_env here.now)))) }
 {
+    fair_law();
     match e {
-        Expr::Named(name, select) => selected_fault(alloc, name, select, here, false),
+        Expr::Named(name, select) => check_selected(alloc, name, select, here, false),
         Expr::Concatenation { parts, .. } => parts_fault(alloc, parts, here),
         Expr::Brackets { inner, .. } => part_fault(alloc, inner, here),
         _ => Ok(None),

@@ -9,8 +9,8 @@ ghost use Rattle.vs_elaborated.specs.Environments.{Env};
 ghost use Rattle.vs_elaborated.specs.Instances as instances;
 ghost use Rattle.vs_elaborated.specs.Parameters as spec;
 ghost use Rattle.vs_scope.specs.Frames.{env_at, envs};
-ghost use Rattle.vs_scope.specs.Maps.{AreDistinct};
-ghost use Rattle.vs_scope.specs.MapViews.{pairs};
+ghost use Rattle.vs_maps.specs.Maps.{AreDistinct};
+ghost use Rattle.vs_maps.specs.MapViews.{pairs};
 ghost use Rattle.vs_scope.specs.Overrides.{AreOverrides, overrides_of};
 ghost use Rattle.vs_scope.specs.declared.frames.Frame.{Frame};
 ghost use Rattle.vs_items.specs.Interfaces.{IsInterface};
@@ -21,7 +21,8 @@ use crate::interfaces::Interface;
 use crate::noted::note;
 use std::alloc::{AllocError, Global};
 use vs_ast::{Connections, Expr, NamedConnection};
-use vs_scope::{NameMap, Override};
+use vs_maps::NameMap;
+use vs_scope::Override;
 
 /// Notes what a parameter is overridden with, if there is such a parameter and a value. `frame` is the scope in which the instance stands.
 fn note_override<'a>(

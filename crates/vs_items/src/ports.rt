@@ -7,8 +7,8 @@ ghost use Rattle.vs_ast.specs.Views as view;
 ghost use Rattle.vs_elaborated.specs.Ports as spec_ports;
 ghost use Rattle.vs_elaborated.specs.Ports.{Direction, directions_in, item_directions, header_ports, item_parameters, parameter_names};
 ghost use Rattle.vs_elaborated.specs.Signals as spec;
-ghost use Rattle.vs_scope.specs.Maps.{Pair};
-ghost use Rattle.vs_scope.specs.MapViews.{pairs};
+ghost use Rattle.vs_maps.specs.Maps.{Pair};
+ghost use Rattle.vs_maps.specs.MapViews.{pairs};
 ghost use Rattle.vs_items.specs.Noted.{AreFirst};
 ghost use Rattle.vs_items.specs.Ports.{body_parameters, declared_port, name_bytes, named_direction, named_port, port_of, setting_bytes};
 ghost use Rattle.vs_items.specs.PortTables.{ArePorts};
@@ -16,7 +16,7 @@ ghost use Rattle.vs_items.specs.PortTables.{ArePorts};
 use crate::noted::note;
 use std::alloc::{AllocError, Global};
 use vs_ast::{Header, Item, Module, Name, Parameters, Setting, SignalKind, Signals};
-use vs_scope::NameMap;
+use vs_maps::NameMap;
 
 /// A port of a module: its name, and whether it is an input. A name of a plain header that the body gives no direction has none.
 #[derive(Clone, Copy)]

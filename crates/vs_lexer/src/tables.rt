@@ -53,7 +53,7 @@ pub(crate) const SIGNS: [(&[u8], TokenKind); 46] = [
 ];
 
 /// The keywords of the grammar (IEEE 1364-2005, 3.7.2, annex B).
-pub(crate) const KEYWORDS: [(&[u8], TokenKind); 27] = [
+pub(crate) const KEYWORDS: [(&[u8], TokenKind); 30] = [
     (b"module", TokenKind::KeywordModule),
     (b"endmodule", TokenKind::KeywordEndModule),
     (b"parameter", TokenKind::KeywordParameter),
@@ -81,10 +81,13 @@ pub(crate) const KEYWORDS: [(&[u8], TokenKind); 27] = [
     (b"posedge", TokenKind::KeywordPosedge),
     (b"negedge", TokenKind::KeywordNegedge),
     (b"or", TokenKind::KeywordOr),
+    (b"function", TokenKind::KeywordFunction),
+    (b"endfunction", TokenKind::KeywordEndFunction),
+    (b"integer", TokenKind::KeywordInteger),
 ];
 
 /// The keywords that no rule of the grammar has (IEEE 1364-2005, annex B).
-pub(crate) const LEFT_OUT_WORDS: [&[u8]; 97] = [
+pub(crate) const LEFT_OUT_WORDS: [&[u8]; 94] = [
     b"and",
     b"automatic",
     b"buf",
@@ -99,7 +102,6 @@ pub(crate) const LEFT_OUT_WORDS: [&[u8]; 97] = [
     b"disable",
     b"edge",
     b"endconfig",
-    b"endfunction",
     b"endprimitive",
     b"endspecify",
     b"endtable",
@@ -108,7 +110,6 @@ pub(crate) const LEFT_OUT_WORDS: [&[u8]; 97] = [
     b"force",
     b"forever",
     b"fork",
-    b"function",
     b"highz0",
     b"highz1",
     b"ifnone",
@@ -117,7 +118,6 @@ pub(crate) const LEFT_OUT_WORDS: [&[u8]; 97] = [
     b"initial",
     b"inout",
     b"instance",
-    b"integer",
     b"join",
     b"large",
     b"liblist",

@@ -174,6 +174,12 @@ pub enum TokenKind {
     Power,
     /// `->`, left out
     Arrow,
+    /// `function`
+    KeywordFunction,
+    /// `endfunction`
+    KeywordEndFunction,
+    /// `integer`
+    KeywordInteger,
 }
 
 /// The bytes `start..end` of a text.

@@ -13,7 +13,6 @@ use Rattle.vs_design.specs.Footprints.{signals_bits}
 use Rattle.vs_design.specs.Elaborated.{have_bits_from}
 use Rattle.vs_design.specs.Resets.{reset_inputs}
 use Rattle.vs_design.specs.Accepted.{IsAcceptedDesign}
-use Rattle.vs_cone.specs.Given.{data_bits}
 use Rattle.vs_queue.specs.Driven as Q
 use Rattle.vs_queue.specs.Driven.{AreGiven, AreVectors}
 use Rattle.vs_stim.specs.Header.{lengths}

@@ -1,22 +1,19 @@
 -- The vectors of one stimulus, round by round.
-use Rattle.std.proofs.Common.{◌≡◌, ◌<◌, ◌≤◌, ◌+◌, ◌∙◌, ℕ, suc, Bool, true, false, ◌||◌, List, [], ◌∷◌, ◌++◌, length, take, sym, ap, refl, subst, arith, inl, inr, Result, Ok, Err, IfErr, All}
-use Rattle.std.specs.List.{list_any}
+use Rattle.std.proofs.Common.{◌≡◌, ◌<◌, ◌≤◌, ◌+◌, ◌∙◌, ℕ, suc, Bool, true, false, ◌||◌, List, [], ◌∷◌, ◌++◌, length, take, sym, ap, refl, subst, arith, inl, inr, Result, Err, IfErr, All}
 use Rattle.std.proofs.lemmas.List.{take_all}
 use Rattle.std.proofs.lemmas.List.Elements.{All-append, All-cons, All-nil}
 use Rattle.vs_four.specs.declared.Bit4.{Bit4}
 use Rattle.vs_desk.specs.Desk.{Contents}
 use Rattle.vs_desk.specs.Places.{stimulus_place}
 use Rattle.vs_stim.specs.Known.{Known, last_entry, remaining, text_left}
-use Rattle.vs_stim.specs.Reading.{Reading}
 use Rattle.vs_stim.specs.Row.{sizes}
-use Rattle.vs_stim.specs.Vectors.{Entry}
 use Rattle.vs_feed.specs.Lanes.{lane_at, some_live, OtherPlacesKept}
 use Rattle.vs_stim.specs.declared.error.StimError.{StimError}
 use Rattle.vs_stim.specs.declared.error.StimError.TheVariants as E
 use Rattle.vs_rounds.specs.declared.stop.Stop.{Stop}
 use Rattle.vs_rounds.specs.declared.stop.Stop.TheVariants.{Refused, ReadFault}
 use Rattle.vs_rounds.specs.Stops.{IsLaneOf, stop_of}
-use Rattle.vs_rounds.specs.Lanes.{Run, HaveNext, HaveVectors, IsRead, IsUnread, reading_of}
+use Rattle.vs_rounds.specs.Lanes.{Run, HaveNext, HaveVectors, IsRead, reading_of}
 use Rattle.vs_rounds.proofs.Limited.{few_vectors}
 use Rattle.vs_rounds.proofs.Readings.{read_on, vector_read}
 use Rattle.vs_rounds.proofs.Rereads.{either}

@@ -16,7 +16,7 @@ use Rattle.vs_rounds.specs.Drives.{Vector, vector_state}
 use Rattle.vs_vcd.specs.Shared.{text_of}
 use Rattle.vs_writes.specs.Held.{state_of}
 use Rattle.vs_ordered.specs.Traced.{AreSized, AreValid, HasSteps, IsEveryDump}
-use Rattle.vs_ordered.proofs.Valid.{IsAsked, all_asked, clock_is}
+use Rattle.vs_ordered.proofs.Valid.{all_asked, clock_is}
 
 -- a solution of the design's equations is what every completed run ends with
 abbrev Ends : Design → State → List State → List State → ℕ → Type 0

@@ -7,7 +7,6 @@ use Rattle.std.proofs.lemmas.Option.{same_Some}
 use Rattle.std.proofs.lemmas.List.Elements.{All-cons, All-nil}
 use Rattle.vs_four.specs.declared.Range.{Range}
 use Rattle.vs_four.specs.Selects.{range_length, is_descending}
-use Rattle.vs_net.specs.Network.{State}
 use Rattle.vs_net.specs.Laws.{IsKnownVector, AreKnownResets}
 use Rattle.vs_design.specs.Expressions.{Signal, range_or_one, words_length, signal_length}
 use Rattle.vs_design.specs.Designs.{Design}
@@ -19,10 +18,7 @@ use Rattle.vs_design.specs.Accepted.{IsAcceptedDesign}
 use Rattle.vs_clock.specs.Clocked.{Clocked}
 use Rattle.vs_queue.specs.Driven.{AreVectors}
 use Rattle.vs_queue.specs.Machines.{IsAcceptedBy}
-use Rattle.vs_stim.specs.declared.input.Input.{Input}
 use Rattle.vs_stim.specs.Header.{IsInput, lengths}
-use Rattle.vs_stim.specs.Laws.{known_in_resets}
-use Rattle.vs_stim.specs.Row.{sizes}
 use Rattle.vs_rounds.specs.Drives.{Vector, vector_state}
 use Rattle.vs_rounds.specs.Inputs.{AreDataInputs, data_inputs, input_of, inputs_among, is_data_input}
 use Rattle.vs_rounds.proofs.Known.{vector_is_known}

@@ -1,14 +1,14 @@
 -- Lists of items and of arms of generate cases, as the plain tree has them.
 use Rattle.std.proofs.Common.{◌≡◌, ℕ, ◌≤◌, true, false, List, [], ◌∷◌, ◌++◌, map, refl, sym, ◌∙◌, ap}
 use Rattle.vs_lexer.specs.declared.token.TokenKind.TheVariants as kind
-use Rattle.vs_grammar.specs.Grammars.{Terminal, star}
+use Rattle.vs_grammar.specs.Grammars.{star}
 use Rattle.vs_grammar.specs.Grammars.Phrase.{eps}
 use Rattle.vs_grammar.specs.Grammars.Tree.{leaf, nothing, both, start, grown, named, former, latter}
 use Rattle.vs_grammar.specs.Predictive.{is_member, firsts_of}
 use Rattle.vs_grammar.specs.Verilog.{verilog, t, r}
 use Rattle.vs_grammar.specs.Verilog.{Rule as rule}
 use Rattle.vs_grammar.specs.Trees as tree
-use Rattle.vs_grammar.specs.Trees.{Expr, Setting, Item, Items, GenerateBlock, GenerateArms}
+use Rattle.vs_grammar.specs.Trees.{Expr, Item, Items, GenerateBlock, GenerateArms}
 use Rattle.vs_grammar.specs.Meaning as meaning
 use Rattle.vs_grammar.specs.Meaning.{D, each_onto}
 use Rattle.vs_ast.specs.declared.items.Item.{Item as ItemNode}
@@ -19,8 +19,7 @@ use Rattle.vs_statements.specs.declared.input.Input.{Input}
 use Rattle.vs_parser.specs.Parts as part
 use Rattle.vs_parser.specs.ItemLists.{ItemRead, ItemsGrown, items_from}
 use Rattle.vs_statements.specs.Reading.{kind_at, bytes_in, Read, Parsed}
-use Rattle.vs_parser.proofs.Fronts.{in_front}
-use Rattle.vs_statements.proofs.Places.{ap2, ap4, parsed, read_eps, read_many, grown_start, grown_more}
+use Rattle.vs_statements.proofs.Places.{ap2, parsed, read_eps, read_many, grown_start, grown_more}
 
 -- ---- arms of a generate case
 
@@ -113,8 +112,3 @@ items_more {input = input} g m p = record { tree = grown g.tree p.tree; grown = 
 
 pub items_done : {input : Input} {d i : ℕ} {list : List ItemNode} {j : ℕ} → ItemsGrown input d i list j → is_member (kind_at input.tokens.now j) (firsts_of verilog (r rule.Item)) ≡ false → Parsed input (star (r rule.Item)) (λ b a. meaning.items_onto b a tree.NoItem) d i (view.items list) j
 items_done {list = list} g m = parsed (read_many g.grown m) (g.made tree.NoItem ∙ sym (items_viewed list))
-
--- ---- the brackets of a generate for
-
-pub for_made : (b : ℕ → List ℕ) (f : Terminal) (o : D (t kind.OpenParen)) (a : D part.assigned) (y : D (t kind.Semicolon)) (e : D (r rule.Expression)) (z : D (t kind.Semicolon)) (c : D part.assigned) (s : D (t kind.CloseParen)) (g : D (r rule.GenerateBlock)) {start step : Setting} {test : Expr} {block : GenerateBlock} → part.assigned_of b a ≡ start → meaning.expr_of b e ≡ test → part.assigned_of b c ≡ step → meaning.block_of b g ≡ block → meaning.for_item_of b (both (leaf f) (both o (in_front a (both y (both e (both z (in_front c (both s g)))))))) ≡ tree.GenerateFor (record { place = f.place; variable = start.name; first = start.value; test = test; again = step.name; next = step.value }) block
-for_made b f o (both n (both u v)) y e z (both m (both x w)) s g p q h k = ap4 (λ (a : Setting) i (c : Setting) j. tree.GenerateFor (record { place = f.place; variable = a.name; first = a.value; test = i; again = c.name; next = c.value }) j) p q h k

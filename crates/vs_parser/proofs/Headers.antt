@@ -61,8 +61,8 @@ settings_more : (p : Parameters) (n : Setting) (ns : List Setting) → part.with
 settings_more p n ns = ap (λ z. record p { settings = z }) (sym (append_assoc p.settings (n ∷ []) ns))
 
 -- a declaration with further settings
-declared_more : (b : ℕ → List ℕ) (place : ℕ) (w : D (r rule.ParameterType)) (u : Setting) (value : Parameters) → meaning.parameters_of b place false w (u ∷ []) ≡ value → (settings : List Setting) → meaning.parameters_of b place false w (u ∷ settings) ≡ part.with_settings value settings
-declared_more b place (named (both s g)) u value e settings = ap (λ z. part.with_settings z settings) e
+declared_more : (b : ℕ → List ℕ) (place : ℕ) (w : D (r rule.ValueType)) (u : Setting) (value : Parameters) → meaning.parameters_of b place false w (u ∷ []) ≡ value → (settings : List Setting) → meaning.parameters_of b place false w (u ∷ settings) ≡ part.with_settings value settings
+declared_more b place w u value e settings = ap (λ z. part.with_settings z settings) e
 
 pub declaration_behind : {input : Input} {d i j : ℕ} {value : Parameters} (list : List Parameters) (last : Parameters) (q : D part.next_declaration) → Read input.tokens.now d part.parameter_step (former q) i j → part.next_declaration_of (bytes_in input) q ≡ value → ParametersStep input list last d i (list ++ (last ∷ [])) value j
 declaration_behind {input} {value = value} list last (both (leaf a) (both w u)) v e = record {
@@ -71,7 +71,7 @@ declaration_behind {input} {value = value} list last (both (leaf a) (both w u)) 
   made = λ place y s l c h settings rest. h [] (meaning.parameters_of (bytes_in input) a.place false w (meaning.setting_of (bytes_in input) u ∷ settings) ∷ rest) ∙ ap (λ z. list ++ (z ∷ (meaning.parameters_of (bytes_in input) a.place false w (meaning.setting_of (bytes_in input) u ∷ settings) ∷ rest))) (settings_nil last) ∙ ap (λ z. list ++ (last ∷ (z ∷ rest))) (declared_more (bytes_in input) a.place w (meaning.setting_of (bytes_in input) u) value e settings) ∙ after list last (part.with_settings value settings ∷ rest);
 }
 
-pub setting_behind : {input : Input} {d i j : ℕ} {n : D (r rule.ParameterSetting)} {setting : Setting} {next : Parameters} (list : List Parameters) (last : Parameters) → Read input.tokens.now d part.parameter_step (latter n) i j → meaning.setting_of (bytes_in input) n ≡ setting → next ≡ part.with_settings last (setting ∷ []) → ParametersStep input list last d i list next j
+pub setting_behind : {input : Input} {d i j : ℕ} {n : D (r rule.Setting)} {setting : Setting} {next : Parameters} (list : List Parameters) (last : Parameters) → Read input.tokens.now d part.parameter_step (latter n) i j → meaning.setting_of (bytes_in input) n ≡ setting → next ≡ part.with_settings last (setting ∷ []) → ParametersStep input list last d i list next j
 setting_behind {input} {n = n} {setting} {next} list last w e f = record {
   tree = latter n;
   read = w;
@@ -88,7 +88,7 @@ pub parameters_done : {input : Input} {first : Parameters} {d i : ℕ} {list : L
 parameters_done {list = list} {last = last} all g n e = record { tree = g.tree; read = read_many g.grown n; made = λ place y u h. g.made place y u h [] [] ∙ ap (λ z. list ++ (z ∷ [])) (settings_nil last) ∙ sym e }
 
 -- the first declaration of a header
-pub declared_first : (b : ℕ → List ℕ) (place : ℕ) (w : D (r rule.ParameterType)) (s : D (r rule.ParameterSetting)) (first : Parameters) → meaning.parameters_of b place false w (meaning.setting_of b s ∷ []) ≡ first → (settings : List Setting) → meaning.parameters_of b place false w (meaning.setting_of b s ∷ settings) ≡ part.with_settings first settings
+pub declared_first : (b : ℕ → List ℕ) (place : ℕ) (w : D (r rule.ValueType)) (s : D (r rule.Setting)) (first : Parameters) → meaning.parameters_of b place false w (meaning.setting_of b s ∷ []) ≡ first → (settings : List Setting) → meaning.parameters_of b place false w (meaning.setting_of b s ∷ settings) ≡ part.with_settings first settings
 declared_first b place w s first e = declared_more b place w (meaning.setting_of b s) first e
 
 pub map_pushed : {A T : Type 0} (f : T → A) (list longer : List T) (v : T) → longer ≡ list ++ (v ∷ []) → map f longer ≡ map f list ++ (f v ∷ [])

@@ -4,3 +4,4 @@ pub mod Blocks
 pub mod Headers
 pub mod Ends
 pub mod Verdicts
+pub mod FunctionHeads

@@ -1,37 +1,23 @@
 -- What pieces of declarations and event controls stand for.
-use Rattle.std.proofs.Common.{◌≡◌, ℕ, Bool, true, false, List, [], ◌∷◌, ◌++◌, map, refl, sym, ◌∙◌, ap, arith, ◌<◌, length, subst, ◌+◌, inl, inr}
+use Rattle.std.proofs.Common.{◌≡◌, ℕ, Bool, true, false, List, [], ◌∷◌, ◌++◌, map, refl, sym, ◌∙◌, ap, ◌<◌, length, subst, ◌+◌, inl, inr}
 use Rattle.std.specs.Prelude.{Option, Some, None}
 use Rattle.vs_lexer.specs.declared.token.Token.{Token}
 use Rattle.vs_lexer.specs.declared.token.TokenKind.TheVariants as kind
-use Rattle.vs_grammar.specs.Grammars.{Phrase, Terminal, onto, opt}
+use Rattle.vs_grammar.specs.Grammars.{opt}
 use Rattle.vs_grammar.specs.Grammars.Tree.{both, former, latter, named}
-use Rattle.vs_grammar.specs.Predictive.{can_be_empty}
-use Rattle.vs_grammar.specs.Verilog.{verilog, t, r}
+use Rattle.vs_grammar.specs.Verilog.{t, r}
 use Rattle.vs_grammar.specs.Verilog.{Rule as rule}
 use Rattle.vs_grammar.specs.Trees as tree
 use Rattle.vs_grammar.specs.Trees.{Expr}
 use Rattle.vs_grammar.specs.Meaning as meaning
-use Rattle.vs_grammar.specs.Meaning.{D, is_there, first_place, head_place, each_onto, behind_sign}
-use Rattle.vs_grammar.proofs.Stopped.{says, onto_front}
+use Rattle.vs_grammar.specs.Meaning.{D, is_there, each_onto, behind_sign}
 use Rattle.vs_ast.specs.declared.items.Event.{Event}
 use Rattle.vs_ast.specs.declared.items.SignalKind.{SignalKind}
 use Rattle.vs_ast.specs.Views as view
 use Rattle.vs_parser.specs.Parts as part
-use Rattle.vs_statements.specs.Reading.{from, terminal_at, Read, kind_at, IsBeside, Picked, Chosen}
-use Rattle.vs_statements.proofs.Places.{from_head, later, known}
-use Rattle.vs_statements.proofs.Lists.{some}
+use Rattle.vs_statements.specs.Reading.{kind_at, IsBeside, Picked, Chosen}
+use Rattle.vs_statements.proofs.Places.{known}
 use Rattle.vs_statements.proofs.Tables.{chosen_tok, chosen_former, chosen_latter}
-
--- what is read from place i on has its first token there
-pub first_is : {ts : List Token} {d : ℕ} {x : Phrase} {a : D x} {i j : ℕ} → Read ts d x a i j → can_be_empty verilog x ≡ false → first_place a ≡ i
-first_is {ts} {d} {x} {a} {i} {j} p e = go (onto a []) (some a e) (sym (onto_front a (from ts j)) ∙ (says verilog p.reads).text ∙ from_head ts i)
-  where
-    head_of : {u v : Terminal} {us vs : List Terminal} → u ∷ us ≡ v ∷ vs → u ≡ v
-    head_of e = cc
-
-    go : (l : List Terminal) → 0 < length l → l ++ from ts j ≡ terminal_at ts i ∷ later ts i → head_place l ≡ i
-    go [] h q = absurd (omega arith)
-    go (u ∷ l) h q = ap (λ (z : Terminal). z.place) (head_of q)
 
 pub input_made : (d : D (t kind.KeywordInput)) (w : D (opt (t kind.KeywordWire))) (b : Bool) (k : SignalKind) → is_there w ≡ b → view.signal_kind k ≡ part.input_kind b → meaning.port_kind (part.as_input (both d w)) ≡ view.signal_kind k
 input_made d (former w) b k e f = ap part.input_kind e ∙ sym f

@@ -1,4 +1,5 @@
 pub mod ItemLists
 pub mod Parts
 pub mod Headings
+pub mod Functions
 pub mod Faults

@@ -8,7 +8,7 @@ use Rattle.vs_grammar.specs.Kinds.{number_of, numbers_of}
 use Rattle.vs_grammar.specs.Verilog.{◌⨾◌, ◌∣◌, t, r, separated, signed_range}
 use Rattle.vs_grammar.specs.Verilog as grammar
 use Rattle.vs_grammar.specs.Verilog.{Rule as rule}
-use Rattle.vs_grammar.specs.Trees.{Expr, Setting, Item, SignalKind, SignalsItem, ParametersItem, Input, InputWire, Output, OutputWire, OutputReg, Connections, Unconnected, ByOrder, Event, Any, EventControl, Star, Listed, GenerateBlock, GenerateArms, BlockFallback}
+use Rattle.vs_grammar.specs.Trees.{Expr, Item, SignalKind, SignalsItem, ParametersItem, Input, InputWire, Output, OutputWire, OutputReg, Connections, Unconnected, ByOrder, Event, Any, EventControl, Star, Listed, GenerateBlock, GenerateArms, BlockFallback}
 use Rattle.vs_grammar.specs.Meaning.{D, list_of, expr_of, signals_of, first_place, port_kind, ended, names_of, parameters_of, setting_of, name_of, event_of, each_onto, behind_sign, block_of, generate_arms, default_block}
 use Rattle.vs_ast.specs.Views as view
 use Rattle.vs_ast.specs.declared.items.GenerateArm.{GenerateArm}
@@ -32,17 +32,10 @@ abbrev pub ports_item_tree : (ℕ → List ℕ) → D ports_item → Item
 ports_item_tree b (both d l) = SignalsItem (signals_of b (first_place d) (port_kind d) (ended b (names_of b)) l)
 
 abbrev pub parameters_item : Phrase
-parameters_item = t kind.KeywordParameter ⨾ r rule.ParameterType ⨾ separated (r rule.ParameterSetting) ⨾ t kind.Semicolon
+parameters_item = t kind.KeywordParameter ⨾ r rule.ValueType ⨾ separated (r rule.Setting) ⨾ t kind.Semicolon
 
 abbrev pub parameters_item_tree : (ℕ → List ℕ) → D parameters_item → Item
 parameters_item_tree b (both (leaf a) (both y (both l z))) = ParametersItem (parameters_of b a.place false y (list_of (setting_of b) l))
-
--- what a parameter setting is, and what stands twice in the brackets of a generate for
-abbrev pub assigned : Phrase
-assigned = t kind.Identifier ⨾ t kind.Assign ⨾ r rule.Expression
-
-abbrev pub assigned_of : (ℕ → List ℕ) → D assigned → Setting
-assigned_of b d = setting_of b (named d)
 
 abbrev pub input_direction : Phrase
 input_direction = t kind.KeywordInput ⨾ opt (t kind.KeywordWire)

@@ -11,7 +11,7 @@ ghost use Rattle.vs_parser.specs.Parts as part;
 ghost use Rattle.vs_grammar.specs.Trees as tree;
 ghost use Rattle.vs_statements.specs.Reading.{Answers};
 
-use vs_ast::{Declarator, Expr, Item, Name, Parameters, Range, Setting, SignalKind, Signals};
+use vs_ast::{Declarator, Expr, Item, Parameters, Setting, SignalKind, Signals};
 use vs_lexer::TokenKind;
 use vs_statements::ParseError;
 use vs_statements::commas::{Part, comma_list};
@@ -19,49 +19,8 @@ use vs_statements::depth::Depth;
 use vs_statements::expressions::expression;
 use vs_statements::input::{Found, Input, both};
 use vs_statements::tokens::{optional, stands, take};
+use vs_statements::types::{optional_range, range, setting, value_type};
 use vs_statements::words::identifier;
-
-/// The bounds of a vector.
-fn range(input: &Input<'_>, at: u32, depth: Depth) -> Result<Found<Range>, ParseError>
-    ensures { Answers input.now (r rule.Range) meaning.range_of view.range depth at result }
-{
-    let open = take(input, at, TokenKind::OpenBracket)?;
-    let left = expression(input, open, depth)?;
-    let colon = take(input, left.to, TokenKind::Colon);
-    let (left, colon) = both(left, colon)?;
-    let right = expression(input, colon, depth);
-    let (left, right) = both(left, right)?;
-    let close = take(input, right.to, TokenKind::CloseBracket);
-    let (ends, close) = both((left.value, right.value), close)?;
-    let (left, right) = ends;
-    let value = Range {
-        bracket: at,
-        left,
-        right,
-    };
-    Ok(Found { value, to: close })
-}
-
-/// The bounds of a vector, if there are any.
-pub(crate) fn optional_range(
-    input: &Input<'_>,
-    at: u32,
-    depth: Depth,
-) -> Result<Found<Option<Range>>, ParseError>
-    ensures { Answers input.now (opt (r rule.Range)) (λ b d. meaning.option_of (meaning.range_of b) d) (view.option view.range) depth at result }
-{
-    if !stands(input, at, TokenKind::OpenBracket) {
-        return Ok(Found {
-            value: None,
-            to: at,
-        });
-    }
-    let inner = range(input, at, depth)?;
-    Ok(Found {
-        value: Some(inner.value),
-        to: inner.to,
-    })
-}
 
 /// The value behind a `=`.
 fn value_behind(input: &Input<'_>, at: u32, depth: Depth) -> Result<Found<Expr>, ParseError>
@@ -93,41 +52,6 @@ fn optional_value(
     Ok(Found {
         value: Some(inner.value),
         to: inner.to,
-    })
-}
-
-/// A name.
-fn name(input: &Input<'_>, at: u32, depth: Depth) -> Result<Found<Name>, ParseError>
-    ensures { Answers input.now (t kind.Identifier) meaning.name_of view.name depth at result }
-{
-    identifier(input, at)
-}
-
-/// A name, as a part of a list.
-struct NamePart;
-
-impl Part for NamePart {
-    type Value = Name;
-
-    ghost Tree = { tree.Name };
-
-    ghost phrase = { t kind.Identifier };
-
-    ghost meaning = { meaning.name_of };
-
-    ghost view = { view.name };
-}
-
-/// Names, with commas between them.
-pub(crate) fn identifiers(
-    input: &Input<'_>,
-    at: u32,
-    depth: Depth,
-) -> Result<Found<Vec<Name>>, ParseError>
-    ensures { Answers input.now (separated (t kind.Identifier)) (λ b d. meaning.list_of (meaning.name_of b) d) (λ v. map view.name v.items) depth at result }
-{
-    comma_list::<NamePart, _>(input, at, depth, |place, inner| {
-        name(input, place, inner)
     })
 }
 
@@ -227,7 +151,7 @@ fn variable_declarators(
     })
 }
 
-/// A declared net, and what it is assigned.
+/// A declared net, with the addresses of an array of nets (4.9), or with what it is assigned.
 fn wire_declarator(
     input: &Input<'_>,
     at: u32,
@@ -236,16 +160,29 @@ fn wire_declarator(
     ensures { Answers input.now grammar.wire_name meaning.wire_of view.declarator depth at result }
 {
     let name = identifier(input, at)?;
-    let value = optional_value(input, name.to, depth);
-    let (name, value) = both(name, value)?;
-    Ok(Found {
-        value: Declarator {
-            name: name.value,
-            addresses: None,
-            value: value.value,
-        },
-        to: value.to,
-    })
+    if stands(input, name.to, TokenKind::OpenBracket) {
+        let addresses = range(input, name.to, depth);
+        let (name, addresses) = both(name, addresses)?;
+        Ok(Found {
+            value: Declarator {
+                name: name.value,
+                addresses: Some(addresses.value),
+                value: None,
+            },
+            to: addresses.to,
+        })
+    } else {
+        let value = optional_value(input, name.to, depth);
+        let (name, value) = both(name, value)?;
+        Ok(Found {
+            value: Declarator {
+                name: name.value,
+                addresses: None,
+                value: value.value,
+            },
+            to: value.to,
+        })
+    }
 }
 
 /// A declared net, as a part of a list.
@@ -428,39 +365,6 @@ pub(crate) fn ports_item(
     Ok(Found { value, to: end })
 }
 
-/// A name and the value that it is given.
-pub(crate) fn assigned(
-    input: &Input<'_>,
-    at: u32,
-    depth: Depth,
-) -> Result<Found<Setting>, ParseError>
-    ensures { Answers input.now part.assigned part.assigned_of view.setting depth at result }
-{
-    let name = identifier(input, at)?;
-    let sign = take(input, name.to, TokenKind::Assign);
-    let (name, sign) = both(name, sign)?;
-    let value = expression(input, sign, depth);
-    let (name, value) = both(name, value)?;
-    Ok(Found {
-        value: Setting {
-            name: name.value,
-            value: value.value,
-        },
-        to: value.to,
-    })
-}
-
-/// A parameter and its value.
-pub(crate) fn setting(
-    input: &Input<'_>,
-    at: u32,
-    depth: Depth,
-) -> Result<Found<Setting>, ParseError>
-    ensures { Answers input.now (r rule.ParameterSetting) meaning.setting_of view.setting depth at result }
-{
-    assigned(input, at, depth)
-}
-
 /// A setting, as a part of a list.
 struct SettingPart;
 
@@ -469,7 +373,7 @@ impl Part for SettingPart {
 
     ghost Tree = { tree.Setting };
 
-    ghost phrase = { r rule.ParameterSetting };
+    ghost phrase = { r rule.Setting };
 
     ghost meaning = { meaning.setting_of };
 
@@ -478,7 +382,7 @@ impl Part for SettingPart {
 
 /// Settings, with commas between them.
 fn settings(input: &Input<'_>, at: u32, depth: Depth) -> Result<Found<Vec<Setting>>, ParseError>
-    ensures { Answers input.now (separated (r rule.ParameterSetting)) (λ b d. meaning.list_of (meaning.setting_of b) d) (λ v. map view.setting v.items) depth at result }
+    ensures { Answers input.now (separated (r rule.Setting)) (λ b d. meaning.list_of (meaning.setting_of b) d) (λ v. map view.setting v.items) depth at result }
 {
     comma_list::<SettingPart, _>(input, at, depth, |place, inner| {
         setting(input, place, inner)
@@ -494,18 +398,16 @@ pub(crate) fn parameters(
     ensures { Answers input.now (part.parameters_item) part.parameters_item_tree view.item depth at result }
 {
     let word = take(input, at, TokenKind::KeywordParameter)?;
-    let signed = optional(input, word, depth, TokenKind::KeywordSigned);
-    let range = optional_range(input, signed.to, depth)?;
-    let settings = settings(input, range.to, depth);
-    let (range, settings) = both(range, settings)?;
+    let value_type = value_type(input, word, depth)?;
+    let settings = settings(input, value_type.to, depth);
+    let (value_type, settings) = both(value_type, settings)?;
     let end = take(input, settings.to, TokenKind::Semicolon);
-    let (declared, end) = both((range.value, settings.value), end)?;
-    let (range, settings) = declared;
+    let (declared, end) = both((value_type.value, settings.value), end)?;
+    let (value_type, settings) = declared;
     let value = Item::Parameters(Parameters {
         place: at,
         is_local: false,
-        signed: signed.value,
-        range,
+        value_type,
         settings,
     });
     Ok(Found { value, to: end })
@@ -520,18 +422,16 @@ pub(crate) fn local_parameters(
     ensures { Answers input.now grammar.local_item meaning.local_item_of view.item depth at result }
 {
     let word = take(input, at, TokenKind::KeywordLocalParam)?;
-    let signed = optional(input, word, depth, TokenKind::KeywordSigned);
-    let range = optional_range(input, signed.to, depth)?;
-    let settings = settings(input, range.to, depth);
-    let (range, settings) = both(range, settings)?;
+    let value_type = value_type(input, word, depth)?;
+    let settings = settings(input, value_type.to, depth);
+    let (value_type, settings) = both(value_type, settings)?;
     let end = take(input, settings.to, TokenKind::Semicolon);
-    let (declared, end) = both((range.value, settings.value), end)?;
-    let (range, settings) = declared;
+    let (declared, end) = both((value_type.value, settings.value), end)?;
+    let (value_type, settings) = declared;
     let value = Item::Parameters(Parameters {
         place: at,
         is_local: true,
-        signed: signed.value,
-        range,
+        value_type,
         settings,
     });
     Ok(Found { value, to: end })

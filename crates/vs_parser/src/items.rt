@@ -12,22 +12,22 @@ ghost use Rattle.vs_parser.specs.Parts as part;
 ghost use Rattle.vs_parser.specs.ItemLists.{ItemRead};
 ghost use Rattle.vs_statements.specs.Reading.{Refused, kind_at, Answers};
 
-use crate::declarations::{
-    assigned, identifiers, local_parameters, parameters, ports_item, regs, wires,
-};
+use crate::declarations::{local_parameters, parameters, ports_item, regs, wires};
+use crate::functions::function;
 use crate::instances::instances;
 use crate::processes::{always, assigns};
-use vs_ast::{GenerateArm, GenerateBlock, GenerateHead, Item};
+use vs_ast::{GenerateArm, GenerateBlock, Item};
 use vs_lexer::TokenKind;
 use vs_statements::ParseError;
 use vs_statements::depth::Depth;
 use vs_statements::expressions::{expression, expressions, is_expression_at};
 use vs_statements::input::{Found, Input, both, longer, one};
 use vs_statements::tokens::{optional, stands, stands_any, take};
+use vs_statements::types::{identifiers, loop_head};
 use vs_statements::words::label;
 
 /// What an item begins with that may stand in a generate block.
-const GENERATE_ITEM_KINDS: [TokenKind; 10] = [
+const GENERATE_ITEM_KINDS: [TokenKind; 11] = [
     TokenKind::Identifier,
     TokenKind::KeywordReg,
     TokenKind::KeywordWire,
@@ -35,17 +35,19 @@ const GENERATE_ITEM_KINDS: [TokenKind; 10] = [
     TokenKind::KeywordAssign,
     TokenKind::KeywordAlways,
     TokenKind::KeywordGenvar,
+    TokenKind::KeywordInteger,
     TokenKind::KeywordFor,
     TokenKind::KeywordIf,
     TokenKind::KeywordCase,
 ];
 
 /// What an item of a module begins with.
-const ITEM_KINDS: [TokenKind; 14] = [
+const ITEM_KINDS: [TokenKind; 16] = [
     TokenKind::KeywordInput,
     TokenKind::KeywordOutput,
     TokenKind::KeywordParameter,
     TokenKind::KeywordGenerate,
+    TokenKind::KeywordFunction,
     TokenKind::Identifier,
     TokenKind::KeywordReg,
     TokenKind::KeywordWire,
@@ -53,13 +55,14 @@ const ITEM_KINDS: [TokenKind; 14] = [
     TokenKind::KeywordAssign,
     TokenKind::KeywordAlways,
     TokenKind::KeywordGenvar,
+    TokenKind::KeywordInteger,
     TokenKind::KeywordFor,
     TokenKind::KeywordIf,
     TokenKind::KeywordCase,
 ];
 
 /// What a generate block begins with.
-const BLOCK_KINDS: [TokenKind; 12] = [
+const BLOCK_KINDS: [TokenKind; 13] = [
     TokenKind::KeywordBegin,
     TokenKind::Semicolon,
     TokenKind::Identifier,
@@ -69,6 +72,7 @@ const BLOCK_KINDS: [TokenKind; 12] = [
     TokenKind::KeywordAssign,
     TokenKind::KeywordAlways,
     TokenKind::KeywordGenvar,
+    TokenKind::KeywordInteger,
     TokenKind::KeywordFor,
     TokenKind::KeywordIf,
     TokenKind::KeywordCase,
@@ -105,6 +109,8 @@ fn generate_item(input: &Input<'_>, at: u32, depth: Depth) -> Result<Found<Item>
         always(input, at, depth)
     } else if stands(input, at, TokenKind::KeywordGenvar) {
         genvars(input, at, depth)
+    } else if stands(input, at, TokenKind::KeywordInteger) {
+        integers(input, at, depth)
     } else if stands(input, at, TokenKind::Identifier) {
         instances(input, at, depth)
     } else if stands(input, at, TokenKind::KeywordFor) {
@@ -131,37 +137,30 @@ fn genvars(input: &Input<'_>, at: u32, depth: Depth) -> Result<Found<Item>, Pars
     Ok(Found { value, to: end })
 }
 
+/// A declaration of integers.
+fn integers(input: &Input<'_>, at: u32, depth: Depth) -> Result<Found<Item>, ParseError>
+    ensures { Answers input.now grammar.integer_item meaning.integer_item_of view.item depth at result }
+{
+    let word = take(input, at, TokenKind::KeywordInteger)?;
+    let names = identifiers(input, word, depth)?;
+    let end = take(input, names.to, TokenKind::Semicolon);
+    let (names, end) = both(names, end)?;
+    let value = Item::Integers {
+        place: at,
+        names: names.value,
+    };
+    Ok(Found { value, to: end })
+}
+
 /// A generate `for`.
 #[cycle(items)]
 fn generate_for(input: &Input<'_>, at: u32, depth: Depth) -> Result<Found<Item>, ParseError>
     ensures { Answers input.now grammar.for_item meaning.for_item_of view.item depth at result }
 {
-    let word = take(input, at, TokenKind::KeywordFor)?;
-    let open = take(input, word, TokenKind::OpenParen)?;
-    let start = assigned(input, open, depth)?;
-    let start_end = take(input, start.to, TokenKind::Semicolon);
-    let (start, start_end) = both(start, start_end)?;
-    let test = expression(input, start_end, depth);
-    let (start, test) = both(start, test)?;
-    let test_end = take(input, test.to, TokenKind::Semicolon);
-    let (tested, test_end) = both((start.value, test.value), test_end)?;
-    let step = assigned(input, test_end, depth);
-    let (tested, step) = both(tested, step)?;
-    let close = take(input, step.to, TokenKind::CloseParen);
-    let (head, close) = both((tested, step.value), close)?;
-    let block = block(input, close, depth);
+    let head = loop_head(input, at, depth)?;
+    let block = block(input, head.to, depth);
     let (head, block) = both(head, block)?;
-    let (tested, step) = head;
-    let (start, test) = tested;
-    let head = GenerateHead {
-        place: at,
-        variable: start.name,
-        first: start.value,
-        test,
-        again: step.name,
-        next: step.value,
-    };
-    let value = Item::new_for(input.alloc, head, block.value)?;
+    let value = Item::new_for(input.alloc, head.value, block.value)?;
     Ok(Found {
         value,
         to: block.to,
@@ -439,6 +438,14 @@ fn item(
         Ok(Found {
             value: items.value,
             to: end,
+        })
+    } else if stands(input, at, TokenKind::KeywordFunction) {
+        let declared = function(input, at, depth);
+        let (before, declared) = both(before, declared)?;
+        let list = longer(before, Item::Function(declared.value))?;
+        Ok(Found {
+            value: list,
+            to: declared.to,
         })
     } else {
         let other = generate_item(input, at, depth);

@@ -2,6 +2,7 @@
 #![tactic(auto)]
 
 mod declarations;
+mod functions;
 mod instances;
 mod items;
 mod modules;

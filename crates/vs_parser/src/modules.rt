@@ -10,15 +10,16 @@ ghost use Rattle.vs_parser.specs.Headings as part;
 ghost use Rattle.vs_parser.specs.Headings.{ParametersRead, ParametersStep, PortRead, PortsRead, PortsStep};
 ghost use Rattle.vs_statements.specs.Reading.{Refused, Answers};
 
-use crate::declarations::{direction, identifiers, optional_range, plain_declarator, setting};
+use crate::declarations::{direction, plain_declarator};
 use crate::items::items;
 use std::alloc::Global;
-use vs_ast::{Declarator, Header, Module, Parameters, Range, Setting, Signals, Source};
+use vs_ast::{Declarator, Header, Module, Parameters, Setting, Signals, Source, ValueType};
 use vs_lexer::TokenKind;
 use vs_statements::ParseError;
 use vs_statements::depth::Depth;
 use vs_statements::input::{Found, Input, both, longer, one};
 use vs_statements::tokens::{optional, stands, stands_any, take};
+use vs_statements::types::{identifiers, optional_range, setting, value_type};
 use vs_statements::words::identifier;
 
 /// The parameters in a header.
@@ -41,19 +42,17 @@ fn header_parameters(
 fn declaration(
     alloc: Global,
     place: u32,
-    signed: bool,
-    range: Option<Range>,
+    declared: ValueType,
     first: Setting,
 ) -> Result<Parameters, ParseError>
-    ensures { MatchResult result (λ p. view.parameters p ≡ part.declaration place signed (view.option view.range range) (view.setting first)) (λ e. e ≡ ParseError.Memory) }
+    ensures { MatchResult result (λ p. view.parameters p ≡ part.declaration place (view.value_type declared) (view.setting first)) (λ e. e ≡ ParseError.Memory) }
 {
     let settings = one(alloc, first);
-    let (range, settings) = both(range, settings)?;
+    let (value_type, settings) = both(declared, settings)?;
     Ok(Parameters {
         place,
         is_local: false,
-        signed,
-        range,
+        value_type,
         settings,
     })
 }
@@ -65,17 +64,15 @@ fn with_setting(declared: Parameters, setting: Setting) -> Result<Parameters, Pa
     let Parameters {
         place,
         is_local,
-        signed,
-        range,
+        value_type,
         settings,
     } = declared;
     let settings = longer(settings, setting);
-    let (range, settings) = both(range, settings)?;
+    let (value_type, settings) = both(value_type, settings)?;
     Ok(Parameters {
         place,
         is_local,
-        signed,
-        range,
+        value_type,
         settings,
     })
 }
@@ -89,11 +86,10 @@ fn next_declaration(
     ensures { Answers input.now part.next_declaration part.next_declaration_of view.parameters depth at result }
 {
     let word = take(input, at, TokenKind::KeywordParameter)?;
-    let signed = optional(input, word, depth, TokenKind::KeywordSigned);
-    let range = optional_range(input, signed.to, depth)?;
-    let first = setting(input, range.to, depth);
-    let (range, first) = both(range, first)?;
-    let value = declaration(input.alloc, at, signed.value, range.value, first.value)?;
+    let value_type = value_type(input, word, depth)?;
+    let first = setting(input, value_type.to, depth);
+    let (value_type, first) = both(value_type, first)?;
+    let value = declaration(input.alloc, at, value_type.value, first.value)?;
     Ok(Found {
         value,
         to: first.to,

@@ -4,8 +4,8 @@ use Rattle.std.specs.Prelude.{nat_lt}
 use Rattle.std.specs.List.{list_any}
 use Rattle.vs_four.specs.declared.Bit4.{Bit4}
 use Rattle.vs_net.specs.Network.{Update, Network, AComb, kind, updates}
-use Rattle.vs_net.specs.Queue.{Slot, Queue, Choice, Activate}
-use Rattle.vs_net.specs.LevelRun.{Pass, Activates, Takes, Runs, after_all, below, is_empty, sweep, sweeps}
+use Rattle.vs_net.specs.Queue.{Slot, Queue, Activate}
+use Rattle.vs_net.specs.LevelRun.{Pass, Activates, Takes, Runs, after_all, below, is_empty, sweep}
 use Rattle.vs_design.specs.Designs.{Design}
 use Rattle.vs_design.specs.Networks.{network_of}
 use Rattle.vs_design.specs.Laws.{AcceptedIsLawful}
@@ -17,7 +17,7 @@ use Rattle.vs_events.specs.Laws.{ActivateIsStep}
 use Rattle.vs_queue.specs.Machines.{IsAcceptedBy}
 use Rattle.vs_queue.specs.Runs.{IsCopied}
 use Rattle.vs_queue.specs.Sound.{IsSound, ActivationKeeps}
-use Rattle.vs_queue.specs.Sweeps.{HasTaken, IsCalm}
+use Rattle.vs_queue.specs.Sweeps.{HasTaken}
 use Rattle.vs_queue.specs.Turns.{IsRested, IsSpent}
 use Rattle.vs_queue.proofs.Firsts.{beyond}
 use Rattle.vs_queue.proofs.Spending.{NoneActive, NoneWaiting, pass_spent, pass_resting, runs_spent, takes_spent, takes_resting}

@@ -8,7 +8,7 @@ use Rattle.vs_four.specs.declared.Bit4.{Bit4}
 use Rattle.vs_net.specs.Network.{State, Write, Update, Network, is_written, flatten, made, updates, write_all}
 use Rattle.vs_net.proofs.Basics.{flat_cons, is_written-append}
 use Rattle.vs_design.specs.Designs as D
-use Rattle.vs_design.specs.Designs.{Design, bit_count, top_inputs}
+use Rattle.vs_design.specs.Designs.{Design, top_inputs}
 use Rattle.vs_design.specs.Fits.{fits_process}
 use Rattle.vs_design.specs.Networks.{network_of, process_of}
 use Rattle.vs_design.specs.Laws.{BitsOfDesign, AcceptedIsLawful}

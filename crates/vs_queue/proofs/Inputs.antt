@@ -4,7 +4,7 @@ use Rattle.std.specs.Prelude.{slice_get, sum_by}
 use Rattle.std.proofs.lemmas.List.{length-map}
 use Rattle.std.proofs.lemmas.List.Sums.{sum_by-cons}
 use Rattle.vs_four.specs.declared.Bit4.{Bit4}
-use Rattle.vs_net.specs.Network.{State, Update}
+use Rattle.vs_net.specs.Network.{State}
 use Rattle.vs_net.specs.Network as N
 use Rattle.vs_net.specs.Queue.{Slot, Fall, Rise, drive}
 use Rattle.vs_design.specs.Expressions.{Signal, signal_length}

@@ -3,10 +3,9 @@ use Rattle.std.proofs.Common.{◌≡◌, ℕ, zero, suc, ◌<◌, ◌≤◌, Boo
 use Rattle.std.specs.Prelude.{slice_get, is_some}
 use Rattle.std.proofs.lemmas.Bool.{both_ways, and_parts}
 use Rattle.std.specs.List.{list_any}
-use Rattle.vs_four.specs.declared.Bit4.{Bit4}
 use Rattle.vs_net.specs.Network.{Write, Update, Network, Kind, AnInput, TheClock, AnAssign, AComb, AClocked, kind, made}
-use Rattle.vs_net.specs.Queue.{Mode, Unstarted, Waiting, Due, Slot, Queue, Choice, Start, Evaluate, Apply, Run, Take, after, is_held, to_write}
-use Rattle.vs_net.specs.LevelRun.{after_all, each_in, starting, settling, running, is_empty}
+use Rattle.vs_net.specs.Queue.{Mode, Unstarted, Waiting, Due, Slot, Queue, Start, Evaluate, Apply, Run, Take, after, is_held, to_write}
+use Rattle.vs_net.specs.LevelRun.{after_all, starting, settling, running, is_empty}
 use Rattle.vs_net.specs.Checked as C
 use Rattle.vs_net.specs.Lawful.{Settles}
 use Rattle.vs_net.proofs.Basics.{put-same}
@@ -23,7 +22,7 @@ use Rattle.vs_flat.specs.declared.processes.Kind as F
 use Rattle.vs_flat.specs.declared.processes.Kind.TheVariants as K
 use Rattle.vs_flat.specs.Arena.{Arena}
 use Rattle.vs_flat.specs.Events.{is_edge_event}
-use Rattle.vs_flat.specs.DesignOf.{kind_of, event_of, arena_signals, arena_trees, arena_statements, design_of}
+use Rattle.vs_flat.specs.DesignOf.{kind_of, arena_signals, arena_trees, arena_statements, design_of}
 use Rattle.vs_flat.specs.Trees.{signal_at, tree_at, statement_at}
 use Rattle.vs_flat.specs.Laws.{EachProcess}
 use Rattle.vs_ranked.specs.Members.{has_member}

@@ -1,5 +1,5 @@
 -- The run in level order, slot by slot.
-use Rattle.std.proofs.Common.{◌≡◌, ℕ, suc, ◌+◌, ◌≤◌, true, ◌&&◌, List, [], ◌∷◌, ◌++◌, map, drop, length, refl, sym, ap, ◌∙◌, subst, arith, Some}
+use Rattle.std.proofs.Common.{◌≡◌, ℕ, suc, ◌+◌, ◌≤◌, true, List, [], ◌∷◌, ◌++◌, map, drop, length, refl, sym, ap, ◌∙◌, subst, arith, Some}
 use Rattle.std.specs.Prelude.{slice_get}
 use Rattle.std.specs.List.{list_all}
 use Rattle.std.proofs.lemmas.Bool.{and_parts}
@@ -7,7 +7,7 @@ use Rattle.vs_four.specs.declared.Bit4.{Bit4}
 use Rattle.vs_net.specs.Network.{State, Network}
 use Rattle.vs_net.specs.Queue.{Slot, Fall, Rise, Queue, Next, after, start, slots_of, ends}
 use Rattle.vs_net.specs.Laws.{IsKnownVector, AreKnownResets}
-use Rattle.vs_net.specs.LevelRun.{Sweep, after_all, sweep, sweeps, slot_sweeps, level_run}
+use Rattle.vs_net.specs.LevelRun.{Sweep, after_all, sweep, sweeps, slot_sweeps}
 use Rattle.vs_net.specs.Solution.{beginning, IsSolution}
 use Rattle.vs_design.specs.Designs.{Design, top_inputs}
 use Rattle.vs_design.specs.Laws.{LevelRunOfDesign}
@@ -15,18 +15,14 @@ use Rattle.vs_design.specs.Levels.{is_level_order}
 use Rattle.vs_design.specs.Networks.{network_of, idle_value}
 use Rattle.vs_clock.specs.Clocked.{Clocked}
 use Rattle.vs_writes.specs.Held.{state_of}
-use Rattle.vs_events.specs.Beginning.{DrivingIsNext, after_drives}
 use Rattle.vs_events.specs.Held.{Events, queue_of}
-use Rattle.vs_queue.specs.Driven.{Vector, AreGiven, AreVectors, IsSlotOf, data_inputs, slot_drives}
+use Rattle.vs_queue.specs.Driven.{Vector, AreGiven, AreVectors, data_inputs}
 use Rattle.vs_queue.specs.Laws.{DrawnIsFirst}
 use Rattle.vs_queue.specs.Levelled.{IsLevelled, GoesTo}
 use Rattle.vs_queue.specs.Machines.{IsAcceptedBy}
 use Rattle.vs_queue.specs.Ordered.{driven_bits, x_values, IsPlainRun}
-use Rattle.vs_queue.specs.Runs.{IsCopied}
 use Rattle.vs_queue.specs.Sweeps.{HasTaken, slot_parts, first_parts}
-use Rattle.vs_queue.specs.Turns.{IsRested}
 use Rattle.vs_queue.proofs.Periods.{vector_at, none_left}
-use Rattle.vs_queue.proofs.Slots.{next_is}
 use Rattle.vs_queue.proofs.Sweeping.{after_both, is_within, part_over, slot_over, run_over, levelled_first}
 use Rattle.vs_queue.proofs.Told.{bit_is}
 use Rattle.vs_queue.proofs.Vectors.{first_given}

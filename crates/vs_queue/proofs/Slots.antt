@@ -3,7 +3,7 @@ use Rattle.std.proofs.Common.{◌≡◌, ℕ, zero, suc, ◌+◌, ◌<◌, ◌�
 use Rattle.std.specs.Prelude.{slice_get, nat_lt, IfSome, is_some, Option, None}
 use Rattle.std.proofs.lemmas.List.{length-map, length-replicate}
 use Rattle.vs_four.specs.declared.Bit4.{Bit4}
-use Rattle.vs_net.specs.Network.{State, Update, is_written, flatten, Kind, kind}
+use Rattle.vs_net.specs.Network.{State, Update, is_written, flatten, kind}
 use Rattle.vs_net.specs.Network as N
 use Rattle.vs_net.specs.Queue.{Slot, Fall, Rise, Queue, Choice, Next, after, start, slots_of}
 use Rattle.vs_net.proofs.Basics.{none_written}

@@ -3,7 +3,7 @@ use Rattle.std.specs.Prelude.{ℕ, List, codes}
 use Rattle.vs_refusal.specs.declared.names.BareName.{BareName}
 use Rattle.vs_refusal.specs.declared.names.BareName.TheVariants.{Usage, TooLong, NoTop, NoClock}
 use Rattle.vs_refusal.specs.declared.names.AtName.{AtName}
-use Rattle.vs_refusal.specs.declared.names.AtName.TheVariants.{NoToken, OpenComment, BadLiteral, TooManyTokens, BadDirective, UnknownMacro, MacroLoop, MacroArguments, MacroLimit, LeftOut, Syntax, TooDeep, NotConstant, UnknownConstant, DuplicateModule, UnknownModule, UnknownName, DuplicateName, BadRange, PortCount, UnknownPort, InstanceDepth, TooManyInstances, GenerateTurns, WrongKind, TooManyBits, TooManyProcesses, TooWide, Division, MixedAssign, FunctionLatch}
+use Rattle.vs_refusal.specs.declared.names.AtName.TheVariants.{NoToken, OpenComment, BadLiteral, TooManyTokens, BadDirective, UnknownMacro, MacroLoop, MacroArguments, MacroLimit, LeftOut, Syntax, TooDeep, NotConstant, UnknownConstant, DuplicateModule, UnknownModule, UnknownName, DuplicateName, BadRange, PortCount, UnknownPort, InstanceDepth, TooManyInstances, GenerateTurns, WrongKind, TooManyBits, TooManyProcesses, LoopTurns, LoopVariable, FunctionRule, Recursion, TooWide, Division, MixedAssign, FunctionLatch}
 use Rattle.vs_refusal.specs.declared.names.ProcessName.{ProcessName}
 use Rattle.vs_refusal.specs.declared.names.ProcessName.TheVariants.{ClockRead, NotTheClock, TimeZero, ResetForm}
 use Rattle.vs_refusal.specs.declared.names.LaneName.{LaneName}
@@ -51,6 +51,10 @@ at_number GenerateTurns = 42
 at_number WrongKind = 43
 at_number TooManyBits = 44
 at_number TooManyProcesses = 45
+at_number LoopTurns = 46
+at_number LoopVariable = 47
+at_number FunctionRule = 48
+at_number Recursion = 49
 at_number TooWide = 50
 at_number Division = 51
 at_number MixedAssign = 54
@@ -84,6 +88,10 @@ at_text GenerateTurns = codes "GenerateTurns"
 at_text WrongKind = codes "WrongKind"
 at_text TooManyBits = codes "TooManyBits"
 at_text TooManyProcesses = codes "TooManyProcesses"
+at_text LoopTurns = codes "LoopTurns"
+at_text LoopVariable = codes "LoopVariable"
+at_text FunctionRule = codes "FunctionRule"
+at_text Recursion = codes "Recursion"
 at_text TooWide = codes "TooWide"
 at_text Division = codes "Division"
 at_text MixedAssign = codes "MixedAssign"

@@ -72,6 +72,14 @@ pub enum AtName {
     TooManyBits,
     /// There are more than 65,536 processes.
     TooManyProcesses,
+    /// A loop of a block or a function takes more than 4,096 turns, or all of them copy more than 1,048,576 statements (9.6).
+    LoopTurns,
+    /// An integer is named outside its loops, assigned in its loop, heads a loop within it, or heads loops of two blocks (9.6).
+    LoopVariable,
+    /// A function names, writes or has what it may not, or a call has another number of arguments than the function has inputs (10.4.4).
+    FunctionRule,
+    /// A function is called by itself, or by one that is declared before it (10.4.1).
+    Recursion,
     /// An expression or target is longer than 64 bits.
     TooWide,
     /// A `/` or `%` has an operand that names a signal.
@@ -182,6 +190,10 @@ impl AtName {
             AtName::WrongKind => 43,
             AtName::TooManyBits => 44,
             AtName::TooManyProcesses => 45,
+            AtName::LoopTurns => 46,
+            AtName::LoopVariable => 47,
+            AtName::FunctionRule => 48,
+            AtName::Recursion => 49,
             AtName::TooWide => 50,
             AtName::Division => 51,
             AtName::MixedAssign => 54,
@@ -221,6 +233,10 @@ impl AtName {
             AtName::WrongKind => "WrongKind",
             AtName::TooManyBits => "TooManyBits",
             AtName::TooManyProcesses => "TooManyProcesses",
+            AtName::LoopTurns => "LoopTurns",
+            AtName::LoopVariable => "LoopVariable",
+            AtName::FunctionRule => "FunctionRule",
+            AtName::Recursion => "Recursion",
             AtName::TooWide => "TooWide",
             AtName::Division => "Division",
             AtName::MixedAssign => "MixedAssign",

@@ -5,14 +5,17 @@ use Rattle.vs_elaborated.specs.Environments as environment
 use Rattle.vs_elaborated.specs.Declarations.{Named}
 use Rattle.vs_scope.specs.declared.names.Declaration.{Declaration}
 use Rattle.vs_scope.specs.declared.names.Entry.{Entry}
-use Rattle.vs_scope.specs.Maps.{Pair, value_at, with_value, IsNew, AreDistinct}
+use Rattle.vs_maps.specs.Maps.{Pair, value_at, with_value, IsNew, AreDistinct}
 use Rattle.vs_elaborated.specs.Parameters.{valued}
 use Rattle.vs_scope.specs.Views.{declared, pair_entry, is_later}
 use Rattle.vs_scope.specs.Declares.{entry_named, named_of}
+use Rattle.vs_scope.specs.declared.names.Names.{Names}
+use Rattle.vs_maps.specs.MapViews.{pairs}
+use Rattle.vs_scope.specs.Complete.{ArePairsIncomplete, IsStill, shape_kept}
 use Rattle.vs_scope.proofs.Entries.{same_is}
 
 -- of each of this name more is known
-abbrev changed : (environment.Declared → environment.Declared) → List ℕ → List environment.Entry → List environment.Entry
+abbrev pub changed : (environment.Declared → environment.Declared) → List ℕ → List environment.Entry → List environment.Entry
 changed f name es = map (λ (e : environment.Entry). if same_name e.name name then record e { declared = f e.declared } else e) es
 
 new_kept : (f : environment.Declared → environment.Declared) (name : List ℕ) (ps : List (Pair Entry)) → IsNew name ps → map pair_entry ps ≡ changed f name (map pair_entry ps)
@@ -73,12 +76,49 @@ pub valued_kept : (value d : environment.Declared) → is_later d ≡ false → 
 valued_kept value environment.Later h = cc
 valued_kept value (environment.OfSignal s) h = refl
 valued_kept value (environment.OfParameter v r) h = refl
+valued_kept value (environment.OfFunction f) h = refl
 valued_kept value environment.OfGenvar h = refl
+valued_kept value (environment.OfInteger owner) h = refl
 valued_kept value environment.OfScope h = refl
 
 pub valued_later : (value d : environment.Declared) → is_later d ≡ true → value ≡ valued value d
 valued_later value environment.Later h = refl
 valued_later value (environment.OfSignal s) h = cc
 valued_later value (environment.OfParameter v r) h = cc
+valued_later value (environment.OfFunction f) h = cc
 valued_later value environment.OfGenvar h = cc
+valued_later value (environment.OfInteger owner) h = cc
 valued_later value environment.OfScope h = cc
+
+-- of each of this name no more is known
+pub unchanged : (name : List ℕ) (es : List environment.Entry) → changed (λ d. d) name es ≡ es
+unchanged name [] = refl
+unchanged name (e ∷ es) = by (same_name e.name name) ∙ ap (λ (r : List environment.Entry). e ∷ r) (unchanged name es)
+  where
+    by : (b : Bool) → (if b then record e { declared = e.declared } else e) ∷ changed (λ d. d) name es ≡ e ∷ changed (λ d. d) name es
+    by true = refl
+    by false = refl
+
+-- ---- no function is complete
+
+pub incomplete_with : (name : List ℕ) (e : Entry) (ps : List (Pair Entry)) → shape_kept e.declared ≡ None → ArePairsIncomplete ps → ArePairsIncomplete (with_value name e ps)
+incomplete_with name e [] h k = (h, tt)
+incomplete_with name e (p ∷ ps) h k = by (same_name p.name name) (incomplete_with name e ps h k.1)
+  where
+    by : (t : Bool) → ArePairsIncomplete (with_value name e ps) → ArePairsIncomplete (if t then (let q : Pair Entry = record { name = p.name; value = e } in q) ∷ ps else p ∷ with_value name e ps)
+    by true rest = (h, k.1)
+    by false rest = (k.0, rest)
+
+pub still_itself : (names : Names) → IsStill names names
+still_itself names = record { scope = refl; counts = refl; incomplete = λ h. h }
+
+pub still_with : (old new : Names) (name : List ℕ) (e : Entry) → new.scope ≡ old.scope → new.counts ≡ old.counts → new.functions.items ≡ old.functions.items → pairs new.map ≡ with_value name e (pairs old.map) → shape_kept e.declared ≡ None
+    → IsStill old new
+still_with old new name e s c f put h = record {
+  scope = s;
+  counts = c;
+  incomplete = λ k. record { functions = f ∙ k.functions; each = subst ArePairsIncomplete (sym put) (incomplete_with name e (pairs old.map) h k.each) };
+}
+
+pub still_then : (a b c : Names) → IsStill a b → IsStill b c → IsStill a c
+still_then a b c h k = record { scope = k.scope ∙ h.scope; counts = k.counts ∙ h.counts; incomplete = λ i. k.incomplete (h.incomplete i) }

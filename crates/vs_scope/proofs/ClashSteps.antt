@@ -15,8 +15,8 @@ use Rattle.vs_scope.specs.declared.made.Made.{Made}
 use Rattle.vs_scope.specs.declared.names.Entry.{Entry}
 use Rattle.vs_scope.specs.Clashes.{NameAt, block_text, blocks_of, has_name_at, clash_faults, AreNew}
 use Rattle.vs_scope.specs.Made.{block_names}
-use Rattle.vs_scope.specs.Maps.{Pair, value_at, with_value}
-use Rattle.vs_scope.specs.Sets.{IsFirstSoFar}
+use Rattle.vs_maps.specs.Maps.{Pair, value_at, with_value}
+use Rattle.vs_scope.specs.SoFar.{IsFirstSoFar}
 use Rattle.vs_scope.specs.Surveys.{MeanTheSame}
 use Rattle.vs_scope.specs.Views.{entry_of, pair_entry}
 use Rattle.vs_scope.proofs.Entries.{same_is, find_value}
@@ -67,11 +67,11 @@ texts_from ms i m done more whole h e is before =
 
 -- ---- look-ups
 
-abbrev or_else : Option environment.Entry → Option environment.Entry → Option environment.Entry
+abbrev pub or_else : Option environment.Entry → Option environment.Entry → Option environment.Entry
 or_else None b = b
 or_else (Some a) b = Some a
 
-find_append : (xs ys : List environment.Entry) (n : List ℕ) → find_entry (xs ++ ys) n ≡ or_else (find_entry xs n) (find_entry ys n)
+pub find_append : (xs ys : List environment.Entry) (n : List ℕ) → find_entry (xs ++ ys) n ≡ or_else (find_entry xs n) (find_entry ys n)
 find_append [] ys n = refl
 find_append (x ∷ xs) ys n = by (same_name x.name n) (find_append xs ys n)
   where

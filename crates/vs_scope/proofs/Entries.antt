@@ -1,22 +1,11 @@
 -- The entries of a scope, as the pairs of its map.
-use Rattle.std.proofs.Common.{◌≡◌, ℕ, Bool, true, false, ◌&&◌, ◌==◌, List, [], ◌∷◌, Option, Some, None, map, MatchOption, option_map, if◌then◌else◌, refl, sym, ap, subst}
-use Rattle.std.proofs.lemmas.Bool.{eqb-true}
+use Rattle.std.proofs.Common.{◌≡◌, ℕ, Bool, true, false, ◌==◌, List, [], ◌∷◌, Option, Some, None, map, MatchOption, option_map, if◌then◌else◌, refl, sym, ap, subst}
 use Rattle.vs_design.specs.Clocks.{same_name}
 use Rattle.vs_elaborated.specs.Environments.{find_entry}
+pub use Rattle.vs_maps.proofs.NameSets.{same_is}
 use Rattle.vs_scope.specs.declared.names.Entry.{Entry}
-use Rattle.vs_scope.specs.Maps.{Pair, value_at}
+use Rattle.vs_maps.specs.Maps.{Pair, value_at}
 use Rattle.vs_scope.specs.Views.{entry_of, pair_entry}
-
-both_true : (a b : Bool) → (a && b) ≡ true → (a ≡ true) × (b ≡ true)
-both_true true b h = (refl, h)
-both_true false b h = cc
-
--- equal names are the same
-pub same_is : (a b : List ℕ) → same_name a b ≡ true → a ≡ b
-same_is [] [] h = refl
-same_is [] (y ∷ ys) h = cc
-same_is (x ∷ xs) [] h = cc
-same_is (x ∷ xs) (y ∷ ys) h = let k = both_true (x == y) (same_name xs ys) h in let e : x ≡ y = eqb-true x y k.0 in let t : xs ≡ ys = same_is xs ys k.1 in cc
 
 -- what a look-up finds, with a reference in place of the value
 pub match_copied : {R V : Type 0} (now : R → V) (P : Type 0) (Q : V → Type 0) (r : Option R) (o : Option V) → option_map now r ≡ o → MatchOption o P Q → MatchOption r P (λ e. Q (now e))

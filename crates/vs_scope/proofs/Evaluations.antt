@@ -14,7 +14,7 @@ use Rattle.vs_elaborated.specs.Parameters.{Override as SaidOverride, override_of
 use Rattle.vs_scope.specs.declared.frames.Frame.{Frame}
 use Rattle.vs_scope.specs.declared.names.Declaration.{Declaration}
 use Rattle.vs_scope.specs.declared.parameters.Override.{Override}
-use Rattle.vs_scope.specs.Maps.{Pair, value_at}
+use Rattle.vs_maps.specs.Maps.{Pair, value_at}
 use Rattle.vs_scope.specs.Views.{declaration}
 use Rattle.vs_scope.specs.Shaped.{IsShaped, AreShaped}
 use Rattle.vs_scope.specs.Overrides.{override_typed, EachOverride}

@@ -2,19 +2,24 @@
 use Rattle.std.proofs.Common.{ℕ, zero, suc, Bool, true, false, List, [], ◌∷◌, ◌++◌, slice_index_or, map, Option, Some, None, if◌then◌else◌, refl, sym, subst, arith}
 use Rattle.vs_four.specs.declared.Range.{Range}
 use Rattle.vs_design.specs.Clocks.{same_name}
-use Rattle.vs_const.specs.Meanings.{ConstantValue, SignalMeaning, Unknown, IsFairValue, IsFairMeaning, IsFair}
-use Rattle.vs_elaborated.specs.Environments.{Declared, Later, OfSignal, OfParameter, OfGenvar, OfScope, Entry, Env, no_env, find_entry, find_name, is_late, turn_meaning, turn_of, parameter_meaning, with_words, declared_meaning, entry_meaning, named}
-use Rattle.vs_scope.specs.Maps.{Pair}
-use Rattle.vs_scope.specs.MapViews.{pairs}
+use Rattle.vs_const.specs.Meanings.{ConstantValue, SignalMeaning, FunctionMeaning, Unknown, Barred, is_local, IsFairValue, IsFairMeaning, IsFair}
+use Rattle.vs_elaborated.specs.Environments.{Declared, Later, OfSignal, OfParameter, OfGenvar, OfInteger, OfFunction, OfScope, Entry, Env, no_env, within, find_entry, find_name, is_late, turn_meaning, turn_of, parameter_meaning, with_words, signal_means, unless_outside, function_meaning, declared_meaning, entry_meaning, named}
+use Rattle.vs_maps.specs.Maps.{Pair}
+use Rattle.vs_maps.specs.MapViews.{pairs}
 use Rattle.vs_scope.specs.declared.names.Declared.{Declared as DeclaredOf}
 use Rattle.vs_scope.specs.declared.names.Declared.TheVariants as states
 use Rattle.vs_scope.specs.declared.names.Evaluated.{Evaluated}
 use Rattle.vs_scope.specs.declared.names.Evaluated.TheVariants.{Value, Undefined}
 use Rattle.vs_scope.specs.declared.names.Entry.{Entry as EntryOf}
 use Rattle.vs_scope.specs.declared.frames.Frame.{Frame}
-use Rattle.vs_scope.specs.declared.frames.View.{View}
-use Rattle.vs_scope.specs.Views.{declared, evaluated, pair_entry}
-use Rattle.vs_scope.specs.Frames.{env_at, frame_env, envs_after, envs, around_env, view_env}
+use Rattle.vs_scope.specs.declared.places.View.{View}
+use Rattle.vs_scope.specs.declared.names.Names.{Names}
+use Rattle.vs_const.specs.declared.rules.Rule.TheVariants.{FunctionRule}
+use Rattle.vs_scope.specs.Views.{declared, evaluated, pair_entry, entries}
+use Rattle.vs_scope.specs.Complete.{complete}
+use Rattle.vs_scope.specs.Functions.{IsCompletedDeclared, AreCompleted}
+use Rattle.vs_scope.specs.Frames.{env_at, env_above, frame_env, envs_after, envs, around_env, in_function_or, view_env}
+use Rattle.vs_scope.proofs.Completing.{names_completed}
 use Rattle.vs_scope.proofs.Scopes.{turned_frames}
 
 abbrev FairDeclared : Declared → Type 0
@@ -41,12 +46,33 @@ fair_declared states.Later = tt
 fair_declared states.Announced = tt
 fair_declared (states.Signal s) = tt
 fair_declared (states.Parameter value) = fair_evaluated value
+fair_declared (states.Function f) = tt
 fair_declared states.Genvar = tt
+fair_declared (states.Integer scope) = tt
 fair_declared states.Scope = tt
 
 fair_entries : (ps : List (Pair EntryOf)) → AreFair (map pair_entry ps)
 fair_entries [] = tt
 fair_entries (p ∷ ps) = (fair_declared p.value.declared, fair_entries ps)
+
+fair_completed : (c d : Declared) → IsCompletedDeclared c d → FairDeclared c → FairDeclared d
+fair_completed Later d h k = subst FairDeclared (sym h) k
+fair_completed (OfSignal s) d h k = subst FairDeclared (sym h) k
+fair_completed (OfParameter v r) d h k = subst FairDeclared (sym h) k
+fair_completed OfGenvar d h k = subst FairDeclared (sym h) k
+fair_completed (OfInteger owner) d h k = subst FairDeclared (sym h) k
+fair_completed (OfFunction None) d h k = subst FairDeclared (sym h.1) tt
+fair_completed (OfFunction (Some f)) d h k = subst FairDeclared (sym h) k
+fair_completed OfScope d h k = subst FairDeclared (sym h) k
+
+all_fair_completed : (es fs : List Entry) → AreCompleted es fs → AreFair es → AreFair fs
+all_fair_completed [] [] h k = tt
+all_fair_completed [] (f ∷ fs) h k = absurd h
+all_fair_completed (e ∷ es) [] h k = absurd h
+all_fair_completed (e ∷ es) (f ∷ fs) h k = (fair_completed e.declared f.declared h.0.2 k.0, all_fair_completed es fs h.1 k.1)
+
+fair_names : (outer : Env) (names : Names) → AreFair (complete outer names)
+fair_names outer names = all_fair_completed (entries names) (complete outer names) (names_completed outer names) (fair_entries (pairs names.map))
 
 fair_at : (es : List Env) (i : ℕ) → Each IsFairEnv es → IsFairEnv (slice_index_or es i no_env)
 fair_at [] i h = tt
@@ -58,7 +84,7 @@ fair_parent es None h = tt
 fair_parent es (Some i) h = fair_at es i h
 
 fair_frame : (es : List Env) (f : Frame) → Each IsFairEnv es → IsFairEnv (frame_env es f)
-fair_frame es f h = (fair_entries (pairs f.names.map), subst (λ (x : List (List Entry)). Each AreFair x) (sym (turned_frames (env_at es f.parent) f.turn)) (fair_parent es f.parent h))
+fair_frame es f h = (fair_names (env_above es f.parent f.turn) f.names, subst (λ (x : List (List Entry)). Each AreFair x) (sym (turned_frames (env_at es f.parent) f.turn)) (fair_parent es f.parent h))
 
 each_more : {A : Type 0} (P : A → Type 0) (xs : List A) (y : A) → Each P xs → P y → Each P (xs ++ y ∷ [])
 each_more P [] y h k = (k, tt)
@@ -72,7 +98,13 @@ fair_around : (v : View) → Each AreFair (around_env v.around).frames
 fair_around v = subst (λ (x : List (List Entry)). Each AreFair x) (sym (turned_frames (env_at (envs v.around.frames.now) v.around.parent) v.around.turn)) (fair_parent (envs v.around.frames.now) v.around.parent (fair_after [] v.around.frames.now tt))
 
 fair_frames : (v : View) → Each AreFair (view_env v).frames
-fair_frames v = subst (λ (x : List (List Entry)). Each AreFair x) (sym (turned_frames _ v.inside)) (fair_entries (pairs v.names.now.map), fair_around v)
+fair_frames v =
+    subst (λ (x : List (List Entry)). Each AreFair x) (sym (turned_frames (in_function_or v.in_function (within (around_env v.around) (complete (around_env v.around) v.names.now))) v.inside))
+    (by v.in_function (fair_names (around_env v.around) v.names.now, fair_around v))
+  where
+    by : (b : Bool) → Each AreFair (complete (around_env v.around) v.names.now ∷ (around_env v.around).frames) → Each AreFair (in_function_or b (within (around_env v.around) (complete (around_env v.around) v.names.now))).frames
+    by true h = (tt, h)
+    by false h = h
 
 abbrev FairOption : Option Entry → Type 0
 FairOption None = Unit {0}
@@ -107,15 +139,29 @@ fair_signal : (s : SignalMeaning) (words : Option Range) → IsFairMeaning (with
 fair_signal s None = tt
 fair_signal s (Some r) = tt
 
+fair_outside : (b : Bool) (s : SignalMeaning) → IsFairMeaning (unless_outside b s)
+fair_outside true s = by (is_local s)
+  where
+    by : (t : Bool) → IsFairMeaning (if t then signal_means s else Barred FunctionRule)
+    by true = fair_signal s s.signal.words
+    by false = tt
+fair_outside false s = fair_signal s s.signal.words
+
+fair_function : (o : Option FunctionMeaning) → IsFairMeaning (function_meaning o)
+fair_function None = tt
+fair_function (Some f) = tt
+
 fair_meaning : (env : Env) (place : ℕ) (d : Declared) → FairDeclared d → IsFairMeaning (declared_meaning env place d)
 fair_meaning env place Later h = tt
-fair_meaning env place (OfSignal s) h = fair_signal s s.signal.words
+fair_meaning env place (OfSignal s) h = fair_outside env.in_function s
 fair_meaning env place (OfParameter value range) h = by (is_late env.before place)
   where
     by : (b : Bool) → IsFairMeaning (if b then Unknown else parameter_meaning value range)
     by true = tt
     by false = fair_parameter value range h
 fair_meaning env place OfGenvar h = fair_turn (turn_of env.turns place)
+fair_meaning env place (OfInteger owner) h = tt
+fair_meaning env place (OfFunction f) h = fair_function f
 fair_meaning env place OfScope h = tt
 
 fair_found : (env : Env) (o : Option Entry) → FairOption o → IsFairMeaning (entry_meaning env o)

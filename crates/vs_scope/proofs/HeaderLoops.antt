@@ -8,7 +8,7 @@ use Rattle.vs_const.specs.Faults.{least, better, fault_if}
 use Rattle.vs_const.specs.declared.rules.Rule.TheVariants.{UnknownName, DuplicateName, UnknownPort}
 use Rattle.vs_elaborated.specs.Ports.{Direction, is_named, has_direction, repeated}
 use Rattle.vs_scope.specs.Headers.{opposed_faults, undirected_faults}
-use Rattle.vs_scope.specs.Sets.{IsFirstSoFar}
+use Rattle.vs_scope.specs.SoFar.{IsFirstSoFar}
 use Rattle.vs_elaborated.specs.Signals.{is_input}
 use Rattle.vs_scope.proofs.SoFar.{so_far_start, so_far_more, so_far_end}
 

@@ -1,7 +1,10 @@
-pub mod NameMaps
+pub mod Completing
 pub mod Scopes
 pub mod Entries
 pub mod Fair
+pub mod Viewing
+pub mod Meant
+pub mod LoopVariables
 pub mod Steps
 pub mod Collected
 pub mod NamedLists
@@ -18,7 +21,6 @@ pub mod SoFar
 pub mod HeaderLoops
 pub mod SurveyParts
 pub mod Digits
-pub mod NameSets
 pub mod TurnSteps
 pub mod GenvarNumbers
 pub mod CaseLabels
@@ -28,4 +30,13 @@ pub mod Mades
 pub mod ChosenBlocks
 pub mod MakingSteps
 pub mod ClashSteps
+pub mod BlocksBehind
+pub mod Saying
+pub mod OwnNames
+pub mod LocalLists
+pub mod LocalBlocks
+pub mod InsideNames
+pub mod SaidFunctions
+pub mod PutShapes
+pub mod FunctionsAgain
 pub mod WholeSurveys

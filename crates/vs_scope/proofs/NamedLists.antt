@@ -6,7 +6,7 @@ use Rattle.vs_grammar.specs.Trees.{SignalKind, Input, InputWire, Output, OutputW
 use Rattle.vs_const.specs.declared.faults.Fault.{Fault}
 use Rattle.vs_const.specs.Faults.{fault_if}
 use Rattle.vs_const.specs.declared.rules.Rule.TheVariants.{DuplicateName}
-use Rattle.vs_elaborated.specs.Declarations.{Sort, SignalOf, ParameterOf, GenvarSort, InstanceSort, Declaration, Named, are_kinds_of_one, has_addresses, are_sorts_of_one, second_of, names_after, names_of, first_named, is_repeated, repeated_names}
+use Rattle.vs_elaborated.specs.Declarations.{Sort, SignalOf, ParameterOf, FunctionOf, GenvarSort, IntegerSort, InstanceSort, Declaration, Named, are_kinds_of_one, has_addresses, are_sorts_of_one, second_of, names_after, names_of, first_named, is_repeated, repeated_names}
 use Rattle.vs_scope.specs.Declares.{with_second, is_open, with_named, is_one_too_many}
 use Rattle.vs_scope.proofs.Entries.{same_is}
 use Rattle.vs_scope.proofs.Steps.{append_none}
@@ -117,7 +117,9 @@ none_of_all false b c h = refl
 no_sort_of_itself : (s : Sort) → are_sorts_of_one s s ≡ false
 no_sort_of_itself (SignalOf s) = none_of_all (not s.header) (not (has_addresses s)) (are_kinds_of_one s.kind s.kind) (no_kind_of_itself s.kind)
 no_sort_of_itself (ParameterOf p) = refl
+no_sort_of_itself (FunctionOf f) = refl
 no_sort_of_itself GenvarSort = refl
+no_sort_of_itself IntegerSort = refl
 no_sort_of_itself InstanceSort = refl
 
 not_itself : (x : Declaration) (xs : List Declaration) → second_of x (x ∷ xs) ≡ second_of x xs

@@ -1,13 +1,19 @@
 -- What is seen in a scope, by what is seen around it.
-use Rattle.std.proofs.Common.{◌≡◌, ℕ, zero, suc, ◌+◌, ◌<◌, ◌≤◌, Bool, true, false, List, [], ◌∷◌, ◌++◌, length, get_or, slice_index_or, nat_lt, Option, Some, None, if◌then◌else◌, refl, sym, ap, ◌∙◌, subst, arith, length-append}
+use Rattle.std.proofs.Common.{◌≡◌, ℕ, zero, suc, ◌+◌, ◌<◌, ◌≤◌, Bool, true, false, List, [], ◌∷◌, ◌++◌, length, get_or, slice_index_or, nat_lt, Option, Some, None, MatchOption, if◌then◌else◌, refl, sym, ap, ◌∙◌, subst, arith, length-append}
 use Rattle.std.proofs.lemmas.Bool.{ltb-true, ltb-false}
 use Rattle.vs_ast.specs.Views.{option}
 use Rattle.vs_elaborated.specs.Environments.{Entry, Env, no_env, within, find_entry, find_name, turn_of}
 use Rattle.vs_elaborated.specs.Surveys.{turned}
 use Rattle.vs_scope.specs.declared.frames.Frame.{Frame}
 use Rattle.vs_scope.specs.declared.frames.Turn.{Turn}
-use Rattle.vs_scope.specs.Views.{entries}
-use Rattle.vs_scope.specs.Frames.{turn, value_or, below, env_at, frame_env, envs_after, envs}
+use Rattle.vs_scope.specs.declared.names.Names.{Names}
+use Rattle.vs_maps.specs.Maps.{value_at}
+use Rattle.vs_maps.specs.MapViews.{pairs}
+use Rattle.vs_scope.specs.declared.names.Entry.{Entry as EntryOf}
+use Rattle.vs_scope.specs.Complete.{complete, shapes_in, shapes_of, KeepsShapes}
+use Rattle.vs_scope.specs.Seen.{Finds}
+use Rattle.vs_scope.specs.Stacks.{turn, value_or, below, env_at, env_above, frame_env, envs_after, envs, stack_shapes, stack_shapes_after, KeepShapes}
+use Rattle.vs_scope.proofs.Completing.{found_complete}
 
 -- a loop's value changes no name
 pub turned_frames : (env : Env) (t : Option Turn) → (turned env (option turn t)).frames ≡ env.frames
@@ -53,22 +59,42 @@ parent_kept es fs (Some p) = by (nat_lt p (length es)) refl
     by true e = sym (kept es fs p (ltb-true p (length es) e))
     by false e = past es p no_env (ltb-false p (length es) e)
 
+-- a scope within what is around it
+abbrev placed_env : List Env → Frame → ℕ → Env
+placed_env es f n = let outer = env_above es (below f.parent n) f.turn in within outer (complete outer f.names)
+
 step_from : (es : List Env) (fs : List Frame) (i : ℕ) (f : Frame) → i < length fs → f ≡ get_or fs i f
-    → slice_index_or (envs_after es fs) (length es + i) no_env ≡ within (turned (env_at (envs_after es fs) (below f.parent (length es + i))) (option turn f.turn)) (entries f.names)
+    → slice_index_or (envs_after es fs) (length es + i) no_env ≡ placed_env (envs_after es fs) f (length es + i)
 step_from es [] i f h e = absurd (omega arith)
 step_from es (g ∷ gs) zero f h e =
-    subst (λ (n : ℕ). slice_index_or (envs_after es (g ∷ gs)) n no_env ≡ within (turned (env_at (envs_after es (g ∷ gs)) (below f.parent n)) (option turn f.turn)) (entries f.names)) (omega arith)
+    subst (λ (n : ℕ). slice_index_or (envs_after es (g ∷ gs)) n no_env ≡ placed_env (envs_after es (g ∷ gs)) f n) (omega arith)
     (kept (es ++ frame_env es g ∷ []) gs (length es) (omega (arith, more es (frame_env es g))) ∙ at_first es (frame_env es g) [] no_env
     ∙ ap (frame_env es) (sym e)
-    ∙ ap (λ (a : Env). within (turned a (option turn f.turn)) (entries f.names)) (parent_kept es (g ∷ gs) f.parent))
+    ∙ ap (λ (a : Env). let outer = turned a (option turn f.turn) in within outer (complete outer f.names)) (parent_kept es (g ∷ gs) f.parent))
 step_from es (g ∷ gs) (suc i) f h e =
-    subst (λ (n : ℕ). slice_index_or (envs_after es (g ∷ gs)) n no_env ≡ within (turned (env_at (envs_after es (g ∷ gs)) (below f.parent n)) (option turn f.turn)) (entries f.names)) (omega (arith, more es (frame_env es g)))
+    subst (λ (n : ℕ). slice_index_or (envs_after es (g ∷ gs)) n no_env ≡ placed_env (envs_after es (g ∷ gs)) f n) (omega (arith, more es (frame_env es g)))
     (step_from (es ++ frame_env es g ∷ []) gs i f (omega arith) e)
 
 -- a scope within what is around it
 pub env_step : (fs : List Frame) (i : ℕ) (f : Frame) → i < length fs → f ≡ get_or fs i f
-    → env_at (envs fs) (Some i) ≡ within (turned (env_at (envs fs) (below f.parent i)) (option turn f.turn)) (entries f.names)
-env_step fs i f h e = subst (λ (n : ℕ). slice_index_or (envs fs) n no_env ≡ within (turned (env_at (envs fs) (below f.parent n)) (option turn f.turn)) (entries f.names)) (omega arith) (step_from [] fs i f h e)
+    → env_at (envs fs) (Some i) ≡ (let outer = env_above (envs fs) (below f.parent i) f.turn in within outer (complete outer f.names))
+env_step fs i f h e = subst (λ (n : ℕ). slice_index_or (envs fs) n no_env ≡ placed_env (envs fs) f n) (omega arith) (step_from [] fs i f h e)
+
+shapes_from : (es : List Env) (fs : List Frame) (i : ℕ) (f : Frame) → i < length fs → f ≡ get_or fs i f → stack_shapes fs ≡ stack_shapes_after es fs
+    → KeepsShapes (env_above (envs_after es fs) (below f.parent (length es + i)) f.turn) f.names
+shapes_from es [] i f h e k = absurd (omega arith)
+shapes_from es (g ∷ gs) zero f h e k =
+    let first : shapes_in (pairs g.names.map) ≡ shapes_of (complete (env_above es g.parent g.turn) g.names) = cc in
+    subst (λ (n : ℕ). KeepsShapes (env_above (envs_after es (g ∷ gs)) (below f.parent n) f.turn) f.names) (omega arith)
+    (subst (λ (a : Env). KeepsShapes (turned a (option turn f.turn)) f.names) (parent_kept es (g ∷ gs) f.parent) (subst (λ (x : Frame). KeepsShapes (env_above es x.parent x.turn) x.names) (sym e) first))
+shapes_from es (g ∷ gs) (suc i) f h e k =
+    let rest : stack_shapes gs ≡ stack_shapes_after (es ++ frame_env es g ∷ []) gs = cc in
+    subst (λ (n : ℕ). KeepsShapes (env_above (envs_after es (g ∷ gs)) (below f.parent n) f.turn) f.names) (omega (arith, more es (frame_env es g)))
+    (shapes_from (es ++ frame_env es g ∷ []) gs i f (omega arith) e rest)
+
+-- what a scope keeps of its functions
+pub shapes_at : (fs : List Frame) (i : ℕ) (f : Frame) → i < length fs → f ≡ get_or fs i f → KeepShapes fs → KeepsShapes (env_above (envs fs) (below f.parent i) f.turn) f.names
+shapes_at fs i f h e k = subst (λ (n : ℕ). KeepsShapes (env_above (envs fs) (below f.parent n) f.turn) f.names) (omega arith) (shapes_from [] fs i f h e k)
 
 -- a number that is no scope's
 pub env_past : (fs : List Frame) (i : ℕ) → length fs ≤ i → env_at (envs fs) (Some i) ≡ no_env
@@ -94,21 +120,32 @@ find_out : (f : List Entry) (fs : List (List Entry)) (name : List ℕ) → find_
 find_out f fs name h = ap (λ (o : Option Entry). elim o [ Some d ↦ Some d | None ↦ find_name fs name ]) h
 
 -- a name that the scope declares
-pub found_within : (env : Env) (es : List Entry) (name : List ℕ) (e : Entry) → find_entry es name ≡ Some e → find_name (within env es).frames name ≡ Some e
-found_within env es name e h = find_in es env.frames name e h
+pub found_within : (env : Env) (es : List Entry) (name : List ℕ) (c : EntryOf) → Finds (find_entry es name) name c → Finds (find_name (es ∷ env.frames) name) name c
+found_within env es name c f = record { entry = f.entry; found_is = find_in es env.frames name f.entry f.found_is; name_is = f.name_is; place_is = f.place_is; declared_is = f.declared_is }
 
 -- and one that it doesn't
 pub found_outside : (env : Env) (t : Option Turn) (es : List Entry) (name : List ℕ) → find_entry es name ≡ None
     → find_name (within (turned env (option turn t)) es).frames name ≡ find_name env.frames name
 found_outside env t es name h = find_out es (turned env (option turn t)).frames name h ∙ ap (λ fs. find_name fs name) (turned_frames env t)
 
-pub found_at : (fs : List Frame) (i : ℕ) (f : Frame) (name : List ℕ) (e : Entry) → i < length fs → f ≡ get_or fs i f → find_entry (entries f.names) name ≡ Some e
-    → find_name (env_at (envs fs) (Some i)).frames name ≡ Some e
-found_at fs i f name e h k m = ap (λ (a : Env). find_name a.frames name) (env_step fs i f h k) ∙ found_within (turned (env_at (envs fs) (below f.parent i)) (option turn f.turn)) (entries f.names) name e m
+-- by what a look-up in the names of the scope finds
+pub at_some : (outer : Env) (names : Names) (name : List ℕ) (c : EntryOf) → KeepsShapes outer names → value_at name (pairs names.map) ≡ Some c → Finds (find_entry (complete outer names) name) name c
+at_some outer names name c k e = subst (λ (o : Option EntryOf). MatchOption o (find_entry (complete outer names) name ≡ None) (λ v. Finds (find_entry (complete outer names) name) name v)) e (found_complete outer names name k)
 
-pub found_above : (fs : List Frame) (i : ℕ) (f : Frame) (name : List ℕ) → i < length fs → f ≡ get_or fs i f → find_entry (entries f.names) name ≡ None
+pub at_none : (outer : Env) (names : Names) (name : List ℕ) → KeepsShapes outer names → value_at name (pairs names.map) ≡ None → find_entry (complete outer names) name ≡ None
+at_none outer names name k e = subst (λ (o : Option EntryOf). MatchOption o (find_entry (complete outer names) name ≡ None) (λ v. Finds (find_entry (complete outer names) name) name v)) e (found_complete outer names name k)
+
+pub found_at : (fs : List Frame) (i : ℕ) (f : Frame) (name : List ℕ) (c : EntryOf) → i < length fs → f ≡ get_or fs i f → KeepShapes fs → value_at name (pairs f.names.map) ≡ Some c
+    → Finds (find_name (env_at (envs fs) (Some i)).frames name) name c
+found_at fs i f name c h e k m =
+    let outer = env_above (envs fs) (below f.parent i) f.turn in
+    subst (λ (a : Env). Finds (find_name a.frames name) name c) (sym (env_step fs i f h e)) (found_within outer (complete outer f.names) name c (at_some outer f.names name c (shapes_at fs i f h e k) m))
+
+pub found_above : (fs : List Frame) (i : ℕ) (f : Frame) (name : List ℕ) → i < length fs → f ≡ get_or fs i f → KeepShapes fs → value_at name (pairs f.names.map) ≡ None
     → find_name (env_at (envs fs) (Some i)).frames name ≡ find_name (env_at (envs fs) (below f.parent i)).frames name
-found_above fs i f name h k m = ap (λ (a : Env). find_name a.frames name) (env_step fs i f h k) ∙ found_outside (env_at (envs fs) (below f.parent i)) f.turn (entries f.names) name m
+found_above fs i f name h e k m =
+    let outer = env_above (envs fs) (below f.parent i) f.turn in
+    ap (λ (a : Env). find_name a.frames name) (env_step fs i f h e) ∙ found_outside (env_at (envs fs) (below f.parent i)) f.turn (complete outer f.names) name (at_none outer f.names name (shapes_at fs i f h e k) m)
 
 pub turn_step : (fs : List Frame) (i : ℕ) (f : Frame) (genvar : ℕ) → i < length fs → f ≡ get_or fs i f
     → turn_of (env_at (envs fs) (Some i)).turns genvar ≡ value_or f.turn genvar (turn_of (env_at (envs fs) (below f.parent i)).turns genvar)

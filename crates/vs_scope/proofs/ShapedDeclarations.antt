@@ -1,11 +1,11 @@
 -- Every declaration of a module's tree is as the grammar has it.
-use Rattle.std.proofs.Common.{◌≡◌, Bool, true, false, List, [], ◌∷◌, ◌++◌, map, flat_map, Option, Some, None}
+use Rattle.std.proofs.Common.{◌≡◌, Bool, true, false, List, [], ◌∷◌, ◌++◌, map, flat_map, Option, Some, None, refl}
 use Rattle.vs_grammar.specs.Trees as tree
 use Rattle.vs_grammar.specs.Trees.{items_list}
-use Rattle.vs_grammar.specs.Shapes.{IsRange, Given, Each, OneOrMore, IsVariable, IsNet, IsPort, AreNames, AreSignals, IsSetting, AreParameters, ArePorts, AreHeaderParameters, IsGenerateItem, IsItem, AreItems, IsHeader, IsModule}
+use Rattle.vs_grammar.specs.Shapes.{IsRange, IsValueType, Given, Each, OneOrMore, IsVariable, IsNet, IsPort, AreNames, AreSignals, IsSetting, AreParameters, ArePorts, AreHeaderParameters, IsGenerateItem, IsItem, AreItems, IsHeader, IsModule}
 use Rattle.vs_elaborated.specs.Declarations.{Declaration, signals_declared, parameters_declared, item_declared, header_declared, module_declared}
 use Rattle.vs_scope.specs.Shaped.{AreShaped}
-use Rattle.vs_scope.proofs.Collected.{signal_declared, parameter_declared, genvar_declared, instance_declared}
+use Rattle.vs_scope.proofs.Collected.{signal_declared, parameter_declared, genvar_declared, integer_declared, instance_declared}
 
 both_shaped : (xs ys : List Declaration) → AreShaped xs → AreShaped ys → AreShaped (xs ++ ys)
 both_shaped [] ys h k = k
@@ -32,7 +32,7 @@ port_addressed d h = no_addresses d.addresses h.1
 
 names_addressed : (k : tree.SignalKind) (ds : List tree.Declarator) → AreNames k ds → Each IsAddressed ds
 names_addressed tree.Reg ds h = all_of IsVariable (λ d k. k.1) ds h
-names_addressed tree.Wire ds h = all_of IsNet (λ d k. no_addresses d.addresses k.1) ds h
+names_addressed tree.Wire ds h = all_of IsNet (λ d k. k.1) ds h
 names_addressed tree.Input ds h = all_of IsPort port_addressed ds h
 names_addressed tree.InputWire ds h = all_of IsPort port_addressed ds h
 names_addressed tree.Output ds h = all_of IsPort port_addressed ds h
@@ -46,11 +46,11 @@ names_shaped header t (d ∷ ds) h k = ((h, k.0), names_shaped header t ds h k.1
 signals_shaped : (header : Bool) (t : tree.Signals) → AreSignals t → AreShaped (signals_declared header t)
 signals_shaped header t h = names_shaped header t t.names h.range (names_addressed t.kind t.names h.names)
 
-settings_shaped : (t : tree.Parameters) (ss : List tree.Setting) → Given IsRange t.range → Each IsSetting ss → AreShaped (map (parameter_declared t) ss)
+settings_shaped : (t : tree.Parameters) (ss : List tree.Setting) → IsValueType t.value_type → Each IsSetting ss → AreShaped (map (parameter_declared t) ss)
 settings_shaped t [] h k = tt
 settings_shaped t (s ∷ ss) h k = ((h, k.0.1), settings_shaped t ss h k.1)
 
-some_settings : (t : tree.Parameters) (ss : List tree.Setting) → Given IsRange t.range → OneOrMore IsSetting ss → AreShaped (map (parameter_declared t) ss)
+some_settings : (t : tree.Parameters) (ss : List tree.Setting) → IsValueType t.value_type → OneOrMore IsSetting ss → AreShaped (map (parameter_declared t) ss)
 some_settings t [] h k = tt
 some_settings t (s ∷ ss) h k = ((h, k.0.1), settings_shaped t ss h k.1)
 
@@ -58,12 +58,16 @@ genvars_shaped : (ns : List tree.Name) → AreShaped (map genvar_declared ns)
 genvars_shaped [] = tt
 genvars_shaped (n ∷ ns) = (tt, genvars_shaped ns)
 
+integers_shaped : (ns : List tree.Name) → AreShaped (map integer_declared ns)
+integers_shaped [] = tt
+integers_shaped (n ∷ ns) = (tt, integers_shaped ns)
+
 instances_shaped : (is : List tree.Instance) → AreShaped (map instance_declared is)
 instances_shaped [] = tt
 instances_shaped (i ∷ is) = (tt, instances_shaped is)
 
 parameters_shaped : (t : tree.Parameters) → AreParameters t → AreShaped (parameters_declared t)
-parameters_shaped t h = some_settings t t.settings h.range h.settings
+parameters_shaped t h = some_settings t t.settings h.value_type h.settings
 
 item_shaped : (i : tree.Item) → IsItem i → AreShaped (item_declared i)
 item_shaped (tree.SignalsItem t) h = signals_shaped false t h
@@ -71,6 +75,8 @@ item_shaped (tree.ParametersItem t) h = parameters_shaped t h
 item_shaped (tree.AssignsItem place assigns) h = tt
 item_shaped (tree.AlwaysItem block) h = tt
 item_shaped (tree.GenvarsItem place names) h = genvars_shaped names
+item_shaped (tree.IntegersItem place names) h = integers_shaped names
+item_shaped (tree.FunctionItem f) h = ((h, refl), tt)
 item_shaped (tree.InstancesItem t) h = instances_shaped t.instances
 item_shaped (tree.GenerateFor head block) h = tt
 item_shaped (tree.GenerateIf place c taken other) h = tt
@@ -109,6 +115,8 @@ generate_item (tree.ParametersItem t) h = h.0
 generate_item (tree.AssignsItem place assigns) h = h
 generate_item (tree.AlwaysItem block) h = h
 generate_item (tree.GenvarsItem place names) h = h
+generate_item (tree.IntegersItem place names) h = h
+generate_item (tree.FunctionItem f) h = absurd h
 generate_item (tree.InstancesItem t) h = h
 generate_item (tree.GenerateFor head block) h = h
 generate_item (tree.GenerateIf place c taken other) h = h

@@ -10,12 +10,12 @@ use Rattle.vs_const.specs.Meanings.{SignalMeaning}
 use Rattle.vs_const.proofs.Least.{least_append}
 use Rattle.vs_grammar.specs.Trees.{Name}
 use Rattle.vs_elaborated.specs.Environments.{Env}
-use Rattle.vs_elaborated.specs.Declarations.{Sort, SignalOf, ParameterOf, GenvarSort, InstanceSort, Declaration, Named}
+use Rattle.vs_elaborated.specs.Declarations.{Sort, SignalOf, ParameterOf, FunctionOf, GenvarSort, IntegerSort, InstanceSort, Declaration, Named}
 use Rattle.vs_elaborated.specs.Signals.{Start, SaidSignal, said_signals, after}
 use Rattle.vs_scope.specs.declared.names.Entry.{Entry}
 use Rattle.vs_scope.specs.declared.names.Signal.{Signal}
 use Rattle.vs_scope.specs.declared.signals.SaidSignal.{SaidSignal as SignalFound}
-use Rattle.vs_scope.specs.Maps.{Pair, values_of}
+use Rattle.vs_maps.specs.Maps.{Pair, values_of}
 use Rattle.vs_scope.specs.Views.{declaration}
 use Rattle.vs_scope.specs.Declares.{entry_named, named_of}
 use Rattle.vs_scope.specs.Shaped.{IsShaped, AreShapedNames}
@@ -39,7 +39,9 @@ skip_sort : (env : Env) (st : Start) (name : Name) (sort : Sort) (second : Optio
     → said_signals env st (named name sort second ∷ ns) ≡ said_signals env st ns
 skip_sort env st name (SignalOf s) second ns h = cc
 skip_sort env st name (ParameterOf p) second ns h = refl
+skip_sort env st name (FunctionOf f) second ns h = refl
 skip_sort env st name GenvarSort second ns h = refl
+skip_sort env st name IntegerSort second ns h = refl
 skip_sort env st name InstanceSort second ns h = refl
 
 take_sort : (env : Env) (st : Start) (name : Name) (sort : Sort) (second : Option Declaration) (ns : List Named) (x : SaidSignal) → said_signals env st (named name sort second ∷ []) ≡ x ∷ []
@@ -49,7 +51,9 @@ take_sort env st name (SignalOf s) second ns x h = let is = head_is _ x h in ap 
     head_is : (y x : SaidSignal) → y ∷ [] ≡ x ∷ [] → y ≡ x
     head_is y x h = cc
 take_sort env st name (ParameterOf p) second ns x h = cc
+take_sort env st name (FunctionOf f) second ns x h = cc
 take_sort env st name GenvarSort second ns x h = cc
+take_sort env st name IntegerSort second ns x h = cc
 take_sort env st name InstanceSort second ns x h = cc
 
 -- a loop over the names of a scope, after some of them

@@ -5,6 +5,7 @@ use Rattle.vs_ast.specs.Views.{option}
 use Rattle.vs_grammar.specs.Trees.{RangeTree}
 use Rattle.vs_const.specs.Faults.{fault_if}
 use Rattle.vs_const.specs.declared.rules.Rule.TheVariants.{BadRange}
+use Rattle.vs_const.specs.declared.names.Role.TheVariants.{InModule}
 use Rattle.vs_const.specs.Meanings.{SignalMeaning}
 use Rattle.vs_elaborated.specs.Environments.{Env}
 use Rattle.vs_elaborated.specs.Declarations.{SignalSort}
@@ -16,7 +17,7 @@ use Rattle.vs_scope.specs.Signalled.{second_faults}
 
 abbrev meaning_of : List ℕ → ℕ → ℕ → Bool → Bool → Option Range → Bool → ℕ → Option Range → Bool → Bool → SignalMeaning
 meaning_of name scope number net input range signed first words is_input known =
-    record { signal = record { name = name; scope = scope; number = number; net = net; input = input; range = range; signed = signed; first = first; words = words }; input = is_input; known = known }
+    record { signal = record { name = name; scope = scope; number = number; net = net; input = input; range = range; signed = signed; first = first; words = words }; input = is_input; role = InModule; known = known }
 
 pub same_meaning : (scope number first : ℕ) (n m : List ℕ) (a b c d e f g h k l : Bool) (r q v w : Option Range) → n ≡ m → a ≡ b → c ≡ d → e ≡ f → g ≡ h → k ≡ l → r ≡ q → v ≡ w
     → meaning_of n scope number a c r e first v g k ≡ meaning_of m scope number b d q f first w h l

@@ -1,21 +1,11 @@
 -- The first fault of a list, of which some are left.
-use Rattle.std.proofs.Common.{◌≡◌, ℕ, suc, ◌<◌, ◌≤◌, List, [], ◌∷◌, ◌++◌, map, flat_map, length, get_or, drop, Option, Some, None, refl, sym, ap, ◌∙◌, subst, append_assoc}
+use Rattle.std.proofs.Common.{◌≡◌, ℕ, suc, ◌<◌, ◌≤◌, List, [], ◌++◌, map, flat_map, length, get_or, drop, Option, Some, None, refl, sym, ap, ◌∙◌, subst}
 use Rattle.vs_const.specs.declared.faults.Fault.{Fault}
 use Rattle.vs_const.specs.Faults.{least, better}
 use Rattle.vs_const.proofs.Least.{least_append}
-use Rattle.vs_scope.specs.Sets.{IsFirstSoFar}
+pub use Rattle.vs_const.proofs.Least.{better_assoc}
+use Rattle.vs_scope.specs.SoFar.{IsFirstSoFar}
 use Rattle.vs_scope.proofs.Steps.{from_place, none_left}
-
-assoc_lists : (x y z : List Fault) → better (better (least x) (least y)) (least z) ≡ better (least x) (better (least y) (least z))
-assoc_lists x y z =
-    ap (λ (o : Option Fault). better o (least z)) (sym (least_append x y)) ∙ sym (least_append (x ++ y) z) ∙ ap least (append_assoc x y z) ∙ least_append x (y ++ z) ∙ ap (better (least x)) (least_append y z)
-
--- faults may be met in any grouping
-pub better_assoc : (a b c : Option Fault) → better (better a b) c ≡ better a (better b c)
-better_assoc None b c = refl
-better_assoc (Some a) None c = refl
-better_assoc (Some a) (Some b) None = assoc_lists (a ∷ []) (b ∷ []) []
-better_assoc (Some a) (Some b) (Some c) = assoc_lists (a ∷ []) (b ∷ []) (c ∷ [])
 
 pub better_none : (a : Option Fault) → better a None ≡ a
 better_none None = refl

@@ -12,10 +12,10 @@ use Rattle.vs_elaborated.specs.Limits.{the_limits}
 use Rattle.vs_elaborated.specs.Pieces.{Task}
 use Rattle.vs_elaborated.specs.Environments.{within}
 use Rattle.vs_elaborated.specs.Declarations.{repeated_names}
-use Rattle.vs_elaborated.specs.Signals.{range_faults}
-use Rattle.vs_elaborated.specs.Surveys.{Totals, survey, header_of, declarations_of, overrides_of, block_faults, bits_over, processes_over}
+use Rattle.vs_elaborated.specs.Signals.{range_faults, array_faults}
+use Rattle.vs_elaborated.specs.Surveys.{Totals, counts_of, survey, header_of, declarations_of, overrides_of, block_faults, bits_over, processes_over}
 use Rattle.vs_scope.specs.Signalled.{faults_of}
-use Rattle.vs_scope.specs.Scopes.{evaluated_entries}
+use Rattle.vs_scope.specs.Scopes.{evaluated_entries, said_functions_of}
 use Rattle.vs_scope.specs.Surveys.{IsOfParts, start_at, signals_in, made_in, made_faults, declared_in, blocks_in, said_in}
 
 same_fault : (p q : ℕ) (m n : Rule) → p ≡ q → m ≡ n → (let f : Fault = record { rule = m; place = p } in f) ≡ record { rule = n; place = q }
@@ -70,29 +70,32 @@ swap x y z =
     ∙ ap (λ (o : Option Fault). better o (least z)) (least_append x y ∙ better_comm (least x) (least y) ∙ sym (least_append y x))
     ∙ sym (least_append (y ++ x) z) ∙ ap least (append_assoc y x z)
 
-gather : (h r p g s m b i bits procs : List Fault) → least (h ++ (r ++ (p ++ (g ++ (s ++ (m ++ (b ++ (i ++ (bits ++ procs)))))))))
-    ≡ better (least (h ++ ((r ++ (p ++ (g ++ s))) ++ (m ++ (b ++ bits))))) (least (i ++ procs))
-gather h r p g s m b i bits procs =
-    under h _ _ (under r _ _ (under p _ _ (under g _ _ (under s _ _ (under m _ _ (under b _ _ (swap i bits procs)))))))
+gather : (h r p g a s f m b i bits procs : List Fault) → least (h ++ (r ++ (p ++ (g ++ (a ++ (s ++ (f ++ (m ++ (b ++ (i ++ (bits ++ procs)))))))))))
+    ≡ better (least (h ++ (((r ++ (p ++ (g ++ (a ++ s)))) ++ f) ++ (m ++ (b ++ bits))))) (least (i ++ procs))
+gather h r p g a s f m b i bits procs =
+    under h _ _ (under r _ _ (under p _ _ (under g _ _ (under a _ _ (under s _ _ (under f _ _ (under m _ _ (under b _ _ (swap i bits procs)))))))))
     ∙ ap least (sym (flat (i ++ procs)))
-    ∙ least_append (h ++ ((r ++ (p ++ (g ++ s))) ++ (m ++ (b ++ bits)))) (i ++ procs)
+    ∙ least_append (h ++ (((r ++ (p ++ (g ++ (a ++ s)))) ++ f) ++ (m ++ (b ++ bits)))) (i ++ procs)
   where
-    flat : (rest : List Fault) → (h ++ ((r ++ (p ++ (g ++ s))) ++ (m ++ (b ++ bits)))) ++ rest ≡ h ++ (r ++ (p ++ (g ++ (s ++ (m ++ (b ++ (bits ++ rest)))))))
+    flat : (rest : List Fault) → (h ++ (((r ++ (p ++ (g ++ (a ++ s)))) ++ f) ++ (m ++ (b ++ bits)))) ++ rest ≡ h ++ (r ++ (p ++ (g ++ (a ++ (s ++ (f ++ (m ++ (b ++ (bits ++ rest)))))))))
     flat rest = simp append_assoc
 
 pub survey_parts : (source : tree.Source) (t : Task) (totals : Totals) → IsOfParts source t totals (survey the_limits source t totals)
 survey_parts source t totals =
     let start = start_at t totals in
     let ds = declarations_of t.contents in
-    let parameters = evaluated_entries t.env (overrides_of t.contents) ds in
+    let before = counts_of totals in
+    let parameters = evaluated_entries totals.scopes t.env (overrides_of t.contents) ds in
     let signals = signals_in t.env t.contents start in
     record {
       entries = refl;
       signals = refl;
+      functions = refl;
       pieces = refl;
       fault =
-          gather (header_of t.contents) (repeated_names [] ds) parameters.faults (range_faults (within t.env parameters.entries) ds) (flat_map faults_of signals) (made_faults (made_in t.env t.contents start totals.turns))
-          (block_faults (declared_in t.env t.contents start) [] (blocks_in t.env t.contents start totals.turns)) (said_in source t totals).faults (bits_over the_limits.bits totals.bits signals)
+          gather (header_of t.contents) (repeated_names [] ds) parameters.faults (range_faults (within t.env parameters.entries) ds) (array_faults ds) (flat_map faults_of signals)
+          (said_functions_of t.env (overrides_of t.contents) start before ds).faults (made_faults (made_in t.env t.contents start before totals.turns))
+          (block_faults (declared_in t.env t.contents start before) [] (blocks_in t.env t.contents start before totals.turns)) (said_in source t totals).faults (bits_over the_limits.bits totals.bits signals)
           (processes_over the_limits.processes totals.processes (said_in source t totals).pieces);
       totals_is = refl;
     }

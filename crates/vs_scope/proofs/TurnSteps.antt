@@ -2,7 +2,7 @@
 use Rattle.std.proofs.Common.{◌≡◌, ℕ, zero, suc, ◌+◌, ◌-◌, ◌<◌, ◌==◌, Bool, true, false, ◌||◌, List, [], ◌∷◌, ◌++◌, length, nat_lt, nat_le, Option, Some, None, if◌then◌else◌, refl, sym, ap, ◌∙◌, subst, append_assoc, arith, length-append}
 use Rattle.std.specs.List.{list_any}
 use Rattle.std.proofs.lemmas.Bool.{eqb-true}
-use Rattle.vs_grammar.specs.Trees.{GenerateHead}
+use Rattle.vs_grammar.specs.Trees.{LoopHead}
 use Rattle.vs_const.specs.declared.faults.Fault.{Fault}
 use Rattle.vs_const.specs.Faults.{fault, least, better}
 use Rattle.vs_const.specs.declared.rules.Rule.TheVariants.{DuplicateName, GenerateTurns}
@@ -12,7 +12,7 @@ use Rattle.vs_elaborated.specs.Limits.{the_limits}
 use Rattle.vs_elaborated.specs.Environments.{Env, with_turn, named}
 use Rattle.vs_elaborated.specs.Loops.{holds, step, Turns, no_turn, and_turn, turns_from}
 use Rattle.vs_scope.specs.declared.turns.Turned.{Turned as TurnedOf}
-use Rattle.vs_scope.specs.Sets.{IsFirstSoFar}
+use Rattle.vs_scope.specs.SoFar.{IsFirstSoFar}
 use Rattle.vs_scope.specs.Turns.{Turned, ended, taken_turn, turned, IsTurned}
 use Rattle.vs_scope.proofs.Steps.{append_none}
 use Rattle.vs_scope.proofs.SoFar.{so_far_start, so_far_more, so_far_end}
@@ -22,11 +22,11 @@ abbrev pub after_turn : Turned → (v : ℕ) → (ℕ → Turns) → Turns
 after_turn t v rest = elim t.taken [ false ↦ no_turn t.faults t.count | true ↦ and_turn v t.faults (elim t.next [ None ↦ no_turn [] t.count | Some u ↦ rest u ]) ]
 
 -- what is left of a loop, by its next value
-abbrev pub rest_of : (left : ℕ) → GenerateHead → Bool → (genvar : ℕ) → Env → (seen : List ℕ) → (total : ℕ) → Option ℕ → Turns
+abbrev pub rest_of : (left : ℕ) → LoopHead → Bool → (genvar : ℕ) → Env → (seen : List ℕ) → (total : ℕ) → Option ℕ → Turns
 rest_of left head is_same genvar env seen total None = no_turn [] total
 rest_of left head is_same genvar env seen total (Some u) = turns_from (suc left) the_limits head is_same genvar env seen total u
 
-module _ (head : GenerateHead) (is_same : Bool) (genvar : ℕ) (env : Env) where
+module _ (head : LoopHead) (is_same : Bool) (genvar : ℕ) (env : Env) where
   abbrev pub inside : ℕ → Env
   inside v = with_turn env (record { genvar = genvar; value = v })
 
@@ -73,7 +73,7 @@ pub record Tells (again is_last : Bool) (total : ℕ) (t : Turned) : Type 0 wher
   pub room : t.taken ≡ true → is_last ≡ false
   pub count : t.taken ≡ true → t.count ≡ total + 1
 
-turned_tells : (again is_last : Bool) (head : GenerateHead) (is_same : Bool) (seen_there : Env) (total : ℕ) → Tells again is_last total (turned again is_last head is_same seen_there total)
+turned_tells : (again is_last : Bool) (head : LoopHead) (is_same : Bool) (seen_there : Env) (total : ℕ) → Tells again is_last total (turned again is_last head is_same seen_there total)
 turned_tells again is_last head is_same seen_there total = by again (holds (number head.test (named seen_there)).number) is_last (nat_lt the_limits.all_turns (total + 1))
   where
     test : Numbered
@@ -100,7 +100,7 @@ turned_tells again is_last head is_same seen_there total = by again (holds (numb
     by false true false false = record { none = λ e. cc; room = λ e. refl; count = λ e. refl }
 
 -- the values so far, and those that a set has seen
-pub record IsTurning (head : GenerateHead) (is_same : Bool) (genvar : ℕ) (env : Env) (all : Turns) (values keys : List ℕ) (found : Option Fault) (count : ℕ) (next : Option ℕ) : Type 0 where
+pub record IsTurning (head : LoopHead) (is_same : Bool) (genvar : ℕ) (env : Env) (all : Turns) (values keys : List ℕ) (found : Option Fault) (count : ℕ) (next : Option ℕ) : Type 0 where
   pub left : ℕ
   pub seen : List ℕ
   pub room : left + length values ≡ 4096
@@ -147,7 +147,7 @@ turns_left n None = 0
 turns_left n (Some v) = 1 + (4096 - n)
 
 -- a turn that is followed by another one was taken, so one fewer is left
-pub turn_falls : (values new : List ℕ) (v : ℕ) (c : TurnedOf) (again is_last : Bool) (head : GenerateHead) (is_same : Bool) (seen_there : Env) (total : ℕ) → is_last ≡ nat_le 4096 (length values)
+pub turn_falls : (values new : List ℕ) (v : ℕ) (c : TurnedOf) (again is_last : Bool) (head : LoopHead) (is_same : Bool) (seen_there : Env) (total : ℕ) → is_last ≡ nat_le 4096 (length values)
     → IsTurned c (turned again is_last head is_same seen_there total) → new ≡ (if c.taken then values ++ v ∷ [] else values) → turns_left (length new) c.next < 1 + (4096 - length values)
 turn_falls values new v c again is_last head is_same seen_there total l ct vs = by t.taken refl
   where
@@ -170,14 +170,14 @@ turn_falls values new v c again is_last head is_same seen_there total l ct vs = 
         let kept : new ≡ values ++ v ∷ [] = vs ∙ ap (λ (b : Bool). if b then values ++ v ∷ [] else values) (ct.taken ∙ h) in
         fewer (length values) (length new) c.next (under (length values) (sym l ∙ tells.room h)) (ap length kept ∙ length-append values (v ∷ []))
 
-module _ (head : GenerateHead) (is_same : Bool) (genvar : ℕ) (env : Env) (total first : ℕ) where
+module _ (head : LoopHead) (is_same : Bool) (genvar : ℕ) (env : Env) (total first : ℕ) where
   abbrev pub whole : Turns
   whole = turns_from (suc 4096) the_limits head is_same genvar env [] total first
 
   pub turning_start : IsTurning head is_same genvar env whole [] [] None total (Some first)
   turning_start = record { left = 4096; seen = []; room = refl; same = λ u. refl; values_are = refl; first = so_far_start whole.faults; count_is = refl }
 
-module _ (head : GenerateHead) (is_same : Bool) (genvar : ℕ) (env : Env) (all : Turns) where
+module _ (head : LoopHead) (is_same : Bool) (genvar : ℕ) (env : Env) (all : Turns) where
   abbrev rest_at : (left : ℕ) → List ℕ → ℕ → Option ℕ → Turns
   rest_at left seen count next = rest_of left head is_same genvar env seen count next
 
@@ -262,7 +262,7 @@ module _ (head : GenerateHead) (is_same : Bool) (genvar : ℕ) (env : Env) (all 
   turning_end values keys found count h = (sym (append_none values) ∙ h.values_are, so_far_end found all.faults h.first, h.count_is)
 
 -- a turn whose test holds, by whether it is one too many
-pub taken_over : (c : TurnedOf) (is_last : Bool) (head : GenerateHead) (is_same : Bool) (seen_there : Env) (test : List Fault) (total : ℕ) → (is_last || nat_lt the_limits.all_turns (total + 1)) ≡ true
+pub taken_over : (c : TurnedOf) (is_last : Bool) (head : LoopHead) (is_same : Bool) (seen_there : Env) (test : List Fault) (total : ℕ) → (is_last || nat_lt the_limits.all_turns (total + 1)) ≡ true
     → IsTurned c (ended (test ++ fault GenerateTurns head.place) (total + 1)) → IsTurned c (taken_turn is_last head is_same seen_there test total)
 taken_over c is_last head is_same seen_there test total over h = by (is_last || nat_lt the_limits.all_turns (total + 1)) over
   where
@@ -273,7 +273,7 @@ taken_over c is_last head is_same seen_there test total over h = by (is_last || 
     by true e = h
     by false e = cc
 
-pub taken_within : (c : TurnedOf) (is_last : Bool) (head : GenerateHead) (is_same : Bool) (seen_there : Env) (test : List Fault) (total : ℕ) → (is_last || nat_lt the_limits.all_turns (total + 1)) ≡ false
+pub taken_within : (c : TurnedOf) (is_last : Bool) (head : LoopHead) (is_same : Bool) (seen_there : Env) (test : List Fault) (total : ℕ) → (is_last || nat_lt the_limits.all_turns (total + 1)) ≡ false
     → IsTurned c (record { taken = true; next = (step is_same head seen_there).number; faults = test ++ (step is_same head seen_there).faults; count = total + 1 }) → IsTurned c (taken_turn is_last head is_same seen_there test total)
 taken_within c is_last head is_same seen_there test total over h = by (is_last || nat_lt the_limits.all_turns (total + 1)) over
   where

@@ -1,14 +1,15 @@
 -- What a scope says but for its items, by what is found of its parts.
-use Rattle.std.proofs.Common.{◌≡◌, ◌+◌, ℕ, suc, List, [], ◌∷◌, ◌++◌, map, flat_map, length, nat_lt, Option, Some, None, if◌then◌else◌, refl, sym, ap, ◌∙◌, subst}
+use Rattle.std.proofs.Common.{◌≡◌, ◌+◌, ℕ, suc, List, [], ◌∷◌, ◌++◌, map, flat_map, length, take, nat_lt, Option, Some, None, if◌then◌else◌, refl, sym, ap, ◌∙◌, subst, arith}
+use Rattle.std.proofs.lemmas.List.{take_all, take_at}
 use Rattle.vs_design.specs.Expressions.{Signal}
 use Rattle.vs_ast.specs.Views as view
 use Rattle.vs_grammar.specs.Trees as tree
-use Rattle.vs_grammar.specs.Trees.{items_list}
 use Rattle.vs_grammar.specs.Shapes.{Each, IsGenerateItem}
 use Rattle.vs_const.specs.declared.faults.Fault.{Fault}
 use Rattle.vs_const.specs.Faults.{least, better, fault}
 use Rattle.vs_const.specs.declared.rules.Rule.TheVariants.{TooManyBits}
 use Rattle.vs_const.proofs.Least.{least_append}
+use Rattle.vs_elaborated.specs.Functions.{Counts}
 use Rattle.vs_elaborated.specs.Signals as spec
 use Rattle.vs_elaborated.specs.Generate as generate
 use Rattle.vs_elaborated.specs.Pieces.{Contents as ContentsOf}
@@ -16,32 +17,40 @@ use Rattle.vs_elaborated.specs.Environments.{Env, Entry, within}
 use Rattle.vs_elaborated.specs.Limits.{the_limits}
 use Rattle.vs_elaborated.specs.Constructs.{construct, constructs, is_construct}
 use Rattle.vs_elaborated.specs.Surveys.{bits_over, block_entries, declarations_of, items_of, turns_after}
+use Rattle.vs_elaborated.specs.Surveys.{overrides_of as overrides_in}
 use Rattle.vs_elaborated.proofs.ShapedBlocks.{construct_shaped}
 use Rattle.vs_scope.specs.declared.contents.Contents.{Contents}
 use Rattle.vs_scope.specs.declared.contents.Contents.TheVariants.{Module, Block}
 use Rattle.vs_scope.specs.declared.frames.Frame.{Frame}
-use Rattle.vs_scope.specs.declared.maps.NameMap.{NameMap}
+use Rattle.vs_maps.specs.declared.maps.NameMap.{NameMap}
 use Rattle.vs_scope.specs.declared.parameters.Override.{Override}
+use Rattle.vs_scope.specs.declared.names.Names.{Names}
 use Rattle.vs_scope.specs.declared.names.Signal.{Signal as SignalOf}
 use Rattle.vs_scope.specs.declared.made.Made.{Made}
 use Rattle.vs_scope.specs.declared.made.Nested.{Nested}
 use Rattle.vs_scope.specs.declared.constructs.Making.{Making}
 use Rattle.vs_scope.specs.Bits.{counted_bits, over}
 use Rattle.vs_scope.specs.Chosen.{IsConstruct, IsMaking}
-use Rattle.vs_scope.specs.Clashes.{blocks_of}
+use Rattle.vs_scope.specs.Again.{AreSeen}
+use Rattle.vs_scope.specs.Clashes.{IsBehind, blocks_of}
+use Rattle.vs_scope.specs.Counts.{counted}
 use Rattle.vs_scope.specs.Contents.{contents_items, contents_declared, block_items}
 use Rattle.vs_scope.specs.Made as code
 use Rattle.vs_scope.specs.Shaped.{AreShaped}
 use Rattle.vs_elaborated.specs.Parameters as parameters
 use Rattle.vs_scope.specs.declared.scope.SaidScope.{SaidScope}
-use Rattle.vs_scope.specs.Maps.{Pair}
-use Rattle.vs_scope.specs.MapViews.{pairs}
+use Rattle.vs_maps.specs.Maps.{Pair}
+use Rattle.vs_maps.specs.MapViews.{pairs}
 use Rattle.vs_scope.specs.Overrides.{AreOverrides, EachOverride, override_typed, overrides_of}
-use Rattle.vs_scope.specs.Scopes.{said_entries, said_signals_of, said_faults}
+use Rattle.vs_elaborated.specs.Declarations as declarations
+use Rattle.vs_scope.specs.Complete.{KeepsShapes, complete, function_declaration}
+use Rattle.vs_scope.specs.Functions.{functions_in}
+use Rattle.vs_scope.specs.Scopes.{said_entries, said_signals_of, said_functions_of, said_faults}
 use Rattle.vs_scope.specs.Wholes.{IsDeclared}
 use Rattle.vs_scope.specs.Signalled.{Placed, placed, placed_of, start_of, start_after}
 use Rattle.vs_scope.specs.Surveys.{contents_of, IsShapedScope, declared_in, made_in, entries_in, made_faults, turns_behind}
-use Rattle.vs_scope.specs.Views.{entries, signal_meaning}
+use Rattle.vs_scope.specs.Views.{entries, pair_entry, signal_meaning}
+use Rattle.vs_scope.proofs.BlocksBehind.{entries_behind}
 use Rattle.vs_scope.proofs.MakingSteps.{making_end}
 use Rattle.vs_scope.proofs.ShapedDeclarations.{module_shaped, block_shaped}
 use Rattle.vs_scope.proofs.ChosenBlocks.{items_constructs, block_constructs}
@@ -111,20 +120,20 @@ no_better (Some a) y h = cc
 
 -- ---- the parts
 
-pub whole_made : (env : Env) (con : ContentsOf) (start : spec.Start) (turns : ℕ) (es : List Entry) (items : List tree.Item) (mk : Making) → es ≡ declared_in env con start → items ≡ items_of con
+pub whole_made : (env : Env) (con : ContentsOf) (start : spec.Start) (before : Counts) (turns : ℕ) (es : List Entry) (items : List tree.Item) (mk : Making) → es ≡ declared_in env con start before → items ≡ items_of con
     → IsMaking mk (within env es) turns [] (constructs the_limits items (within env es) 1 turns)
-    → (map code.made mk.made.items ≡ map code.kept (made_in env con start turns)) × (mk.fault ≡ least (made_faults (made_in env con start turns))) × (mk.turns ≡ turns_behind env con start turns)
-whole_made env con start turns es items mk e i h =
+    → (map code.made mk.made.items ≡ map code.kept (made_in env con start before turns)) × (mk.fault ≡ least (made_faults (made_in env con start before turns))) × (mk.turns ≡ turns_behind env con start before turns)
+whole_made env con start before turns es items mk e i h =
     let all = constructs the_limits items (within env es) 1 turns in
-    let same : all ≡ made_in env con start turns = ap (λ (x : List Entry). constructs the_limits items (within env x) 1 turns) e ∙ ap (λ (x : List tree.Item). constructs the_limits x (within env (declared_in env con start)) 1 turns) i in
+    let same : all ≡ made_in env con start before turns = ap (λ (x : List Entry). constructs the_limits items (within env x) 1 turns) e ∙ ap (λ (x : List tree.Item). constructs the_limits x (within env (declared_in env con start before)) 1 turns) i in
     let k = making_end mk (within env es) turns all h in
     (k.0 ∙ ap (map code.kept) same, k.1 ∙ ap (λ (x : List generate.Made). least (made_faults x)) same, k.2 ∙ ap (turns_after turns) same)
 
-pub whole_entries : (env : Env) (con : ContentsOf) (start : spec.Start) (turns : ℕ) (es : List Entry) (cs ds : List Made) → es ≡ declared_in env con start → ds ≡ cs → map code.made cs ≡ map code.kept (made_in env con start turns)
-    → es ++ block_entries (blocks_of ds) ≡ entries_in env con start turns
-whole_entries env con start turns es cs ds e f h =
+pub whole_entries : (env : Env) (con : ContentsOf) (start : spec.Start) (before : Counts) (turns : ℕ) (es : List Entry) (cs ds : List Made) → es ≡ declared_in env con start before → ds ≡ cs → map code.made cs ≡ map code.kept (made_in env con start before turns)
+    → es ++ block_entries (blocks_of ds) ≡ entries_in env con start before turns
+whole_entries env con start before turns es cs ds e f h =
     ap (λ (x : List Entry). x ++ block_entries (blocks_of ds)) e
-    ∙ ap (λ (x : List generate.BlockName). declared_in env con start ++ block_entries x) (ap blocks_of f ∙ blocks_same cs (made_in env con start turns) h)
+    ∙ ap (λ (x : List generate.BlockName). declared_in env con start before ++ block_entries x) (ap blocks_of f ∙ blocks_same cs (made_in env con start before turns) h)
 
 -- ---- the blocks' shapes
 
@@ -142,6 +151,8 @@ constructs_shaped (i ∷ is) env n total h =
     one (tree.AssignsItem place assigns) h = tt
     one (tree.AlwaysItem block) h = tt
     one (tree.GenvarsItem place names) h = tt
+    one (tree.IntegersItem place names) h = tt
+    one (tree.FunctionItem f) h = tt
     one (tree.InstancesItem t) h = tt
 
 each_nested : (bs : List Nested) → Each (λ (b : generate.Nested). Each IsGenerateItem b.items) (map code.nested bs) → Each code.IsShapedNested bs
@@ -156,37 +167,58 @@ each_made (c ∷ cs) (m ∷ ms) e h =
     let rest : map code.made cs ≡ map code.kept ms = cc in
     (each_nested c.blocks.items (subst (λ (bs : List generate.Nested). Each (λ (b : generate.Nested). Each IsGenerateItem b.items) bs) (sym (ap (λ (k : code.Kept). k.blocks) first)) h.0), each_made cs ms rest h.1)
 
-pub whole_shaped : (env : Env) (con : ContentsOf) (start : spec.Start) (turns : ℕ) (cs : List Made) → Each IsConstruct (items_of con) → map code.made cs ≡ map code.kept (made_in env con start turns) → Each code.AreShapedBlocks cs
-whole_shaped env con start turns cs h e = each_made cs (made_in env con start turns) e (constructs_shaped (items_of con) (within env (declared_in env con start)) 1 turns h)
+pub whole_shaped : (env : Env) (con : ContentsOf) (start : spec.Start) (before : Counts) (turns : ℕ) (cs : List Made) → Each IsConstruct (items_of con) → map code.made cs ≡ map code.kept (made_in env con start before turns) → Each code.AreShapedBlocks cs
+whole_shaped env con start before turns cs h e = each_made cs (made_in env con start before turns) e (constructs_shaped (items_of con) (within env (declared_in env con start before)) 1 turns h)
 
 -- ---- declarations
 
 pub no_overrides : (frames : List Frame) (none : NameMap Override) → pairs none ≡ [] → AreOverrides frames none
 no_overrides frames none h = record { each = subst (EachOverride (length frames)) (sym h) tt }
 
-pub as_module : (said : SaidScope) (env : Env) (start : spec.Start) (frames : List Frame) (os : NameMap Override) (c : Contents) (m : _) → c ≡ Module m
-    → entries said.names ≡ said_entries env (overrides_of frames os) start (contents_declared c) → map placed said.signals.items ≡ map placed_of (said_signals_of env (overrides_of frames os) start (contents_declared c))
-    → said.fault ≡ least (said_faults env (overrides_of frames os) start (contents_declared c)) → start_of said.next ≡ start_after start (said_signals_of env (overrides_of frames os) start (contents_declared c))
-    → IsDeclared said env (contents_of frames os c) start
-as_module said env start frames os c m is e s f n =
-    subst (λ (x : Contents). IsDeclared said env (contents_of frames os x) start) (sym is)
-    (record {
-      entries_are = e ∙ ap (λ (x : Contents). said_entries env (overrides_of frames os) start (contents_declared x)) is;
-      signals_are = s ∙ ap (λ (x : Contents). map placed_of (said_signals_of env (overrides_of frames os) start (contents_declared x))) is;
-      fault_is = f ∙ ap (λ (x : Contents). least (said_faults env (overrides_of frames os) start (contents_declared x))) is;
-      next_is = n ∙ ap (λ (x : Contents). start_after start (said_signals_of env (overrides_of frames os) start (contents_declared x))) is;
-    })
+-- all names of the declarations are seen
+seen_of : (names : Names) (env : Env) (con : ContentsOf) (start : spec.Start) (before : Counts) → names.plain ≡ length (entries names) → names.scope ≡ start.scope → counted names.counts ≡ before
+    → entries names ≡ said_entries env (overrides_in con) start (declarations_of con) → AreSeen names env con start before
+seen_of names env con start before p s c e = record {
+  scope = s;
+  counts = c;
+  names_are = ap (λ (n : ℕ). take n (entries names)) p ∙ take_all (length (entries names)) (entries names) (omega arith) ∙ e;
+}
 
-pub as_block : (said : SaidScope) (env : Env) (start : spec.Start) (frames : List Frame) (os none : NameMap Override) (c : Contents) (b : _) → c ≡ Block b → pairs none ≡ []
-    → entries said.names ≡ said_entries env (overrides_of frames none) start (contents_declared c) → map placed said.signals.items ≡ map placed_of (said_signals_of env (overrides_of frames none) start (contents_declared c))
-    → said.fault ≡ least (said_faults env (overrides_of frames none) start (contents_declared c)) → start_of said.next ≡ start_after start (said_signals_of env (overrides_of frames none) start (contents_declared c))
-    → IsDeclared said env (contents_of frames os c) start
-as_block said env start frames os none c b is z e s f n =
+-- the names of blocks behind them aren't
+pub seen_behind : (old new : Names) (env : Env) (con : ContentsOf) (start : spec.Start) (before : Counts) → old.plain ≡ length (entries old) → IsBehind old new → AreSeen old env con start before → AreSeen new env con start before
+seen_behind old new env con start before p h seen = record {
+  scope = h.scope ∙ seen.scope;
+  counts = ap counted h.counts ∙ seen.counts;
+  names_are =
+      ap (λ (n : ℕ). take n (entries new)) (h.plain ∙ p) ∙ ap (take (length (entries old))) (entries_behind old new h) ∙ take_at (entries old) (map pair_entry h.more) (length (entries old)) refl
+      ∙ sym (ap (λ (n : ℕ). take n (entries old)) p ∙ take_all (length (entries old)) (entries old) (omega arith)) ∙ seen.names_are;
+}
+
+abbrev IsSaidScope : SaidScope → Env → List parameters.Override → spec.Start → Counts → List declarations.Declaration → Type 0
+IsSaidScope said env os start before ds =
+    (complete env said.names ≡ (said_functions_of env os start before ds).entries)
+    × KeepsShapes env said.names
+    × (said.names.plain ≡ length (entries said.names))
+    × (map function_declaration said.names.functions.items ≡ functions_in ds)
+    × (counted said.counts ≡ (said_functions_of env os start before ds).counts)
+    × (map placed said.signals.items ≡ map placed_of (said_signals_of env os start ds))
+    × (said.fault ≡ least (said_faults env os start before ds))
+    × (start_of said.next ≡ start_after start (said_signals_of env os start ds))
+    × (said.names.scope ≡ start.scope)
+    × (counted said.names.counts ≡ before)
+    × (entries said.names ≡ said_entries env os start ds)
+
+pub as_module : (said : SaidScope) (env : Env) (start : spec.Start) (before : Counts) (frames : List Frame) (os : NameMap Override) (c : Contents) (m : _) → c ≡ Module m
+    → IsSaidScope said env (overrides_of frames os) start before (contents_declared c) → IsDeclared said env (contents_of frames os c) start before
+as_module said env start before frames os c m is h =
+    let k = subst (λ (x : Contents). IsSaidScope said env (overrides_of frames os) start before (contents_declared x)) is h in
+    subst (λ (x : Contents). IsDeclared said env (contents_of frames os x) start before) (sym is)
+    (record { entries_are = k.0; kept_is = k.1; plain_is = k.2; seen_is = seen_of said.names env (contents_of frames os (Module m)) start before k.2 k.8 k.9 k.10; functions_are = k.3; counts_is = k.4; signals_are = k.5; fault_is = k.6; next_is = k.7 })
+
+pub as_block : (said : SaidScope) (env : Env) (start : spec.Start) (before : Counts) (frames : List Frame) (os none : NameMap Override) (c : Contents) (b : _) → c ≡ Block b → pairs none ≡ []
+    → IsSaidScope said env (overrides_of frames none) start before (contents_declared c) → IsDeclared said env (contents_of frames os c) start before
+as_block said env start before frames os none c b is z h =
     let no : overrides_of frames none ≡ [] = ap (map (λ (p : Pair Override). let o : parameters.Override = record { name = p.name; typed = override_typed frames p.value } in o)) z in
-    subst (λ (x : Contents). IsDeclared said env (contents_of frames os x) start) (sym is)
-    (record {
-      entries_are = e ∙ ap (λ (x : List parameters.Override). said_entries env x start (contents_declared c)) no ∙ ap (λ (x : Contents). said_entries env [] start (contents_declared x)) is;
-      signals_are = s ∙ ap (λ (x : List parameters.Override). map placed_of (said_signals_of env x start (contents_declared c))) no ∙ ap (λ (x : Contents). map placed_of (said_signals_of env [] start (contents_declared x))) is;
-      fault_is = f ∙ ap (λ (x : List parameters.Override). least (said_faults env x start (contents_declared c))) no ∙ ap (λ (x : Contents). least (said_faults env [] start (contents_declared x))) is;
-      next_is = n ∙ ap (λ (x : List parameters.Override). start_after start (said_signals_of env x start (contents_declared c))) no ∙ ap (λ (x : Contents). start_after start (said_signals_of env [] start (contents_declared x))) is;
-    })
+    let k = subst (λ (x : Contents). IsSaidScope said env [] start before (contents_declared x)) is (subst (λ (x : List parameters.Override). IsSaidScope said env x start before (contents_declared c)) no h) in
+    subst (λ (x : Contents). IsDeclared said env (contents_of frames os x) start before) (sym is)
+    (record { entries_are = k.0; kept_is = k.1; plain_is = k.2; seen_is = seen_of said.names env (contents_of frames os (Block b)) start before k.2 k.8 k.9 k.10; functions_are = k.3; counts_is = k.4; signals_are = k.5; fault_is = k.6; next_is = k.7 })

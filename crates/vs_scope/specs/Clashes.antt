@@ -12,6 +12,11 @@ use Rattle.vs_elaborated.specs.Surveys.{clash_with}
 use Rattle.vs_scope.specs.declared.clashes.NamedBlock.{NamedBlock}
 use Rattle.vs_scope.specs.declared.made.Made.{Made}
 use Rattle.vs_scope.specs.Made.{block_names}
+use Rattle.vs_maps.specs.Maps.{Pair}
+use Rattle.vs_maps.specs.MapViews.{pairs}
+use Rattle.vs_scope.specs.declared.names.Entry.{Entry as EntryOf}
+use Rattle.vs_scope.specs.declared.names.Names.{Names}
+use Rattle.vs_scope.specs.Complete.{ArePairsIncomplete}
 
 -- a name and where it stands
 pub record NameAt : Type 0 where
@@ -47,3 +52,13 @@ label_entry n = record { name = n.bytes; place = n.place; declared = OfScope }
 abbrev pub AreNew : List Entry → List Entry → Type 0
 AreNew es [] = Unit {0}
 AreNew es (b ∷ bs) = (find_entry es b.name ≡ None) × AreNew (es ++ b ∷ []) bs
+
+-- the same names and behind them others, which are no functions
+pub record IsBehind (old new : Names) : Type 0 where
+  pub more : List (Pair EntryOf)
+  pub pairs_are : pairs new.map ≡ pairs old.map ++ more
+  pub incomplete : ArePairsIncomplete more
+  pub scope : new.scope ≡ old.scope
+  pub counts : new.counts ≡ old.counts
+  pub functions : new.functions.items ≡ old.functions.items
+  pub plain : new.plain ≡ old.plain

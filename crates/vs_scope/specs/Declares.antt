@@ -1,5 +1,5 @@
 -- The names of a scope, one declaration after the other.
-use Rattle.std.specs.Prelude.{◌≡◌, Bool, true, false, not, ◌||◌, List, [], ◌∷◌, map, is_some, Option, Some, None, if◌then◌else◌}
+use Rattle.std.specs.Prelude.{◌≡◌, ℕ, Bool, true, false, not, ◌||◌, List, [], ◌∷◌, map, is_some, Option, Some, None, if◌then◌else◌}
 use Rattle.vs_ast.specs.Views.{option}
 use Rattle.vs_design.specs.Clocks.{same_name}
 use Rattle.vs_elaborated.specs.Environments as environment
@@ -8,8 +8,8 @@ use Rattle.vs_elaborated.specs.Parameters.{first_declared}
 use Rattle.vs_scope.specs.declared.names.Declaration.{Declaration as DeclarationOf}
 use Rattle.vs_scope.specs.declared.names.Entry.{Entry}
 use Rattle.vs_scope.specs.declared.names.Names.{Names}
-use Rattle.vs_scope.specs.Maps.{Pair}
-use Rattle.vs_scope.specs.MapViews.{pairs}
+use Rattle.vs_maps.specs.Maps.{Pair}
+use Rattle.vs_maps.specs.MapViews.{pairs}
 use Rattle.vs_scope.specs.Views.{declaration, pair_entry}
 
 -- the declarations of a name
@@ -24,18 +24,18 @@ named_of p = entry_named p.value
 abbrev pub named_list : Names → List Named
 named_list names = map named_of (pairs names.map)
 
--- a name before anything is known of values and ranges
-abbrev pub first_entry : Named → environment.Entry
-first_entry n = record { name = n.first.name.bytes; place = n.first.name.place; declared = first_declared n.first.sort }
+-- a name before anything is known of values, ranges and functions
+abbrev pub first_entry : (scope : ℕ) → Named → environment.Entry
+first_entry scope n = record { name = n.first.name.bytes; place = n.first.name.place; declared = first_declared scope n.first.sort }
 
 -- of each name no more is known
-abbrev pub ArePairsFirst : List (Pair Entry) → Type 0
-ArePairsFirst [] = Unit {0}
-ArePairsFirst (p ∷ ps) = (pair_entry p ≡ first_entry (named_of p)) × ArePairsFirst ps
+abbrev pub ArePairsFirst : (scope : ℕ) → List (Pair Entry) → Type 0
+ArePairsFirst scope [] = Unit {0}
+ArePairsFirst scope (p ∷ ps) = (pair_entry p ≡ first_entry scope (named_of p)) × ArePairsFirst scope ps
 
 -- of each name of the scope
 pub record AreFirst (names : Names) : Type 0 where
-  pub each : ArePairsFirst (pairs names.map)
+  pub each : ArePairsFirst names.scope (pairs names.map)
 
 -- the second declaration of a signal, if it has none yet
 abbrev pub with_second : (is_second : Bool) → Declaration → Named → Named

@@ -6,7 +6,7 @@ use Rattle.vs_const.specs.Meanings.{IsFair}
 use Rattle.vs_elaborated.specs.Environments.{named}
 use Rattle.vs_elaborated.specs.Declarations.{item_declared, module_declared}
 use Rattle.vs_scope.specs.Shaped.{AreShaped}
-use Rattle.vs_scope.specs.declared.frames.View.{View}
+use Rattle.vs_scope.specs.declared.places.View.{View}
 use Rattle.vs_scope.specs.Frames.{view_env}
 
 -- each value has 1 to 64 bits, and a range of as many

@@ -1,6 +1,13 @@
-pub mod Maps
-pub mod MapViews
 pub mod Views
+pub mod Counts
+pub mod Complete
+pub mod Stacks
+pub mod Seen
+pub mod Functions
+pub mod Locals
+pub mod OwnNames
+pub mod LocalLists
+pub mod Inside
 pub mod Frames
 pub mod Laws
 pub mod Contents
@@ -12,7 +19,7 @@ pub mod Signalled
 pub mod Scopes
 pub mod Made
 pub mod Surveys
-pub mod Sets
+pub mod SoFar
 pub mod Headers
 pub mod Turns
 pub mod Blocks
@@ -21,3 +28,4 @@ pub mod Cases
 pub mod Clashes
 pub mod Bits
 pub mod Wholes
+pub mod Again

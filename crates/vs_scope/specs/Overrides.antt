@@ -11,11 +11,11 @@ use Rattle.vs_elaborated.specs.Environments.{named}
 use Rattle.vs_elaborated.specs.Declarations.{ParameterSort}
 use Rattle.vs_elaborated.specs.Parameters as spec
 use Rattle.vs_scope.specs.declared.frames.Frame.{Frame}
-use Rattle.vs_scope.specs.declared.maps.NameMap.{NameMap}
+use Rattle.vs_maps.specs.declared.maps.NameMap.{NameMap}
 use Rattle.vs_scope.specs.declared.parameters.Override.{Override}
 use Rattle.vs_scope.specs.declared.parameters.SaidParameter.{SaidParameter}
-use Rattle.vs_scope.specs.Maps.{Pair}
-use Rattle.vs_scope.specs.MapViews.{pairs}
+use Rattle.vs_maps.specs.Maps.{Pair}
+use Rattle.vs_maps.specs.MapViews.{pairs}
 use Rattle.vs_scope.specs.Frames.{env_at, envs}
 use Rattle.vs_scope.specs.Views.{evaluated}
 
@@ -38,7 +38,7 @@ pub record AreOverrides (frames : List Frame) (m : NameMap Override) : Type 0 wh
 
 -- a declaration of a parameter
 abbrev pub parameter_sort : Parameters → Expr → ParameterSort
-parameter_sort p e = record { is_local = p.is_local; signed = p.signed; range = view.option view.range p.range; value = view.expr e }
+parameter_sort p e = record { is_local = p.is_local; value_type = view.value_type p.value_type; value = view.expr e }
 
 -- what a parameter is found to be
 pub record IsSaidParameter (c : SaidParameter) (s : spec.SaidParameter) : Type 0 where

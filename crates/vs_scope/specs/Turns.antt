@@ -2,7 +2,7 @@
 use Rattle.std.specs.Prelude.{◌≡◌, ℕ, ◌+◌, Bool, true, false, ◌&&◌, ◌||◌, List, ◌++◌, nat_lt, Option, Some, None, if◌then◌else◌}
 use Rattle.vs_four.specs.Logic.{BitList, all_known}
 use Rattle.vs_four.specs.Numbers.{integer}
-use Rattle.vs_grammar.specs.Trees.{GenerateHead}
+use Rattle.vs_grammar.specs.Trees.{LoopHead}
 use Rattle.vs_const.specs.declared.faults.Fault.{Fault}
 use Rattle.vs_const.specs.Faults.{fault, least}
 use Rattle.vs_const.specs.declared.rules.Rule.TheVariants.{UnknownConstant, DuplicateName, GenerateTurns}
@@ -31,7 +31,7 @@ abbrev pub ended : List Fault → ℕ → Turned
 ended faults count = record { taken = false; next = None; faults = faults; count = count }
 
 -- where the test holds; `is_last`: the loop may take no more turns
-abbrev pub taken_turn : (is_last : Bool) → GenerateHead → (is_same : Bool) → (inside : Env) → (test : List Fault) → (total : ℕ) → Turned
+abbrev pub taken_turn : (is_last : Bool) → LoopHead → (is_same : Bool) → (inside : Env) → (test : List Fault) → (total : ℕ) → Turned
 taken_turn is_last head is_same inside test total =
     elim (is_last || nat_lt the_limits.all_turns (total + 1)) [
       | true ↦ ended (test ++ fault GenerateTurns head.place) (total + 1)
@@ -39,7 +39,7 @@ taken_turn is_last head is_same inside test total =
     ]
 
 -- at one value; `again`: the loop had it before
-abbrev pub turned : (again is_last : Bool) → GenerateHead → (is_same : Bool) → (inside : Env) → (total : ℕ) → Turned
+abbrev pub turned : (again is_last : Bool) → LoopHead → (is_same : Bool) → (inside : Env) → (total : ℕ) → Turned
 turned again is_last head is_same inside total =
     let test = number head.test (named inside) in
     elim again [

@@ -1,6 +1,7 @@
 -- What the names of the code stand for.
 use Rattle.std.specs.Prelude.{ℕ, Bool, true, false, List, map, Some, None}
 use Rattle.vs_ast.specs.Views as view
+use Rattle.vs_const.specs.declared.names.Role.TheVariants.{InModule}
 use Rattle.vs_const.specs.Meanings.{SignalMeaning}
 use Rattle.vs_elaborated.specs.Environments as environment
 use Rattle.vs_elaborated.specs.Declarations as declarations
@@ -15,14 +16,16 @@ use Rattle.vs_scope.specs.declared.names.Declared.{Declared}
 use Rattle.vs_scope.specs.declared.names.Declared.TheVariants as states
 use Rattle.vs_scope.specs.declared.names.Entry.{Entry}
 use Rattle.vs_scope.specs.declared.names.Names.{Names}
-use Rattle.vs_scope.specs.Maps.{Pair}
-use Rattle.vs_scope.specs.MapViews.{pairs}
+use Rattle.vs_maps.specs.Maps.{Pair}
+use Rattle.vs_maps.specs.MapViews.{pairs}
 
 -- what a declaration declares
 abbrev pub sort : Sort → declarations.Sort
 sort (sorts.Signal s addresses header) = declarations.SignalOf (record { kind = view.signal_kind s.now.kind; signed = s.now.signed; range = view.option view.range s.now.range; addresses = view.option view.range addresses.now; header = header })
-sort (sorts.Parameter p value) = declarations.ParameterOf (record { is_local = p.now.is_local; signed = p.now.signed; range = view.option view.range p.now.range; value = view.expr value.now })
+sort (sorts.Parameter p value) = declarations.ParameterOf (record { is_local = p.now.is_local; value_type = view.value_type p.now.value_type; value = view.expr value.now })
+sort (sorts.Function f) = declarations.FunctionOf (view.function f.now)
 sort sorts.Genvar = declarations.GenvarSort
+sort sorts.Integer = declarations.IntegerSort
 sort sorts.Scope = declarations.InstanceSort
 
 -- with its name
@@ -31,24 +34,26 @@ declaration d = record { name = view.name d.name.now; sort = sort d.sort }
 
 -- a signal
 abbrev pub signal_meaning : Signal → SignalMeaning
-signal_meaning s = record { signal = record { name = s.name.now; scope = s.scope; number = s.number; net = s.net; input = s.input; range = s.range; signed = s.signed; first = s.first; words = s.words }; input = s.is_input; known = s.known }
+signal_meaning s = record { signal = record { name = s.name.now; scope = s.scope; number = s.number; net = s.net; input = s.input; range = s.range; signed = s.signed; first = s.first; words = s.words }; input = s.is_input; role = InModule; known = s.known }
 
 -- a signal of which nothing is known
 abbrev pub unknown_signal : SignalMeaning
-unknown_signal = record { signal = no_signal; input = false; known = false }
+unknown_signal = record { signal = no_signal; input = false; role = InModule; known = false }
 
 -- what a parameter is found to be
 abbrev pub evaluated : Evaluated → environment.Declared
 evaluated (Value p) = environment.OfParameter (Some (record { bits = p.value.bits; signed = p.value.signed })) (Some p.range)
 evaluated (Undefined range) = environment.OfParameter None range
 
--- what is known of a name
+-- what is known of a name before functions are complete
 abbrev pub declared : Declared → environment.Declared
 declared states.Later = environment.Later
 declared states.Announced = environment.OfSignal unknown_signal
 declared (states.Signal s) = environment.OfSignal (signal_meaning s)
 declared (states.Parameter value) = evaluated value
+declared (states.Function f) = environment.OfFunction None
 declared states.Genvar = environment.OfGenvar
+declared (states.Integer scope) = environment.OfInteger (Some scope)
 declared states.Scope = environment.OfScope
 
 -- a name, where it is first declared

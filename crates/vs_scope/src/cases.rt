@@ -13,8 +13,8 @@ ghost use Rattle.vs_elaborated.specs.Constructs as spec;
 ghost use Rattle.vs_scope.specs.Cases.{AreLabels, IsFit, AreFitArms, IsSaidCase, has_value, good_case};
 ghost use Rattle.vs_scope.specs.Frames.{view_env};
 
-use crate::frames::View;
 use crate::numbers::constant;
+use crate::places::View;
 use std::alloc::{AllocError, Global};
 use vs_ast::{Expr, GenerateArm};
 use vs_const::{Fault, Found, Rule, fault_if, first_of, own, place_of, value};

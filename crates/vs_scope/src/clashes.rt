@@ -5,19 +5,19 @@ ghost use Rattle.vs_ast.specs.Views as view;
 ghost use Rattle.vs_const.specs.Faults.{least, fault_if};
 ghost use Rattle.vs_elaborated.specs.Environments.{find_entry};
 ghost use Rattle.vs_elaborated.specs.Surveys as spec;
-ghost use Rattle.vs_scope.specs.Clashes.{AreNew, block_of, block_text, blocks_of, clash_faults, label_entry};
+ghost use Rattle.vs_scope.specs.Clashes.{AreNew, IsBehind, block_of, block_text, blocks_of, clash_faults, label_entry};
 ghost use Rattle.vs_scope.specs.Made as code;
-ghost use Rattle.vs_scope.specs.Sets.{has};
+ghost use Rattle.vs_maps.specs.Sets.{has};
 ghost use Rattle.vs_scope.specs.Surveys.{MeanTheSame};
 ghost use Rattle.vs_scope.specs.Views.{entries};
 
 use crate::made::{BlockName, Made};
 use crate::names::{Declaration, Declared, Entry, Names, Sort};
-use crate::sets::NameSet;
 use crate::texts::name_text;
 use std::alloc::{AllocError, Global};
 use vs_ast::Name;
 use vs_const::{Fault, Rule, fault_at, fault_if, first_of};
+use vs_maps::NameSet;
 
 /// A block's name as text, and where it stands.
 #[derive(Drop)]
@@ -102,6 +102,7 @@ impl<'a> Names<'a> {
     fn declare_block(&mut self, label: &'a Name) -> Result<(), AllocError>
         ensures same { OnOk result (MeanTheSame (entries self.new) (entries self.old ++ label_entry (view.name label.now) ∷ [])) }
         ensures new { OnOk result (find_entry (entries self.old) (view.name label.now).bytes ≡ None → entries self.new ≡ entries self.old ++ label_entry (view.name label.now) ∷ []) }
+        ensures behind { OnOk result (IsBehind self.old self.new) }
     {
         let name = label.text.as_slice();
         if self.map.get(name).is_some() {
@@ -124,6 +125,7 @@ impl<'a> Names<'a> {
     fn declare_name(&mut self, name: Option<BlockName<'a>>) -> Result<(), AllocError>
         ensures same { OnOk result (MeanTheSame (entries self.new) (entries self.old ++ spec.block_entries (code.block_names name.entry))) }
         ensures new { OnOk result (AreNew (entries self.old) (spec.block_entries (code.block_names name.entry)) → entries self.new ≡ entries self.old ++ spec.block_entries (code.block_names name.entry)) }
+        ensures behind { OnOk result (IsBehind self.old self.new) }
     {
         match name {
             None => Ok(()),
@@ -136,6 +138,7 @@ impl<'a> Names<'a> {
     fn declare_blocks(&mut self, made: &[Made<'a>]) -> Result<(), AllocError>
         ensures same { OnOk result (MeanTheSame (entries self.new) (entries self.old ++ spec.block_entries (blocks_of made.now))) }
         ensures new { OnOk result (AreNew (entries self.old) (spec.block_entries (blocks_of made.now)) → entries self.new ≡ entries self.old ++ spec.block_entries (blocks_of made.now)) }
+        ensures behind { OnOk result (IsBehind self.old self.new) }
     {
         for m in made {
             self.declare_name(m.name)?;
@@ -152,6 +155,7 @@ impl<'a> Names<'a> {
         ensures fault { IfOk result (λ f. f ≡ least (spec.block_faults (entries self.old) [] (blocks_of made.now))) }
         ensures same { OnOk result (MeanTheSame (entries self.new) (entries self.old ++ spec.block_entries (blocks_of made.now))) }
         ensures new { IfOk result (λ f. f ≡ None → entries self.new ≡ entries self.old ++ spec.block_entries (blocks_of made.now)) }
+        ensures behind { OnOk result (IsBehind self.old self.new) }
     {
         let blocks = named_blocks(alloc, made)?;
         let fault = clash_fault(alloc, self, blocks.as_slice())?;

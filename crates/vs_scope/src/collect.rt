@@ -10,7 +10,7 @@ ghost use Rattle.vs_scope.specs.Contents.{contents_declared};
 use crate::contents::{BlockItems, Contents};
 use crate::names::{Declaration, Sort};
 use std::alloc::{AllocError, Global};
-use vs_ast::{Header, Instances, Item, Module, Name, Parameters, Signals};
+use vs_ast::{Function, Header, Instances, Item, Module, Name, Parameters, Signals};
 
 /// All names of one declaration of signals.
 fn collect_signals<'a>(
@@ -71,6 +71,37 @@ fn collect_genvars<'a>(
     Ok(())
 }
 
+/// The integers of an item (4.8).
+fn collect_integers<'a>(
+    list: &mut Vec<Declaration<'a>>,
+    place: u32,
+    names: &'a [Name],
+) -> Result<(), AllocError>
+    ensures { OnOk result (map declaration list.new.items ≡ map declaration list.old.items ++ spec.item_declared (tree.IntegersItem place (map view.name names.now))) }
+{
+    for name in names {
+        list.push(Declaration {
+            name,
+            sort: Sort::Integer,
+        })?;
+    }
+    Ok(())
+}
+
+/// A function.
+fn collect_function<'a>(
+    list: &mut Vec<Declaration<'a>>,
+    function: &'a Function,
+) -> Result<(), AllocError>
+    ensures { OnOk result (map declaration list.new.items ≡ map declaration list.old.items ++ spec.item_declared (tree.FunctionItem (view.function function.now))) }
+{
+    list.push(Declaration {
+        name: &function.name,
+        sort: Sort::Function(function),
+    })?;
+    Ok(())
+}
+
 /// The instances of an item.
 fn collect_instances<'a>(
     list: &mut Vec<Declaration<'a>>,
@@ -95,6 +126,8 @@ fn collect_item<'a>(list: &mut Vec<Declaration<'a>>, item: &'a Item) -> Result<(
         Item::Signals(s) => collect_signals(list, false, s),
         Item::Parameters(p) => collect_parameters(list, p),
         Item::Genvars { place, names } => collect_genvars(list, *place, names),
+        Item::Integers { place, names } => collect_integers(list, *place, names),
+        Item::Function(f) => collect_function(list, f),
         Item::Instances(i) => collect_instances(list, i),
         _ => Ok(()),
     }

@@ -20,10 +20,10 @@ ghost use Rattle.vs_scope.specs.Made.{made, kept};
 use crate::cases::{SaidCase, said_case};
 use crate::contents::{BlockItems, Contents};
 use crate::counts::one_more;
-use crate::frames::View;
 use crate::loops::loop_made;
 use crate::made::{Block, BlockName, Made, after_fault, nothing_made, one_block};
 use crate::numbers::number;
+use crate::places::View;
 use crate::turns::holds;
 use std::alloc::{AllocError, Global};
 use vs_ast::{Expr, GenerateArm, GenerateBlock, Item, Name};
@@ -48,9 +48,11 @@ fn item_place(item: &Item) -> u32
         Item::Parameters(p) => p.place,
         Item::Always(b) => b.place,
         Item::Instances(i) => i.of.place,
+        Item::Function(f) => f.place,
         Item::GenerateFor { head, .. } => head.place,
         Item::Assigns { place, .. }
         | Item::Genvars { place, .. }
+        | Item::Integers { place, .. }
         | Item::GenerateIf { place, .. }
         | Item::GenerateCase { place, .. } => *place,
     }

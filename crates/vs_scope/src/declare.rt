@@ -6,16 +6,18 @@ ghost use Rattle.vs_const.specs.Faults.{least, fault_if};
 ghost use Rattle.vs_const.specs.declared.rules.Rule.TheVariants.{DuplicateName};
 ghost use Rattle.vs_elaborated.specs.Declarations as spec;
 ghost use Rattle.vs_elaborated.specs.Parameters.{first_entries, first_declared};
-ghost use Rattle.vs_scope.specs.Maps.{value_at};
-ghost use Rattle.vs_scope.specs.MapViews.{pairs};
+ghost use Rattle.vs_maps.specs.Maps.{value_at};
+ghost use Rattle.vs_maps.specs.MapViews.{pairs};
 ghost use Rattle.vs_scope.specs.Views as scope;
+ghost use Rattle.vs_scope.specs.Complete.{IsIncomplete, IsStill, shape_kept};
 ghost use Rattle.vs_scope.specs.Declares.{named_list, AreFirst, IsOpenAt, with_named, is_one_too_many};
 
-use crate::maps::NameMap;
+use crate::counts::Counts;
 use crate::names::{Declaration, Declared, Entry, Names, Sort};
 use std::alloc::{AllocError, Global};
 use vs_ast::SignalKind;
 use vs_const::{Fault, Rule, fault_at, first_of};
+use vs_maps::NameMap;
 
 /// The names of a scope, and the first declaration that is one too many.
 #[derive(Drop)]
@@ -75,13 +77,16 @@ fn is_open(first: Sort<'_>, second: Option<Declaration<'_>>, sort: Sort<'_>) -> 
 }
 
 /// What is known of a name before values and ranges are.
-fn first_declared<'a>(sort: Sort<'a>) -> Declared<'a>
-    ensures { scope.declared result ≡ first_declared (scope.sort sort.entry) }
+fn first_declared<'a>(number: u32, sort: Sort<'a>) -> Declared<'a>
+    ensures declared { scope.declared result ≡ first_declared number (scope.sort sort.entry) }
+    ensures incomplete { shape_kept result ≡ None }
 {
     match sort {
         Sort::Signal { .. } => Declared::Announced,
         Sort::Parameter { .. } => Declared::Later,
+        Sort::Function(_) => Declared::Function(None),
         Sort::Genvar => Declared::Genvar,
+        Sort::Integer => Declared::Integer { scope: number },
         Sort::Scope => Declared::Scope,
     }
 }
@@ -93,8 +98,9 @@ impl<'a> Names<'a> {
         requires new { value_at d.name.now.text (pairs self.old.map) ≡ None }
         ensures named { OnOk result (named_list self.new ≡ with_named (scope.declaration d.entry) (named_list self.old)) }
         ensures first { OnOk result (AreFirst self.new) }
+        ensures still { OnOk result (IsStill self.old self.new) }
     {
-        let declared = first_declared(d.sort);
+        let declared = first_declared(self.scope, d.sort);
         self.map.put(
             d.name.text.as_slice(),
             Entry {
@@ -116,8 +122,9 @@ impl<'a> Names<'a> {
         requires open { IsOpenAt first d (value_at d.name.now.text (pairs self.old.map)) }
         ensures named { OnOk result (named_list self.new ≡ with_named (scope.declaration d.entry) (named_list self.old)) }
         ensures first { OnOk result (AreFirst self.new) }
+        ensures still { OnOk result (IsStill self.old self.new) }
     {
-        let declared = first_declared(first.sort);
+        let declared = first_declared(self.scope, first.sort);
         self.map.put(
             d.name.text.as_slice(),
             Entry {
@@ -134,6 +141,7 @@ impl<'a> Names<'a> {
         requires first { AreFirst self.old }
         ensures named { OnOk result (named_list self.new ≡ with_named (scope.declaration d.entry) (named_list self.old)) }
         ensures first { OnOk result (AreFirst self.new) }
+        ensures still { OnOk result (IsStill self.old self.new) }
         ensures fault { IfOk result (λ f. f ≡ least (fault_if (is_one_too_many (named_list self.old) (scope.declaration d.entry)) DuplicateName d.entry.name.now.place)) }
     {
         match self.map.get(d.name.text.as_slice()).copied() {
@@ -153,17 +161,27 @@ impl<'a> Names<'a> {
     }
 }
 
-/// The names of a scope, with what is known before values and ranges are.
+/// The names of the scope of this number, with what is known before values, ranges and functions are; `counts` are those
+/// before it.
 pub(crate) fn declared_names<'a>(
     alloc: Global,
+    number: u32,
+    counts: Counts,
     declarations: &[Declaration<'a>],
 ) -> Result<DeclaredNames<'a>, AllocError>
     ensures named { IfOk result (λ r. named_list r.names ≡ spec.names_of (map scope.declaration declarations.now)) }
-    ensures entries { IfOk result (λ r. scope.entries r.names ≡ first_entries (spec.names_of (map scope.declaration declarations.now))) }
+    ensures entries { IfOk result (λ r. scope.entries r.names ≡ first_entries number (spec.names_of (map scope.declaration declarations.now))) }
+    ensures incomplete { IfOk result (λ r. IsIncomplete r.names) }
+    ensures scope { IfOk result (λ r. r.names.scope ≡ number) }
+    ensures counts { IfOk result (λ r. r.names.counts ≡ counts) }
     ensures fault { IfOk result (λ r. r.fault ≡ least (spec.repeated_names [] (map scope.declaration declarations.now))) }
 {
     let mut names = Names {
         map: NameMap::new(alloc),
+        scope: number,
+        counts,
+        functions: Vec::new(alloc),
+        plain: 0,
     };
     let mut fault = None;
     for d in declarations {

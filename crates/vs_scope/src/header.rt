@@ -6,12 +6,12 @@ ghost use Rattle.vs_grammar.specs.Shapes.{is_port_kind};
 ghost use Rattle.vs_const.specs.Faults.{least, fault_if};
 ghost use Rattle.vs_elaborated.specs.Ports as spec;
 ghost use Rattle.vs_scope.specs.Headers.{opposed_faults, undirected_faults};
-ghost use Rattle.vs_scope.specs.Sets.{has};
+ghost use Rattle.vs_maps.specs.Sets.{has};
 
-use crate::sets::NameSet;
 use std::alloc::{AllocError, Global};
 use vs_ast::{Header, Item, Module, Name, SignalKind, Signals};
 use vs_const::{Fault, Rule, fault_if, first_of};
+use vs_maps::NameSet;
 
 /// Whether a declaration is one of ports.
 fn is_port_kind(kind: SignalKind) -> bool

@@ -2,6 +2,7 @@
 //! that it makes, and the first rule that any of it breaks.
 #![tactic(auto)]
 
+mod again;
 mod bits;
 mod cases;
 mod clashes;
@@ -11,16 +12,20 @@ mod contents;
 mod counts;
 mod declare;
 mod frames;
+mod functions;
 mod header;
+mod inside;
 mod laws;
+mod local_signals;
+mod locals;
 mod loops;
 mod made;
-mod maps;
+mod meanings;
 mod names;
 mod numbers;
 mod parameters;
+mod places;
 mod scope;
-mod sets;
 mod signals;
 mod texts;
 mod turns;
@@ -28,11 +33,15 @@ mod values;
 mod whole;
 
 pub use contents::{BlockItems, Contents};
-pub use frames::{Around, Frame, Turn, View};
+pub use counts::Counts;
+pub use frames::{Frame, Turn};
+pub use inside::{Inside, Locals, SaidLocals, said_locals, within_function};
 pub use laws::{fair_law, shaped_law, survey_law};
 pub use made::{BlockName, Made, Nested};
-pub use maps::NameMap;
-pub use names::{Declaration, Declared, Entry, Evaluated, Names, Parameter, Signal, Sort};
+pub use names::{
+    Declaration, Declared, Entry, Evaluated, LocalSignal, Names, Parameter, Signal, Sort,
+};
 pub use parameters::Override;
+pub use places::{Around, View};
 pub use signals::Start;
 pub use whole::{Surveyed, survey};

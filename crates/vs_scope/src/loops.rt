@@ -1,11 +1,12 @@
 //! What a generate loop makes (IEEE 1364-2005, 12.4.1).
 
-ghost use Rattle.std.specs.Prelude.{◌≡◌, None, List, IfOk, MatchOption, Some, map};
+ghost use Rattle.std.specs.Prelude.{◌≡◌, None, ℕ, List, Option, IfOk, MatchOption, Some, map};
 ghost use Rattle.vs_design.specs.Clocks.{same_name};
 ghost use Rattle.vs_grammar.specs.Shapes.{IsHead};
 ghost use Rattle.vs_ast.specs.Views as view;
 ghost use Rattle.vs_ast.specs.Views.{option};
 ghost use Rattle.vs_const.specs.Faults.{least};
+ghost use Rattle.vs_elaborated.specs.Environments as environment;
 ghost use Rattle.vs_elaborated.specs.Environments.{find_name};
 ghost use Rattle.vs_elaborated.specs.Generate as generate;
 ghost use Rattle.vs_elaborated.specs.Limits.{the_limits};
@@ -14,15 +15,17 @@ ghost use Rattle.vs_scope.specs.Blocks.{block, IsVariable};
 ghost use Rattle.vs_scope.specs.Frames.{view_env};
 ghost use Rattle.vs_scope.specs.Made as code;
 ghost use Rattle.vs_scope.specs.Made.{made, kept, nested};
+ghost use Rattle.vs_scope.specs.Seen.{Finds};
 ghost use Rattle.vs_scope.specs.Turns.{AreTurns};
 
-use crate::frames::{Turn, View};
+use crate::frames::Turn;
 use crate::made::{Block, BlockName, Made, Nested, nothing_made};
-use crate::names::Declared;
+use crate::names::{Declared, Entry};
+use crate::places::View;
 use crate::texts::{indexed, name_text};
 use crate::turns::{Turns, genvar_value, turns_from};
 use std::alloc::{AllocError, Global};
-use vs_ast::{GenerateHead, Name};
+use vs_ast::{LoopHead, Name};
 use vs_const::{Fault, Rule, fault_at, first_of};
 
 /// Where a loop's variable is declared, if it is a genvar, and its fault.
@@ -30,6 +33,22 @@ use vs_const::{Fault, Rule, fault_at, first_of};
 pub(crate) struct Variable {
     pub(crate) genvar: Option<u32>,
     pub(crate) fault: Option<Fault>,
+}
+
+/// A loop's variable, which is named at this place, by its declaration.
+fn declared_variable(e: &Entry<'_>, place: u32) -> Variable
+    ensures { (found : Option environment.Entry) (name : List ℕ) → Finds found name e.now → IsVariable result (spec.variable_of place found) }
+{
+    match e.declared {
+        Declared::Genvar => Variable {
+            genvar: Some(e.first.name.place),
+            fault: None,
+        },
+        _ => Variable {
+            genvar: None,
+            fault: fault_at(Rule::WrongKind, place),
+        },
+    }
 }
 
 /// The variable of a loop: a genvar.
@@ -41,16 +60,7 @@ fn variable_of(name: &Name, here: &View<'_, '_>) -> Variable
             genvar: None,
             fault: fault_at(Rule::UnknownName, name.place),
         },
-        Some(e) => match e.declared {
-            Declared::Genvar => Variable {
-                genvar: Some(e.first.name.place),
-                fault: None,
-            },
-            _ => Variable {
-                genvar: None,
-                fault: fault_at(Rule::WrongKind, name.place),
-            },
-        },
+        Some(e) => declared_variable(e, name.place),
     }
 }
 
@@ -72,7 +82,7 @@ fn is_same_name(a: &Name, b: &Name) -> bool
 }
 
 /// The fault of the second assignment: it is to the same variable.
-fn again_fault(head: &GenerateHead, is_same: bool, here: &View<'_, '_>) -> Option<Fault>
+fn again_fault(head: &LoopHead, is_same: bool, here: &View<'_, '_>) -> Option<Fault>
     requires { is_same ≡ same_name (view.name head.now.variable).bytes (view.name head.now.again).bytes }
     ensures { result ≡ least (spec.again_faults (view.name head.now.variable) (view.name head.now.again) (view_env here.now)) }
 {
@@ -141,7 +151,7 @@ fn loop_blocks<'a>(
 /// What a loop makes by its variable and first value, behind this fault.
 fn loop_at<'a>(
     alloc: Global,
-    head: &GenerateHead,
+    head: &LoopHead,
     is_same: bool,
     body: Option<Block<'a>>,
     here: &View<'_, 'a>,
@@ -150,10 +160,10 @@ fn loop_at<'a>(
     fault: Option<Fault>,
     total: u32,
 ) -> Result<Made<'a>, AllocError>
-    requires shaped { IsHead (view.generate_head head.now) }
+    requires shaped { IsHead (view.loop_head head.now) }
     requires inside { here.now.inside ≡ None }
     requires same { is_same ≡ same_name (view.name head.now.variable).bytes (view.name head.now.again).bytes }
-    ensures { (fs : List Fault) → fault ≡ least fs → IfOk result (λ m. made m ≡ kept (spec.loop_from the_limits (view.generate_head head.now) genvar first fs (option block body.entry) (view_env here.now) total)) }
+    ensures { (fs : List Fault) → fault ≡ least fs → IfOk result (λ m. made m ≡ kept (spec.loop_from the_limits (view.loop_head head.now) genvar first fs (option block body.entry) (view_env here.now) total)) }
 {
     match genvar {
         None => Ok(nothing_made(alloc, fault, total)),
@@ -171,14 +181,14 @@ fn loop_at<'a>(
 /// variable has a value again; `GenerateTurns`, it takes more than 4,096 turns, or all loops more than 1,048,576; and those of its expressions.
 pub(crate) fn loop_made<'a>(
     alloc: Global,
-    head: &GenerateHead,
+    head: &LoopHead,
     body: Option<Block<'a>>,
     here: &View<'_, 'a>,
     total: u32,
 ) -> Result<Made<'a>, AllocError>
-    requires shaped { IsHead (view.generate_head head.now) }
+    requires shaped { IsHead (view.loop_head head.now) }
     requires inside { here.now.inside ≡ None }
-    ensures { IfOk result (λ m. made m ≡ kept (spec.loop_made the_limits (view.generate_head head.now) (option block body.entry) (view_env here.now) total)) }
+    ensures { IfOk result (λ m. made m ≡ kept (spec.loop_made the_limits (view.loop_head head.now) (option block body.entry) (view_env here.now) total)) }
 {
     let variable = variable_of(&head.variable, here);
     let is_same = is_same_name(&head.variable, &head.again);

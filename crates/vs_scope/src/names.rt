@@ -1,15 +1,18 @@
 //! The names of a scope, and what each of them was declared as (IEEE 1364-2005, 12.7).
 
 ghost use Rattle.std.specs.Prelude.{◌≡◌, ◌≤◌, None, Some, MatchOption};
-ghost use Rattle.std.specs.Option.{ForSome};
+ghost use Rattle.std.specs.Option.{ForSome, option_copied};
 ghost use Rattle.vs_four.specs.Selects.{range_length};
 ghost use Rattle.vs_const.specs.Meanings.{IsFairValue};
 ghost use Rattle.vs_elaborated.specs.Environments.{find_entry};
+ghost use Rattle.vs_maps.specs.Maps.{value_at};
+ghost use Rattle.vs_maps.specs.MapViews.{pairs};
 
-use crate::maps::NameMap;
-use vs_ast::{Expr, Name, Parameters, Signals};
-use vs_const::Constant;
+use crate::counts::Counts;
+use vs_ast::{Expr, Function, Name, Parameters, Signals};
+use vs_const::{Constant, FunctionShape, Role};
 use vs_four::Range;
+use vs_maps::NameMap;
 
 /// What a declaration declares.
 #[derive(Clone, Copy)]
@@ -25,7 +28,11 @@ pub enum Sort<'a> {
         parameters: &'a Parameters,
         value: &'a Expr,
     },
+    /// A function (10.4.1).
+    Function(&'a Function),
     Genvar,
+    /// An integer (4.8).
+    Integer,
     /// An instance, or a named generate block.
     Scope,
 }
@@ -59,6 +66,24 @@ pub struct Signal<'a> {
     ghost few: { ForSome words (λ r. range_length r ≤ 1024) },
 }
 
+/// A local signal of a function (10.4.1): an input of it, its result or a variable of its own, as `role` and `input` say. `number` and `first` are its
+/// number and that of its first bit among the function's local signals, `known` says that no fault leaves its range undefined, and `place` is that of its
+/// declaration.
+#[derive(Clone, Copy)]
+pub struct LocalSignal<'a> {
+    pub name: &'a [u8],
+    pub place: u32,
+    pub scope: u32,
+    pub number: u32,
+    pub input: bool,
+    pub range: Option<Range>,
+    pub signed: bool,
+    pub first: u64,
+    pub role: Role,
+    pub known: bool,
+    ghost short: { ForSome range (λ r. range_length r ≤ 64) },
+}
+
 /// The value of a parameter, with the range of its bits (4.10, 12.2): 1 to 64, and as many as the range has.
 #[derive(Clone, Copy)]
 pub struct Parameter {
@@ -84,7 +109,11 @@ pub enum Declared<'a> {
     Announced,
     Signal(Signal<'a>),
     Parameter(Evaluated),
+    /// A function, with what a call needs to know of it once it is complete (10.4).
+    Function(Option<FunctionShape>),
     Genvar,
+    /// An integer (4.8), and the number of the scope that declares it.
+    Integer { scope: u32 },
     /// An instance or a named generate block.
     Scope,
 }
@@ -97,10 +126,15 @@ pub struct Entry<'a> {
     pub declared: Declared<'a>,
 }
 
-/// The names of a scope, in order of declaration.
+/// The names of a scope, in order of declaration. `scope` is its number, and `counts` are those before it. `functions` are those of its functions that
+/// are complete so far, in the order of the text; they see the first `plain` names, which are all but those of blocks.
 #[derive(Drop)]
 pub struct Names<'a> {
     pub map: NameMap<'a, Entry<'a>>,
+    pub scope: u32,
+    pub counts: Counts,
+    pub functions: Vec<&'a Function>,
+    pub plain: usize,
 }
 
 impl<'a> Names<'a> {
@@ -108,7 +142,8 @@ impl<'a> Names<'a> {
 
     /// The declaration of this name, if there is one.
     pub fn find(&self, name: &[u8]) -> Option<&Entry<'a>>
-        ensures { MatchOption result (find_entry (entries self.now) name.now ≡ None) (λ e. find_entry (entries self.now) name.now ≡ Some (entry_of name.now e.now)) }
+        ensures value { option_copied result ≡ value_at name.now (pairs self.now.map) }
+        ensures entry { MatchOption result (find_entry (entries self.now) name.now ≡ None) (λ e. find_entry (entries self.now) name.now ≡ Some (entry_of name.now e.now)) }
     {
         self.map.get(name)
     }

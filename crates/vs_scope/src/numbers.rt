@@ -3,7 +3,7 @@
 ghost use Rattle.std.specs.Prelude.{◌≡◌, ◌≤◌, true, IfOk, IfSome};
 ghost use Rattle.vs_four.specs.Selects.{range_length};
 ghost use Rattle.vs_grammar.specs.Trees.{expr_place};
-ghost use Rattle.vs_grammar.specs.Shapes.{IsExpr, IsRange, Given};
+ghost use Rattle.vs_grammar.specs.Shapes.{IsExpr, IsRange, IsValueType, Given};
 ghost use Rattle.vs_ast.specs.Views as view;
 ghost use Rattle.vs_const.specs.Checks.{ChecksBounds, ChecksNumber};
 ghost use Rattle.vs_const.specs.Found.{Says};
@@ -14,9 +14,9 @@ ghost use Rattle.vs_elaborated.specs.Parameters as spec;
 ghost use Rattle.vs_scope.specs.Frames.{view_env};
 ghost use Rattle.vs_scope.specs.Numbers.{IsSaidRange};
 
-use crate::frames::View;
+use crate::places::View;
 use std::alloc::{AllocError, Global};
-use vs_ast::Expr;
+use vs_ast::{Expr, ValueType};
 use vs_const::{Bounds, Fault, Found, Numbered, address_bounds, bounds, check, numbered};
 use vs_four::Range;
 
@@ -79,6 +79,36 @@ pub(crate) fn said_range(
                 fault: b.flaws.first,
             })
         }
+    }
+}
+
+/// The range of a type: an integer has 32 bits (4.8).
+pub(crate) fn said_type(
+    alloc: Global,
+    value_type: &ValueType,
+    here: &View<'_, '_>,
+) -> Result<SaidRange, AllocError>
+    requires { IsValueType (view.value_type value_type.now) }
+    ensures short { IfOk result (λ r. IfSome r.range (λ g. range_length g ≤ 64)) }
+    ensures is { IfOk result (λ r. IsSaidRange r (spec.said_type (view.value_type value_type.now) (view_env here.now))) }
+{
+    match value_type {
+        ValueType::Integer => Ok(SaidRange {
+            range: Some(Range { left: 31, right: 0 }),
+            known: true,
+            fault: None,
+        }),
+        ValueType::Ranged { range, .. } => said_range(alloc, range, here),
+    }
+}
+
+/// Whether a type is signed, as an integer is (4.8).
+pub(crate) fn is_signed(value_type: &ValueType) -> bool
+    ensures { result ≡ spec.is_signed (view.value_type value_type.now) }
+{
+    match value_type {
+        ValueType::Integer => true,
+        ValueType::Ranged { signed, .. } => *signed,
     }
 }
 

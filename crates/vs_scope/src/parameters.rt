@@ -6,7 +6,7 @@ ghost use Rattle.vs_four.specs.declared.Bit4.TheVariants.{X};
 ghost use Rattle.vs_four.specs.Selects.{range_length};
 ghost use Rattle.vs_design.specs.Expressions as E;
 ghost use Rattle.vs_design.specs.Values as V;
-ghost use Rattle.vs_grammar.specs.Shapes.{IsExpr, IsRange, Given};
+ghost use Rattle.vs_grammar.specs.Shapes.{IsExpr, IsValueType};
 ghost use Rattle.vs_ast.specs.Views as view;
 ghost use Rattle.vs_const.specs.Faults.{least};
 ghost use Rattle.vs_const.specs.Forms.{expression, IsValued};
@@ -14,21 +14,23 @@ ghost use Rattle.vs_const.specs.Found.{IsOf, AreValued, Says};
 ghost use Rattle.vs_const.specs.Typed as typed;
 ghost use Rattle.vs_elaborated.specs.Declarations.{ParameterSort};
 ghost use Rattle.vs_elaborated.specs.Parameters as spec;
+ghost use Rattle.vs_scope.specs.Complete.{IsIncomplete, IsStill};
 ghost use Rattle.vs_scope.specs.Declares.{named_list};
-ghost use Rattle.vs_scope.specs.Frames.{around_env, view_env};
+ghost use Rattle.vs_scope.specs.Frames.{KeepShapes, around_env, view_env};
 ghost use Rattle.vs_scope.specs.Numbers.{IsSaidRange};
 ghost use Rattle.vs_scope.specs.Shaped.{AreShaped, IsShaped};
 ghost use Rattle.vs_scope.specs.Overrides.{AreOverrides, IsSaidParameter, overrides_of, parameter_sort};
 ghost use Rattle.vs_scope.specs.Views as scope;
 
-use crate::frames::{Around, Frame, View};
-use crate::maps::NameMap;
+use crate::frames::Frame;
 use crate::names::{Declaration, Evaluated, Names, Parameter, Sort};
-use crate::numbers::{SaidRange, constant, said_range};
+use crate::numbers::{SaidRange, constant, is_signed, said_type};
+use crate::places::{Around, View};
 use std::alloc::{AllocError, Global};
 use vs_ast::{Expr, Name, Parameters};
 use vs_const::{Constant, Fault, Form, Found, first_of, own, shape, value};
 use vs_four::{Bits, Range, cut};
+use vs_maps::NameMap;
 
 /// What a parameter is overridden with: an expression, and the number of the scope in which its instance stands (12.2.2).
 #[derive(Clone, Copy)]
@@ -119,7 +121,8 @@ fn chosen<'a>(
     name: &[u8],
     default: Found,
 ) -> Result<Found, AllocError>
-    requires { AreOverrides frames.now overrides.now }
+    requires overrides { AreOverrides frames.now overrides.now }
+    requires kept { KeepShapes frames.now }
     ensures { (p : ParameterSort) (t : typed.Typed) → p.is_local ≡ is_local → Says true default t
         → IfOk result (λ c. Says true c (spec.chosen p (overrides_of frames.now overrides.now) name.now t)) }
 {
@@ -142,11 +145,11 @@ fn said_parameter<'a>(
     default: &Expr,
 ) -> Result<SaidParameter, AllocError>
     requires overrides { AreOverrides here.now.around.frames.now overrides.now }
-    requires range { Given IsRange (view.option view.range parameters.now.range) }
+    requires value_type { IsValueType (view.value_type parameters.now.value_type) }
     requires value { IsExpr (view.expr default.now) }
     ensures { IfOk result (λ s. IsSaidParameter s (spec.said_parameter (view_env here.now) (overrides_of here.now.around.frames.now overrides.now) (view.name name.now) (parameter_sort parameters.now default.now))) }
 {
-    let range = said_range(alloc, &parameters.range, here)?;
+    let range = said_type(alloc, &parameters.value_type, here)?;
     let c = constant(alloc, default, here)?;
     let fault = first_of(range.fault, c.said.flaws.first);
     let c = chosen(
@@ -158,7 +161,7 @@ fn said_parameter<'a>(
         c,
     )?;
     Ok(SaidParameter {
-        value: evaluated(parameters.signed, range, &c),
+        value: evaluated(is_signed(&parameters.value_type), range, &c),
         fault,
     })
 }
@@ -173,8 +176,10 @@ fn evaluate_one<'a>(
 ) -> Result<Option<Fault>, AllocError>
     requires overrides { AreOverrides around.frames.now overrides.now }
     requires shaped { IsShaped (scope.declaration d.now) }
+    requires incomplete { IsIncomplete names.old }
     ensures entries { OnOk result (scope.entries names.new ≡ (spec.said_parameters (around_env around.entry) (overrides_of around.entry.frames.now overrides.now) (scope.declaration d.now ∷ []) (scope.entries names.old)).entries) }
     ensures named { OnOk result (named_list names.new ≡ named_list names.old) }
+    ensures still { OnOk result (IsStill names.old names.new) }
     ensures fault { IfOk result (λ f. f ≡ least (spec.said_parameters (around_env around.entry) (overrides_of around.entry.frames.now overrides.now) (scope.declaration d.now ∷ []) (scope.entries names.old)).faults) }
 {
     match d.sort {
@@ -184,6 +189,7 @@ fn evaluate_one<'a>(
                 names: &*names,
                 inside: None,
                 before: Some(d.name.place),
+                in_function: false,
             };
             let s = said_parameter(alloc, &here, overrides, d.name, parameters, value)?;
             names.put_value(d.name.text.as_slice(), s.value)?;
@@ -203,8 +209,10 @@ pub(crate) fn evaluate<'a>(
 ) -> Result<Option<Fault>, AllocError>
     requires overrides { AreOverrides around.frames.now overrides.now }
     requires shaped { AreShaped (map scope.declaration declarations.now) }
+    requires incomplete { IsIncomplete names.old }
     ensures entries { OnOk result (scope.entries names.new ≡ (spec.said_parameters (around_env around.entry) (overrides_of around.entry.frames.now overrides.now) (map scope.declaration declarations.now) (scope.entries names.old)).entries) }
     ensures named { OnOk result (named_list names.new ≡ named_list names.old) }
+    ensures still { OnOk result (IsStill names.old names.new) }
     ensures fault { IfOk result (λ f. f ≡ least (spec.said_parameters (around_env around.entry) (overrides_of around.entry.frames.now overrides.now) (map scope.declaration declarations.now) (scope.entries names.old)).faults) }
 {
     let mut fault = None;

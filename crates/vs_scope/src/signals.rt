@@ -16,9 +16,9 @@ ghost use Rattle.vs_scope.specs.Shaped.{IsShaped, AreShapedNames};
 ghost use Rattle.vs_scope.specs.Signalled.{start_of, signal_sort, second_faults, placed, placed_of, faults_of, start_after, IsSortOf, IsSaidSignal, IsSignalAt};
 ghost use Rattle.vs_scope.specs.Views as scope;
 
-use crate::frames::View;
 use crate::names::{Declaration, Entry, Names, Signal, Sort};
 use crate::numbers::{SaidRange, said_addresses, said_range};
+use crate::places::View;
 use std::alloc::{AllocError, Global};
 use vs_ast::{SignalKind, Signals};
 use vs_const::{Fault, Rule, fault_if, first_of};
@@ -41,7 +41,7 @@ pub(crate) struct SaidSignal<'a> {
 }
 
 /// Whether it declares a variable.
-fn is_reg(kind: SignalKind) -> bool
+pub(crate) fn is_reg(kind: SignalKind) -> bool
     ensures { result ≡ spec.is_reg (view.signal_kind kind) }
 {
     match kind {
@@ -150,7 +150,7 @@ fn second_fault(
 }
 
 /// How many bits a range has, or one bit.
-fn length_or_one(range: Option<Range>) -> u64
+pub(crate) fn length_or_one(range: Option<Range>) -> u64
     ensures { result ≡ range_or_one range }
 {
     match range {

@@ -15,12 +15,13 @@ ghost use Rattle.vs_scope.specs.Frames.{turn, view_env};
 ghost use Rattle.vs_scope.specs.Turns.{IsTurned, AreTurns, assigned_natural, taken_turn, turned};
 
 use crate::counts::one_more;
-use crate::frames::{Turn, View};
+use crate::frames::Turn;
 use crate::numbers::{constant, number};
 use crate::parameters::assigned;
+use crate::places::View;
 use indexmap::IndexSet;
 use std::alloc::{AllocError, Global};
-use vs_ast::{Expr, GenerateHead};
+use vs_ast::{Expr, LoopHead};
 use vs_const::{
     Fault, Found, Natural, Rule, both, fault_at, first_of, flaw, flawless, own, place_of, within,
 };
@@ -98,6 +99,7 @@ fn inside_of<'f, 'a>(here: &View<'f, 'a>, one: Turn) -> View<'f, 'a>
         names: here.names,
         inside: Some(one),
         before: here.before,
+        in_function: here.in_function,
     }
 }
 
@@ -126,12 +128,12 @@ fn ended(fault: Option<Fault>, count: u32) -> Turned
 /// The value of the next turn; where the second assignment is to another variable, it has none.
 fn step(
     alloc: Global,
-    head: &GenerateHead,
+    head: &LoopHead,
     is_same: bool,
     inside: &View<'_, '_>,
 ) -> Result<Natural, AllocError>
-    requires { IsHead (view.generate_head head.now) }
-    ensures { IfOk result (λ n. ChecksNatural n (spec.step is_same (view.generate_head head.now) (view_env inside.now))) }
+    requires { IsHead (view.loop_head head.now) }
+    ensures { IfOk result (λ n. ChecksNatural n (spec.step is_same (view.loop_head head.now) (view_env inside.now))) }
 {
     if is_same {
         genvar_value(alloc, &head.next, inside)
@@ -153,15 +155,15 @@ fn is_over(is_last: bool, count: u32) -> bool
 /// A turn whose test holds; `is_last` says that this loop may take no more.
 fn taken(
     alloc: Global,
-    head: &GenerateHead,
+    head: &LoopHead,
     is_same: bool,
     inside: &View<'_, '_>,
     is_last: bool,
     test: Option<Fault>,
     total: u32,
 ) -> Result<Turned, AllocError>
-    requires { IsHead (view.generate_head head.now) }
-    ensures { (fs : List Fault) → test ≡ least fs → IfOk result (λ t. IsTurned t (taken_turn is_last (view.generate_head head.now) is_same (view_env inside.now) fs total)) }
+    requires { IsHead (view.loop_head head.now) }
+    ensures { (fs : List Fault) → test ≡ least fs → IfOk result (λ t. IsTurned t (taken_turn is_last (view.loop_head head.now) is_same (view_env inside.now) fs total)) }
 {
     let count = one_more(total)?;
     if is_over(is_last, count) {
@@ -182,15 +184,15 @@ fn taken(
 /// What a loop does at one value of its variable. `again` says that it had the value before, and `total` counts the turns of all loops so far.
 fn turn_at(
     alloc: Global,
-    head: &GenerateHead,
+    head: &LoopHead,
     is_same: bool,
     inside: &View<'_, '_>,
     again: bool,
     is_last: bool,
     total: u32,
 ) -> Result<Turned, AllocError>
-    requires { IsHead (view.generate_head head.now) }
-    ensures { IfOk result (λ t. IsTurned t (turned again is_last (view.generate_head head.now) is_same (view_env inside.now) total)) }
+    requires { IsHead (view.loop_head head.now) }
+    ensures { IfOk result (λ t. IsTurned t (turned again is_last (view.loop_head head.now) is_same (view_env inside.now) total)) }
 {
     if again {
         return Ok(ended(fault_at(Rule::DuplicateName, head.place), total));
@@ -232,7 +234,7 @@ fn push_if(values: &mut Vec<u32>, taken: bool, v: u32) -> Result<(), AllocError>
 /// The turn at one value of a loop's variable: the value is seen from now on, and kept if its turn is taken.
 fn one_turn(
     alloc: Global,
-    head: &GenerateHead,
+    head: &LoopHead,
     is_same: bool,
     inside: &View<'_, '_>,
     total: u32,
@@ -240,10 +242,10 @@ fn one_turn(
     seen: &mut IndexSet<u32>,
     values: &mut Vec<u32>,
 ) -> Result<Turned, AllocError>
-    requires { IsHead (view.generate_head head.now) }
+    requires { IsHead (view.loop_head head.now) }
     ensures seen { OnOk result (seen.new.keys ≡ (if list_any (λ u. v == u) seen.old.keys then seen.old.keys else seen.old.keys ++ v ∷ [])) }
     ensures values { IfOk result (λ t. values.new.items ≡ (if t.taken then values.old.items ++ v ∷ [] else values.old.items)) }
-    ensures turned { IfOk result (λ t. IsTurned t (turned (list_any (λ u. v == u) seen.old.keys) (nat_le the_limits.turns (length values.old.items)) (view.generate_head head.now) is_same (view_env inside.now) total)) }
+    ensures turned { IfOk result (λ t. IsTurned t (turned (list_any (λ u. v == u) seen.old.keys) (nat_le the_limits.turns (length values.old.items)) (view.loop_head head.now) is_same (view_env inside.now) total)) }
 {
     let is_new = seen.insert(v)?;
     let is_last = values.as_slice().len() >= MOST_TURNS;
@@ -255,16 +257,16 @@ fn one_turn(
 /// The turns of a loop from a first value on.
 pub(crate) fn turns_from(
     alloc: Global,
-    head: &GenerateHead,
+    head: &LoopHead,
     is_same: bool,
     genvar: u32,
     here: &View<'_, '_>,
     total: u32,
     first: u32,
 ) -> Result<Turns, AllocError>
-    requires shaped { IsHead (view.generate_head head.now) }
+    requires shaped { IsHead (view.loop_head head.now) }
     requires inside { here.now.inside ≡ None }
-    ensures { IfOk result (λ t. AreTurns t (spec.turns_from (suc the_limits.turns) the_limits (view.generate_head head.now) is_same genvar (view_env here.now) [] total first)) }
+    ensures { IfOk result (λ t. AreTurns t (spec.turns_from (suc the_limits.turns) the_limits (view.loop_head head.now) is_same genvar (view_env here.now) [] total first)) }
 {
     let mut values = Vec::new(alloc);
     let mut seen = IndexSet::new(alloc);

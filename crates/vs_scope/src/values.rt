@@ -4,6 +4,7 @@ ghost use Rattle.std.specs.Prelude.{◌≡◌, OnOk};
 ghost use Rattle.vs_elaborated.specs.Parameters.{put_value};
 ghost use Rattle.vs_elaborated.specs.Signals.{put_signal};
 ghost use Rattle.vs_scope.specs.Views.{declared, evaluated, is_later, entries, signal_meaning};
+ghost use Rattle.vs_scope.specs.Complete.{IsStill};
 ghost use Rattle.vs_scope.specs.Declares.{named_list};
 
 use crate::names::{Declared, Entry, Evaluated, Names, Signal};
@@ -24,6 +25,7 @@ impl<'a> Names<'a> {
     pub(crate) fn put_value(&mut self, name: &'a [u8], value: Evaluated) -> Result<(), AllocError>
         ensures entries { OnOk result (entries self.new ≡ put_value name.now (evaluated value) (entries self.old)) }
         ensures named { OnOk result (named_list self.new ≡ named_list self.old) }
+        ensures still { OnOk result (IsStill self.old self.new) }
     {
         match self.map.get(name).copied() {
             None => Ok(()),
@@ -53,6 +55,7 @@ impl<'a> Names<'a> {
     pub(crate) fn put_signal(&mut self, signal: Signal<'a>) -> Result<(), AllocError>
         ensures entries { OnOk result (entries self.new ≡ put_signal (signal_meaning signal.entry) (entries self.old)) }
         ensures named { OnOk result (named_list self.new ≡ named_list self.old) }
+        ensures still { OnOk result (IsStill self.old self.new) }
     {
         match self.map.get(signal.name).copied() {
             None => Ok(()),

@@ -1,5 +1,6 @@
 -- Lists of targets, statements and arms, as the plain tree has them.
 use Rattle.std.proofs.Common.{◌≡◌, ℕ, Bool, List, [], ◌∷◌, ◌++◌, map, append-nil, refl, sym, ◌∙◌, ap}
+use Rattle.std.specs.Prelude.{Option}
 use Rattle.vs_lexer.specs.declared.token.TokenKind.TheVariants as kind
 use Rattle.vs_grammar.specs.Grammars.{Terminal, star}
 use Rattle.vs_grammar.specs.Grammars.Phrase.{eps}
@@ -7,7 +8,7 @@ use Rattle.vs_grammar.specs.Grammars.Tree.{leaf, both, nested, start, grown, beh
 use Rattle.vs_grammar.specs.Verilog.{◌⨾◌, t, r, separated}
 use Rattle.vs_grammar.specs.Verilog.{Rule as rule}
 use Rattle.vs_grammar.specs.Trees as tree
-use Rattle.vs_grammar.specs.Trees.{Expr, Target, Targets, Statement, Statements, CaseArms}
+use Rattle.vs_grammar.specs.Trees.{Expr, Select, Target, Targets, Statement, Statements, CaseArms}
 use Rattle.vs_grammar.specs.Meaning as meaning
 use Rattle.vs_grammar.specs.Meaning.{D, each_onto, behind_sign, list_of}
 use Rattle.vs_ast.specs.declared.expressions.Expr.{Expr as ExprNode}
@@ -110,6 +111,11 @@ replication_made b u e (both (leaf o) (both l (both c z))) list p m = ap2 (tree.
 
 pub choice_made : (b : ℕ → List ℕ) (a : D (r rule.LogicalOr)) (w : D tail.choice) {value : Expr} {ends : Expr × Expr} → meaning.logical_or_of b a ≡ value → tail.choice_of b w ≡ ends → meaning.expr_of b (named (behind a w)) ≡ tree.Choice value ends.0 ends.1
 choice_made b a (both q (both y (both c n))) p m = ap2 (λ v (z : Expr × Expr). tree.Choice v z.0 z.1) p m
+
+-- a select of one expression
+pub select_made : (b : ℕ → List ℕ) (u : Terminal) (e : D (r rule.Expression)) (w : D tail.behind_index) {value : Expr} {rest : Option Select} → meaning.expr_of b e ≡ value → tail.behind_index_of b w ≡ rest → meaning.select_or_whole b (former (named (nested (both (leaf u) (both e (latter w)))))) ≡ tail.bit_or_word u.place value rest
+select_made b u e (both c (former p)) q m = ap2 (tail.bit_or_word u.place) q m
+select_made b u e (both c (latter z)) q m = ap2 (tail.bit_or_word u.place) q m
 
 -- ---- assignments
 

@@ -34,10 +34,10 @@ unary_beside ts i p j n h b = elim b [ inl q ↦ subst (λ z. Chosen ts grammar.
 pub unary_picked : {ts : List Token} {i : ℕ} {p : UnaryOp} {j : ℕ} → Picked ts ((kind.Plus, unary.Plus) ∷ (kind.Minus, unary.Minus) ∷ (kind.Bang, unary.LogicalNot) ∷ (kind.Tilde, unary.BitNot) ∷ (kind.And, unary.ReduceAnd) ∷ (kind.Nand, unary.ReduceNand) ∷ (kind.Or, unary.ReduceOr) ∷ (kind.Nor, unary.ReduceNor) ∷ (kind.Caret, unary.ReduceXor) ∷ (kind.Xnor, unary.ReduceXnor) ∷ (kind.XnorCaret, unary.ReduceXnor) ∷ []) i p j → Chosen ts grammar.unary_operator meaning.unary_op i p j
 unary_picked {ts} {i} {p} {j} w = unary_beside ts i p j w.next w.inside w.beside
 
-slice_beside : (ts : List Token) (i : ℕ) (p : SliceKind) (j : ℕ) → j ≡ i + 1 → i < length ts → IsBeside (kind_at ts i) p ((kind.Colon, slice.Between) ∷ (kind.PlusColon, slice.Upward) ∷ (kind.MinusColon, slice.Downward) ∷ []) → Chosen ts (part.slice_sign) meaning.slice_kind i (view.slice_kind p) j
-slice_beside ts i p j n h b = elim b [ inl q ↦ subst (λ z. Chosen ts (part.slice_sign) meaning.slice_kind i (view.slice_kind z) j) (sym q.1) (let e = q.0 in (chosen_former meaning.slice_kind (λ a. refl) (chosen_tok 45 e h n))) | inr b ↦ elim b [ inl q ↦ subst (λ z. Chosen ts (part.slice_sign) meaning.slice_kind i (view.slice_kind z) j) (sym q.1) (let e = q.0 in (chosen_latter meaning.slice_kind (λ a. refl) (known ts i 80 (45 ∷ []) false e refl) (chosen_former (λ z. meaning.slice_kind (latter z)) (λ a. refl) (chosen_tok 80 e h n)))) | inr b ↦ elim b [ inl q ↦ subst (λ z. Chosen ts (part.slice_sign) meaning.slice_kind i (view.slice_kind z) j) (sym q.1) (let e = q.0 in (chosen_latter meaning.slice_kind (λ a. refl) (known ts i 81 (45 ∷ []) false e refl) (chosen_latter (λ z. meaning.slice_kind (latter z)) (λ a. refl) (known ts i 81 (80 ∷ []) false e refl) (chosen_tok 81 e h n)))) | inr b ↦ absurd b ] ] ]
+slice_beside : (ts : List Token) (i : ℕ) (p : SliceKind) (j : ℕ) → j ≡ i + 1 → i < length ts → IsBeside (kind_at ts i) p ((kind.Colon, slice.Between) ∷ (kind.PlusColon, slice.Upward) ∷ (kind.MinusColon, slice.Downward) ∷ []) → Chosen ts grammar.slice_sign meaning.slice_kind i (view.slice_kind p) j
+slice_beside ts i p j n h b = elim b [ inl q ↦ subst (λ z. Chosen ts grammar.slice_sign meaning.slice_kind i (view.slice_kind z) j) (sym q.1) (let e = q.0 in (chosen_former meaning.slice_kind (λ a. refl) (chosen_tok 45 e h n))) | inr b ↦ elim b [ inl q ↦ subst (λ z. Chosen ts grammar.slice_sign meaning.slice_kind i (view.slice_kind z) j) (sym q.1) (let e = q.0 in (chosen_latter meaning.slice_kind (λ a. refl) (known ts i 80 (45 ∷ []) false e refl) (chosen_former (λ z. meaning.slice_kind (latter z)) (λ a. refl) (chosen_tok 80 e h n)))) | inr b ↦ elim b [ inl q ↦ subst (λ z. Chosen ts grammar.slice_sign meaning.slice_kind i (view.slice_kind z) j) (sym q.1) (let e = q.0 in (chosen_latter meaning.slice_kind (λ a. refl) (known ts i 81 (45 ∷ []) false e refl) (chosen_latter (λ z. meaning.slice_kind (latter z)) (λ a. refl) (known ts i 81 (80 ∷ []) false e refl) (chosen_tok 81 e h n)))) | inr b ↦ absurd b ] ] ]
 
-pub slice_picked : {ts : List Token} {i : ℕ} {p : SliceKind} {j : ℕ} → Picked ts ((kind.Colon, slice.Between) ∷ (kind.PlusColon, slice.Upward) ∷ (kind.MinusColon, slice.Downward) ∷ []) i p j → Chosen ts (part.slice_sign) meaning.slice_kind i (view.slice_kind p) j
+pub slice_picked : {ts : List Token} {i : ℕ} {p : SliceKind} {j : ℕ} → Picked ts ((kind.Colon, slice.Between) ∷ (kind.PlusColon, slice.Upward) ∷ (kind.MinusColon, slice.Downward) ∷ []) i p j → Chosen ts grammar.slice_sign meaning.slice_kind i (view.slice_kind p) j
 slice_picked {ts} {i} {p} {j} w = slice_beside ts i p j w.next w.inside w.beside
 
 system_beside : (ts : List Token) (i : ℕ) (p : SystemFunction) (j : ℕ) → j ≡ i + 1 → i < length ts → IsBeside (kind_at ts i) p ((kind.SystemSigned, system.AsSigned) ∷ (kind.SystemUnsigned, system.AsUnsigned) ∷ (kind.SystemClog2, system.Clog2) ∷ []) → Chosen ts (part.system_function) meaning.system_function i (view.system_function p) j

@@ -3,17 +3,17 @@ use Rattle.std.proofs.Common.{◌≡◌, ℕ, Bool, true, false, not, ◌&&◌, 
 use Rattle.std.proofs.lemmas.Bool.{and_parts}
 use Rattle.vs_lexer.specs.declared.token.Token.{Token}
 use Rattle.vs_lexer.specs.declared.token.TokenKind.TheVariants as kind
-use Rattle.vs_grammar.specs.Grammars.{Phrase, Tree, onto, star}
+use Rattle.vs_grammar.specs.Grammars.{Phrase, Terminal, Tree, onto, star}
 use Rattle.vs_grammar.specs.Grammars.Tree.{leaf, nothing, both, former, latter, without, within, start, grown, alone, behind, nested, named}
 use Rattle.vs_grammar.specs.Predictive.{is_member, firsts_of, can_be_empty, is_decided, is_subset}
 use Rattle.vs_grammar.specs.Kinds.{terminals_from}
 use Rattle.vs_grammar.specs.Verilog.{◌⨾◌, verilog, t}
-use Rattle.vs_grammar.specs.Meaning.{D, each_onto, behind_sign, list_of}
+use Rattle.vs_grammar.specs.Meaning.{D, first_place, head_place, each_onto, behind_sign, list_of}
 use Rattle.vs_grammar.proofs.Stopped.{says, onto_front}
 use Rattle.vs_grammar.proofs.Decided.{verilog_is_predictive}
 use Rattle.vs_statements.specs.declared.input.Input.{Input}
-use Rattle.vs_statements.specs.Reading.{kind_at, from, Read, Parsed, bytes_in, Listing, Listed}
-use Rattle.vs_statements.proofs.Places.{read_eps, read_seq, read_many, grown_start, grown_more, parsed}
+use Rattle.vs_statements.specs.Reading.{kind_at, from, terminal_at, Read, Parsed, bytes_in, Listing, Listed}
+use Rattle.vs_statements.proofs.Places.{from_head, later, read_eps, read_seq, read_many, grown_start, grown_more, parsed}
 
 -- ---- each step of a loop takes a token
 
@@ -135,3 +135,16 @@ listing_behind {view = view} {list = list} l m = parsed (read_many l.grown m) (l
 
 pub listing_from : {A T : Type 0} (x : Phrase) (of : (ℕ → List ℕ) → D x → A) (view : T → A) (input : Input) {d : ℕ} (list : List T) (i : ℕ) → d ≤ 200 → list ≡ [] → Listing input x of view d [] i list i
 listing_from x of view input {d} list i s e = subst (λ l. Listing input x of view d [] i l i) (sym e) (listing_start input x of view d [] i s)
+
+-- ---- first tokens
+
+-- what is read from place i on has its first token there
+pub first_is : {ts : List Token} {d : ℕ} {x : Phrase} {a : D x} {i j : ℕ} → Read ts d x a i j → can_be_empty verilog x ≡ false → first_place a ≡ i
+first_is {ts} {d} {x} {a} {i} {j} p e = go (onto a []) (some a e) (sym (onto_front a (from ts j)) ∙ (says verilog p.reads).text ∙ from_head ts i)
+  where
+    head_of : {u v : Terminal} {us vs : List Terminal} → u ∷ us ≡ v ∷ vs → u ≡ v
+    head_of e = cc
+
+    go : (l : List Terminal) → 0 < length l → l ++ from ts j ≡ terminal_at ts i ∷ later ts i → head_place l ≡ i
+    go [] h q = absurd (omega arith)
+    go (u ∷ l) h q = ap (λ (z : Terminal). z.place) (head_of q)

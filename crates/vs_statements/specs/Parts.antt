@@ -28,16 +28,13 @@ system_kinds = numbers_of (kind.SystemSigned ∷ kind.SystemUnsigned ∷ kind.Sy
 abbrev pub number_kinds : List ℕ
 number_kinds = numbers_of (kind.Decimal ∷ kind.Based ∷ [])
 
-abbrev pub slice_sign : Phrase
-slice_sign = t kind.Colon ∣ t kind.PlusColon ∣ t kind.MinusColon
-
 abbrev pub system_function : Phrase
 system_function = t kind.SystemSigned ∣ t kind.SystemUnsigned ∣ t kind.SystemClog2
 
 abbrev pub number_tree : (ℕ → List ℕ) → D grammar.number → Expr
 number_tree b d = primary_of b (named (former d))
 
-abbrev pub name_tree : (ℕ → List ℕ) → D grammar.selected_name → Expr
+abbrev pub name_tree : (ℕ → List ℕ) → D grammar.named_primary → Expr
 name_tree b d = primary_of b (named (latter (former d)))
 
 abbrev pub brackets_tree : (ℕ → List ℕ) → D grammar.brackets → Expr
@@ -81,6 +78,9 @@ case_tree b d = statement_of b (named (nested (latter (latter (former d)))))
 abbrev pub sequence_tree : (ℕ → List ℕ) → D grammar.sequence → Statement
 sequence_tree b d = statement_of b (named (nested (latter (latter (latter (former d))))))
 
+abbrev pub loop_tree : (ℕ → List ℕ) → D grammar.loop → Statement
+loop_tree b d = statement_of b (named (nested (latter (latter (latter (latter (former d)))))))
+
 abbrev pub assignment_sign : Phrase
 assignment_sign = t kind.Assign ∣ t kind.LessEqual
 
@@ -88,7 +88,7 @@ abbrev pub assignment_kinds : List ℕ
 assignment_kinds = numbers_of (kind.Assign ∷ kind.LessEqual ∷ [])
 
 abbrev pub assignment_tree : (ℕ → List ℕ) → D grammar.assigned → Statement
-assignment_tree b d = statement_of b (named (nested (latter (latter (latter (latter d))))))
+assignment_tree b d = statement_of b (named (nested (latter (latter (latter (latter (latter d)))))))
 
 -- an arm of a case: its labels and its statement
 abbrev pub arm_of : (ℕ → List ℕ) → D (r rule.CaseItem) → List Expr × Statement
@@ -103,3 +103,8 @@ cases_of b d = (arms_of b d, default_of b d)
 
 abbrev pub cases_view : CaseParts → CaseArms × Fallback
 cases_view c = (view.arms c.arms.items, view.fallback c.other)
+
+-- ---- variables
+
+abbrev pub variable_kinds : List ℕ
+variable_kinds = numbers_of grammar.variable_firsts

@@ -22,6 +22,7 @@ use crate::input::{Found, Input, Nested, both, longer, one};
 use crate::levels::{Level, below, is_unary, operators};
 use crate::tokens::{choose, larger, stands, stands_any, take};
 use crate::words::{identifier, literal};
+use std::alloc::Global;
 use vs_ast::{Expr, Select, SliceKind, SystemFunction};
 use vs_base::{BinaryOp, UnaryOp};
 use vs_lexer::TokenKind;
@@ -71,7 +72,7 @@ fn unary_operator(input: &Input<'_>, at: u32) -> Option<Found<UnaryOp>>
 
 /// The sign between the two expressions of a select, if one stands here.
 fn slice_sign(input: &Input<'_>, at: u32) -> Option<Found<SliceKind>>
-    ensures { MatchOption result (is_member (kind_at input.now.tokens.now at) part.slice_kinds ≡ false) (λ f. Chosen input.now.tokens.now part.slice_sign meaning.slice_kind at (view.slice_kind f.value) f.to) }
+    ensures { MatchOption result (is_member (kind_at input.now.tokens.now at) part.slice_kinds ≡ false) (λ f. Chosen input.now.tokens.now grammar.slice_sign meaning.slice_kind at (view.slice_kind f.value) f.to) }
 {
     choose(input, at, &SLICE_KINDS)
 }
@@ -211,18 +212,48 @@ fn number(input: &Input<'_>, at: u32, depth: Depth) -> Result<Nested<Expr>, Pars
     })
 }
 
-/// A name, with what is selected of it.
+/// A name, with the arguments of a call, or with what is selected of it.
 #[cycle(expressions)]
 fn named(input: &Input<'_>, at: u32, depth: Depth) -> Result<Nested<Expr>, ParseError>
-    ensures { AnswersNested input.now grammar.selected_name part.name_tree view.expr depth at result }
+    ensures { AnswersNested input.now grammar.named_primary part.name_tree view.expr depth at result }
 {
     let name = identifier(input, at)?;
-    let select = select(input, name.to, depth);
-    let (name, select) = both(name, select)?;
+    if stands(input, name.to, TokenKind::OpenParen) {
+        let list = arguments(input, name.to, depth);
+        let (name, list) = both(name, list)?;
+        let value = Expr::new_application(name.value, list.value);
+        Ok(Nested {
+            value,
+            to: list.to,
+            height: list.height,
+        })
+    } else {
+        let select = select(input, name.to, depth);
+        let (name, select) = both(name, select)?;
+        Ok(Nested {
+            value: Expr::Named(name.value, select.value),
+            to: select.to,
+            height: select.height,
+        })
+    }
+}
+
+/// The arguments of a call of a function, with their brackets.
+#[cycle(expressions)]
+fn arguments(input: &Input<'_>, at: u32, depth: Depth) -> Result<Nested<Vec<Expr>>, ParseError>
+    ensures { AnswersNested input.now (r rule.Arguments) meaning.arguments_of (λ v. view.exprs v.items) depth at result }
+{
+    let open = take(input, at, TokenKind::OpenParen)?;
+    let inner = depth.deeper(at)?;
+    let first = expression(input, open, inner)?;
+    let start = one(input.alloc, first.value)?;
+    let list = more_expressions(input, first.to, inner, start, first.height)?;
+    let close = take(input, list.to, TokenKind::CloseParen);
+    let (list, close) = both(list, close)?;
     Ok(Nested {
-        value: Expr::Named(name.value, select.value),
-        to: select.to,
-        height: select.height,
+        value: list.value,
+        to: close,
+        height: 1 + list.height,
     })
 }
 
@@ -238,6 +269,85 @@ pub fn select(input: &Input<'_>, at: u32, depth: Depth) -> Result<Nested<Select>
             height: 0,
         });
     }
+    let open = take(input, at, TokenKind::OpenBracket)?;
+    let inner = depth.deeper(at)?;
+    let left = expression(input, open, inner)?;
+    let Some(sign) = slice_sign(input, left.to) else {
+        let rest = behind_index(input, left.to, inner);
+        let (left, rest) = both(left, rest)?;
+        let deepest = 1 + larger(left.height, rest.height);
+        let value = bit_or_word(input.alloc, at, left.value, rest.value)?;
+        return Ok(Nested {
+            value,
+            to: rest.to,
+            height: deepest,
+        });
+    };
+    let right = expression(input, sign.to, inner);
+    let (left, right) = both(left, right)?;
+    let height = 1 + larger(left.height, right.height);
+    let end = take(input, right.to, TokenKind::CloseBracket);
+    let (ends, end) = both((left.value, right.value), end)?;
+    let (left, right) = ends;
+    let value = Select::new_slice(input.alloc, at, sign.value, left, right)?;
+    Ok(Nested {
+        value,
+        to: end,
+        height,
+    })
+}
+
+/// One bit, or a part of a word, where there is one.
+fn bit_or_word(
+    alloc: Global,
+    bracket: u32,
+    index: Expr,
+    part: Option<Select>,
+) -> Result<Select, ParseError>
+    ensures { MatchResult result (λ s. view.select s ≡ tail.bit_or_word bracket (view.expr index) (view.option view.select part)) (λ e. e ≡ ParseError.Memory) }
+{
+    match part {
+        None => {
+            let value = Select::new_bit(alloc, bracket, index)?;
+            Ok(value)
+        }
+        Some(part) => {
+            let value = Select::new_word(alloc, bracket, index, part)?;
+            Ok(value)
+        }
+    }
+}
+
+/// What stands behind the one expression of a select: its end, and what is selected of a word, if anything is.
+#[cycle(expressions)]
+fn behind_index(
+    input: &Input<'_>,
+    at: u32,
+    depth: Depth,
+) -> Result<Nested<Option<Select>>, ParseError>
+    ensures { AnswersNested input.now tail.behind_index tail.behind_index_of (view.option view.select) depth at result }
+{
+    let close = take(input, at, TokenKind::CloseBracket)?;
+    if !stands(input, close, TokenKind::OpenBracket) {
+        return Ok(Nested {
+            value: None,
+            to: close,
+            height: 0,
+        });
+    }
+    let part = word_part(input, close, depth)?;
+    Ok(Nested {
+        value: Some(part.value),
+        to: part.to,
+        height: part.height,
+    })
+}
+
+/// What is selected of a word.
+#[cycle(expressions)]
+fn word_part(input: &Input<'_>, at: u32, depth: Depth) -> Result<Nested<Select>, ParseError>
+    ensures { AnswersNested input.now (r rule.Part) meaning.part_of view.select depth at result }
+{
     let open = take(input, at, TokenKind::OpenBracket)?;
     let inner = depth.deeper(at)?;
     let left = expression(input, open, inner)?;

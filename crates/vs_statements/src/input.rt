@@ -32,15 +32,6 @@ pub struct Nested<T: Drop> {
     pub height: u32,
 }
 
-impl<T: Drop> Found<T> {
-    /// The place behind what was read, of which nothing else is asked.
-    pub fn passed(self) -> u32
-        ensures { result ≡ self.to }
-    {
-        self.to
-    }
-}
-
 /// The first of two, and the second if it isn't an error: where it is one, the first is let go here.
 pub fn both<A: Drop, B>(first: A, second: Result<B, ParseError>) -> Result<(A, B), ParseError>
     ensures { MatchResult result (λ pair. (pair.0 ≡ first) × (second ≡ Ok pair.1)) (λ e. second ≡ Err e) }

@@ -9,6 +9,7 @@ pub mod input;
 mod levels;
 pub mod statements;
 pub mod tokens;
+pub mod types;
 pub mod words;
 
 pub use error::ParseError;

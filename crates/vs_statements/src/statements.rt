@@ -18,13 +18,14 @@ use crate::error::ParseError;
 use crate::expressions::{expression, expressions, is_expression_at, select};
 use crate::input::{Found, Input, both, longer, one};
 use crate::tokens::{choose, optional, stands, stands_any, take};
-use crate::words::{identifier, label};
+use crate::types::{loop_head, optional_scope};
+use crate::words::identifier;
 use vs_ast::{CaseArm, Expr, Statement, Target};
 use vs_base::CaseKind;
 use vs_lexer::TokenKind;
 
 /// What a statement begins with.
-const STATEMENT_KINDS: [TokenKind; 8] = [
+const STATEMENT_KINDS: [TokenKind; 9] = [
     TokenKind::Identifier,
     TokenKind::OpenBrace,
     TokenKind::Semicolon,
@@ -33,6 +34,7 @@ const STATEMENT_KINDS: [TokenKind; 8] = [
     TokenKind::KeywordCasez,
     TokenKind::KeywordCasex,
     TokenKind::KeywordBegin,
+    TokenKind::KeywordFor,
 ];
 
 /// The words that a case begins with.
@@ -163,6 +165,8 @@ pub fn statement(input: &Input<'_>, at: u32, depth: Depth) -> Result<Found<State
         case(input, at, inner)
     } else if stands(input, at, TokenKind::KeywordBegin) {
         sequence(input, at, inner)
+    } else if stands(input, at, TokenKind::KeywordFor) {
+        loop_statement(input, at, inner)
     } else {
         assignment(input, at, inner)
     }
@@ -219,12 +223,26 @@ fn sequence(input: &Input<'_>, at: u32, depth: Depth) -> Result<Found<Statement>
     ensures { Answers input.now grammar.sequence part.sequence_tree view.statement depth at result }
 {
     let begin = take(input, at, TokenKind::KeywordBegin)?;
-    let label = label(input, begin, depth)?;
-    let parts = statements(input, label.passed(), depth)?;
+    let scope = optional_scope(input, begin, depth)?;
+    let parts = statements(input, scope.to, depth);
+    let (scope, parts) = both(scope, parts)?;
     let end = take(input, parts.to, TokenKind::KeywordEnd);
-    let (parts, end) = both(parts, end)?;
-    let value = Statement::new_sequence(at, parts.value);
+    let (inner, end) = both((scope.value, parts.value), end)?;
+    let (scope, parts) = inner;
+    let value = Statement::new_sequence(at, scope, parts);
     Ok(Found { value, to: end })
+}
+
+/// A loop.
+#[cycle(statements)]
+fn loop_statement(input: &Input<'_>, at: u32, depth: Depth) -> Result<Found<Statement>, ParseError>
+    ensures { Answers input.now grammar.loop part.loop_tree view.statement depth at result }
+{
+    let head = loop_head(input, at, depth)?;
+    let body = statement(input, head.to, depth);
+    let (head, body) = both(head, body)?;
+    let value = Statement::new_for(input.alloc, head.value, body.value)?;
+    Ok(Found { value, to: body.to })
 }
 
 /// Statements.

@@ -1,5 +1,5 @@
 -- A run of the queue that is done, and its report.
-use Rattle.std.proofs.Common.{◌≡◌, ℕ, List, [], ◌++◌, Bool, None, IsTrue, inl, inr, sym, ap, ◌∙◌, subst, arith}
+use Rattle.std.proofs.Common.{◌≡◌, ℕ, List, [], ◌++◌, Bool, None, IsTrue, inl, inr, sym, ap, ◌∙◌, subst}
 use Rattle.vs_desk.specs.Desk.{Told, Register, Contents, with_put}
 use Rattle.vs_desk.specs.Places.{stimulus_place, design_place}
 use Rattle.vs_refusal.specs.declared.refusal.Refusal.TheVariants.{SamePath}

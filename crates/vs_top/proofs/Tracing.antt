@@ -32,14 +32,13 @@ use Rattle.vs_job.specs.declared.job.Mode.TheVariants as modes
 use Rattle.vs_job.specs.Places.{same_paths}
 use Rattle.vs_setup.specs.DesignText.{design_text}
 use Rattle.vs_setup.specs.Places.{with_texts}
-use Rattle.vs_setup.specs.Ports.{ports_of}
 use Rattle.vs_setup.specs.Prepared.{AreTextsKept, IsJobOpened, runs}
 use Rattle.vs_top.specs.declared.outcome.Course.{Course}
 use Rattle.vs_top.specs.declared.outcome.Outcome.{Outcome}
 use Rattle.vs_top.specs.declared.outcome.Outcome.TheVariants.{Memory}
 use Rattle.vs_top.specs.Answers.{stop_outcome}
 use Rattle.vs_top.specs.Headline.{IsRunOn, IsLaneWritten}
-use Rattle.vs_top.specs.Ordered.{IsCourseOf, IsStepped}
+use Rattle.vs_top.specs.Ordered.{IsStepped}
 use Rattle.vs_top.specs.Ended.{IsEnd}
 use Rattle.vs_top.specs.Ended.IsEnd.{queued}
 use Rattle.vs_top.specs.Ended.IsQueueEnd.{unread, no_memory}

@@ -1,5 +1,5 @@
 -- How a run of the queue ends, by what became of its waveform.
-use Rattle.std.proofs.Common.{◌≡◌, ◌⊎◌, ℕ, ◌<◌, Bool, IsTrue, List, [], ◌++◌, length, map, take, String, Global, Result, Ok, Err, OnOk, OnErr, None, inl, inr, refl, sym, ap, ◌∙◌, subst, arith}
+use Rattle.std.proofs.Common.{◌≡◌, ℕ, Bool, IsTrue, List, [], ◌++◌, length, map, take, String, Global, Result, Ok, Err, OnOk, OnErr, None, inl, inr, refl, sym, ap, ◌∙◌, subst, arith}
 use Rattle.std.specs.Prelude.{string_bytes}
 use Rattle.std.proofs.lemmas.Bool.{ne_eqb, cond-false}
 use Rattle.vs_desk.specs.declared.desk.Way.TheVariants.{Write}

@@ -8,9 +8,9 @@ use Rattle.vs_four.specs.Logic.{BitList}
 use Rattle.vs_four.specs.Selects.{Part, places}
 use Rattle.vs_design.specs.Expressions as E
 use Rattle.vs_design.specs.Footprints.{contains, somes, statement_bits, arms_bits, target_bits}
-use Rattle.vs_design.specs.Statements.{CaseKind, Target, Whole, PartOf, WordOf, Both, Statement, If, Case}
-use Rattle.vs_design.specs.Bodies.{bits_at, is_taken}
-use Rattle.vs_design.specs.Values.{bits_of_signal, constant_value, count_from, spread, address_place, word_places}
+use Rattle.vs_design.specs.Statements.{CaseKind, Whole, PartOf, Both, Statement}
+use Rattle.vs_design.specs.Bodies.{is_taken}
+use Rattle.vs_design.specs.Values.{constant_value, count_from, spread, address_place, word_places}
 use Rattle.vs_flat.specs.declared.statements.Arm as F
 use Rattle.vs_flat.specs.Arena.{Arena}
 use Rattle.vs_flat.specs.Trees as R

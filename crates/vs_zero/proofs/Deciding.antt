@@ -1,12 +1,9 @@
 -- The refusal of a design at time zero.
-use Rattle.std.proofs.Common.{◌≡◌, ℕ, zero, suc, ◌+◌, ◌≤◌, ◌<◌, ◌≢◌, Bool, true, false, List, [], ◌∷◌, ◌&&◌, ◌==◌, refl, sym, ap, ap₂, ◌∙◌, subst, eqb-true, length, arith, Some, None, Option, find, if◌then◌else◌}
+use Rattle.std.proofs.Common.{◌≡◌, ℕ, zero, suc, ◌+◌, ◌≤◌, ◌<◌, ◌≢◌, Bool, true, false, List, [], ◌∷◌, ◌==◌, refl, sym, ap, ap₂, ◌∙◌, subst, length, arith, Some, None, Option}
 use Rattle.std.specs.Prelude.{slice_get}
 use mathlib.Core.Path.{fun_ext}
 use Rattle.std.proofs.lemmas.Option.{slice_get_within}
-use Rattle.vs_design.specs.Expressions.{Signal, signal_length}
-use Rattle.vs_design.specs.Designs.{Process, process_place, Design, bit_count}
-use Rattle.vs_design.specs.Clocks.{same_name}
-use Rattle.vs_design.specs.Elaborated.{have_bits_from, IsLawfulDesign}
+use Rattle.vs_design.specs.Designs.{Process, process_place, Design}
 use Rattle.vs_design.specs.Equations.{IsOrderly}
 use Rattle.vs_design.specs.Laws.{OneFamilies, OrderOrCycle}
 use Rattle.vs_design.specs.Levels.{is_level_order, has_no_cycle, level_order}
@@ -15,11 +12,8 @@ use Rattle.vs_design.specs.TimeZero.{Families, families, is_uncertain}
 use Rattle.vs_clock.specs.Clocked.{Clocked, IsClockOf}
 use Rattle.vs_clock.specs.Tests.{IsFirst, NoneBefore}
 use Rattle.vs_reads.proofs.Numbered.{place_is}
-use Rattle.vs_shape.proofs.Names.{and_both}
 use Rattle.vs_sets.proofs.Families.{same_or_other}
 use Rattle.std.proofs.Common.{inl, inr, ◌⊎◌}
-use Rattle.std.specs.Prelude.{sum_by}
-use Rattle.std.proofs.lemmas.List.Sums.{sum_by-cons}
 use Rattle.vs_reads.proofs.Tests.{by_test}
 
 process_same : (x y : Process) (o : Option Process) → o ≡ Some x → o ≡ Some y → x ≡ y

@@ -9,7 +9,7 @@ use Rattle.std.proofs.lemmas.Bool.{cases_lt, cond-true, cond-false}
 use Rattle.vs_four.specs.declared.Bit4.TheVariants.{Zero, X, Z}
 use Rattle.vs_net.specs.Network.{put}
 use Rattle.vs_design.specs.Expressions.{Signal}
-use Rattle.vs_design.specs.Footprints.{contains, signals_bits, input_bits}
+use Rattle.vs_design.specs.Footprints.{contains, signals_bits}
 use Rattle.vs_design.specs.Lifted.{Family}
 use Rattle.vs_design.specs.Designs.{Design, bit_count}
 use Rattle.vs_design.specs.Resets.{with_resets}

@@ -2,19 +2,24 @@ use Rattle.std.proofs.Common.{false, ◌+◌}
 use Rattle.vs_grammar.specs.Depths.{expr_depth, target_depth}
 use Rattle.vs_ast.specs.Views as view
 use Rattle.vs_const.specs.Expressions.{typed}
+use Rattle.vs_build.specs.Drafts.{home}
 use Rattle.vs_build.specs.Growth.{draft}
 use Rattle.vs_build.specs.Writable.{target_expression}
+use Rattle.vs_build.proofs.Arms.{stays_outside}
 use Rattle.vs_build.proofs.AssignFacts.{assign_target, assign_value, value_after, room_after, assign_ends, assign_is, ok_is}
 use Rattle.vs_build.proofs.assigns.assign.Goals as goal
 
 pub target-requires : goal.target-requires
-target-requires g c = assign_target (draft c.args.builder.now).design (g.E.Env.names c.args.env.now) (view.assign c.args.a.now) c.requires.fine
+target-requires g c = assign_target (home (draft c.args.builder.now)) (g.E.Env.names c.args.env.now) (view.assign c.args.a.now) c.requires.fine
 
 pub operand-requires : goal.operand-requires
-operand-requires g c = value_after (draft c.args.builder.now) (draft c.target.new.builder) (target_expression (view.assign c.args.a.now).target (g.E.Env.names c.args.env.now) false) (1 + target_depth (view.assign c.args.a.now).target) (g.E.Env.names c.args.env.now) (view.assign c.args.a.now).e c.in_ok-target.ensures (assign_value (draft c.args.builder.now).design (g.E.Env.names c.args.env.now) (view.assign c.args.a.now) c.requires.fine)
+operand-requires g c = value_after (draft c.args.builder.now) (draft c.target.new.builder) (target_expression (view.assign c.args.a.now).target (g.E.Env.names c.args.env.now) false) (1 + target_depth (view.assign c.args.a.now).target) (g.E.Env.names c.args.env.now) (view.assign c.args.a.now).e c.in_ok-target.ensures (assign_value (home (draft c.args.builder.now)) (g.E.Env.names c.args.env.now) (view.assign c.args.a.now) c.requires.fine)
 
 pub assign-requires-clause-room : goal.assign-requires-clause-room
 assign-requires-clause-room g c = room_after (draft c.args.builder.now) (draft c.target.new.builder) (draft c.operand.new.builder) (target_expression (view.assign c.args.a.now).target (g.E.Env.names c.args.env.now) false) (typed (view.assign c.args.a.now).e (g.E.Env.names c.args.env.now) false).expression (1 + target_depth (view.assign c.args.a.now).target) (1 + expr_depth (view.assign c.args.a.now).e) c.in_ok-target.ensures c.in_ok-operand.ensures c.requires.room
+
+pub assign-requires-clause-outside : goal.assign-requires-clause-outside
+assign-requires-clause-outside g c = stays_outside (draft c.target.new.builder) (draft c.operand.new.builder) (typed (view.assign c.args.a.now).e (g.E.Env.names c.args.env.now) false).expression (1 + expr_depth (view.assign c.args.a.now).e) c.in_ok-operand.ensures (stays_outside (draft c.args.builder.now) (draft c.target.new.builder) (target_expression (view.assign c.args.a.now).target (g.E.Env.names c.args.env.now) false) (1 + target_depth (view.assign c.args.a.now).target) c.in_ok-target.ensures c.requires.outside)
 
 pub assign-requires-clause-ends : goal.assign-requires-clause-ends
 assign-requires-clause-ends g c = assign_ends (draft c.args.builder.now) (draft c.target.new.builder) (draft c.operand.new.builder) (g.E.Env.names c.args.env.now) (view.assign c.args.a.now) (typed (view.assign c.args.a.now).e (g.E.Env.names c.args.env.now) false).expression (1 + target_depth (view.assign c.args.a.now).target) (1 + expr_depth (view.assign c.args.a.now).e) c.requires.fine c.in_ok-target.ensures c.in_ok-operand.ensures

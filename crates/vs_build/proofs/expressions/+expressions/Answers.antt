@@ -1,4 +1,5 @@
-use Rattle.std.proofs.Common.{rules, ℕ, true, false, OnOk, ◌+◌, ◌≡◌, max, min, take, length, Some, refl, ap, subst, sym, ◌∙◌, arith}
+use Rattle.std.proofs.Common.{rules, ℕ, true, false, OnOk, ◌+◌, ◌<◌, ◌≡◌, max, min, take, length, Some, refl, ap, subst, sym, ◌∙◌, arith}
+use denote.Param.Weighed.{most}
 use Rattle.vs_four.specs.Numbers.{bits_of}
 use Rattle.vs_four.specs.Selects.{range_length}
 use Rattle.vs_design.specs.Expressions as E
@@ -7,41 +8,43 @@ use Rattle.vs_grammar.specs.Trees as tree
 use Rattle.vs_grammar.specs.Trees.{expr_place}
 use Rattle.vs_grammar.specs.Depths.{expr_depth, exprs_depth, select_depth}
 use Rattle.vs_ast.specs.Views as view
+use Rattle.vs_ast.proofs.expressions.Expr.TheLaws.{the_size}
 use Rattle.vs_ast.proofs.Rows.{expr_rows}
 use Rattle.vs_ast.specs.declared.expressions.Expr.{the_lemmas}
+use Rattle.vs_const.specs.Meanings.{steady}
 use Rattle.vs_const.specs.Typed.{begins_at, natural}
 use Rattle.vs_const.specs.Expressions.{constant, typed}
 use Rattle.vs_const.proofs.Rows.{some_part}
-use Rattle.vs_const.proofs.Sizes.{unary_size, left_size, right_size, condition_size, yes_size, no_size, call_size, brackets_size, falls}
+use Rattle.vs_const.proofs.Sizes.{arguments_size, unary_size, left_size, right_size, condition_size, yes_size, no_size, call_size, brackets_size, falls}
 use Rattle.vs_flat.specs.Targets.{source_of}
-use Rattle.vs_build.specs.Drafts.{Draft, AddsExpression, EndsInSelect}
+use Rattle.vs_build.specs.Drafts.{Draft, home, AddsExpression, EndsInSelect}
 use Rattle.vs_build.specs.Growth.{draft}
-use Rattle.vs_build.specs.Buildable.{IsBuildable, IsSelectable, AreBuildable, HasBits, IsNumbered, AreBounds, IsRangeOf, IsConstant, part_expressions, selected_by}
-use Rattle.vs_build.proofs.Arms.{begins_twice, begins_itself, child, child_ends, children_end, ends_three, after, same_design, ok_up_to, unary_operand, brackets_inner, binary_left, binary_right, choice_condition, choice_yes, choice_no, unary_arm, binary_arm, choice_arm}
-use Rattle.vs_build.proofs.Lists.{concatenation_view, replication_view, each_part, part_levels, part_falls, taken_more, taken_all, parts_none, parts_more, parts_are, ends_parts, part_after, part_count, concatenation_parts, join_arm, replication_is, replication_expression, deeper_up_to}
+use Rattle.vs_build.specs.Buildable.{IsBuildable, IsSelectable, AreBuildable, AreArguments, HasBits, IsWithin, AreBounds, IsRangeOf, IsConstant, part_expressions, selected_by}
+use Rattle.vs_build.proofs.Arms.{begins_twice, begins_itself, child, child_ends, children_end, ends_three, after, same_home, ok_up_to, unary_operand, brackets_inner, binary_left, binary_right, choice_condition, choice_yes, choice_no, unary_arm, binary_arm, choice_arm}
+use Rattle.vs_build.proofs.Lists.{concatenation_view, replication_view, each_part, part_levels, part_falls, taken_more, taken_all, parts_none, parts_more, parts_are, ends_parts, part_after, part_count, concatenation_parts, join_arm, each_argument, apply_view, call_is, call_many, function_at, call_arm, replication_is, replication_expression, deeper_up_to}
 use Rattle.vs_build.proofs.Selects.{named_select, named_expression, bit_taken, bit_index, bit_word, word_ends, word_arm, moving_taken, moving_is, between_is, between_taken, select_ends, select_arm, signed_operand, unsigned_operand, clog2_constant, clog2_arm}
 use Rattle.vs_build.proofs.expressions.+expressions.Goals as goal
 
 pub expression-unary-requires : goal.expression-unary-requires
 expression-unary-requires g t c =
-    child_ends (draft c.args.builder.now).design (g.E.Env.names c.args.env.now) c.args.needed (view.expr c.deref.result.now) (draft c.args.builder.now) (draft c.operand.new.builder) (child (draft c.args.builder.now).design (g.E.Env.names c.args.env.now) c.args.needed c.deref.result.now c.in-Unary.a.value c.deref.ensures (unary_operand (draft c.args.builder.now).design (g.E.Env.names c.args.env.now) c.args.needed _ _ (view.expr c.in-Unary.a.value) (subst (λ x. IsBuildable (draft c.args.builder.now).design (g.E.Env.names c.args.env.now) c.args.needed (view.expr x)) c.in-Unary.is c.requires))) c.in_ok-operand-in-Unary.ensures
+    child_ends (home (draft c.args.builder.now)) (g.E.Env.names c.args.env.now) c.args.needed (view.expr c.deref-in-Unary.result.now) (draft c.args.builder.now) (draft c.operand.new.builder) (child (home (draft c.args.builder.now)) (g.E.Env.names c.args.env.now) c.args.needed c.deref-in-Unary.result.now c.in-Unary.a.value c.deref-in-Unary.ensures (unary_operand (home (draft c.args.builder.now)) (g.E.Env.names c.args.env.now) c.args.needed _ _ (view.expr c.in-Unary.a.value) (subst (λ x. IsBuildable (home (draft c.args.builder.now)) (g.E.Env.names c.args.env.now) c.args.needed (view.expr x)) c.in-Unary.is c.requires))) c.in_ok-operand-in-Unary.ensures
 
 pub expression-returns-in_ok-operand-in-Unary : goal.expression-returns-in_ok-operand-in-Unary
 expression-returns-in_ok-operand-in-Unary g t c =
     subst (λ x. OnOk c.unary.result (AddsExpression (draft c.args.builder.now) (draft c.unary.new.self) (begins_at c.args.at (typed (view.expr x) (g.E.Env.names c.args.env.now) c.args.needed).expression) (1 + expr_depth (view.expr x)))) (sym c.in-Unary.is)
-    (unary_arm c.unary.result (draft c.args.builder.now) (draft c.operand.new.builder) (draft c.unary.new.self) (g.E.Env.names c.args.env.now) c.args.needed c.args.at c.in-Unary.op c.in-Unary.a.value c.deref.result.now c.deref.ensures c.in_ok-operand-in-Unary.ensures c.unary.ensures)
+    (unary_arm c.unary.result (draft c.args.builder.now) (draft c.operand.new.builder) (draft c.unary.new.self) (g.E.Env.names c.args.env.now) c.args.needed c.args.at c.in-Unary.op c.in-Unary.a.value c.deref-in-Unary.result.now c.deref-in-Unary.ensures c.in_ok-operand-in-Unary.ensures c.unary.ensures)
 
 pub expression-operand-requires-in-Binary : goal.expression-operand-requires-in-Binary
 expression-operand-requires-in-Binary g t c κs within =
-    (omega (arith, falls c.args.e.now c.deref-in-Binary.result.now _ _ (left_size _ c.in-Binary.left c.in-Binary.right) c.in-Binary.is c.deref-in-Binary.ensures, c.decreases), (within, (child (draft c.args.builder.now).design (g.E.Env.names c.args.env.now) c.args.needed c.deref-in-Binary.result.now c.in-Binary.left.value c.deref-in-Binary.ensures (binary_left (draft c.args.builder.now).design (g.E.Env.names c.args.env.now) c.args.needed c.in-Binary.op (view.expr c.in-Binary.left.value) (view.expr c.in-Binary.right.value) (subst (λ x. IsBuildable (draft c.args.builder.now).design (g.E.Env.names c.args.env.now) c.args.needed (view.expr x)) c.in-Binary.is c.requires)))))
+    (omega (arith, falls c.args.e.now c.deref-in-Binary.result.now _ _ (left_size _ c.in-Binary.left c.in-Binary.right) c.in-Binary.is c.deref-in-Binary.ensures, c.decreases), (within, (child (home (draft c.args.builder.now)) (g.E.Env.names c.args.env.now) c.args.needed c.deref-in-Binary.result.now c.in-Binary.left.value c.deref-in-Binary.ensures (binary_left (home (draft c.args.builder.now)) (g.E.Env.names c.args.env.now) c.args.needed c.in-Binary.op (view.expr c.in-Binary.left.value) (view.expr c.in-Binary.right.value) (subst (λ x. IsBuildable (home (draft c.args.builder.now)) (g.E.Env.names c.args.env.now) c.args.needed (view.expr x)) c.in-Binary.is c.requires)))))
 
 pub expression-operand-requires-in-Binary-2 : goal.expression-operand-requires-in-Binary-2
 expression-operand-requires-in-Binary-2 g t c κs within =
-    (omega (arith, falls c.args.e.now c.deref-in-Binary-2.result.now _ _ (right_size _ c.in-Binary.left c.in-Binary.right) c.in-Binary.is c.deref-in-Binary-2.ensures, c.decreases), (within, (after (draft c.args.builder.now) (draft c.operand-in-Binary.new.builder) (typed (view.expr c.deref-in-Binary.result.now) (g.E.Env.names c.args.env.now) c.args.needed).expression (1 + expr_depth (view.expr c.deref-in-Binary.result.now)) (g.E.Env.names c.args.env.now) c.args.needed (view.expr c.deref-in-Binary-2.result.now) c.in_ok-operand-in-Binary.ensures (child (draft c.args.builder.now).design (g.E.Env.names c.args.env.now) c.args.needed c.deref-in-Binary-2.result.now c.in-Binary.right.value c.deref-in-Binary-2.ensures (binary_right (draft c.args.builder.now).design (g.E.Env.names c.args.env.now) c.args.needed c.in-Binary.op (view.expr c.in-Binary.left.value) (view.expr c.in-Binary.right.value) (subst (λ x. IsBuildable (draft c.args.builder.now).design (g.E.Env.names c.args.env.now) c.args.needed (view.expr x)) c.in-Binary.is c.requires))))))
+    (omega (arith, falls c.args.e.now c.deref-in-Binary-2.result.now _ _ (right_size _ c.in-Binary.left c.in-Binary.right) c.in-Binary.is c.deref-in-Binary-2.ensures, c.decreases), (within, (after (draft c.args.builder.now) (draft c.operand-in-Binary.new.builder) (typed (view.expr c.deref-in-Binary.result.now) (g.E.Env.names c.args.env.now) c.args.needed).expression (1 + expr_depth (view.expr c.deref-in-Binary.result.now)) (g.E.Env.names c.args.env.now) c.args.needed (view.expr c.deref-in-Binary-2.result.now) c.in_ok-operand-in-Binary.ensures (child (home (draft c.args.builder.now)) (g.E.Env.names c.args.env.now) c.args.needed c.deref-in-Binary-2.result.now c.in-Binary.right.value c.deref-in-Binary-2.ensures (binary_right (home (draft c.args.builder.now)) (g.E.Env.names c.args.env.now) c.args.needed c.in-Binary.op (view.expr c.in-Binary.left.value) (view.expr c.in-Binary.right.value) (subst (λ x. IsBuildable (home (draft c.args.builder.now)) (g.E.Env.names c.args.env.now) c.args.needed (view.expr x)) c.in-Binary.is c.requires))))))
 
 pub expression-binary-requires : goal.expression-binary-requires
 expression-binary-requires g t c =
-    children_end (draft c.args.builder.now).design (g.E.Env.names c.args.env.now) c.args.needed (view.expr c.deref-in-Binary.result.now) (view.expr c.deref-in-Binary-2.result.now) (draft c.args.builder.now) (draft c.operand-in-Binary.new.builder) (draft c.operand-in-Binary-2.new.builder) (child (draft c.args.builder.now).design (g.E.Env.names c.args.env.now) c.args.needed c.deref-in-Binary.result.now c.in-Binary.left.value c.deref-in-Binary.ensures (binary_left (draft c.args.builder.now).design (g.E.Env.names c.args.env.now) c.args.needed c.in-Binary.op (view.expr c.in-Binary.left.value) (view.expr c.in-Binary.right.value) (subst (λ x. IsBuildable (draft c.args.builder.now).design (g.E.Env.names c.args.env.now) c.args.needed (view.expr x)) c.in-Binary.is c.requires))) (child (draft c.args.builder.now).design (g.E.Env.names c.args.env.now) c.args.needed c.deref-in-Binary-2.result.now c.in-Binary.right.value c.deref-in-Binary-2.ensures (binary_right (draft c.args.builder.now).design (g.E.Env.names c.args.env.now) c.args.needed c.in-Binary.op (view.expr c.in-Binary.left.value) (view.expr c.in-Binary.right.value) (subst (λ x. IsBuildable (draft c.args.builder.now).design (g.E.Env.names c.args.env.now) c.args.needed (view.expr x)) c.in-Binary.is c.requires))) c.in_ok-operand-in-Binary.ensures c.in_ok-operand-in-Binary-2.ensures
+    children_end (home (draft c.args.builder.now)) (g.E.Env.names c.args.env.now) c.args.needed (view.expr c.deref-in-Binary.result.now) (view.expr c.deref-in-Binary-2.result.now) (draft c.args.builder.now) (draft c.operand-in-Binary.new.builder) (draft c.operand-in-Binary-2.new.builder) (child (home (draft c.args.builder.now)) (g.E.Env.names c.args.env.now) c.args.needed c.deref-in-Binary.result.now c.in-Binary.left.value c.deref-in-Binary.ensures (binary_left (home (draft c.args.builder.now)) (g.E.Env.names c.args.env.now) c.args.needed c.in-Binary.op (view.expr c.in-Binary.left.value) (view.expr c.in-Binary.right.value) (subst (λ x. IsBuildable (home (draft c.args.builder.now)) (g.E.Env.names c.args.env.now) c.args.needed (view.expr x)) c.in-Binary.is c.requires))) (child (home (draft c.args.builder.now)) (g.E.Env.names c.args.env.now) c.args.needed c.deref-in-Binary-2.result.now c.in-Binary.right.value c.deref-in-Binary-2.ensures (binary_right (home (draft c.args.builder.now)) (g.E.Env.names c.args.env.now) c.args.needed c.in-Binary.op (view.expr c.in-Binary.left.value) (view.expr c.in-Binary.right.value) (subst (λ x. IsBuildable (home (draft c.args.builder.now)) (g.E.Env.names c.args.env.now) c.args.needed (view.expr x)) c.in-Binary.is c.requires))) c.in_ok-operand-in-Binary.ensures c.in_ok-operand-in-Binary-2.ensures
 
 pub expression-returns-in_ok-operand-in-Binary-2 : goal.expression-returns-in_ok-operand-in-Binary-2
 expression-returns-in_ok-operand-in-Binary-2 g t c =
@@ -50,19 +53,19 @@ expression-returns-in_ok-operand-in-Binary-2 g t c =
 
 pub expression-operand-requires-in-Choice : goal.expression-operand-requires-in-Choice
 expression-operand-requires-in-Choice g t c κs within =
-    (omega (arith, falls c.args.e.now c.deref-in-Choice.result.now _ _ (condition_size c.in-Choice.condition c.in-Choice.yes c.in-Choice.no) c.in-Choice.is c.deref-in-Choice.ensures, c.decreases), (within, (child (draft c.args.builder.now).design (g.E.Env.names c.args.env.now) c.args.needed c.deref-in-Choice.result.now c.in-Choice.condition.value c.deref-in-Choice.ensures (choice_condition (draft c.args.builder.now).design (g.E.Env.names c.args.env.now) c.args.needed (view.expr c.in-Choice.condition.value) (view.expr c.in-Choice.yes.value) (view.expr c.in-Choice.no.value) (subst (λ x. IsBuildable (draft c.args.builder.now).design (g.E.Env.names c.args.env.now) c.args.needed (view.expr x)) c.in-Choice.is c.requires)))))
+    (omega (arith, falls c.args.e.now c.deref-in-Choice.result.now _ _ (condition_size c.in-Choice.condition c.in-Choice.yes c.in-Choice.no) c.in-Choice.is c.deref-in-Choice.ensures, c.decreases), (within, (child (home (draft c.args.builder.now)) (g.E.Env.names c.args.env.now) c.args.needed c.deref-in-Choice.result.now c.in-Choice.condition.value c.deref-in-Choice.ensures (choice_condition (home (draft c.args.builder.now)) (g.E.Env.names c.args.env.now) c.args.needed (view.expr c.in-Choice.condition.value) (view.expr c.in-Choice.yes.value) (view.expr c.in-Choice.no.value) (subst (λ x. IsBuildable (home (draft c.args.builder.now)) (g.E.Env.names c.args.env.now) c.args.needed (view.expr x)) c.in-Choice.is c.requires)))))
 
 pub expression-operand-requires-in-Choice-2 : goal.expression-operand-requires-in-Choice-2
 expression-operand-requires-in-Choice-2 g t c κs within =
-    (omega (arith, falls c.args.e.now c.deref-in-Choice-2.result.now _ _ (yes_size c.in-Choice.condition c.in-Choice.yes c.in-Choice.no) c.in-Choice.is c.deref-in-Choice-2.ensures, c.decreases), (within, (after (draft c.args.builder.now) (draft c.operand-in-Choice.new.builder) (typed (view.expr c.deref-in-Choice.result.now) (g.E.Env.names c.args.env.now) c.args.needed).expression (1 + expr_depth (view.expr c.deref-in-Choice.result.now)) (g.E.Env.names c.args.env.now) c.args.needed (view.expr c.deref-in-Choice-2.result.now) c.in_ok-operand-in-Choice.ensures (child (draft c.args.builder.now).design (g.E.Env.names c.args.env.now) c.args.needed c.deref-in-Choice-2.result.now c.in-Choice.yes.value c.deref-in-Choice-2.ensures (choice_yes (draft c.args.builder.now).design (g.E.Env.names c.args.env.now) c.args.needed (view.expr c.in-Choice.condition.value) (view.expr c.in-Choice.yes.value) (view.expr c.in-Choice.no.value) (subst (λ x. IsBuildable (draft c.args.builder.now).design (g.E.Env.names c.args.env.now) c.args.needed (view.expr x)) c.in-Choice.is c.requires))))))
+    (omega (arith, falls c.args.e.now c.deref-in-Choice-2.result.now _ _ (yes_size c.in-Choice.condition c.in-Choice.yes c.in-Choice.no) c.in-Choice.is c.deref-in-Choice-2.ensures, c.decreases), (within, (after (draft c.args.builder.now) (draft c.operand-in-Choice.new.builder) (typed (view.expr c.deref-in-Choice.result.now) (g.E.Env.names c.args.env.now) c.args.needed).expression (1 + expr_depth (view.expr c.deref-in-Choice.result.now)) (g.E.Env.names c.args.env.now) c.args.needed (view.expr c.deref-in-Choice-2.result.now) c.in_ok-operand-in-Choice.ensures (child (home (draft c.args.builder.now)) (g.E.Env.names c.args.env.now) c.args.needed c.deref-in-Choice-2.result.now c.in-Choice.yes.value c.deref-in-Choice-2.ensures (choice_yes (home (draft c.args.builder.now)) (g.E.Env.names c.args.env.now) c.args.needed (view.expr c.in-Choice.condition.value) (view.expr c.in-Choice.yes.value) (view.expr c.in-Choice.no.value) (subst (λ x. IsBuildable (home (draft c.args.builder.now)) (g.E.Env.names c.args.env.now) c.args.needed (view.expr x)) c.in-Choice.is c.requires))))))
 
 pub expression-operand-requires-in-Choice-3 : goal.expression-operand-requires-in-Choice-3
 expression-operand-requires-in-Choice-3 g t c κs within =
-    (omega (arith, falls c.args.e.now c.deref-in-Choice-3.result.now _ _ (no_size c.in-Choice.condition c.in-Choice.yes c.in-Choice.no) c.in-Choice.is c.deref-in-Choice-3.ensures, c.decreases), (within, (after (draft c.operand-in-Choice.new.builder) (draft c.operand-in-Choice-2.new.builder) (typed (view.expr c.deref-in-Choice-2.result.now) (g.E.Env.names c.args.env.now) c.args.needed).expression (1 + expr_depth (view.expr c.deref-in-Choice-2.result.now)) (g.E.Env.names c.args.env.now) c.args.needed (view.expr c.deref-in-Choice-3.result.now) c.in_ok-operand-in-Choice-2.ensures (after (draft c.args.builder.now) (draft c.operand-in-Choice.new.builder) (typed (view.expr c.deref-in-Choice.result.now) (g.E.Env.names c.args.env.now) c.args.needed).expression (1 + expr_depth (view.expr c.deref-in-Choice.result.now)) (g.E.Env.names c.args.env.now) c.args.needed (view.expr c.deref-in-Choice-3.result.now) c.in_ok-operand-in-Choice.ensures (child (draft c.args.builder.now).design (g.E.Env.names c.args.env.now) c.args.needed c.deref-in-Choice-3.result.now c.in-Choice.no.value c.deref-in-Choice-3.ensures (choice_no (draft c.args.builder.now).design (g.E.Env.names c.args.env.now) c.args.needed (view.expr c.in-Choice.condition.value) (view.expr c.in-Choice.yes.value) (view.expr c.in-Choice.no.value) (subst (λ x. IsBuildable (draft c.args.builder.now).design (g.E.Env.names c.args.env.now) c.args.needed (view.expr x)) c.in-Choice.is c.requires)))))))
+    (omega (arith, falls c.args.e.now c.deref-in-Choice-3.result.now _ _ (no_size c.in-Choice.condition c.in-Choice.yes c.in-Choice.no) c.in-Choice.is c.deref-in-Choice-3.ensures, c.decreases), (within, (after (draft c.operand-in-Choice.new.builder) (draft c.operand-in-Choice-2.new.builder) (typed (view.expr c.deref-in-Choice-2.result.now) (g.E.Env.names c.args.env.now) c.args.needed).expression (1 + expr_depth (view.expr c.deref-in-Choice-2.result.now)) (g.E.Env.names c.args.env.now) c.args.needed (view.expr c.deref-in-Choice-3.result.now) c.in_ok-operand-in-Choice-2.ensures (after (draft c.args.builder.now) (draft c.operand-in-Choice.new.builder) (typed (view.expr c.deref-in-Choice.result.now) (g.E.Env.names c.args.env.now) c.args.needed).expression (1 + expr_depth (view.expr c.deref-in-Choice.result.now)) (g.E.Env.names c.args.env.now) c.args.needed (view.expr c.deref-in-Choice-3.result.now) c.in_ok-operand-in-Choice.ensures (child (home (draft c.args.builder.now)) (g.E.Env.names c.args.env.now) c.args.needed c.deref-in-Choice-3.result.now c.in-Choice.no.value c.deref-in-Choice-3.ensures (choice_no (home (draft c.args.builder.now)) (g.E.Env.names c.args.env.now) c.args.needed (view.expr c.in-Choice.condition.value) (view.expr c.in-Choice.yes.value) (view.expr c.in-Choice.no.value) (subst (λ x. IsBuildable (home (draft c.args.builder.now)) (g.E.Env.names c.args.env.now) c.args.needed (view.expr x)) c.in-Choice.is c.requires)))))))
 
 pub expression-choice-requires : goal.expression-choice-requires
 expression-choice-requires g t c =
-    ends_three (draft c.args.builder.now) (draft c.operand-in-Choice.new.builder) (draft c.operand-in-Choice-2.new.builder) (draft c.operand-in-Choice-3.new.builder) (typed (view.expr c.deref-in-Choice.result.now) (g.E.Env.names c.args.env.now) c.args.needed).expression (typed (view.expr c.deref-in-Choice-2.result.now) (g.E.Env.names c.args.env.now) c.args.needed).expression (typed (view.expr c.deref-in-Choice-3.result.now) (g.E.Env.names c.args.env.now) c.args.needed).expression (1 + expr_depth (view.expr c.deref-in-Choice.result.now)) (1 + expr_depth (view.expr c.deref-in-Choice-2.result.now)) (1 + expr_depth (view.expr c.deref-in-Choice-3.result.now)) c.in_ok-operand-in-Choice.ensures c.in_ok-operand-in-Choice-2.ensures c.in_ok-operand-in-Choice-3.ensures (omega (arith, (child (draft c.args.builder.now).design (g.E.Env.names c.args.env.now) c.args.needed c.deref-in-Choice.result.now c.in-Choice.condition.value c.deref-in-Choice.ensures (choice_condition (draft c.args.builder.now).design (g.E.Env.names c.args.env.now) c.args.needed (view.expr c.in-Choice.condition.value) (view.expr c.in-Choice.yes.value) (view.expr c.in-Choice.no.value) (subst (λ x. IsBuildable (draft c.args.builder.now).design (g.E.Env.names c.args.env.now) c.args.needed (view.expr x)) c.in-Choice.is c.requires))).shallow)) (omega (arith, (child (draft c.args.builder.now).design (g.E.Env.names c.args.env.now) c.args.needed c.deref-in-Choice-2.result.now c.in-Choice.yes.value c.deref-in-Choice-2.ensures (choice_yes (draft c.args.builder.now).design (g.E.Env.names c.args.env.now) c.args.needed (view.expr c.in-Choice.condition.value) (view.expr c.in-Choice.yes.value) (view.expr c.in-Choice.no.value) (subst (λ x. IsBuildable (draft c.args.builder.now).design (g.E.Env.names c.args.env.now) c.args.needed (view.expr x)) c.in-Choice.is c.requires))).shallow)) (omega (arith, (child (draft c.args.builder.now).design (g.E.Env.names c.args.env.now) c.args.needed c.deref-in-Choice-3.result.now c.in-Choice.no.value c.deref-in-Choice-3.ensures (choice_no (draft c.args.builder.now).design (g.E.Env.names c.args.env.now) c.args.needed (view.expr c.in-Choice.condition.value) (view.expr c.in-Choice.yes.value) (view.expr c.in-Choice.no.value) (subst (λ x. IsBuildable (draft c.args.builder.now).design (g.E.Env.names c.args.env.now) c.args.needed (view.expr x)) c.in-Choice.is c.requires))).shallow))
+    ends_three (draft c.args.builder.now) (draft c.operand-in-Choice.new.builder) (draft c.operand-in-Choice-2.new.builder) (draft c.operand-in-Choice-3.new.builder) (typed (view.expr c.deref-in-Choice.result.now) (g.E.Env.names c.args.env.now) c.args.needed).expression (typed (view.expr c.deref-in-Choice-2.result.now) (g.E.Env.names c.args.env.now) c.args.needed).expression (typed (view.expr c.deref-in-Choice-3.result.now) (g.E.Env.names c.args.env.now) c.args.needed).expression (1 + expr_depth (view.expr c.deref-in-Choice.result.now)) (1 + expr_depth (view.expr c.deref-in-Choice-2.result.now)) (1 + expr_depth (view.expr c.deref-in-Choice-3.result.now)) c.in_ok-operand-in-Choice.ensures c.in_ok-operand-in-Choice-2.ensures c.in_ok-operand-in-Choice-3.ensures (omega (arith, (child (home (draft c.args.builder.now)) (g.E.Env.names c.args.env.now) c.args.needed c.deref-in-Choice.result.now c.in-Choice.condition.value c.deref-in-Choice.ensures (choice_condition (home (draft c.args.builder.now)) (g.E.Env.names c.args.env.now) c.args.needed (view.expr c.in-Choice.condition.value) (view.expr c.in-Choice.yes.value) (view.expr c.in-Choice.no.value) (subst (λ x. IsBuildable (home (draft c.args.builder.now)) (g.E.Env.names c.args.env.now) c.args.needed (view.expr x)) c.in-Choice.is c.requires))).shallow)) (omega (arith, (child (home (draft c.args.builder.now)) (g.E.Env.names c.args.env.now) c.args.needed c.deref-in-Choice-2.result.now c.in-Choice.yes.value c.deref-in-Choice-2.ensures (choice_yes (home (draft c.args.builder.now)) (g.E.Env.names c.args.env.now) c.args.needed (view.expr c.in-Choice.condition.value) (view.expr c.in-Choice.yes.value) (view.expr c.in-Choice.no.value) (subst (λ x. IsBuildable (home (draft c.args.builder.now)) (g.E.Env.names c.args.env.now) c.args.needed (view.expr x)) c.in-Choice.is c.requires))).shallow)) (omega (arith, (child (home (draft c.args.builder.now)) (g.E.Env.names c.args.env.now) c.args.needed c.deref-in-Choice-3.result.now c.in-Choice.no.value c.deref-in-Choice-3.ensures (choice_no (home (draft c.args.builder.now)) (g.E.Env.names c.args.env.now) c.args.needed (view.expr c.in-Choice.condition.value) (view.expr c.in-Choice.yes.value) (view.expr c.in-Choice.no.value) (subst (λ x. IsBuildable (home (draft c.args.builder.now)) (g.E.Env.names c.args.env.now) c.args.needed (view.expr x)) c.in-Choice.is c.requires))).shallow))
 
 pub expression-returns-in_ok-operand-in-Choice-3 : goal.expression-returns-in_ok-operand-in-Choice-3
 expression-returns-in_ok-operand-in-Choice-3 g t c =
@@ -71,7 +74,7 @@ expression-returns-in_ok-operand-in-Choice-3 g t c =
 
 pub expression-selected-requires : goal.expression-selected-requires
 expression-selected-requires g t c κs within =
-    (search (rules, the_lemmas), (within, named_select (draft c.args.builder.now).design (g.E.Env.names c.args.env.now) c.args.needed (view.name c.in-Named.name) (view.select c.in-Named.select) (subst (λ x. IsBuildable (draft c.args.builder.now).design (g.E.Env.names c.args.env.now) c.args.needed (view.expr x)) c.in-Named.is c.requires)))
+    (search (rules, the_lemmas), (within, named_select (home (draft c.args.builder.now)) (g.E.Env.names c.args.env.now) c.args.needed (view.name c.in-Named.name) (view.select c.in-Named.select) (subst (λ x. IsBuildable (home (draft c.args.builder.now)) (g.E.Env.names c.args.env.now) c.args.needed (view.expr x)) c.in-Named.is c.requires)))
 
 pub expression-returns-in-Named : goal.expression-returns-in-Named
 expression-returns-in-Named g t c =
@@ -80,48 +83,48 @@ expression-returns-in-Named g t c =
 
 pub expression-parts-requires : goal.expression-parts-requires
 expression-parts-requires g t c κs within =
-    (search (rules, expr_rows, the_lemmas), (within, (subst (λ xs. AreBuildable (draft c.args.builder.now).design (g.E.Env.names c.args.env.now) c.args.needed (view.exprs xs)) (sym c.deref-in-Concatenation.ensures.value) (concatenation_parts (draft c.args.builder.now).design (g.E.Env.names c.args.env.now) c.args.needed c.in-Concatenation.place (view.exprs c.in-Concatenation.list.items) (subst (λ x. IsBuildable (draft c.args.builder.now).design (g.E.Env.names c.args.env.now) c.args.needed x) (ap view.expr c.in-Concatenation.is ∙ concatenation_view c.in-Concatenation.place c.in-Concatenation.list) c.requires)))))
+    (search (rules, expr_rows, the_lemmas), (within, (subst (λ xs. AreBuildable (home (draft c.args.builder.now)) (g.E.Env.names c.args.env.now) c.args.needed (view.exprs xs)) (sym c.deref-in-Concatenation.ensures.value) (concatenation_parts (home (draft c.args.builder.now)) (g.E.Env.names c.args.env.now) c.args.needed c.in-Concatenation.place (view.exprs c.in-Concatenation.list.items) (subst (λ x. IsBuildable (home (draft c.args.builder.now)) (g.E.Env.names c.args.env.now) c.args.needed x) (ap view.expr c.in-Concatenation.is ∙ concatenation_view c.in-Concatenation.place c.in-Concatenation.list) c.requires)))))
 
 pub expression-join-requires-clause-parts : goal.expression-join-requires-clause-parts
 expression-join-requires-clause-parts g t c =
-    ends_parts (draft c.args.builder.now) (draft c.parts.new.builder) (part_expressions (g.E.Env.names c.args.env.now) c.args.needed c.deref-in-Concatenation.result.now) (1 + exprs_depth (view.exprs c.deref-in-Concatenation.result.now)) c.len.result c.in_ok-parts-in-Concatenation.ensures (omega (arith, (subst (λ xs. AreBuildable (draft c.args.builder.now).design (g.E.Env.names c.args.env.now) c.args.needed (view.exprs xs)) (sym c.deref-in-Concatenation.ensures.value) (concatenation_parts (draft c.args.builder.now).design (g.E.Env.names c.args.env.now) c.args.needed c.in-Concatenation.place (view.exprs c.in-Concatenation.list.items) (subst (λ x. IsBuildable (draft c.args.builder.now).design (g.E.Env.names c.args.env.now) c.args.needed x) (ap view.expr c.in-Concatenation.is ∙ concatenation_view c.in-Concatenation.place c.in-Concatenation.list) c.requires))).shallow)) ((let n : c.len.result ≡ length c.in-Concatenation.list.items = search rules in n) ∙ ap length (sym c.deref-in-Concatenation.ensures.value) ∙ sym (part_count (g.E.Env.names c.args.env.now) c.args.needed c.deref-in-Concatenation.result.now))
+    ends_parts (draft c.args.builder.now) (draft c.parts.new.builder) (part_expressions (g.E.Env.names c.args.env.now) c.args.needed c.deref-in-Concatenation.result.now) (1 + exprs_depth (view.exprs c.deref-in-Concatenation.result.now)) c.len-in-Concatenation.result c.in_ok-parts-in-Concatenation.ensures (omega (arith, (subst (λ xs. AreBuildable (home (draft c.args.builder.now)) (g.E.Env.names c.args.env.now) c.args.needed (view.exprs xs)) (sym c.deref-in-Concatenation.ensures.value) (concatenation_parts (home (draft c.args.builder.now)) (g.E.Env.names c.args.env.now) c.args.needed c.in-Concatenation.place (view.exprs c.in-Concatenation.list.items) (subst (λ x. IsBuildable (home (draft c.args.builder.now)) (g.E.Env.names c.args.env.now) c.args.needed x) (ap view.expr c.in-Concatenation.is ∙ concatenation_view c.in-Concatenation.place c.in-Concatenation.list) c.requires))).shallow)) ((let n : c.len-in-Concatenation.result ≡ length c.in-Concatenation.list.items = search rules in n) ∙ ap length (sym c.deref-in-Concatenation.ensures.value) ∙ sym (part_count (g.E.Env.names c.args.env.now) c.args.needed c.deref-in-Concatenation.result.now))
 
 pub expression-join-requires-clause-some : goal.expression-join-requires-clause-some
 expression-join-requires-clause-some g t c =
-    let n : c.len.result ≡ length c.in-Concatenation.list.items = search rules in omega (arith, n, some_part c.in-Concatenation.list.items (concatenation_parts (draft c.args.builder.now).design (g.E.Env.names c.args.env.now) c.args.needed c.in-Concatenation.place (view.exprs c.in-Concatenation.list.items) (subst (λ x. IsBuildable (draft c.args.builder.now).design (g.E.Env.names c.args.env.now) c.args.needed x) (ap view.expr c.in-Concatenation.is ∙ concatenation_view c.in-Concatenation.place c.in-Concatenation.list) c.requires)).shaped)
+    let n : c.len-in-Concatenation.result ≡ length c.in-Concatenation.list.items = search rules in omega (arith, n, some_part c.in-Concatenation.list.items (concatenation_parts (home (draft c.args.builder.now)) (g.E.Env.names c.args.env.now) c.args.needed c.in-Concatenation.place (view.exprs c.in-Concatenation.list.items) (subst (λ x. IsBuildable (home (draft c.args.builder.now)) (g.E.Env.names c.args.env.now) c.args.needed x) (ap view.expr c.in-Concatenation.is ∙ concatenation_view c.in-Concatenation.place c.in-Concatenation.list) c.requires)).shaped)
 
 pub expression-returns-in_ok-parts-in-Concatenation : goal.expression-returns-in_ok-parts-in-Concatenation
 expression-returns-in_ok-parts-in-Concatenation g t c =
     subst (λ x. OnOk c.join.result (AddsExpression (draft c.args.builder.now) (draft c.join.new.self) (begins_at c.args.at (typed x (g.E.Env.names c.args.env.now) c.args.needed).expression) (1 + expr_depth x))) (sym (ap view.expr c.in-Concatenation.is ∙ concatenation_view c.in-Concatenation.place c.in-Concatenation.list))
-    (join_arm c.join.result (draft c.args.builder.now) (draft c.parts.new.builder) (draft c.join.new.self) (g.E.Env.names c.args.env.now) c.args.needed c.args.at 1 c.len.result c.in-Concatenation.list.items c.deref-in-Concatenation.result.now c.deref-in-Concatenation.ensures.value (omega (arith, some_part c.in-Concatenation.list.items (concatenation_parts (draft c.args.builder.now).design (g.E.Env.names c.args.env.now) c.args.needed c.in-Concatenation.place (view.exprs c.in-Concatenation.list.items) (subst (λ x. IsBuildable (draft c.args.builder.now).design (g.E.Env.names c.args.env.now) c.args.needed x) (ap view.expr c.in-Concatenation.is ∙ concatenation_view c.in-Concatenation.place c.in-Concatenation.list) c.requires)).shaped)) (let n : c.len.result ≡ length c.in-Concatenation.list.items = search rules in n) c.in_ok-parts-in-Concatenation.ensures c.join.ensures)
+    (join_arm c.join.result (draft c.args.builder.now) (draft c.parts.new.builder) (draft c.join.new.self) (g.E.Env.names c.args.env.now) c.args.needed c.args.at 1 c.len-in-Concatenation.result c.in-Concatenation.list.items c.deref-in-Concatenation.result.now c.deref-in-Concatenation.ensures.value (omega (arith, some_part c.in-Concatenation.list.items (concatenation_parts (home (draft c.args.builder.now)) (g.E.Env.names c.args.env.now) c.args.needed c.in-Concatenation.place (view.exprs c.in-Concatenation.list.items) (subst (λ x. IsBuildable (home (draft c.args.builder.now)) (g.E.Env.names c.args.env.now) c.args.needed x) (ap view.expr c.in-Concatenation.is ∙ concatenation_view c.in-Concatenation.place c.in-Concatenation.list) c.requires)).shaped)) (let n : c.len-in-Concatenation.result ≡ length c.in-Concatenation.list.items = search rules in n) c.in_ok-parts-in-Concatenation.ensures c.join.ensures)
 
 pub expression-number_within-requires : goal.expression-number_within-requires
 expression-number_within-requires g t c =
-    subst (λ x. IsNumbered 1 64 (g.E.Env.names c.args.env.now) (view.expr x)) (sym c.deref-in-Replication.ensures) (replication_is (draft c.args.builder.now).design (g.E.Env.names c.args.env.now) c.args.needed c.in-Replication.place (view.expr c.in-Replication.count.value) (view.exprs c.in-Replication.list.items) (subst (λ x. IsBuildable (draft c.args.builder.now).design (g.E.Env.names c.args.env.now) c.args.needed x) (ap view.expr c.in-Replication.is ∙ replication_view c.in-Replication.place c.in-Replication.count c.in-Replication.list) c.requires)).count_is
+    subst (λ x. IsWithin 1 64 (steady (g.E.Env.names c.args.env.now)) (view.expr x)) (sym c.deref-in-Replication.ensures) (replication_is (home (draft c.args.builder.now)) (g.E.Env.names c.args.env.now) c.args.needed c.in-Replication.place (view.expr c.in-Replication.count.value) (view.exprs c.in-Replication.list.items) (subst (λ x. IsBuildable (home (draft c.args.builder.now)) (g.E.Env.names c.args.env.now) c.args.needed x) (ap view.expr c.in-Replication.is ∙ replication_view c.in-Replication.place c.in-Replication.count c.in-Replication.list) c.requires)).count_is
 
 pub expression-parts-requires-in-Replication : goal.expression-parts-requires-in-Replication
 expression-parts-requires-in-Replication g t c κs within =
-    (search (rules, expr_rows, the_lemmas), (within, (subst (λ xs. AreBuildable (draft c.args.builder.now).design (g.E.Env.names c.args.env.now) c.args.needed (view.exprs xs)) (sym c.deref-in-Replication-2.ensures.value) (replication_is (draft c.args.builder.now).design (g.E.Env.names c.args.env.now) c.args.needed c.in-Replication.place (view.expr c.in-Replication.count.value) (view.exprs c.in-Replication.list.items) (subst (λ x. IsBuildable (draft c.args.builder.now).design (g.E.Env.names c.args.env.now) c.args.needed x) (ap view.expr c.in-Replication.is ∙ replication_view c.in-Replication.place c.in-Replication.count c.in-Replication.list) c.requires)).parts_are)))
+    (search (rules, expr_rows, the_lemmas), (within, (subst (λ xs. AreBuildable (home (draft c.args.builder.now)) (g.E.Env.names c.args.env.now) c.args.needed (view.exprs xs)) (sym c.deref-in-Replication-2.ensures.value) (replication_is (home (draft c.args.builder.now)) (g.E.Env.names c.args.env.now) c.args.needed c.in-Replication.place (view.expr c.in-Replication.count.value) (view.exprs c.in-Replication.list.items) (subst (λ x. IsBuildable (home (draft c.args.builder.now)) (g.E.Env.names c.args.env.now) c.args.needed x) (ap view.expr c.in-Replication.is ∙ replication_view c.in-Replication.place c.in-Replication.count c.in-Replication.list) c.requires)).parts_are)))
 
 pub expression-join-requires-in-Replication-clause-parts : goal.expression-join-requires-in-Replication-clause-parts
 expression-join-requires-in-Replication-clause-parts g t c =
-    ends_parts (draft c.args.builder.now) (draft c.parts-in-Replication.new.builder) (part_expressions (g.E.Env.names c.args.env.now) c.args.needed c.deref-in-Replication-2.result.now) (1 + exprs_depth (view.exprs c.deref-in-Replication-2.result.now)) c.len-in-Replication.result c.in_ok-parts-in-Replication.ensures (omega (arith, (subst (λ xs. AreBuildable (draft c.args.builder.now).design (g.E.Env.names c.args.env.now) c.args.needed (view.exprs xs)) (sym c.deref-in-Replication-2.ensures.value) (replication_is (draft c.args.builder.now).design (g.E.Env.names c.args.env.now) c.args.needed c.in-Replication.place (view.expr c.in-Replication.count.value) (view.exprs c.in-Replication.list.items) (subst (λ x. IsBuildable (draft c.args.builder.now).design (g.E.Env.names c.args.env.now) c.args.needed x) (ap view.expr c.in-Replication.is ∙ replication_view c.in-Replication.place c.in-Replication.count c.in-Replication.list) c.requires)).parts_are).shallow)) ((let n : c.len-in-Replication.result ≡ length c.in-Replication.list.items = search rules in n) ∙ ap length (sym c.deref-in-Replication-2.ensures.value) ∙ sym (part_count (g.E.Env.names c.args.env.now) c.args.needed c.deref-in-Replication-2.result.now))
+    ends_parts (draft c.args.builder.now) (draft c.parts-in-Replication.new.builder) (part_expressions (g.E.Env.names c.args.env.now) c.args.needed c.deref-in-Replication-2.result.now) (1 + exprs_depth (view.exprs c.deref-in-Replication-2.result.now)) c.len-in-Replication.result c.in_ok-parts-in-Replication.ensures (omega (arith, (subst (λ xs. AreBuildable (home (draft c.args.builder.now)) (g.E.Env.names c.args.env.now) c.args.needed (view.exprs xs)) (sym c.deref-in-Replication-2.ensures.value) (replication_is (home (draft c.args.builder.now)) (g.E.Env.names c.args.env.now) c.args.needed c.in-Replication.place (view.expr c.in-Replication.count.value) (view.exprs c.in-Replication.list.items) (subst (λ x. IsBuildable (home (draft c.args.builder.now)) (g.E.Env.names c.args.env.now) c.args.needed x) (ap view.expr c.in-Replication.is ∙ replication_view c.in-Replication.place c.in-Replication.count c.in-Replication.list) c.requires)).parts_are).shallow)) ((let n : c.len-in-Replication.result ≡ length c.in-Replication.list.items = search rules in n) ∙ ap length (sym c.deref-in-Replication-2.ensures.value) ∙ sym (part_count (g.E.Env.names c.args.env.now) c.args.needed c.deref-in-Replication-2.result.now))
 
 pub expression-join-requires-in-Replication-clause-some : goal.expression-join-requires-in-Replication-clause-some
 expression-join-requires-in-Replication-clause-some g t c =
-    let n : c.len-in-Replication.result ≡ length c.in-Replication.list.items = search rules in omega (arith, n, some_part c.in-Replication.list.items (replication_is (draft c.args.builder.now).design (g.E.Env.names c.args.env.now) c.args.needed c.in-Replication.place (view.expr c.in-Replication.count.value) (view.exprs c.in-Replication.list.items) (subst (λ x. IsBuildable (draft c.args.builder.now).design (g.E.Env.names c.args.env.now) c.args.needed x) (ap view.expr c.in-Replication.is ∙ replication_view c.in-Replication.place c.in-Replication.count c.in-Replication.list) c.requires)).parts_are.shaped)
+    let n : c.len-in-Replication.result ≡ length c.in-Replication.list.items = search rules in omega (arith, n, some_part c.in-Replication.list.items (replication_is (home (draft c.args.builder.now)) (g.E.Env.names c.args.env.now) c.args.needed c.in-Replication.place (view.expr c.in-Replication.count.value) (view.exprs c.in-Replication.list.items) (subst (λ x. IsBuildable (home (draft c.args.builder.now)) (g.E.Env.names c.args.env.now) c.args.needed x) (ap view.expr c.in-Replication.is ∙ replication_view c.in-Replication.place c.in-Replication.count c.in-Replication.list) c.requires)).parts_are.shaped)
 
 pub expression-returns-in_ok-parts-in-Replication : goal.expression-returns-in_ok-parts-in-Replication
 expression-returns-in_ok-parts-in-Replication g t c =
     subst (λ x. OnOk c.join-in-Replication.result (AddsExpression (draft c.args.builder.now) (draft c.join-in-Replication.new.self) (begins_at c.args.at (typed x (g.E.Env.names c.args.env.now) c.args.needed).expression) (1 + expr_depth x))) (sym (ap view.expr c.in-Replication.is ∙ replication_view c.in-Replication.place c.in-Replication.count c.in-Replication.list))
-    (subst (λ e. OnOk c.join-in-Replication.result (AddsExpression (draft c.args.builder.now) (draft c.join-in-Replication.new.self) e (1 + expr_depth (tree.Replication c.in-Replication.place (view.expr c.in-Replication.count.value) (view.exprs c.in-Replication.list.items))))) (replication_expression (g.E.Env.names c.args.env.now) c.args.needed c.args.at c.in-Replication.place c.in_ok-copies-in-Replication.copies (view.expr c.in-Replication.count.value) (view.exprs c.in-Replication.list.items) (subst (λ x. (natural 1 64 (expr_place (view.expr x)) (constant (view.expr x) (g.E.Env.names c.args.env.now))).number ≡ Some c.in_ok-copies-in-Replication.copies) c.deref-in-Replication.ensures c.in_ok-copies-in-Replication.ensures))
+    (subst (λ e. OnOk c.join-in-Replication.result (AddsExpression (draft c.args.builder.now) (draft c.join-in-Replication.new.self) e (1 + expr_depth (tree.Replication c.in-Replication.place (view.expr c.in-Replication.count.value) (view.exprs c.in-Replication.list.items))))) (replication_expression (g.E.Env.names c.args.env.now) c.args.needed c.args.at c.in-Replication.place c.in_ok-copies-in-Replication.copies (view.expr c.in-Replication.count.value) (view.exprs c.in-Replication.list.items) (subst (λ x. (natural 1 64 (expr_place (view.expr x)) (constant (view.expr x) (steady (g.E.Env.names c.args.env.now)))).number ≡ Some c.in_ok-copies-in-Replication.copies) c.deref-in-Replication.ensures c.in_ok-copies-in-Replication.ensures))
     (ok_up_to c.join-in-Replication.result (draft c.args.builder.now) (draft c.join-in-Replication.new.self) _ (1 + (1 + exprs_depth (view.exprs c.in-Replication.list.items))) (1 + expr_depth (tree.Replication c.in-Replication.place (view.expr c.in-Replication.count.value) (view.exprs c.in-Replication.list.items)))
-    (join_arm c.join-in-Replication.result (draft c.args.builder.now) (draft c.parts-in-Replication.new.builder) (draft c.join-in-Replication.new.self) (g.E.Env.names c.args.env.now) c.args.needed c.args.at c.in_ok-copies-in-Replication.copies c.len-in-Replication.result c.in-Replication.list.items c.deref-in-Replication-2.result.now c.deref-in-Replication-2.ensures.value (omega (arith, some_part c.in-Replication.list.items (replication_is (draft c.args.builder.now).design (g.E.Env.names c.args.env.now) c.args.needed c.in-Replication.place (view.expr c.in-Replication.count.value) (view.exprs c.in-Replication.list.items) (subst (λ x. IsBuildable (draft c.args.builder.now).design (g.E.Env.names c.args.env.now) c.args.needed x) (ap view.expr c.in-Replication.is ∙ replication_view c.in-Replication.place c.in-Replication.count c.in-Replication.list) c.requires)).parts_are.shaped)) (let n : c.len-in-Replication.result ≡ length c.in-Replication.list.items = search rules in n) c.in_ok-parts-in-Replication.ensures c.join-in-Replication.ensures)
+    (join_arm c.join-in-Replication.result (draft c.args.builder.now) (draft c.parts-in-Replication.new.builder) (draft c.join-in-Replication.new.self) (g.E.Env.names c.args.env.now) c.args.needed c.args.at c.in_ok-copies-in-Replication.copies c.len-in-Replication.result c.in-Replication.list.items c.deref-in-Replication-2.result.now c.deref-in-Replication-2.ensures.value (omega (arith, some_part c.in-Replication.list.items (replication_is (home (draft c.args.builder.now)) (g.E.Env.names c.args.env.now) c.args.needed c.in-Replication.place (view.expr c.in-Replication.count.value) (view.exprs c.in-Replication.list.items) (subst (λ x. IsBuildable (home (draft c.args.builder.now)) (g.E.Env.names c.args.env.now) c.args.needed x) (ap view.expr c.in-Replication.is ∙ replication_view c.in-Replication.place c.in-Replication.count c.in-Replication.list) c.requires)).parts_are.shaped)) (let n : c.len-in-Replication.result ≡ length c.in-Replication.list.items = search rules in n) c.in_ok-parts-in-Replication.ensures c.join-in-Replication.ensures)
     (deeper_up_to (expr_depth (view.expr c.in-Replication.count.value)) (exprs_depth (view.exprs c.in-Replication.list.items)))))
 
 pub parts-operand-requires : goal.parts-operand-requires
 parts-operand-requires g t c κs within =
-    (part_falls c.args.list.now c.loop-part.part-index c.part-item.result t (omega arith) c.part-item.is c.decreases, (within, part_after (draft c.args.builder.now) (draft c.loop-part.builder) _ _ (g.E.Env.names c.args.env.now) c.args.needed (view.expr c.part-item.result) c.loop-part.invariant (each_part (draft c.args.builder.now).design (g.E.Env.names c.args.env.now) c.args.needed c.args.list.now c.loop-part.part-index c.part-item.result c.requires (omega arith) c.part-item.is)))
+    (part_falls c.args.list.now c.loop-part.part-index c.part-item.result t (omega arith) c.part-item.is c.decreases, (within, part_after (draft c.args.builder.now) (draft c.loop-part.builder) _ _ (g.E.Env.names c.args.env.now) c.args.needed (view.expr c.part-item.result) c.loop-part.invariant (each_part (home (draft c.args.builder.now)) (g.E.Env.names c.args.env.now) c.args.needed c.args.list.now c.loop-part.part-index c.part-item.result c.requires (omega arith) c.part-item.is)))
 
 pub parts-loop-part-init : goal.parts-loop-part-init
 parts-loop-part-init g t c =
@@ -139,7 +142,7 @@ parts-returns g t c =
 
 pub expression-unary-requires-in-AsSigned : goal.expression-unary-requires-in-AsSigned
 expression-unary-requires-in-AsSigned g t c =
-    child_ends (draft c.args.builder.now).design (g.E.Env.names c.args.env.now) c.args.needed (view.expr c.deref-in-AsSigned.result.now) (draft c.args.builder.now) (draft c.operand-in-AsSigned.new.builder) (child (draft c.args.builder.now).design (g.E.Env.names c.args.env.now) c.args.needed c.deref-in-AsSigned.result.now c.in-Call.a.value c.deref-in-AsSigned.ensures (signed_operand (draft c.args.builder.now).design (g.E.Env.names c.args.env.now) c.args.needed c.in-Call.place (view.expr c.in-Call.a.value) (subst (λ f. IsBuildable (draft c.args.builder.now).design (g.E.Env.names c.args.env.now) c.args.needed (tree.Call c.in-Call.place (view.system_function f) (view.expr c.in-Call.a.value))) c.in-AsSigned.is (subst (λ x. IsBuildable (draft c.args.builder.now).design (g.E.Env.names c.args.env.now) c.args.needed (view.expr x)) c.in-Call.is c.requires)))) c.in_ok-operand-in-AsSigned.ensures
+    child_ends (home (draft c.args.builder.now)) (g.E.Env.names c.args.env.now) c.args.needed (view.expr c.deref-in-AsSigned.result.now) (draft c.args.builder.now) (draft c.operand-in-AsSigned.new.builder) (child (home (draft c.args.builder.now)) (g.E.Env.names c.args.env.now) c.args.needed c.deref-in-AsSigned.result.now c.in-Call.a.value c.deref-in-AsSigned.ensures (signed_operand (home (draft c.args.builder.now)) (g.E.Env.names c.args.env.now) c.args.needed c.in-Call.place (view.expr c.in-Call.a.value) (subst (λ f. IsBuildable (home (draft c.args.builder.now)) (g.E.Env.names c.args.env.now) c.args.needed (tree.Call c.in-Call.place (view.system_function f) (view.expr c.in-Call.a.value))) c.in-AsSigned.is (subst (λ x. IsBuildable (home (draft c.args.builder.now)) (g.E.Env.names c.args.env.now) c.args.needed (view.expr x)) c.in-Call.is c.requires)))) c.in_ok-operand-in-AsSigned.ensures
 
 pub expression-returns-in_ok-operand-in-AsSigned : goal.expression-returns-in_ok-operand-in-AsSigned
 expression-returns-in_ok-operand-in-AsSigned g t c =
@@ -149,7 +152,7 @@ expression-returns-in_ok-operand-in-AsSigned g t c =
 
 pub expression-unary-requires-in-AsUnsigned : goal.expression-unary-requires-in-AsUnsigned
 expression-unary-requires-in-AsUnsigned g t c =
-    child_ends (draft c.args.builder.now).design (g.E.Env.names c.args.env.now) c.args.needed (view.expr c.deref-in-AsUnsigned.result.now) (draft c.args.builder.now) (draft c.operand-in-AsUnsigned.new.builder) (child (draft c.args.builder.now).design (g.E.Env.names c.args.env.now) c.args.needed c.deref-in-AsUnsigned.result.now c.in-Call.a.value c.deref-in-AsUnsigned.ensures (unsigned_operand (draft c.args.builder.now).design (g.E.Env.names c.args.env.now) c.args.needed c.in-Call.place (view.expr c.in-Call.a.value) (subst (λ f. IsBuildable (draft c.args.builder.now).design (g.E.Env.names c.args.env.now) c.args.needed (tree.Call c.in-Call.place (view.system_function f) (view.expr c.in-Call.a.value))) c.in-AsUnsigned.is (subst (λ x. IsBuildable (draft c.args.builder.now).design (g.E.Env.names c.args.env.now) c.args.needed (view.expr x)) c.in-Call.is c.requires)))) c.in_ok-operand-in-AsUnsigned.ensures
+    child_ends (home (draft c.args.builder.now)) (g.E.Env.names c.args.env.now) c.args.needed (view.expr c.deref-in-AsUnsigned.result.now) (draft c.args.builder.now) (draft c.operand-in-AsUnsigned.new.builder) (child (home (draft c.args.builder.now)) (g.E.Env.names c.args.env.now) c.args.needed c.deref-in-AsUnsigned.result.now c.in-Call.a.value c.deref-in-AsUnsigned.ensures (unsigned_operand (home (draft c.args.builder.now)) (g.E.Env.names c.args.env.now) c.args.needed c.in-Call.place (view.expr c.in-Call.a.value) (subst (λ f. IsBuildable (home (draft c.args.builder.now)) (g.E.Env.names c.args.env.now) c.args.needed (tree.Call c.in-Call.place (view.system_function f) (view.expr c.in-Call.a.value))) c.in-AsUnsigned.is (subst (λ x. IsBuildable (home (draft c.args.builder.now)) (g.E.Env.names c.args.env.now) c.args.needed (view.expr x)) c.in-Call.is c.requires)))) c.in_ok-operand-in-AsUnsigned.ensures
 
 pub expression-returns-in_ok-operand-in-AsUnsigned : goal.expression-returns-in_ok-operand-in-AsUnsigned
 expression-returns-in_ok-operand-in-AsUnsigned g t c =
@@ -160,7 +163,7 @@ expression-returns-in_ok-operand-in-AsUnsigned g t c =
 pub expression-constant_bits-requires : goal.expression-constant_bits-requires
 expression-constant_bits-requires g t c =
     subst (λ x. IsConstant (g.E.Env.names c.args.env.now) (view.expr x)) (sym c.in-Call.is)
-    (subst (λ f. IsConstant (g.E.Env.names c.args.env.now) (tree.Call c.in-Call.place (view.system_function f) (view.expr c.in-Call.a.value))) (sym c.in-Clog2.is) (clog2_constant (draft c.args.builder.now).design (g.E.Env.names c.args.env.now) c.args.needed c.in-Call.place (view.expr c.in-Call.a.value) (subst (λ f. IsBuildable (draft c.args.builder.now).design (g.E.Env.names c.args.env.now) c.args.needed (tree.Call c.in-Call.place (view.system_function f) (view.expr c.in-Call.a.value))) c.in-Clog2.is (subst (λ x. IsBuildable (draft c.args.builder.now).design (g.E.Env.names c.args.env.now) c.args.needed (view.expr x)) c.in-Call.is c.requires))))
+    (subst (λ f. IsConstant (g.E.Env.names c.args.env.now) (tree.Call c.in-Call.place (view.system_function f) (view.expr c.in-Call.a.value))) (sym c.in-Clog2.is) (clog2_constant (home (draft c.args.builder.now)) (g.E.Env.names c.args.env.now) c.args.needed c.in-Call.place (view.expr c.in-Call.a.value) (subst (λ f. IsBuildable (home (draft c.args.builder.now)) (g.E.Env.names c.args.env.now) c.args.needed (tree.Call c.in-Call.place (view.system_function f) (view.expr c.in-Call.a.value))) c.in-Clog2.is (subst (λ x. IsBuildable (home (draft c.args.builder.now)) (g.E.Env.names c.args.env.now) c.args.needed (view.expr x)) c.in-Call.is c.requires))))
 
 pub expression-returns-in_ok-bits-in-Clog2 : goal.expression-returns-in_ok-bits-in-Clog2
 expression-returns-in_ok-bits-in-Clog2 g t c =
@@ -170,106 +173,106 @@ expression-returns-in_ok-bits-in-Clog2 g t c =
     in
     subst (λ x. OnOk c.literal-in-Clog2.result (AddsExpression (draft c.args.builder.now) (draft c.literal-in-Clog2.new.self) (begins_at c.args.at (typed (view.expr x) (g.E.Env.names c.args.env.now) c.args.needed).expression) (1 + expr_depth (view.expr x)))) (sym c.in-Call.is)
     (subst (λ f. OnOk c.literal-in-Clog2.result (AddsExpression (draft c.args.builder.now) (draft c.literal-in-Clog2.new.self) (begins_at c.args.at (typed (tree.Call c.in-Call.place (view.system_function f) (view.expr c.in-Call.a.value)) (g.E.Env.names c.args.env.now) c.args.needed).expression) (1 + (1 + expr_depth (view.expr c.in-Call.a.value))))) (sym c.in-Clog2.is)
-    (clog2_arm c.literal-in-Clog2.result (draft c.args.builder.now) (draft c.literal-in-Clog2.new.self) (draft c.args.builder.now).design (g.E.Env.names c.args.env.now) c.args.needed c.args.at c.in-Call.place (view.expr c.in-Call.a.value) c.in_ok-bits-in-Clog2.bits
-    (subst (λ f. IsBuildable (draft c.args.builder.now).design (g.E.Env.names c.args.env.now) c.args.needed (tree.Call c.in-Call.place (view.system_function f) (view.expr c.in-Call.a.value))) c.in-Clog2.is (subst (λ x. IsBuildable (draft c.args.builder.now).design (g.E.Env.names c.args.env.now) c.args.needed (view.expr x)) c.in-Call.is c.requires)) bits c.literal-in-Clog2.ensures))
+    (clog2_arm c.literal-in-Clog2.result (draft c.args.builder.now) (draft c.literal-in-Clog2.new.self) (home (draft c.args.builder.now)) (g.E.Env.names c.args.env.now) c.args.needed c.args.at c.in-Call.place (view.expr c.in-Call.a.value) c.in_ok-bits-in-Clog2.bits
+    (subst (λ f. IsBuildable (home (draft c.args.builder.now)) (g.E.Env.names c.args.env.now) c.args.needed (tree.Call c.in-Call.place (view.system_function f) (view.expr c.in-Call.a.value))) c.in-Clog2.is (subst (λ x. IsBuildable (home (draft c.args.builder.now)) (g.E.Env.names c.args.env.now) c.args.needed (view.expr x)) c.in-Call.is c.requires)) bits c.literal-in-Clog2.ensures))
 
 pub selected-word-requires-clause-there : goal.selected-word-requires-clause-there
-selected-word-requires-clause-there g t c = (word_ends (draft c.args.builder.now) (draft c.operand.new.builder) (selected_by (tree.BitAt c.in-Bit.bracket (view.expr c.in-Bit.index.value)) (view.name c.args.name.now) (g.E.Env.names c.args.env.now) c.args.fixed c.args.needed) (typed (view.expr c.in-Bit.index.value) (g.E.Env.names c.args.env.now) c.args.needed) c.in-Some.signal (1 + expr_depth (view.expr c.in-Bit.index.value)) (bit_word (draft c.args.builder.now).design (g.E.Env.names c.args.env.now) c.args.fixed c.args.needed (view.name c.args.name.now) c.in-Bit.bracket (view.expr c.in-Bit.index.value) c.in-Some.signal (sym c.memory.ensures ∙ c.in-Some.is) (subst (λ x. IsSelectable (draft c.args.builder.now).design (g.E.Env.names c.args.env.now) c.args.fixed c.args.needed (view.name c.args.name.now) (view.select x)) c.in-Bit.is c.requires)) (subst (λ x. AddsExpression (draft c.args.builder.now) (draft c.operand.new.builder) (typed (view.expr x) (g.E.Env.names c.args.env.now) c.args.needed).expression (1 + expr_depth (view.expr x))) c.deref.ensures c.in_ok-operand-in-Bit.ensures) (omega (arith, (bit_index (draft c.args.builder.now).design (g.E.Env.names c.args.env.now) c.args.fixed c.args.needed (view.name c.args.name.now) c.in-Bit.bracket (view.expr c.in-Bit.index.value) (subst (λ x. IsSelectable (draft c.args.builder.now).design (g.E.Env.names c.args.env.now) c.args.fixed c.args.needed (view.name c.args.name.now) (view.select x)) c.in-Bit.is c.requires)).shallow))).there
+selected-word-requires-clause-there g t c = (word_ends (draft c.args.builder.now) (draft c.operand.new.builder) (selected_by (tree.BitAt c.in-Bit.bracket (view.expr c.in-Bit.index.value)) (view.name c.args.name.now) (g.E.Env.names c.args.env.now) c.args.fixed c.args.needed) (typed (view.expr c.in-Bit.index.value) (g.E.Env.names c.args.env.now) c.args.needed) c.in-Some.signal (1 + expr_depth (view.expr c.in-Bit.index.value)) (bit_word (home (draft c.args.builder.now)) (g.E.Env.names c.args.env.now) c.args.fixed c.args.needed (view.name c.args.name.now) c.in-Bit.bracket (view.expr c.in-Bit.index.value) c.in-Some.signal (sym c.memory.ensures ∙ c.in-Some.is) (subst (λ x. IsSelectable (home (draft c.args.builder.now)) (g.E.Env.names c.args.env.now) c.args.fixed c.args.needed (view.name c.args.name.now) (view.select x)) c.in-Bit.is c.requires)) (subst (λ x. AddsExpression (draft c.args.builder.now) (draft c.operand.new.builder) (typed (view.expr x) (g.E.Env.names c.args.env.now) c.args.needed).expression (1 + expr_depth (view.expr x))) c.deref.ensures c.in_ok-operand-in-Bit.ensures) (omega (arith, (bit_index (home (draft c.args.builder.now)) (g.E.Env.names c.args.env.now) c.args.fixed c.args.needed (view.name c.args.name.now) c.in-Bit.bracket (view.expr c.in-Bit.index.value) (subst (λ x. IsSelectable (home (draft c.args.builder.now)) (g.E.Env.names c.args.env.now) c.args.fixed c.args.needed (view.name c.args.name.now) (view.select x)) c.in-Bit.is c.requires)).shallow))).there
 
 pub selected-word-requires-clause-memory : goal.selected-word-requires-clause-memory
-selected-word-requires-clause-memory g t c = (word_ends (draft c.args.builder.now) (draft c.operand.new.builder) (selected_by (tree.BitAt c.in-Bit.bracket (view.expr c.in-Bit.index.value)) (view.name c.args.name.now) (g.E.Env.names c.args.env.now) c.args.fixed c.args.needed) (typed (view.expr c.in-Bit.index.value) (g.E.Env.names c.args.env.now) c.args.needed) c.in-Some.signal (1 + expr_depth (view.expr c.in-Bit.index.value)) (bit_word (draft c.args.builder.now).design (g.E.Env.names c.args.env.now) c.args.fixed c.args.needed (view.name c.args.name.now) c.in-Bit.bracket (view.expr c.in-Bit.index.value) c.in-Some.signal (sym c.memory.ensures ∙ c.in-Some.is) (subst (λ x. IsSelectable (draft c.args.builder.now).design (g.E.Env.names c.args.env.now) c.args.fixed c.args.needed (view.name c.args.name.now) (view.select x)) c.in-Bit.is c.requires)) (subst (λ x. AddsExpression (draft c.args.builder.now) (draft c.operand.new.builder) (typed (view.expr x) (g.E.Env.names c.args.env.now) c.args.needed).expression (1 + expr_depth (view.expr x))) c.deref.ensures c.in_ok-operand-in-Bit.ensures) (omega (arith, (bit_index (draft c.args.builder.now).design (g.E.Env.names c.args.env.now) c.args.fixed c.args.needed (view.name c.args.name.now) c.in-Bit.bracket (view.expr c.in-Bit.index.value) (subst (λ x. IsSelectable (draft c.args.builder.now).design (g.E.Env.names c.args.env.now) c.args.fixed c.args.needed (view.name c.args.name.now) (view.select x)) c.in-Bit.is c.requires)).shallow))).memory
+selected-word-requires-clause-memory g t c = (word_ends (draft c.args.builder.now) (draft c.operand.new.builder) (selected_by (tree.BitAt c.in-Bit.bracket (view.expr c.in-Bit.index.value)) (view.name c.args.name.now) (g.E.Env.names c.args.env.now) c.args.fixed c.args.needed) (typed (view.expr c.in-Bit.index.value) (g.E.Env.names c.args.env.now) c.args.needed) c.in-Some.signal (1 + expr_depth (view.expr c.in-Bit.index.value)) (bit_word (home (draft c.args.builder.now)) (g.E.Env.names c.args.env.now) c.args.fixed c.args.needed (view.name c.args.name.now) c.in-Bit.bracket (view.expr c.in-Bit.index.value) c.in-Some.signal (sym c.memory.ensures ∙ c.in-Some.is) (subst (λ x. IsSelectable (home (draft c.args.builder.now)) (g.E.Env.names c.args.env.now) c.args.fixed c.args.needed (view.name c.args.name.now) (view.select x)) c.in-Bit.is c.requires)) (subst (λ x. AddsExpression (draft c.args.builder.now) (draft c.operand.new.builder) (typed (view.expr x) (g.E.Env.names c.args.env.now) c.args.needed).expression (1 + expr_depth (view.expr x))) c.deref.ensures c.in_ok-operand-in-Bit.ensures) (omega (arith, (bit_index (home (draft c.args.builder.now)) (g.E.Env.names c.args.env.now) c.args.fixed c.args.needed (view.name c.args.name.now) c.in-Bit.bracket (view.expr c.in-Bit.index.value) (subst (λ x. IsSelectable (home (draft c.args.builder.now)) (g.E.Env.names c.args.env.now) c.args.fixed c.args.needed (view.name c.args.name.now) (view.select x)) c.in-Bit.is c.requires)).shallow))).memory
 
 pub selected-word-requires-clause-ends : goal.selected-word-requires-clause-ends
-selected-word-requires-clause-ends g t c = (word_ends (draft c.args.builder.now) (draft c.operand.new.builder) (selected_by (tree.BitAt c.in-Bit.bracket (view.expr c.in-Bit.index.value)) (view.name c.args.name.now) (g.E.Env.names c.args.env.now) c.args.fixed c.args.needed) (typed (view.expr c.in-Bit.index.value) (g.E.Env.names c.args.env.now) c.args.needed) c.in-Some.signal (1 + expr_depth (view.expr c.in-Bit.index.value)) (bit_word (draft c.args.builder.now).design (g.E.Env.names c.args.env.now) c.args.fixed c.args.needed (view.name c.args.name.now) c.in-Bit.bracket (view.expr c.in-Bit.index.value) c.in-Some.signal (sym c.memory.ensures ∙ c.in-Some.is) (subst (λ x. IsSelectable (draft c.args.builder.now).design (g.E.Env.names c.args.env.now) c.args.fixed c.args.needed (view.name c.args.name.now) (view.select x)) c.in-Bit.is c.requires)) (subst (λ x. AddsExpression (draft c.args.builder.now) (draft c.operand.new.builder) (typed (view.expr x) (g.E.Env.names c.args.env.now) c.args.needed).expression (1 + expr_depth (view.expr x))) c.deref.ensures c.in_ok-operand-in-Bit.ensures) (omega (arith, (bit_index (draft c.args.builder.now).design (g.E.Env.names c.args.env.now) c.args.fixed c.args.needed (view.name c.args.name.now) c.in-Bit.bracket (view.expr c.in-Bit.index.value) (subst (λ x. IsSelectable (draft c.args.builder.now).design (g.E.Env.names c.args.env.now) c.args.fixed c.args.needed (view.name c.args.name.now) (view.select x)) c.in-Bit.is c.requires)).shallow))).ends
+selected-word-requires-clause-ends g t c = (word_ends (draft c.args.builder.now) (draft c.operand.new.builder) (selected_by (tree.BitAt c.in-Bit.bracket (view.expr c.in-Bit.index.value)) (view.name c.args.name.now) (g.E.Env.names c.args.env.now) c.args.fixed c.args.needed) (typed (view.expr c.in-Bit.index.value) (g.E.Env.names c.args.env.now) c.args.needed) c.in-Some.signal (1 + expr_depth (view.expr c.in-Bit.index.value)) (bit_word (home (draft c.args.builder.now)) (g.E.Env.names c.args.env.now) c.args.fixed c.args.needed (view.name c.args.name.now) c.in-Bit.bracket (view.expr c.in-Bit.index.value) c.in-Some.signal (sym c.memory.ensures ∙ c.in-Some.is) (subst (λ x. IsSelectable (home (draft c.args.builder.now)) (g.E.Env.names c.args.env.now) c.args.fixed c.args.needed (view.name c.args.name.now) (view.select x)) c.in-Bit.is c.requires)) (subst (λ x. AddsExpression (draft c.args.builder.now) (draft c.operand.new.builder) (typed (view.expr x) (g.E.Env.names c.args.env.now) c.args.needed).expression (1 + expr_depth (view.expr x))) c.deref.ensures c.in_ok-operand-in-Bit.ensures) (omega (arith, (bit_index (home (draft c.args.builder.now)) (g.E.Env.names c.args.env.now) c.args.fixed c.args.needed (view.name c.args.name.now) c.in-Bit.bracket (view.expr c.in-Bit.index.value) (subst (λ x. IsSelectable (home (draft c.args.builder.now)) (g.E.Env.names c.args.env.now) c.args.fixed c.args.needed (view.name c.args.name.now) (view.select x)) c.in-Bit.is c.requires)).shallow))).ends
 
 pub selected-returns-in-Some : goal.selected-returns-in-Some
 selected-returns-in-Some g t c =
     subst (λ x. OnOk c.word.result (AddsExpression (draft c.args.builder.now) (draft c.word.new.self) (begins_at c.args.at (selected_by (view.select x) (view.name c.args.name.now) (g.E.Env.names c.args.env.now) c.args.fixed c.args.needed).expression) (1 + select_depth (view.select x)))) (sym c.in-Bit.is)
-    (word_arm c.word.result (draft c.args.builder.now) (draft c.operand.new.builder) (draft c.word.new.self) (selected_by (tree.BitAt c.in-Bit.bracket (view.expr c.in-Bit.index.value)) (view.name c.args.name.now) (g.E.Env.names c.args.env.now) c.args.fixed c.args.needed) (typed (view.expr c.in-Bit.index.value) (g.E.Env.names c.args.env.now) c.args.needed) c.in-Some.signal (1 + expr_depth (view.expr c.in-Bit.index.value)) c.args.at (1 + (1 + expr_depth (view.expr c.in-Bit.index.value))) (bit_word (draft c.args.builder.now).design (g.E.Env.names c.args.env.now) c.args.fixed c.args.needed (view.name c.args.name.now) c.in-Bit.bracket (view.expr c.in-Bit.index.value) c.in-Some.signal (sym c.memory.ensures ∙ c.in-Some.is) (subst (λ x. IsSelectable (draft c.args.builder.now).design (g.E.Env.names c.args.env.now) c.args.fixed c.args.needed (view.name c.args.name.now) (view.select x)) c.in-Bit.is c.requires)) (subst (λ x. AddsExpression (draft c.args.builder.now) (draft c.operand.new.builder) (typed (view.expr x) (g.E.Env.names c.args.env.now) c.args.needed).expression (1 + expr_depth (view.expr x))) c.deref.ensures c.in_ok-operand-in-Bit.ensures) c.word.ensures (omega arith))
+    (word_arm c.word.result (draft c.args.builder.now) (draft c.operand.new.builder) (draft c.word.new.self) (selected_by (tree.BitAt c.in-Bit.bracket (view.expr c.in-Bit.index.value)) (view.name c.args.name.now) (g.E.Env.names c.args.env.now) c.args.fixed c.args.needed) (typed (view.expr c.in-Bit.index.value) (g.E.Env.names c.args.env.now) c.args.needed) c.in-Some.signal (1 + expr_depth (view.expr c.in-Bit.index.value)) c.args.at (1 + (1 + expr_depth (view.expr c.in-Bit.index.value))) (bit_word (home (draft c.args.builder.now)) (g.E.Env.names c.args.env.now) c.args.fixed c.args.needed (view.name c.args.name.now) c.in-Bit.bracket (view.expr c.in-Bit.index.value) c.in-Some.signal (sym c.memory.ensures ∙ c.in-Some.is) (subst (λ x. IsSelectable (home (draft c.args.builder.now)) (g.E.Env.names c.args.env.now) c.args.fixed c.args.needed (view.name c.args.name.now) (view.select x)) c.in-Bit.is c.requires)) (subst (λ x. AddsExpression (draft c.args.builder.now) (draft c.operand.new.builder) (typed (view.expr x) (g.E.Env.names c.args.env.now) c.args.needed).expression (1 + expr_depth (view.expr x))) c.deref.ensures c.in_ok-operand-in-Bit.ensures) c.word.ensures (omega arith))
 
 pub selected-source-requires : goal.selected-source-requires
 selected-source-requires g t c =
-    subst (λ d. HasBits d c.args.fixed c.args.name.now.place ((g.E.Env.names c.args.env.now) c.args.name.now.text)) (same_design (draft c.args.builder.now) (draft c.operand.new.builder) (typed (view.expr c.in-Bit.index.value) (g.E.Env.names c.args.env.now) c.args.needed).expression (1 + expr_depth (view.expr c.in-Bit.index.value)) (subst (λ x. AddsExpression (draft c.args.builder.now) (draft c.operand.new.builder) (typed (view.expr x) (g.E.Env.names c.args.env.now) c.args.needed).expression (1 + expr_depth (view.expr x))) c.deref.ensures c.in_ok-operand-in-Bit.ensures))
-    (bit_taken (draft c.args.builder.now).design (g.E.Env.names c.args.env.now) c.args.fixed c.args.needed (view.name c.args.name.now) c.in-Bit.bracket (view.expr c.in-Bit.index.value) (sym c.memory.ensures ∙ c.in-None.is) (subst (λ x. IsSelectable (draft c.args.builder.now).design (g.E.Env.names c.args.env.now) c.args.fixed c.args.needed (view.name c.args.name.now) (view.select x)) c.in-Bit.is c.requires)).bits
+    subst (λ d. HasBits d c.args.fixed c.args.name.now.place ((g.E.Env.names c.args.env.now) c.args.name.now.text)) (same_home (draft c.args.builder.now) (draft c.operand.new.builder) (typed (view.expr c.in-Bit.index.value) (g.E.Env.names c.args.env.now) c.args.needed).expression (1 + expr_depth (view.expr c.in-Bit.index.value)) (subst (λ x. AddsExpression (draft c.args.builder.now) (draft c.operand.new.builder) (typed (view.expr x) (g.E.Env.names c.args.env.now) c.args.needed).expression (1 + expr_depth (view.expr x))) c.deref.ensures c.in_ok-operand-in-Bit.ensures))
+    (bit_taken (home (draft c.args.builder.now)) (g.E.Env.names c.args.env.now) c.args.fixed c.args.needed (view.name c.args.name.now) c.in-Bit.bracket (view.expr c.in-Bit.index.value) (sym c.memory.ensures ∙ c.in-None.is) (subst (λ x. IsSelectable (home (draft c.args.builder.now)) (g.E.Env.names c.args.env.now) c.args.fixed c.args.needed (view.name c.args.name.now) (view.select x)) c.in-Bit.is c.requires)).bits
 
 pub selected-bit-requires : goal.selected-bit-requires
 selected-bit-requires g t c =
-    select_ends (draft c.args.builder.now).design (g.E.Env.names c.args.env.now) c.args.fixed c.args.needed (view.name c.args.name.now) (tree.BitAt c.in-Bit.bracket (view.expr c.in-Bit.index.value)) true 1 (typed (view.expr c.in-Bit.index.value) (g.E.Env.names c.args.env.now) c.args.needed).expression (draft c.args.builder.now) (draft c.operand.new.builder) (draft c.source.new.builder) (1 + expr_depth (view.expr c.in-Bit.index.value)) c.in_ok-range-in-None.range (bit_taken (draft c.args.builder.now).design (g.E.Env.names c.args.env.now) c.args.fixed c.args.needed (view.name c.args.name.now) c.in-Bit.bracket (view.expr c.in-Bit.index.value) (sym c.memory.ensures ∙ c.in-None.is) (subst (λ x. IsSelectable (draft c.args.builder.now).design (g.E.Env.names c.args.env.now) c.args.fixed c.args.needed (view.name c.args.name.now) (view.select x)) c.in-Bit.is c.requires)) refl (subst (λ x. AddsExpression (draft c.args.builder.now) (draft c.operand.new.builder) (typed (view.expr x) (g.E.Env.names c.args.env.now) c.args.needed).expression (1 + expr_depth (view.expr x))) c.deref.ensures c.in_ok-operand-in-Bit.ensures) (omega (arith, (bit_index (draft c.args.builder.now).design (g.E.Env.names c.args.env.now) c.args.fixed c.args.needed (view.name c.args.name.now) c.in-Bit.bracket (view.expr c.in-Bit.index.value) (subst (λ x. IsSelectable (draft c.args.builder.now).design (g.E.Env.names c.args.env.now) c.args.fixed c.args.needed (view.name c.args.name.now) (view.select x)) c.in-Bit.is c.requires)).shallow)) c.in_ok-range-in-None.ensures
+    select_ends (home (draft c.args.builder.now)) (g.E.Env.names c.args.env.now) c.args.fixed c.args.needed (view.name c.args.name.now) (tree.BitAt c.in-Bit.bracket (view.expr c.in-Bit.index.value)) true 1 (typed (view.expr c.in-Bit.index.value) (g.E.Env.names c.args.env.now) c.args.needed).expression (draft c.args.builder.now) (draft c.operand.new.builder) (draft c.source.new.builder) (1 + expr_depth (view.expr c.in-Bit.index.value)) c.in_ok-range-in-None.range (bit_taken (home (draft c.args.builder.now)) (g.E.Env.names c.args.env.now) c.args.fixed c.args.needed (view.name c.args.name.now) c.in-Bit.bracket (view.expr c.in-Bit.index.value) (sym c.memory.ensures ∙ c.in-None.is) (subst (λ x. IsSelectable (home (draft c.args.builder.now)) (g.E.Env.names c.args.env.now) c.args.fixed c.args.needed (view.name c.args.name.now) (view.select x)) c.in-Bit.is c.requires)) refl (subst (λ x. AddsExpression (draft c.args.builder.now) (draft c.operand.new.builder) (typed (view.expr x) (g.E.Env.names c.args.env.now) c.args.needed).expression (1 + expr_depth (view.expr x))) c.deref.ensures c.in_ok-operand-in-Bit.ensures) (omega (arith, (bit_index (home (draft c.args.builder.now)) (g.E.Env.names c.args.env.now) c.args.fixed c.args.needed (view.name c.args.name.now) c.in-Bit.bracket (view.expr c.in-Bit.index.value) (subst (λ x. IsSelectable (home (draft c.args.builder.now)) (g.E.Env.names c.args.env.now) c.args.fixed c.args.needed (view.name c.args.name.now) (view.select x)) c.in-Bit.is c.requires)).shallow)) c.in_ok-range-in-None.ensures
 
 pub selected-returns-in_ok-range-in-None : goal.selected-returns-in_ok-range-in-None
 selected-returns-in_ok-range-in-None g t c =
     subst (λ x. OnOk c.bit.result (AddsExpression (draft c.args.builder.now) (draft c.bit.new.self) (begins_at c.args.at (selected_by (view.select x) (view.name c.args.name.now) (g.E.Env.names c.args.env.now) c.args.fixed c.args.needed).expression) (1 + select_depth (view.select x)))) (sym c.in-Bit.is)
-    (select_arm c.bit.result (draft c.args.builder.now).design (g.E.Env.names c.args.env.now) c.args.fixed c.args.needed (view.name c.args.name.now) (tree.BitAt c.in-Bit.bracket (view.expr c.in-Bit.index.value)) true 1 (typed (view.expr c.in-Bit.index.value) (g.E.Env.names c.args.env.now) c.args.needed).expression (draft c.args.builder.now) (draft c.operand.new.builder) (draft c.source.new.builder) (draft c.bit.new.self) (1 + expr_depth (view.expr c.in-Bit.index.value)) c.args.at (1 + (1 + expr_depth (view.expr c.in-Bit.index.value))) c.in_ok-range-in-None.range (bit_taken (draft c.args.builder.now).design (g.E.Env.names c.args.env.now) c.args.fixed c.args.needed (view.name c.args.name.now) c.in-Bit.bracket (view.expr c.in-Bit.index.value) (sym c.memory.ensures ∙ c.in-None.is) (subst (λ x. IsSelectable (draft c.args.builder.now).design (g.E.Env.names c.args.env.now) c.args.fixed c.args.needed (view.name c.args.name.now) (view.select x)) c.in-Bit.is c.requires)) (subst (λ x. AddsExpression (draft c.args.builder.now) (draft c.operand.new.builder) (typed (view.expr x) (g.E.Env.names c.args.env.now) c.args.needed).expression (1 + expr_depth (view.expr x))) c.deref.ensures c.in_ok-operand-in-Bit.ensures) c.in_ok-range-in-None.ensures c.bit.ensures (omega arith))
+    (select_arm c.bit.result (home (draft c.args.builder.now)) (g.E.Env.names c.args.env.now) c.args.fixed c.args.needed (view.name c.args.name.now) (tree.BitAt c.in-Bit.bracket (view.expr c.in-Bit.index.value)) true 1 (typed (view.expr c.in-Bit.index.value) (g.E.Env.names c.args.env.now) c.args.needed).expression (draft c.args.builder.now) (draft c.operand.new.builder) (draft c.source.new.builder) (draft c.bit.new.self) (1 + expr_depth (view.expr c.in-Bit.index.value)) c.args.at (1 + (1 + expr_depth (view.expr c.in-Bit.index.value))) c.in_ok-range-in-None.range (bit_taken (home (draft c.args.builder.now)) (g.E.Env.names c.args.env.now) c.args.fixed c.args.needed (view.name c.args.name.now) c.in-Bit.bracket (view.expr c.in-Bit.index.value) (sym c.memory.ensures ∙ c.in-None.is) (subst (λ x. IsSelectable (home (draft c.args.builder.now)) (g.E.Env.names c.args.env.now) c.args.fixed c.args.needed (view.name c.args.name.now) (view.select x)) c.in-Bit.is c.requires)) (subst (λ x. AddsExpression (draft c.args.builder.now) (draft c.operand.new.builder) (typed (view.expr x) (g.E.Env.names c.args.env.now) c.args.needed).expression (1 + expr_depth (view.expr x))) c.deref.ensures c.in_ok-operand-in-Bit.ensures) c.in_ok-range-in-None.ensures c.bit.ensures (omega arith))
 
 pub selected-number_within-requires : goal.selected-number_within-requires
 selected-number_within-requires g t c =
-    subst (λ x. IsNumbered 1 64 (g.E.Env.names c.args.env.now) (view.expr x)) (sym c.deref-in-Upward.ensures) (moving_is (draft c.args.builder.now).design (g.E.Env.names c.args.env.now) c.args.fixed c.args.needed true (view.name c.args.name.now) c.in-Slice.bracket tree.Upward (view.expr c.in-Slice.left.value) (view.expr c.in-Slice.right.value) (λ declared. refl) (subst (λ k. IsSelectable (draft c.args.builder.now).design (g.E.Env.names c.args.env.now) c.args.fixed c.args.needed (view.name c.args.name.now) (tree.Slice c.in-Slice.bracket (view.slice_kind k) (view.expr c.in-Slice.left.value) (view.expr c.in-Slice.right.value))) c.in-Upward.is (subst (λ x. IsSelectable (draft c.args.builder.now).design (g.E.Env.names c.args.env.now) c.args.fixed c.args.needed (view.name c.args.name.now) (view.select x)) c.in-Slice.is c.requires))).width
+    subst (λ x. IsWithin 1 64 (steady (g.E.Env.names c.args.env.now)) (view.expr x)) (sym c.deref-in-Upward.ensures) (moving_is (home (draft c.args.builder.now)) (g.E.Env.names c.args.env.now) c.args.fixed c.args.needed true (view.name c.args.name.now) c.in-Slice.bracket tree.Upward (view.expr c.in-Slice.left.value) (view.expr c.in-Slice.right.value) (λ declared. refl) (subst (λ k. IsSelectable (home (draft c.args.builder.now)) (g.E.Env.names c.args.env.now) c.args.fixed c.args.needed (view.name c.args.name.now) (tree.Slice c.in-Slice.bracket (view.slice_kind k) (view.expr c.in-Slice.left.value) (view.expr c.in-Slice.right.value))) c.in-Upward.is (subst (λ x. IsSelectable (home (draft c.args.builder.now)) (g.E.Env.names c.args.env.now) c.args.fixed c.args.needed (view.name c.args.name.now) (view.select x)) c.in-Slice.is c.requires))).width
 
 pub selected-operand-requires-in-Upward : goal.selected-operand-requires-in-Upward
 selected-operand-requires-in-Upward g t c κs within =
-    (search (rules, the_lemmas), (within, child (draft c.args.builder.now).design (g.E.Env.names c.args.env.now) c.args.needed c.deref-in-Upward-2.result.now c.in-Slice.left.value c.deref-in-Upward-2.ensures (moving_is (draft c.args.builder.now).design (g.E.Env.names c.args.env.now) c.args.fixed c.args.needed true (view.name c.args.name.now) c.in-Slice.bracket tree.Upward (view.expr c.in-Slice.left.value) (view.expr c.in-Slice.right.value) (λ declared. refl) (subst (λ k. IsSelectable (draft c.args.builder.now).design (g.E.Env.names c.args.env.now) c.args.fixed c.args.needed (view.name c.args.name.now) (tree.Slice c.in-Slice.bracket (view.slice_kind k) (view.expr c.in-Slice.left.value) (view.expr c.in-Slice.right.value))) c.in-Upward.is (subst (λ x. IsSelectable (draft c.args.builder.now).design (g.E.Env.names c.args.env.now) c.args.fixed c.args.needed (view.name c.args.name.now) (view.select x)) c.in-Slice.is c.requires))).index))
+    (search (rules, the_lemmas), (within, child (home (draft c.args.builder.now)) (g.E.Env.names c.args.env.now) c.args.needed c.deref-in-Upward-2.result.now c.in-Slice.left.value c.deref-in-Upward-2.ensures (moving_is (home (draft c.args.builder.now)) (g.E.Env.names c.args.env.now) c.args.fixed c.args.needed true (view.name c.args.name.now) c.in-Slice.bracket tree.Upward (view.expr c.in-Slice.left.value) (view.expr c.in-Slice.right.value) (λ declared. refl) (subst (λ k. IsSelectable (home (draft c.args.builder.now)) (g.E.Env.names c.args.env.now) c.args.fixed c.args.needed (view.name c.args.name.now) (tree.Slice c.in-Slice.bracket (view.slice_kind k) (view.expr c.in-Slice.left.value) (view.expr c.in-Slice.right.value))) c.in-Upward.is (subst (λ x. IsSelectable (home (draft c.args.builder.now)) (g.E.Env.names c.args.env.now) c.args.fixed c.args.needed (view.name c.args.name.now) (view.select x)) c.in-Slice.is c.requires))).index))
 
 pub selected-part-requires-in-Upward : goal.selected-part-requires-in-Upward
 selected-part-requires-in-Upward g t c =
-    select_ends (draft c.args.builder.now).design (g.E.Env.names c.args.env.now) c.args.fixed c.args.needed (view.name c.args.name.now) (tree.Slice c.in-Slice.bracket tree.Upward (view.expr c.in-Slice.left.value) (view.expr c.in-Slice.right.value)) true c.in_ok-width-in-Upward.width (typed (view.expr c.in-Slice.left.value) (g.E.Env.names c.args.env.now) c.args.needed).expression (draft c.args.builder.now) (draft c.operand-in-Upward.new.builder) (draft c.source-in-Upward.new.builder) (1 + expr_depth (view.expr c.in-Slice.left.value)) c.in_ok-range-in-Upward.range (moving_taken (draft c.args.builder.now).design (g.E.Env.names c.args.env.now) c.args.fixed c.args.needed true (view.name c.args.name.now) c.in-Slice.bracket tree.Upward (view.expr c.in-Slice.left.value) (view.expr c.in-Slice.right.value) c.in_ok-width-in-Upward.width (λ declared. refl) (subst (λ k. IsSelectable (draft c.args.builder.now).design (g.E.Env.names c.args.env.now) c.args.fixed c.args.needed (view.name c.args.name.now) (tree.Slice c.in-Slice.bracket (view.slice_kind k) (view.expr c.in-Slice.left.value) (view.expr c.in-Slice.right.value))) c.in-Upward.is (subst (λ x. IsSelectable (draft c.args.builder.now).design (g.E.Env.names c.args.env.now) c.args.fixed c.args.needed (view.name c.args.name.now) (view.select x)) c.in-Slice.is c.requires)) (subst (λ x. (natural 1 64 (expr_place (view.expr x)) (constant (view.expr x) (g.E.Env.names c.args.env.now))).number ≡ Some c.in_ok-width-in-Upward.width) c.deref-in-Upward.ensures c.in_ok-width-in-Upward.ensures)) refl (subst (λ x. AddsExpression (draft c.args.builder.now) (draft c.operand-in-Upward.new.builder) (typed (view.expr x) (g.E.Env.names c.args.env.now) c.args.needed).expression (1 + expr_depth (view.expr x))) c.deref-in-Upward-2.ensures c.in_ok-operand-in-Upward.ensures) (omega (arith, (moving_is (draft c.args.builder.now).design (g.E.Env.names c.args.env.now) c.args.fixed c.args.needed true (view.name c.args.name.now) c.in-Slice.bracket tree.Upward (view.expr c.in-Slice.left.value) (view.expr c.in-Slice.right.value) (λ declared. refl) (subst (λ k. IsSelectable (draft c.args.builder.now).design (g.E.Env.names c.args.env.now) c.args.fixed c.args.needed (view.name c.args.name.now) (tree.Slice c.in-Slice.bracket (view.slice_kind k) (view.expr c.in-Slice.left.value) (view.expr c.in-Slice.right.value))) c.in-Upward.is (subst (λ x. IsSelectable (draft c.args.builder.now).design (g.E.Env.names c.args.env.now) c.args.fixed c.args.needed (view.name c.args.name.now) (view.select x)) c.in-Slice.is c.requires))).index.shallow)) c.in_ok-range-in-Upward.ensures
+    select_ends (home (draft c.args.builder.now)) (g.E.Env.names c.args.env.now) c.args.fixed c.args.needed (view.name c.args.name.now) (tree.Slice c.in-Slice.bracket tree.Upward (view.expr c.in-Slice.left.value) (view.expr c.in-Slice.right.value)) true c.in_ok-width-in-Upward.width (typed (view.expr c.in-Slice.left.value) (g.E.Env.names c.args.env.now) c.args.needed).expression (draft c.args.builder.now) (draft c.operand-in-Upward.new.builder) (draft c.source-in-Upward.new.builder) (1 + expr_depth (view.expr c.in-Slice.left.value)) c.in_ok-range-in-Upward.range (moving_taken (home (draft c.args.builder.now)) (g.E.Env.names c.args.env.now) c.args.fixed c.args.needed true (view.name c.args.name.now) c.in-Slice.bracket tree.Upward (view.expr c.in-Slice.left.value) (view.expr c.in-Slice.right.value) c.in_ok-width-in-Upward.width (λ declared. refl) (subst (λ k. IsSelectable (home (draft c.args.builder.now)) (g.E.Env.names c.args.env.now) c.args.fixed c.args.needed (view.name c.args.name.now) (tree.Slice c.in-Slice.bracket (view.slice_kind k) (view.expr c.in-Slice.left.value) (view.expr c.in-Slice.right.value))) c.in-Upward.is (subst (λ x. IsSelectable (home (draft c.args.builder.now)) (g.E.Env.names c.args.env.now) c.args.fixed c.args.needed (view.name c.args.name.now) (view.select x)) c.in-Slice.is c.requires)) (subst (λ x. (natural 1 64 (expr_place (view.expr x)) (constant (view.expr x) (steady (g.E.Env.names c.args.env.now)))).number ≡ Some c.in_ok-width-in-Upward.width) c.deref-in-Upward.ensures c.in_ok-width-in-Upward.ensures)) refl (subst (λ x. AddsExpression (draft c.args.builder.now) (draft c.operand-in-Upward.new.builder) (typed (view.expr x) (g.E.Env.names c.args.env.now) c.args.needed).expression (1 + expr_depth (view.expr x))) c.deref-in-Upward-2.ensures c.in_ok-operand-in-Upward.ensures) (omega (arith, (moving_is (home (draft c.args.builder.now)) (g.E.Env.names c.args.env.now) c.args.fixed c.args.needed true (view.name c.args.name.now) c.in-Slice.bracket tree.Upward (view.expr c.in-Slice.left.value) (view.expr c.in-Slice.right.value) (λ declared. refl) (subst (λ k. IsSelectable (home (draft c.args.builder.now)) (g.E.Env.names c.args.env.now) c.args.fixed c.args.needed (view.name c.args.name.now) (tree.Slice c.in-Slice.bracket (view.slice_kind k) (view.expr c.in-Slice.left.value) (view.expr c.in-Slice.right.value))) c.in-Upward.is (subst (λ x. IsSelectable (home (draft c.args.builder.now)) (g.E.Env.names c.args.env.now) c.args.fixed c.args.needed (view.name c.args.name.now) (view.select x)) c.in-Slice.is c.requires))).index.shallow)) c.in_ok-range-in-Upward.ensures
 
 pub selected-returns-in_ok-range-in-Upward : goal.selected-returns-in_ok-range-in-Upward
 selected-returns-in_ok-range-in-Upward g t c =
     subst (λ x. OnOk c.part-in-Upward.result (AddsExpression (draft c.args.builder.now) (draft c.part-in-Upward.new.self) (begins_at c.args.at (selected_by (view.select x) (view.name c.args.name.now) (g.E.Env.names c.args.env.now) c.args.fixed c.args.needed).expression) (1 + select_depth (view.select x)))) (sym c.in-Slice.is)
     (subst (λ k. OnOk c.part-in-Upward.result (AddsExpression (draft c.args.builder.now) (draft c.part-in-Upward.new.self) (begins_at c.args.at (selected_by (tree.Slice c.in-Slice.bracket (view.slice_kind k) (view.expr c.in-Slice.left.value) (view.expr c.in-Slice.right.value)) (view.name c.args.name.now) (g.E.Env.names c.args.env.now) c.args.fixed c.args.needed).expression) (1 + (1 + max (expr_depth (view.expr c.in-Slice.left.value)) (expr_depth (view.expr c.in-Slice.right.value)))))) (sym c.in-Upward.is)
-    (select_arm c.part-in-Upward.result (draft c.args.builder.now).design (g.E.Env.names c.args.env.now) c.args.fixed c.args.needed (view.name c.args.name.now) (tree.Slice c.in-Slice.bracket tree.Upward (view.expr c.in-Slice.left.value) (view.expr c.in-Slice.right.value)) true c.in_ok-width-in-Upward.width (typed (view.expr c.in-Slice.left.value) (g.E.Env.names c.args.env.now) c.args.needed).expression (draft c.args.builder.now) (draft c.operand-in-Upward.new.builder) (draft c.source-in-Upward.new.builder) (draft c.part-in-Upward.new.self) (1 + expr_depth (view.expr c.in-Slice.left.value)) c.args.at (1 + (1 + max (expr_depth (view.expr c.in-Slice.left.value)) (expr_depth (view.expr c.in-Slice.right.value)))) c.in_ok-range-in-Upward.range (moving_taken (draft c.args.builder.now).design (g.E.Env.names c.args.env.now) c.args.fixed c.args.needed true (view.name c.args.name.now) c.in-Slice.bracket tree.Upward (view.expr c.in-Slice.left.value) (view.expr c.in-Slice.right.value) c.in_ok-width-in-Upward.width (λ declared. refl) (subst (λ k. IsSelectable (draft c.args.builder.now).design (g.E.Env.names c.args.env.now) c.args.fixed c.args.needed (view.name c.args.name.now) (tree.Slice c.in-Slice.bracket (view.slice_kind k) (view.expr c.in-Slice.left.value) (view.expr c.in-Slice.right.value))) c.in-Upward.is (subst (λ x. IsSelectable (draft c.args.builder.now).design (g.E.Env.names c.args.env.now) c.args.fixed c.args.needed (view.name c.args.name.now) (view.select x)) c.in-Slice.is c.requires)) (subst (λ x. (natural 1 64 (expr_place (view.expr x)) (constant (view.expr x) (g.E.Env.names c.args.env.now))).number ≡ Some c.in_ok-width-in-Upward.width) c.deref-in-Upward.ensures c.in_ok-width-in-Upward.ensures)) (subst (λ x. AddsExpression (draft c.args.builder.now) (draft c.operand-in-Upward.new.builder) (typed (view.expr x) (g.E.Env.names c.args.env.now) c.args.needed).expression (1 + expr_depth (view.expr x))) c.deref-in-Upward-2.ensures c.in_ok-operand-in-Upward.ensures) c.in_ok-range-in-Upward.ensures c.part-in-Upward.ensures (omega arith)))
+    (select_arm c.part-in-Upward.result (home (draft c.args.builder.now)) (g.E.Env.names c.args.env.now) c.args.fixed c.args.needed (view.name c.args.name.now) (tree.Slice c.in-Slice.bracket tree.Upward (view.expr c.in-Slice.left.value) (view.expr c.in-Slice.right.value)) true c.in_ok-width-in-Upward.width (typed (view.expr c.in-Slice.left.value) (g.E.Env.names c.args.env.now) c.args.needed).expression (draft c.args.builder.now) (draft c.operand-in-Upward.new.builder) (draft c.source-in-Upward.new.builder) (draft c.part-in-Upward.new.self) (1 + expr_depth (view.expr c.in-Slice.left.value)) c.args.at (1 + (1 + max (expr_depth (view.expr c.in-Slice.left.value)) (expr_depth (view.expr c.in-Slice.right.value)))) c.in_ok-range-in-Upward.range (moving_taken (home (draft c.args.builder.now)) (g.E.Env.names c.args.env.now) c.args.fixed c.args.needed true (view.name c.args.name.now) c.in-Slice.bracket tree.Upward (view.expr c.in-Slice.left.value) (view.expr c.in-Slice.right.value) c.in_ok-width-in-Upward.width (λ declared. refl) (subst (λ k. IsSelectable (home (draft c.args.builder.now)) (g.E.Env.names c.args.env.now) c.args.fixed c.args.needed (view.name c.args.name.now) (tree.Slice c.in-Slice.bracket (view.slice_kind k) (view.expr c.in-Slice.left.value) (view.expr c.in-Slice.right.value))) c.in-Upward.is (subst (λ x. IsSelectable (home (draft c.args.builder.now)) (g.E.Env.names c.args.env.now) c.args.fixed c.args.needed (view.name c.args.name.now) (view.select x)) c.in-Slice.is c.requires)) (subst (λ x. (natural 1 64 (expr_place (view.expr x)) (constant (view.expr x) (steady (g.E.Env.names c.args.env.now)))).number ≡ Some c.in_ok-width-in-Upward.width) c.deref-in-Upward.ensures c.in_ok-width-in-Upward.ensures)) (subst (λ x. AddsExpression (draft c.args.builder.now) (draft c.operand-in-Upward.new.builder) (typed (view.expr x) (g.E.Env.names c.args.env.now) c.args.needed).expression (1 + expr_depth (view.expr x))) c.deref-in-Upward-2.ensures c.in_ok-operand-in-Upward.ensures) c.in_ok-range-in-Upward.ensures c.part-in-Upward.ensures (omega arith)))
 
 pub selected-number_within-requires-in-Downward : goal.selected-number_within-requires-in-Downward
 selected-number_within-requires-in-Downward g t c =
-    subst (λ x. IsNumbered 1 64 (g.E.Env.names c.args.env.now) (view.expr x)) (sym c.deref-in-Downward.ensures) (moving_is (draft c.args.builder.now).design (g.E.Env.names c.args.env.now) c.args.fixed c.args.needed false (view.name c.args.name.now) c.in-Slice.bracket tree.Downward (view.expr c.in-Slice.left.value) (view.expr c.in-Slice.right.value) (λ declared. refl) (subst (λ k. IsSelectable (draft c.args.builder.now).design (g.E.Env.names c.args.env.now) c.args.fixed c.args.needed (view.name c.args.name.now) (tree.Slice c.in-Slice.bracket (view.slice_kind k) (view.expr c.in-Slice.left.value) (view.expr c.in-Slice.right.value))) c.in-Downward.is (subst (λ x. IsSelectable (draft c.args.builder.now).design (g.E.Env.names c.args.env.now) c.args.fixed c.args.needed (view.name c.args.name.now) (view.select x)) c.in-Slice.is c.requires))).width
+    subst (λ x. IsWithin 1 64 (steady (g.E.Env.names c.args.env.now)) (view.expr x)) (sym c.deref-in-Downward.ensures) (moving_is (home (draft c.args.builder.now)) (g.E.Env.names c.args.env.now) c.args.fixed c.args.needed false (view.name c.args.name.now) c.in-Slice.bracket tree.Downward (view.expr c.in-Slice.left.value) (view.expr c.in-Slice.right.value) (λ declared. refl) (subst (λ k. IsSelectable (home (draft c.args.builder.now)) (g.E.Env.names c.args.env.now) c.args.fixed c.args.needed (view.name c.args.name.now) (tree.Slice c.in-Slice.bracket (view.slice_kind k) (view.expr c.in-Slice.left.value) (view.expr c.in-Slice.right.value))) c.in-Downward.is (subst (λ x. IsSelectable (home (draft c.args.builder.now)) (g.E.Env.names c.args.env.now) c.args.fixed c.args.needed (view.name c.args.name.now) (view.select x)) c.in-Slice.is c.requires))).width
 
 pub selected-operand-requires-in-Downward : goal.selected-operand-requires-in-Downward
 selected-operand-requires-in-Downward g t c κs within =
-    (search (rules, the_lemmas), (within, child (draft c.args.builder.now).design (g.E.Env.names c.args.env.now) c.args.needed c.deref-in-Downward-2.result.now c.in-Slice.left.value c.deref-in-Downward-2.ensures (moving_is (draft c.args.builder.now).design (g.E.Env.names c.args.env.now) c.args.fixed c.args.needed false (view.name c.args.name.now) c.in-Slice.bracket tree.Downward (view.expr c.in-Slice.left.value) (view.expr c.in-Slice.right.value) (λ declared. refl) (subst (λ k. IsSelectable (draft c.args.builder.now).design (g.E.Env.names c.args.env.now) c.args.fixed c.args.needed (view.name c.args.name.now) (tree.Slice c.in-Slice.bracket (view.slice_kind k) (view.expr c.in-Slice.left.value) (view.expr c.in-Slice.right.value))) c.in-Downward.is (subst (λ x. IsSelectable (draft c.args.builder.now).design (g.E.Env.names c.args.env.now) c.args.fixed c.args.needed (view.name c.args.name.now) (view.select x)) c.in-Slice.is c.requires))).index))
+    (search (rules, the_lemmas), (within, child (home (draft c.args.builder.now)) (g.E.Env.names c.args.env.now) c.args.needed c.deref-in-Downward-2.result.now c.in-Slice.left.value c.deref-in-Downward-2.ensures (moving_is (home (draft c.args.builder.now)) (g.E.Env.names c.args.env.now) c.args.fixed c.args.needed false (view.name c.args.name.now) c.in-Slice.bracket tree.Downward (view.expr c.in-Slice.left.value) (view.expr c.in-Slice.right.value) (λ declared. refl) (subst (λ k. IsSelectable (home (draft c.args.builder.now)) (g.E.Env.names c.args.env.now) c.args.fixed c.args.needed (view.name c.args.name.now) (tree.Slice c.in-Slice.bracket (view.slice_kind k) (view.expr c.in-Slice.left.value) (view.expr c.in-Slice.right.value))) c.in-Downward.is (subst (λ x. IsSelectable (home (draft c.args.builder.now)) (g.E.Env.names c.args.env.now) c.args.fixed c.args.needed (view.name c.args.name.now) (view.select x)) c.in-Slice.is c.requires))).index))
 
 pub selected-part-requires-in-Downward : goal.selected-part-requires-in-Downward
 selected-part-requires-in-Downward g t c =
-    select_ends (draft c.args.builder.now).design (g.E.Env.names c.args.env.now) c.args.fixed c.args.needed (view.name c.args.name.now) (tree.Slice c.in-Slice.bracket tree.Downward (view.expr c.in-Slice.left.value) (view.expr c.in-Slice.right.value)) false c.in_ok-width-in-Downward.width (typed (view.expr c.in-Slice.left.value) (g.E.Env.names c.args.env.now) c.args.needed).expression (draft c.args.builder.now) (draft c.operand-in-Downward.new.builder) (draft c.source-in-Downward.new.builder) (1 + expr_depth (view.expr c.in-Slice.left.value)) c.in_ok-range-in-Downward.range (moving_taken (draft c.args.builder.now).design (g.E.Env.names c.args.env.now) c.args.fixed c.args.needed false (view.name c.args.name.now) c.in-Slice.bracket tree.Downward (view.expr c.in-Slice.left.value) (view.expr c.in-Slice.right.value) c.in_ok-width-in-Downward.width (λ declared. refl) (subst (λ k. IsSelectable (draft c.args.builder.now).design (g.E.Env.names c.args.env.now) c.args.fixed c.args.needed (view.name c.args.name.now) (tree.Slice c.in-Slice.bracket (view.slice_kind k) (view.expr c.in-Slice.left.value) (view.expr c.in-Slice.right.value))) c.in-Downward.is (subst (λ x. IsSelectable (draft c.args.builder.now).design (g.E.Env.names c.args.env.now) c.args.fixed c.args.needed (view.name c.args.name.now) (view.select x)) c.in-Slice.is c.requires)) (subst (λ x. (natural 1 64 (expr_place (view.expr x)) (constant (view.expr x) (g.E.Env.names c.args.env.now))).number ≡ Some c.in_ok-width-in-Downward.width) c.deref-in-Downward.ensures c.in_ok-width-in-Downward.ensures)) refl (subst (λ x. AddsExpression (draft c.args.builder.now) (draft c.operand-in-Downward.new.builder) (typed (view.expr x) (g.E.Env.names c.args.env.now) c.args.needed).expression (1 + expr_depth (view.expr x))) c.deref-in-Downward-2.ensures c.in_ok-operand-in-Downward.ensures) (omega (arith, (moving_is (draft c.args.builder.now).design (g.E.Env.names c.args.env.now) c.args.fixed c.args.needed false (view.name c.args.name.now) c.in-Slice.bracket tree.Downward (view.expr c.in-Slice.left.value) (view.expr c.in-Slice.right.value) (λ declared. refl) (subst (λ k. IsSelectable (draft c.args.builder.now).design (g.E.Env.names c.args.env.now) c.args.fixed c.args.needed (view.name c.args.name.now) (tree.Slice c.in-Slice.bracket (view.slice_kind k) (view.expr c.in-Slice.left.value) (view.expr c.in-Slice.right.value))) c.in-Downward.is (subst (λ x. IsSelectable (draft c.args.builder.now).design (g.E.Env.names c.args.env.now) c.args.fixed c.args.needed (view.name c.args.name.now) (view.select x)) c.in-Slice.is c.requires))).index.shallow)) c.in_ok-range-in-Downward.ensures
+    select_ends (home (draft c.args.builder.now)) (g.E.Env.names c.args.env.now) c.args.fixed c.args.needed (view.name c.args.name.now) (tree.Slice c.in-Slice.bracket tree.Downward (view.expr c.in-Slice.left.value) (view.expr c.in-Slice.right.value)) false c.in_ok-width-in-Downward.width (typed (view.expr c.in-Slice.left.value) (g.E.Env.names c.args.env.now) c.args.needed).expression (draft c.args.builder.now) (draft c.operand-in-Downward.new.builder) (draft c.source-in-Downward.new.builder) (1 + expr_depth (view.expr c.in-Slice.left.value)) c.in_ok-range-in-Downward.range (moving_taken (home (draft c.args.builder.now)) (g.E.Env.names c.args.env.now) c.args.fixed c.args.needed false (view.name c.args.name.now) c.in-Slice.bracket tree.Downward (view.expr c.in-Slice.left.value) (view.expr c.in-Slice.right.value) c.in_ok-width-in-Downward.width (λ declared. refl) (subst (λ k. IsSelectable (home (draft c.args.builder.now)) (g.E.Env.names c.args.env.now) c.args.fixed c.args.needed (view.name c.args.name.now) (tree.Slice c.in-Slice.bracket (view.slice_kind k) (view.expr c.in-Slice.left.value) (view.expr c.in-Slice.right.value))) c.in-Downward.is (subst (λ x. IsSelectable (home (draft c.args.builder.now)) (g.E.Env.names c.args.env.now) c.args.fixed c.args.needed (view.name c.args.name.now) (view.select x)) c.in-Slice.is c.requires)) (subst (λ x. (natural 1 64 (expr_place (view.expr x)) (constant (view.expr x) (steady (g.E.Env.names c.args.env.now)))).number ≡ Some c.in_ok-width-in-Downward.width) c.deref-in-Downward.ensures c.in_ok-width-in-Downward.ensures)) refl (subst (λ x. AddsExpression (draft c.args.builder.now) (draft c.operand-in-Downward.new.builder) (typed (view.expr x) (g.E.Env.names c.args.env.now) c.args.needed).expression (1 + expr_depth (view.expr x))) c.deref-in-Downward-2.ensures c.in_ok-operand-in-Downward.ensures) (omega (arith, (moving_is (home (draft c.args.builder.now)) (g.E.Env.names c.args.env.now) c.args.fixed c.args.needed false (view.name c.args.name.now) c.in-Slice.bracket tree.Downward (view.expr c.in-Slice.left.value) (view.expr c.in-Slice.right.value) (λ declared. refl) (subst (λ k. IsSelectable (home (draft c.args.builder.now)) (g.E.Env.names c.args.env.now) c.args.fixed c.args.needed (view.name c.args.name.now) (tree.Slice c.in-Slice.bracket (view.slice_kind k) (view.expr c.in-Slice.left.value) (view.expr c.in-Slice.right.value))) c.in-Downward.is (subst (λ x. IsSelectable (home (draft c.args.builder.now)) (g.E.Env.names c.args.env.now) c.args.fixed c.args.needed (view.name c.args.name.now) (view.select x)) c.in-Slice.is c.requires))).index.shallow)) c.in_ok-range-in-Downward.ensures
 
 pub selected-returns-in_ok-range-in-Downward : goal.selected-returns-in_ok-range-in-Downward
 selected-returns-in_ok-range-in-Downward g t c =
     subst (λ x. OnOk c.part-in-Downward.result (AddsExpression (draft c.args.builder.now) (draft c.part-in-Downward.new.self) (begins_at c.args.at (selected_by (view.select x) (view.name c.args.name.now) (g.E.Env.names c.args.env.now) c.args.fixed c.args.needed).expression) (1 + select_depth (view.select x)))) (sym c.in-Slice.is)
     (subst (λ k. OnOk c.part-in-Downward.result (AddsExpression (draft c.args.builder.now) (draft c.part-in-Downward.new.self) (begins_at c.args.at (selected_by (tree.Slice c.in-Slice.bracket (view.slice_kind k) (view.expr c.in-Slice.left.value) (view.expr c.in-Slice.right.value)) (view.name c.args.name.now) (g.E.Env.names c.args.env.now) c.args.fixed c.args.needed).expression) (1 + (1 + max (expr_depth (view.expr c.in-Slice.left.value)) (expr_depth (view.expr c.in-Slice.right.value)))))) (sym c.in-Downward.is)
-    (select_arm c.part-in-Downward.result (draft c.args.builder.now).design (g.E.Env.names c.args.env.now) c.args.fixed c.args.needed (view.name c.args.name.now) (tree.Slice c.in-Slice.bracket tree.Downward (view.expr c.in-Slice.left.value) (view.expr c.in-Slice.right.value)) false c.in_ok-width-in-Downward.width (typed (view.expr c.in-Slice.left.value) (g.E.Env.names c.args.env.now) c.args.needed).expression (draft c.args.builder.now) (draft c.operand-in-Downward.new.builder) (draft c.source-in-Downward.new.builder) (draft c.part-in-Downward.new.self) (1 + expr_depth (view.expr c.in-Slice.left.value)) c.args.at (1 + (1 + max (expr_depth (view.expr c.in-Slice.left.value)) (expr_depth (view.expr c.in-Slice.right.value)))) c.in_ok-range-in-Downward.range (moving_taken (draft c.args.builder.now).design (g.E.Env.names c.args.env.now) c.args.fixed c.args.needed false (view.name c.args.name.now) c.in-Slice.bracket tree.Downward (view.expr c.in-Slice.left.value) (view.expr c.in-Slice.right.value) c.in_ok-width-in-Downward.width (λ declared. refl) (subst (λ k. IsSelectable (draft c.args.builder.now).design (g.E.Env.names c.args.env.now) c.args.fixed c.args.needed (view.name c.args.name.now) (tree.Slice c.in-Slice.bracket (view.slice_kind k) (view.expr c.in-Slice.left.value) (view.expr c.in-Slice.right.value))) c.in-Downward.is (subst (λ x. IsSelectable (draft c.args.builder.now).design (g.E.Env.names c.args.env.now) c.args.fixed c.args.needed (view.name c.args.name.now) (view.select x)) c.in-Slice.is c.requires)) (subst (λ x. (natural 1 64 (expr_place (view.expr x)) (constant (view.expr x) (g.E.Env.names c.args.env.now))).number ≡ Some c.in_ok-width-in-Downward.width) c.deref-in-Downward.ensures c.in_ok-width-in-Downward.ensures)) (subst (λ x. AddsExpression (draft c.args.builder.now) (draft c.operand-in-Downward.new.builder) (typed (view.expr x) (g.E.Env.names c.args.env.now) c.args.needed).expression (1 + expr_depth (view.expr x))) c.deref-in-Downward-2.ensures c.in_ok-operand-in-Downward.ensures) c.in_ok-range-in-Downward.ensures c.part-in-Downward.ensures (omega arith)))
+    (select_arm c.part-in-Downward.result (home (draft c.args.builder.now)) (g.E.Env.names c.args.env.now) c.args.fixed c.args.needed (view.name c.args.name.now) (tree.Slice c.in-Slice.bracket tree.Downward (view.expr c.in-Slice.left.value) (view.expr c.in-Slice.right.value)) false c.in_ok-width-in-Downward.width (typed (view.expr c.in-Slice.left.value) (g.E.Env.names c.args.env.now) c.args.needed).expression (draft c.args.builder.now) (draft c.operand-in-Downward.new.builder) (draft c.source-in-Downward.new.builder) (draft c.part-in-Downward.new.self) (1 + expr_depth (view.expr c.in-Slice.left.value)) c.args.at (1 + (1 + max (expr_depth (view.expr c.in-Slice.left.value)) (expr_depth (view.expr c.in-Slice.right.value)))) c.in_ok-range-in-Downward.range (moving_taken (home (draft c.args.builder.now)) (g.E.Env.names c.args.env.now) c.args.fixed c.args.needed false (view.name c.args.name.now) c.in-Slice.bracket tree.Downward (view.expr c.in-Slice.left.value) (view.expr c.in-Slice.right.value) c.in_ok-width-in-Downward.width (λ declared. refl) (subst (λ k. IsSelectable (home (draft c.args.builder.now)) (g.E.Env.names c.args.env.now) c.args.fixed c.args.needed (view.name c.args.name.now) (tree.Slice c.in-Slice.bracket (view.slice_kind k) (view.expr c.in-Slice.left.value) (view.expr c.in-Slice.right.value))) c.in-Downward.is (subst (λ x. IsSelectable (home (draft c.args.builder.now)) (g.E.Env.names c.args.env.now) c.args.fixed c.args.needed (view.name c.args.name.now) (view.select x)) c.in-Slice.is c.requires)) (subst (λ x. (natural 1 64 (expr_place (view.expr x)) (constant (view.expr x) (steady (g.E.Env.names c.args.env.now)))).number ≡ Some c.in_ok-width-in-Downward.width) c.deref-in-Downward.ensures c.in_ok-width-in-Downward.ensures)) (subst (λ x. AddsExpression (draft c.args.builder.now) (draft c.operand-in-Downward.new.builder) (typed (view.expr x) (g.E.Env.names c.args.env.now) c.args.needed).expression (1 + expr_depth (view.expr x))) c.deref-in-Downward-2.ensures c.in_ok-operand-in-Downward.ensures) c.in_ok-range-in-Downward.ensures c.part-in-Downward.ensures (omega arith)))
 
 pub selected-bounds_of-requires : goal.selected-bounds_of-requires
 selected-bounds_of-requires g t c =
-    subst (λ x. AreBounds (g.E.Env.names c.args.env.now) (view.expr x) (view.expr c.deref-in-Between-2.result.now)) (sym c.deref-in-Between.ensures) (subst (λ x. AreBounds (g.E.Env.names c.args.env.now) (view.expr c.in-Slice.left.value) (view.expr x)) (sym c.deref-in-Between-2.ensures) (between_is (draft c.args.builder.now).design (g.E.Env.names c.args.env.now) c.args.fixed c.args.needed (view.name c.args.name.now) c.in-Slice.bracket (view.expr c.in-Slice.left.value) (view.expr c.in-Slice.right.value) (subst (λ k. IsSelectable (draft c.args.builder.now).design (g.E.Env.names c.args.env.now) c.args.fixed c.args.needed (view.name c.args.name.now) (tree.Slice c.in-Slice.bracket (view.slice_kind k) (view.expr c.in-Slice.left.value) (view.expr c.in-Slice.right.value))) c.in-Between.is (subst (λ x. IsSelectable (draft c.args.builder.now).design (g.E.Env.names c.args.env.now) c.args.fixed c.args.needed (view.name c.args.name.now) (view.select x)) c.in-Slice.is c.requires))).bounds_are)
+    subst (λ x. AreBounds (steady (g.E.Env.names c.args.env.now)) (view.expr x) (view.expr c.deref-in-Between-2.result.now)) (sym c.deref-in-Between.ensures) (subst (λ x. AreBounds (steady (g.E.Env.names c.args.env.now)) (view.expr c.in-Slice.left.value) (view.expr x)) (sym c.deref-in-Between-2.ensures) (between_is (home (draft c.args.builder.now)) (g.E.Env.names c.args.env.now) c.args.fixed c.args.needed (view.name c.args.name.now) c.in-Slice.bracket (view.expr c.in-Slice.left.value) (view.expr c.in-Slice.right.value) (subst (λ k. IsSelectable (home (draft c.args.builder.now)) (g.E.Env.names c.args.env.now) c.args.fixed c.args.needed (view.name c.args.name.now) (tree.Slice c.in-Slice.bracket (view.slice_kind k) (view.expr c.in-Slice.left.value) (view.expr c.in-Slice.right.value))) c.in-Between.is (subst (λ x. IsSelectable (home (draft c.args.builder.now)) (g.E.Env.names c.args.env.now) c.args.fixed c.args.needed (view.name c.args.name.now) (view.select x)) c.in-Slice.is c.requires))).bounds_are)
 
 pub selected-source-requires-in-Between : goal.selected-source-requires-in-Between
 selected-source-requires-in-Between g t c =
-    subst (λ d. HasBits d c.args.fixed c.args.name.now.place ((g.E.Env.names c.args.env.now) c.args.name.now.text)) (same_design (draft c.args.builder.now) (draft c.literal.new.self) (E.At (expr_place (view.expr c.in-Slice.left.value)) (E.Literal (bits_of 32 (min c.in_ok-bounds-in-Between.bounds.left c.in_ok-bounds-in-Between.bounds.right)) true true)) 1 (subst (λ p. AddsExpression (draft c.args.builder.now) (draft c.literal.new.self) (E.At p (E.Literal (bits_of 32 (min c.in_ok-bounds-in-Between.bounds.left c.in_ok-bounds-in-Between.bounds.right)) true true)) 1) (c.place_of.ensures ∙ ap (λ x. expr_place (view.expr x)) c.deref-in-Between-3.ensures) (subst (λ z. AddsExpression (draft c.args.builder.now) (draft c.literal.new.self) (E.At c.place_of.result (E.Literal z true true)) 1) (c.of_number.ensures ∙ ap (bits_of 32) c.lesser.ensures) c.in_ok-literal-in-Between.ensures))) (between_taken (draft c.args.builder.now).design (g.E.Env.names c.args.env.now) c.args.fixed c.args.needed (view.name c.args.name.now) c.in-Slice.bracket (view.expr c.in-Slice.left.value) (view.expr c.in-Slice.right.value) c.in_ok-bounds-in-Between.bounds (subst (λ k. IsSelectable (draft c.args.builder.now).design (g.E.Env.names c.args.env.now) c.args.fixed c.args.needed (view.name c.args.name.now) (tree.Slice c.in-Slice.bracket (view.slice_kind k) (view.expr c.in-Slice.left.value) (view.expr c.in-Slice.right.value))) c.in-Between.is (subst (λ x. IsSelectable (draft c.args.builder.now).design (g.E.Env.names c.args.env.now) c.args.fixed c.args.needed (view.name c.args.name.now) (view.select x)) c.in-Slice.is c.requires)) (subst (λ x. IsRangeOf (g.E.Env.names c.args.env.now) (view.expr c.in-Slice.left.value) (view.expr x) c.in_ok-bounds-in-Between.bounds) c.deref-in-Between-2.ensures (subst (λ x. IsRangeOf (g.E.Env.names c.args.env.now) (view.expr x) (view.expr c.deref-in-Between-2.result.now) c.in_ok-bounds-in-Between.bounds) c.deref-in-Between.ensures c.in_ok-bounds-in-Between.ensures.range))).bits
+    subst (λ d. HasBits d c.args.fixed c.args.name.now.place ((g.E.Env.names c.args.env.now) c.args.name.now.text)) (same_home (draft c.args.builder.now) (draft c.literal.new.self) (E.At (expr_place (view.expr c.in-Slice.left.value)) (E.Literal (bits_of 32 (min c.in_ok-bounds-in-Between.bounds.left c.in_ok-bounds-in-Between.bounds.right)) true true)) 1 (subst (λ p. AddsExpression (draft c.args.builder.now) (draft c.literal.new.self) (E.At p (E.Literal (bits_of 32 (min c.in_ok-bounds-in-Between.bounds.left c.in_ok-bounds-in-Between.bounds.right)) true true)) 1) (c.place_of.ensures ∙ ap (λ x. expr_place (view.expr x)) c.deref-in-Between-3.ensures) (subst (λ z. AddsExpression (draft c.args.builder.now) (draft c.literal.new.self) (E.At c.place_of.result (E.Literal z true true)) 1) (c.of_number.ensures ∙ ap (bits_of 32) c.lesser.ensures) c.in_ok-literal-in-Between.ensures))) (between_taken (home (draft c.args.builder.now)) (g.E.Env.names c.args.env.now) c.args.fixed c.args.needed (view.name c.args.name.now) c.in-Slice.bracket (view.expr c.in-Slice.left.value) (view.expr c.in-Slice.right.value) c.in_ok-bounds-in-Between.bounds (subst (λ k. IsSelectable (home (draft c.args.builder.now)) (g.E.Env.names c.args.env.now) c.args.fixed c.args.needed (view.name c.args.name.now) (tree.Slice c.in-Slice.bracket (view.slice_kind k) (view.expr c.in-Slice.left.value) (view.expr c.in-Slice.right.value))) c.in-Between.is (subst (λ x. IsSelectable (home (draft c.args.builder.now)) (g.E.Env.names c.args.env.now) c.args.fixed c.args.needed (view.name c.args.name.now) (view.select x)) c.in-Slice.is c.requires)) (subst (λ x. IsRangeOf (steady (g.E.Env.names c.args.env.now)) (view.expr c.in-Slice.left.value) (view.expr x) c.in_ok-bounds-in-Between.bounds) c.deref-in-Between-2.ensures (subst (λ x. IsRangeOf (steady (g.E.Env.names c.args.env.now)) (view.expr x) (view.expr c.deref-in-Between-2.result.now) c.in_ok-bounds-in-Between.bounds) c.deref-in-Between.ensures c.in_ok-bounds-in-Between.ensures.range))).bits
 
 pub selected-part-requires : goal.selected-part-requires
 selected-part-requires g t c =
-    subst (λ n. EndsInSelect (record { range = c.in_ok-range-in-Between.range; up = true; width = n }) (draft c.source-in-Between.new.builder)) (sym c.range_length.ensures) (select_ends (draft c.args.builder.now).design (g.E.Env.names c.args.env.now) c.args.fixed c.args.needed (view.name c.args.name.now) (tree.Slice c.in-Slice.bracket tree.Between (view.expr c.in-Slice.left.value) (view.expr c.in-Slice.right.value)) true (range_length c.in_ok-bounds-in-Between.bounds) (E.At (expr_place (view.expr c.in-Slice.left.value)) (E.Literal (bits_of 32 (min c.in_ok-bounds-in-Between.bounds.left c.in_ok-bounds-in-Between.bounds.right)) true true)) (draft c.args.builder.now) (draft c.literal.new.self) (draft c.source-in-Between.new.builder) 1 c.in_ok-range-in-Between.range (between_taken (draft c.args.builder.now).design (g.E.Env.names c.args.env.now) c.args.fixed c.args.needed (view.name c.args.name.now) c.in-Slice.bracket (view.expr c.in-Slice.left.value) (view.expr c.in-Slice.right.value) c.in_ok-bounds-in-Between.bounds (subst (λ k. IsSelectable (draft c.args.builder.now).design (g.E.Env.names c.args.env.now) c.args.fixed c.args.needed (view.name c.args.name.now) (tree.Slice c.in-Slice.bracket (view.slice_kind k) (view.expr c.in-Slice.left.value) (view.expr c.in-Slice.right.value))) c.in-Between.is (subst (λ x. IsSelectable (draft c.args.builder.now).design (g.E.Env.names c.args.env.now) c.args.fixed c.args.needed (view.name c.args.name.now) (view.select x)) c.in-Slice.is c.requires)) (subst (λ x. IsRangeOf (g.E.Env.names c.args.env.now) (view.expr c.in-Slice.left.value) (view.expr x) c.in_ok-bounds-in-Between.bounds) c.deref-in-Between-2.ensures (subst (λ x. IsRangeOf (g.E.Env.names c.args.env.now) (view.expr x) (view.expr c.deref-in-Between-2.result.now) c.in_ok-bounds-in-Between.bounds) c.deref-in-Between.ensures c.in_ok-bounds-in-Between.ensures.range))) refl (subst (λ p. AddsExpression (draft c.args.builder.now) (draft c.literal.new.self) (E.At p (E.Literal (bits_of 32 (min c.in_ok-bounds-in-Between.bounds.left c.in_ok-bounds-in-Between.bounds.right)) true true)) 1) (c.place_of.ensures ∙ ap (λ x. expr_place (view.expr x)) c.deref-in-Between-3.ensures) (subst (λ z. AddsExpression (draft c.args.builder.now) (draft c.literal.new.self) (E.At c.place_of.result (E.Literal z true true)) 1) (c.of_number.ensures ∙ ap (bits_of 32) c.lesser.ensures) c.in_ok-literal-in-Between.ensures)) (omega arith) c.in_ok-range-in-Between.ensures)
+    subst (λ n. EndsInSelect (record { range = c.in_ok-range-in-Between.range; up = true; width = n }) (draft c.source-in-Between.new.builder)) (sym c.range_length.ensures) (select_ends (home (draft c.args.builder.now)) (g.E.Env.names c.args.env.now) c.args.fixed c.args.needed (view.name c.args.name.now) (tree.Slice c.in-Slice.bracket tree.Between (view.expr c.in-Slice.left.value) (view.expr c.in-Slice.right.value)) true (range_length c.in_ok-bounds-in-Between.bounds) (E.At (expr_place (view.expr c.in-Slice.left.value)) (E.Literal (bits_of 32 (min c.in_ok-bounds-in-Between.bounds.left c.in_ok-bounds-in-Between.bounds.right)) true true)) (draft c.args.builder.now) (draft c.literal.new.self) (draft c.source-in-Between.new.builder) 1 c.in_ok-range-in-Between.range (between_taken (home (draft c.args.builder.now)) (g.E.Env.names c.args.env.now) c.args.fixed c.args.needed (view.name c.args.name.now) c.in-Slice.bracket (view.expr c.in-Slice.left.value) (view.expr c.in-Slice.right.value) c.in_ok-bounds-in-Between.bounds (subst (λ k. IsSelectable (home (draft c.args.builder.now)) (g.E.Env.names c.args.env.now) c.args.fixed c.args.needed (view.name c.args.name.now) (tree.Slice c.in-Slice.bracket (view.slice_kind k) (view.expr c.in-Slice.left.value) (view.expr c.in-Slice.right.value))) c.in-Between.is (subst (λ x. IsSelectable (home (draft c.args.builder.now)) (g.E.Env.names c.args.env.now) c.args.fixed c.args.needed (view.name c.args.name.now) (view.select x)) c.in-Slice.is c.requires)) (subst (λ x. IsRangeOf (steady (g.E.Env.names c.args.env.now)) (view.expr c.in-Slice.left.value) (view.expr x) c.in_ok-bounds-in-Between.bounds) c.deref-in-Between-2.ensures (subst (λ x. IsRangeOf (steady (g.E.Env.names c.args.env.now)) (view.expr x) (view.expr c.deref-in-Between-2.result.now) c.in_ok-bounds-in-Between.bounds) c.deref-in-Between.ensures c.in_ok-bounds-in-Between.ensures.range))) refl (subst (λ p. AddsExpression (draft c.args.builder.now) (draft c.literal.new.self) (E.At p (E.Literal (bits_of 32 (min c.in_ok-bounds-in-Between.bounds.left c.in_ok-bounds-in-Between.bounds.right)) true true)) 1) (c.place_of.ensures ∙ ap (λ x. expr_place (view.expr x)) c.deref-in-Between-3.ensures) (subst (λ z. AddsExpression (draft c.args.builder.now) (draft c.literal.new.self) (E.At c.place_of.result (E.Literal z true true)) 1) (c.of_number.ensures ∙ ap (bits_of 32) c.lesser.ensures) c.in_ok-literal-in-Between.ensures)) (omega arith) c.in_ok-range-in-Between.ensures)
 
 pub selected-returns-in_ok-range-in-Between : goal.selected-returns-in_ok-range-in-Between
 selected-returns-in_ok-range-in-Between g t c =
     subst (λ x. OnOk c.part.result (AddsExpression (draft c.args.builder.now) (draft c.part.new.self) (begins_at c.args.at (selected_by (view.select x) (view.name c.args.name.now) (g.E.Env.names c.args.env.now) c.args.fixed c.args.needed).expression) (1 + select_depth (view.select x)))) (sym c.in-Slice.is)
     (subst (λ k. OnOk c.part.result (AddsExpression (draft c.args.builder.now) (draft c.part.new.self) (begins_at c.args.at (selected_by (tree.Slice c.in-Slice.bracket (view.slice_kind k) (view.expr c.in-Slice.left.value) (view.expr c.in-Slice.right.value)) (view.name c.args.name.now) (g.E.Env.names c.args.env.now) c.args.fixed c.args.needed).expression) (1 + (1 + max (expr_depth (view.expr c.in-Slice.left.value)) (expr_depth (view.expr c.in-Slice.right.value)))))) (sym c.in-Between.is)
-    (select_arm c.part.result (draft c.args.builder.now).design (g.E.Env.names c.args.env.now) c.args.fixed c.args.needed (view.name c.args.name.now) (tree.Slice c.in-Slice.bracket tree.Between (view.expr c.in-Slice.left.value) (view.expr c.in-Slice.right.value)) true (range_length c.in_ok-bounds-in-Between.bounds) (E.At (expr_place (view.expr c.in-Slice.left.value)) (E.Literal (bits_of 32 (min c.in_ok-bounds-in-Between.bounds.left c.in_ok-bounds-in-Between.bounds.right)) true true)) (draft c.args.builder.now) (draft c.literal.new.self) (draft c.source-in-Between.new.builder) (draft c.part.new.self) 1 c.args.at (1 + (1 + max (expr_depth (view.expr c.in-Slice.left.value)) (expr_depth (view.expr c.in-Slice.right.value)))) c.in_ok-range-in-Between.range (between_taken (draft c.args.builder.now).design (g.E.Env.names c.args.env.now) c.args.fixed c.args.needed (view.name c.args.name.now) c.in-Slice.bracket (view.expr c.in-Slice.left.value) (view.expr c.in-Slice.right.value) c.in_ok-bounds-in-Between.bounds (subst (λ k. IsSelectable (draft c.args.builder.now).design (g.E.Env.names c.args.env.now) c.args.fixed c.args.needed (view.name c.args.name.now) (tree.Slice c.in-Slice.bracket (view.slice_kind k) (view.expr c.in-Slice.left.value) (view.expr c.in-Slice.right.value))) c.in-Between.is (subst (λ x. IsSelectable (draft c.args.builder.now).design (g.E.Env.names c.args.env.now) c.args.fixed c.args.needed (view.name c.args.name.now) (view.select x)) c.in-Slice.is c.requires)) (subst (λ x. IsRangeOf (g.E.Env.names c.args.env.now) (view.expr c.in-Slice.left.value) (view.expr x) c.in_ok-bounds-in-Between.bounds) c.deref-in-Between-2.ensures (subst (λ x. IsRangeOf (g.E.Env.names c.args.env.now) (view.expr x) (view.expr c.deref-in-Between-2.result.now) c.in_ok-bounds-in-Between.bounds) c.deref-in-Between.ensures c.in_ok-bounds-in-Between.ensures.range))) (subst (λ p. AddsExpression (draft c.args.builder.now) (draft c.literal.new.self) (E.At p (E.Literal (bits_of 32 (min c.in_ok-bounds-in-Between.bounds.left c.in_ok-bounds-in-Between.bounds.right)) true true)) 1) (c.place_of.ensures ∙ ap (λ x. expr_place (view.expr x)) c.deref-in-Between-3.ensures) (subst (λ z. AddsExpression (draft c.args.builder.now) (draft c.literal.new.self) (E.At c.place_of.result (E.Literal z true true)) 1) (c.of_number.ensures ∙ ap (bits_of 32) c.lesser.ensures) c.in_ok-literal-in-Between.ensures)) c.in_ok-range-in-Between.ensures (subst (λ n. (p k : Draft) (t u : E.Expression) (x y : ℕ) → AddsExpression p k t x → AddsExpression k (draft c.source-in-Between.new.builder) u y → OnOk c.part.result (AddsExpression p (draft c.part.new.self) (E.At c.args.at (E.Select (source_of u) (record { range = c.in_ok-range-in-Between.range; up = true; width = n }) t)) (1 + max x y))) c.range_length.ensures c.part.ensures) (omega arith)))
+    (select_arm c.part.result (home (draft c.args.builder.now)) (g.E.Env.names c.args.env.now) c.args.fixed c.args.needed (view.name c.args.name.now) (tree.Slice c.in-Slice.bracket tree.Between (view.expr c.in-Slice.left.value) (view.expr c.in-Slice.right.value)) true (range_length c.in_ok-bounds-in-Between.bounds) (E.At (expr_place (view.expr c.in-Slice.left.value)) (E.Literal (bits_of 32 (min c.in_ok-bounds-in-Between.bounds.left c.in_ok-bounds-in-Between.bounds.right)) true true)) (draft c.args.builder.now) (draft c.literal.new.self) (draft c.source-in-Between.new.builder) (draft c.part.new.self) 1 c.args.at (1 + (1 + max (expr_depth (view.expr c.in-Slice.left.value)) (expr_depth (view.expr c.in-Slice.right.value)))) c.in_ok-range-in-Between.range (between_taken (home (draft c.args.builder.now)) (g.E.Env.names c.args.env.now) c.args.fixed c.args.needed (view.name c.args.name.now) c.in-Slice.bracket (view.expr c.in-Slice.left.value) (view.expr c.in-Slice.right.value) c.in_ok-bounds-in-Between.bounds (subst (λ k. IsSelectable (home (draft c.args.builder.now)) (g.E.Env.names c.args.env.now) c.args.fixed c.args.needed (view.name c.args.name.now) (tree.Slice c.in-Slice.bracket (view.slice_kind k) (view.expr c.in-Slice.left.value) (view.expr c.in-Slice.right.value))) c.in-Between.is (subst (λ x. IsSelectable (home (draft c.args.builder.now)) (g.E.Env.names c.args.env.now) c.args.fixed c.args.needed (view.name c.args.name.now) (view.select x)) c.in-Slice.is c.requires)) (subst (λ x. IsRangeOf (steady (g.E.Env.names c.args.env.now)) (view.expr c.in-Slice.left.value) (view.expr x) c.in_ok-bounds-in-Between.bounds) c.deref-in-Between-2.ensures (subst (λ x. IsRangeOf (steady (g.E.Env.names c.args.env.now)) (view.expr x) (view.expr c.deref-in-Between-2.result.now) c.in_ok-bounds-in-Between.bounds) c.deref-in-Between.ensures c.in_ok-bounds-in-Between.ensures.range))) (subst (λ p. AddsExpression (draft c.args.builder.now) (draft c.literal.new.self) (E.At p (E.Literal (bits_of 32 (min c.in_ok-bounds-in-Between.bounds.left c.in_ok-bounds-in-Between.bounds.right)) true true)) 1) (c.place_of.ensures ∙ ap (λ x. expr_place (view.expr x)) c.deref-in-Between-3.ensures) (subst (λ z. AddsExpression (draft c.args.builder.now) (draft c.literal.new.self) (E.At c.place_of.result (E.Literal z true true)) 1) (c.of_number.ensures ∙ ap (bits_of 32) c.lesser.ensures) c.in_ok-literal-in-Between.ensures)) c.in_ok-range-in-Between.ensures (subst (λ n. (p k : Draft) (t u : E.Expression) (x y : ℕ) → AddsExpression p k t x → AddsExpression k (draft c.source-in-Between.new.builder) u y → OnOk c.part.result (AddsExpression p (draft c.part.new.self) (E.At c.args.at (E.Select (source_of u) (record { range = c.in_ok-range-in-Between.range; up = true; width = n }) t)) (1 + max x y))) c.range_length.ensures c.part.ensures) (omega arith)))
 
 pub expression-operand-requires : goal.expression-operand-requires
 expression-operand-requires g t c κs within =
-    (omega (arith, falls c.args.e.now c.deref.result.now _ _ (unary_size _ _ c.in-Unary.a) c.in-Unary.is c.deref.ensures, c.decreases), (within, child (draft c.args.builder.now).design (g.E.Env.names c.args.env.now) c.args.needed c.deref.result.now c.in-Unary.a.value c.deref.ensures (unary_operand (draft c.args.builder.now).design (g.E.Env.names c.args.env.now) c.args.needed _ _ (view.expr c.in-Unary.a.value) (subst (λ x. IsBuildable (draft c.args.builder.now).design (g.E.Env.names c.args.env.now) c.args.needed (view.expr x)) c.in-Unary.is c.requires))))
+    (omega (arith, falls c.args.e.now c.deref-in-Unary.result.now _ _ (unary_size _ _ c.in-Unary.a) c.in-Unary.is c.deref-in-Unary.ensures, c.decreases), (within, child (home (draft c.args.builder.now)) (g.E.Env.names c.args.env.now) c.args.needed c.deref-in-Unary.result.now c.in-Unary.a.value c.deref-in-Unary.ensures (unary_operand (home (draft c.args.builder.now)) (g.E.Env.names c.args.env.now) c.args.needed _ _ (view.expr c.in-Unary.a.value) (subst (λ x. IsBuildable (home (draft c.args.builder.now)) (g.E.Env.names c.args.env.now) c.args.needed (view.expr x)) c.in-Unary.is c.requires))))
 
 pub expression-expression-requires : goal.expression-expression-requires
 expression-expression-requires g t c κs within =
-    (omega (arith, falls c.args.e.now c.deref-in-Brackets.result.now _ _ (brackets_size _ c.in-Brackets.inner) c.in-Brackets.is c.deref-in-Brackets.ensures, c.decreases), (within, child (draft c.args.builder.now).design (g.E.Env.names c.args.env.now) c.args.needed c.deref-in-Brackets.result.now c.in-Brackets.inner.value c.deref-in-Brackets.ensures (brackets_inner (draft c.args.builder.now).design (g.E.Env.names c.args.env.now) c.args.needed _ (view.expr c.in-Brackets.inner.value) (subst (λ x. IsBuildable (draft c.args.builder.now).design (g.E.Env.names c.args.env.now) c.args.needed (view.expr x)) c.in-Brackets.is c.requires))))
+    (omega (arith, falls c.args.e.now c.deref-in-Brackets.result.now _ _ (brackets_size _ c.in-Brackets.inner) c.in-Brackets.is c.deref-in-Brackets.ensures, c.decreases), (within, child (home (draft c.args.builder.now)) (g.E.Env.names c.args.env.now) c.args.needed c.deref-in-Brackets.result.now c.in-Brackets.inner.value c.deref-in-Brackets.ensures (brackets_inner (home (draft c.args.builder.now)) (g.E.Env.names c.args.env.now) c.args.needed _ (view.expr c.in-Brackets.inner.value) (subst (λ x. IsBuildable (home (draft c.args.builder.now)) (g.E.Env.names c.args.env.now) c.args.needed (view.expr x)) c.in-Brackets.is c.requires))))
 
 pub expression-operand-requires-in-AsSigned : goal.expression-operand-requires-in-AsSigned
 expression-operand-requires-in-AsSigned g t c κs within =
-    (omega (arith, falls c.args.e.now c.deref-in-AsSigned.result.now _ _ (call_size _ _ c.in-Call.a) c.in-Call.is c.deref-in-AsSigned.ensures, c.decreases), (within, child (draft c.args.builder.now).design (g.E.Env.names c.args.env.now) c.args.needed c.deref-in-AsSigned.result.now c.in-Call.a.value c.deref-in-AsSigned.ensures (signed_operand (draft c.args.builder.now).design (g.E.Env.names c.args.env.now) c.args.needed c.in-Call.place (view.expr c.in-Call.a.value) (subst (λ f. IsBuildable (draft c.args.builder.now).design (g.E.Env.names c.args.env.now) c.args.needed (tree.Call c.in-Call.place (view.system_function f) (view.expr c.in-Call.a.value))) c.in-AsSigned.is (subst (λ x. IsBuildable (draft c.args.builder.now).design (g.E.Env.names c.args.env.now) c.args.needed (view.expr x)) c.in-Call.is c.requires)))))
+    (omega (arith, falls c.args.e.now c.deref-in-AsSigned.result.now _ _ (call_size _ _ c.in-Call.a) c.in-Call.is c.deref-in-AsSigned.ensures, c.decreases), (within, child (home (draft c.args.builder.now)) (g.E.Env.names c.args.env.now) c.args.needed c.deref-in-AsSigned.result.now c.in-Call.a.value c.deref-in-AsSigned.ensures (signed_operand (home (draft c.args.builder.now)) (g.E.Env.names c.args.env.now) c.args.needed c.in-Call.place (view.expr c.in-Call.a.value) (subst (λ f. IsBuildable (home (draft c.args.builder.now)) (g.E.Env.names c.args.env.now) c.args.needed (tree.Call c.in-Call.place (view.system_function f) (view.expr c.in-Call.a.value))) c.in-AsSigned.is (subst (λ x. IsBuildable (home (draft c.args.builder.now)) (g.E.Env.names c.args.env.now) c.args.needed (view.expr x)) c.in-Call.is c.requires)))))
 
 pub expression-operand-requires-in-AsUnsigned : goal.expression-operand-requires-in-AsUnsigned
 expression-operand-requires-in-AsUnsigned g t c κs within =
-    (omega (arith, falls c.args.e.now c.deref-in-AsUnsigned.result.now _ _ (call_size _ _ c.in-Call.a) c.in-Call.is c.deref-in-AsUnsigned.ensures, c.decreases), (within, child (draft c.args.builder.now).design (g.E.Env.names c.args.env.now) c.args.needed c.deref-in-AsUnsigned.result.now c.in-Call.a.value c.deref-in-AsUnsigned.ensures (unsigned_operand (draft c.args.builder.now).design (g.E.Env.names c.args.env.now) c.args.needed c.in-Call.place (view.expr c.in-Call.a.value) (subst (λ f. IsBuildable (draft c.args.builder.now).design (g.E.Env.names c.args.env.now) c.args.needed (tree.Call c.in-Call.place (view.system_function f) (view.expr c.in-Call.a.value))) c.in-AsUnsigned.is (subst (λ x. IsBuildable (draft c.args.builder.now).design (g.E.Env.names c.args.env.now) c.args.needed (view.expr x)) c.in-Call.is c.requires)))))
+    (omega (arith, falls c.args.e.now c.deref-in-AsUnsigned.result.now _ _ (call_size _ _ c.in-Call.a) c.in-Call.is c.deref-in-AsUnsigned.ensures, c.decreases), (within, child (home (draft c.args.builder.now)) (g.E.Env.names c.args.env.now) c.args.needed c.deref-in-AsUnsigned.result.now c.in-Call.a.value c.deref-in-AsUnsigned.ensures (unsigned_operand (home (draft c.args.builder.now)) (g.E.Env.names c.args.env.now) c.args.needed c.in-Call.place (view.expr c.in-Call.a.value) (subst (λ f. IsBuildable (home (draft c.args.builder.now)) (g.E.Env.names c.args.env.now) c.args.needed (tree.Call c.in-Call.place (view.system_function f) (view.expr c.in-Call.a.value))) c.in-AsUnsigned.is (subst (λ x. IsBuildable (home (draft c.args.builder.now)) (g.E.Env.names c.args.env.now) c.args.needed (view.expr x)) c.in-Call.is c.requires)))))
 
 pub expression-returns-in-Brackets : goal.expression-returns-in-Brackets
 expression-returns-in-Brackets g t c =
@@ -288,3 +291,72 @@ operand-returns g t c =
     let tree = (typed e (g.E.Env.names c.args.env.now) c.args.needed).expression in
     subst (λ x. OnOk c.expression.result (AddsExpression (draft c.args.builder.now) (draft c.expression.new.builder) x (1 + expr_depth e)))
     (ap (λ (p : ℕ). begins_at p tree) c.place_of.ensures ∙ begins_itself e (g.E.Env.names c.args.env.now) c.args.needed) c.expression.ensures
+
+pub expression-arguments-requires : goal.expression-arguments-requires
+expression-arguments-requires g t c κs within = (
+  (let less : most the_size c.deref.result.now < the_size c.args.e.now = subst (λ es. most the_size es < the_size c.args.e.now) (sym c.deref.ensures.value) (subst (λ x. most the_size c.in-Apply.list.items < the_size x) (sym c.in-Apply.is) (arguments_size c.in-Apply.name c.in-Apply.list)) in omega (arith, less, c.decreases)),
+  (
+    within,
+    subst (AreArguments (home (draft c.args.builder.now)) (g.E.Env.names c.args.env.now) c.args.needed) (sym (ap view.exprs c.deref.ensures.value))
+        (call_is (home (draft c.args.builder.now)) (g.E.Env.names c.args.env.now) c.args.needed (view.name c.in-Apply.name) (view.exprs c.in-Apply.list.items)
+        (subst (IsBuildable (home (draft c.args.builder.now)) (g.E.Env.names c.args.env.now) c.args.needed) (ap view.expr c.in-Apply.is ∙ apply_view c.in-Apply.name c.in-Apply.list) c.requires)).parts,
+  ),
+)
+
+pub expression-called-requires : goal.expression-called-requires
+expression-called-requires g t c =
+    let find = g.E.Env.names c.args.env.now in
+    let k = call_is (home (draft c.args.builder.now)) find c.args.needed (view.name c.in-Apply.name) (view.exprs c.in-Apply.list.items) (subst (IsBuildable (home (draft c.args.builder.now)) find c.args.needed) (ap view.expr c.in-Apply.is ∙ apply_view c.in-Apply.name c.in-Apply.list) c.requires) in
+    record { function = k.function; is = k.means }
+
+pub expression-call-requires-clause-there : goal.expression-call-requires-clause-there
+expression-call-requires-clause-there g t c =
+    let find = g.E.Env.names c.args.env.now in
+    let k = call_is (home (draft c.args.builder.now)) find c.args.needed (view.name c.in-Apply.name) (view.exprs c.in-Apply.list.items) (subst (IsBuildable (home (draft c.args.builder.now)) find c.args.needed) (ap view.expr c.in-Apply.is ∙ apply_view c.in-Apply.name c.in-Apply.list) c.requires) in
+    let n : c.len.result ≡ length c.in-Apply.list.items = search rules in (
+      record { header = k.function.header; statement = k.function.statement },
+      function_at (draft c.args.builder.now) (draft c.arguments.new.builder) (part_expressions find c.args.needed c.deref.result.now) (1 + exprs_depth (view.exprs c.deref.result.now)) find (view.name c.in-Apply.name) k.function c.called.result c.in_ok-arguments-in-Apply.ensures c.requires.numbered k.means (c.called.ensures k.function k.means),
+      call_many (home (draft c.args.builder.now)) find c.args.needed (view.name c.in-Apply.name) c.in-Apply.list.items k ∙ sym n,
+    )
+
+pub expression-call-requires-clause-some : goal.expression-call-requires-clause-some
+expression-call-requires-clause-some g t c =
+    let find = g.E.Env.names c.args.env.now in
+    let n : c.len.result ≡ length c.in-Apply.list.items = search rules in
+    omega (arith, n, some_part c.in-Apply.list.items (subst (IsBuildable (home (draft c.args.builder.now)) find c.args.needed) (ap view.expr c.in-Apply.is ∙ apply_view c.in-Apply.name c.in-Apply.list) c.requires).shaped.1)
+
+pub expression-call-requires-clause-arguments : goal.expression-call-requires-clause-arguments
+expression-call-requires-clause-arguments g t c =
+    let find = g.E.Env.names c.args.env.now in
+    let k = call_is (home (draft c.args.builder.now)) find c.args.needed (view.name c.in-Apply.name) (view.exprs c.in-Apply.list.items) (subst (IsBuildable (home (draft c.args.builder.now)) find c.args.needed) (ap view.expr c.in-Apply.is ∙ apply_view c.in-Apply.name c.in-Apply.list) c.requires) in
+    let n : c.len.result ≡ length c.in-Apply.list.items = search rules in
+    ends_parts (draft c.args.builder.now) (draft c.arguments.new.builder) (part_expressions find c.args.needed c.deref.result.now) (1 + exprs_depth (view.exprs c.deref.result.now)) c.len.result c.in_ok-arguments-in-Apply.ensures
+    (omega (arith, ap (λ xs. exprs_depth (view.exprs xs)) c.deref.ensures.value, k.parts.shallow)) (n ∙ ap length (sym c.deref.ensures.value) ∙ sym (part_count find c.args.needed c.deref.result.now))
+
+pub expression-returns-in_ok-arguments-in-Apply : goal.expression-returns-in_ok-arguments-in-Apply
+expression-returns-in_ok-arguments-in-Apply g t c =
+    let find = g.E.Env.names c.args.env.now in
+    let k = call_is (home (draft c.args.builder.now)) find c.args.needed (view.name c.in-Apply.name) (view.exprs c.in-Apply.list.items) (subst (IsBuildable (home (draft c.args.builder.now)) find c.args.needed) (ap view.expr c.in-Apply.is ∙ apply_view c.in-Apply.name c.in-Apply.list) c.requires) in
+    let n : c.len.result ≡ length c.in-Apply.list.items = search rules in
+    let there = function_at (draft c.args.builder.now) (draft c.arguments.new.builder) (part_expressions find c.args.needed c.deref.result.now) (1 + exprs_depth (view.exprs c.deref.result.now)) find (view.name c.in-Apply.name) k.function c.called.result c.in_ok-arguments-in-Apply.ensures c.requires.numbered k.means (c.called.ensures k.function k.means) in
+    subst (λ x. OnOk c.call.result (AddsExpression (draft c.args.builder.now) (draft c.call.new.self) (begins_at c.args.at (typed x find c.args.needed).expression) (1 + expr_depth x))) (sym (ap view.expr c.in-Apply.is ∙ apply_view c.in-Apply.name c.in-Apply.list))
+    (call_arm c.call.result (draft c.args.builder.now) (draft c.arguments.new.builder) (draft c.call.new.self) find c.args.needed c.args.at c.len.result (view.name c.in-Apply.name) k.function c.in-Apply.list.items c.deref.result.now c.deref.ensures.value n k.expression c.in_ok-arguments-in-Apply.ensures
+    (λ q ts m a l. c.call.ensures q (record { header = k.function.header; statement = k.function.statement }) ts m there a l))
+
+pub arguments-operand-requires : goal.arguments-operand-requires
+arguments-operand-requires g t c κs within =
+    (part_falls c.args.list.now c.loop-argument.argument-index c.argument-item.result t (omega arith) c.argument-item.is c.decreases, (within, part_after (draft c.args.builder.now) (draft c.loop-argument.builder) _ _ (g.E.Env.names c.args.env.now) c.args.needed (view.expr c.argument-item.result) c.loop-argument.invariant (each_argument (home (draft c.args.builder.now)) (g.E.Env.names c.args.env.now) c.args.needed c.args.list.now c.loop-argument.argument-index c.argument-item.result c.requires (omega arith) c.argument-item.is)))
+
+pub arguments-loop-argument-init : goal.arguments-loop-argument-init
+arguments-loop-argument-init g t c =
+    parts_none (draft c.args.builder.now) (1 + exprs_depth (view.exprs c.args.list.now))
+
+pub arguments-loop-argument-preserved : goal.arguments-loop-argument-preserved
+arguments-loop-argument-preserved g t c =
+    parts_are (draft c.args.builder.now) (draft c.operand.new.builder) _ _ (1 + exprs_depth (view.exprs c.args.list.now)) (sym (taken_more (g.E.Env.names c.args.env.now) c.args.needed c.args.list.now c.loop-argument.argument-index c.argument-item.result (omega arith) c.argument-item.is))
+    (parts_more (draft c.args.builder.now) (draft c.loop-argument.builder) (draft c.operand.new.builder) (part_expressions (g.E.Env.names c.args.env.now) c.args.needed (take c.loop-argument.argument-index c.args.list.now)) (typed (view.expr c.argument-item.result) (g.E.Env.names c.args.env.now) c.args.needed).expression (1 + exprs_depth (view.exprs c.args.list.now)) (1 + expr_depth (view.expr c.argument-item.result)) c.loop-argument.invariant c.in_ok-operand.ensures
+    (omega (arith, part_levels c.args.list.now c.loop-argument.argument-index c.argument-item.result (omega arith) c.argument-item.is)))
+
+pub arguments-returns : goal.arguments-returns
+arguments-returns g t c =
+    parts_are (draft c.args.builder.now) (draft c.loop-argument.builder) _ _ (1 + exprs_depth (view.exprs c.args.list.now)) (taken_all (g.E.Env.names c.args.env.now) c.args.needed c.args.list.now c.loop-argument.argument-index (omega arith)) c.loop-argument.invariant

@@ -2,17 +2,21 @@ use Rattle.std.proofs.Common.{◌∷◌, [], map, take, ap, sym, arith}
 use Rattle.std.proofs.lemmas.List.{length-map}
 use Rattle.vs_grammar.specs.Trees as tree
 use Rattle.vs_ast.specs.Views as view
+use Rattle.vs_build.specs.Drafts.{home}
 use Rattle.vs_build.specs.Growth.{draft}
 use Rattle.vs_build.specs.Writable.{IsAssignable, assign_process}
 use Rattle.vs_build.specs.Items.{assign_processes}
-use Rattle.vs_build.proofs.ItemFacts.{no_process, more_processes, these_processes, assign_after, each_at, map_more, all_of, process_count, length_taken}
+use Rattle.vs_build.proofs.ItemFacts.{processes_outside, no_process, more_processes, these_processes, assign_after, each_at, map_more, all_of, process_count, length_taken}
 use Rattle.vs_build.proofs.items.assign_each.Goals as goal
 
 pub assign-requires-clause-room : goal.assign-requires-clause-room
 assign-requires-clause-room g c = omega (arith, process_count (draft c.args.builder.now) (draft c.loop-a.builder) (assign_processes c.args.place (map view.assign (take c.loop-a.a-index c.args.list.now)) (g.E.Env.names c.args.env.now)) c.loop-a.invariant, length-map (map view.assign (take c.loop-a.a-index c.args.list.now)) (λ (a : tree.Assign). assign_process c.args.place a (g.E.Env.names c.args.env.now)), length-map (take c.loop-a.a-index c.args.list.now) view.assign, length_taken c.loop-a.a-index c.args.list.now, c.requires.room)
 
+pub assign-requires-clause-outside : goal.assign-requires-clause-outside
+assign-requires-clause-outside g c = processes_outside (draft c.args.builder.now) (draft c.loop-a.builder) (assign_processes c.args.place (map view.assign (take c.loop-a.a-index c.args.list.now)) (g.E.Env.names c.args.env.now)) c.loop-a.invariant c.requires.outside
+
 pub assign-requires-clause-fine : goal.assign-requires-clause-fine
-assign-requires-clause-fine g c = assign_after (draft c.args.builder.now) (draft c.loop-a.builder) (assign_processes c.args.place (map view.assign (take c.loop-a.a-index c.args.list.now)) (g.E.Env.names c.args.env.now)) (g.E.Env.names c.args.env.now) (view.assign c.a-item.result) c.loop-a.invariant (each_at (IsAssignable (draft c.args.builder.now).design (g.E.Env.names c.args.env.now)) view.assign c.args.list.now c.loop-a.a-index c.a-item.result (omega arith) c.a-item.is c.requires.fine)
+assign-requires-clause-fine g c = assign_after (draft c.args.builder.now) (draft c.loop-a.builder) (assign_processes c.args.place (map view.assign (take c.loop-a.a-index c.args.list.now)) (g.E.Env.names c.args.env.now)) (g.E.Env.names c.args.env.now) (view.assign c.a-item.result) c.loop-a.invariant (each_at (IsAssignable (home (draft c.args.builder.now)) (g.E.Env.names c.args.env.now)) view.assign c.args.list.now c.loop-a.a-index c.a-item.result (omega arith) c.a-item.is c.requires.fine)
 
 pub loop-a-init : goal.loop-a-init
 loop-a-init g c = no_process (draft c.args.builder.now)

@@ -2,23 +2,36 @@ use Rattle.std.proofs.Common.{true, false, ◌+◌, arith}
 use Rattle.vs_grammar.specs.Depths.{target_depth, expr_depth}
 use Rattle.vs_ast.specs.Views as view
 use Rattle.vs_const.specs.Expressions.{typed}
+use Rattle.vs_bodies.specs.Bodies.{body_of}
+use Rattle.vs_bodies.specs.Layers.{within}
+use Rattle.vs_build.specs.Drafts.{home}
 use Rattle.vs_build.specs.Growth.{draft}
 use Rattle.vs_build.specs.Writable.{target_expression}
 use Rattle.vs_build.proofs.Executed.{assigning, value_after, assignment_ends, assignment_arm}
 use Rattle.vs_build.proofs.statements.assignment.Goals as goal
 
 pub target-requires : goal.target-requires
-target-requires g c = (assigning (draft c.args.builder.now).design (g.E.Env.names c.args.env.now) (view.target c.args.t.now) (view.expr c.args.value.now) c.args.blocking c.requires).target_is
+target-requires g c =
+    let find = within (g.S.Surroundings.declared c.args.here.now.around.now) c.args.here.now.layers.now (g.S.Env.names c.args.here.now.around.now) in
+    let body = body_of c.args.kind true (g.S.Surroundings.declared c.args.here.now.around.now) in
+    (assigning (home (draft c.args.builder.now)) body find (view.target c.args.t.now) (view.expr c.args.value.now) c.args.blocking c.requires).target_is
 
 pub operand-requires : goal.operand-requires
-operand-requires g c = value_after (draft c.args.builder.now) (draft c.target.new.builder) (target_expression (view.target c.args.t.now) (g.E.Env.names c.args.env.now) true) (1 + target_depth (view.target c.args.t.now)) (g.E.Env.names c.args.env.now) false (view.expr c.args.value.now) c.in_ok-target.ensures (assigning (draft c.args.builder.now).design (g.E.Env.names c.args.env.now) (view.target c.args.t.now) (view.expr c.args.value.now) c.args.blocking c.requires).value_is
+operand-requires g c =
+    let find = within (g.S.Surroundings.declared c.args.here.now.around.now) c.args.here.now.layers.now (g.S.Env.names c.args.here.now.around.now) in
+    let body = body_of c.args.kind true (g.S.Surroundings.declared c.args.here.now.around.now) in
+    value_after (draft c.args.builder.now) (draft c.target.new.builder) (target_expression (view.target c.args.t.now) find true) (1 + target_depth (view.target c.args.t.now)) find false (view.expr c.args.value.now) c.in_ok-target.ensures (assigning (home (draft c.args.builder.now)) body find (view.target c.args.t.now) (view.expr c.args.value.now) c.args.blocking c.requires).value_is
 
 pub assignment-requires : goal.assignment-requires
 assignment-requires g c =
-    assignment_ends (draft c.args.builder.now) (draft c.target.new.builder) (draft c.operand.new.builder) (g.E.Env.names c.args.env.now) (view.target c.args.t.now) (typed (view.expr c.args.value.now) (g.E.Env.names c.args.env.now) false).expression (1 + target_depth (view.target c.args.t.now)) (1 + expr_depth (view.expr c.args.value.now)) (assigning (draft c.args.builder.now).design (g.E.Env.names c.args.env.now) (view.target c.args.t.now) (view.expr c.args.value.now) c.args.blocking c.requires).target_is c.in_ok-target.ensures c.in_ok-operand.ensures
-    (omega (arith, (assigning (draft c.args.builder.now).design (g.E.Env.names c.args.env.now) (view.target c.args.t.now) (view.expr c.args.value.now) c.args.blocking c.requires).target_is.shallow)) (omega (arith, (assigning (draft c.args.builder.now).design (g.E.Env.names c.args.env.now) (view.target c.args.t.now) (view.expr c.args.value.now) c.args.blocking c.requires).value_is.shallow))
+    let find = within (g.S.Surroundings.declared c.args.here.now.around.now) c.args.here.now.layers.now (g.S.Env.names c.args.here.now.around.now) in
+    let body = body_of c.args.kind true (g.S.Surroundings.declared c.args.here.now.around.now) in
+    assignment_ends (draft c.args.builder.now) (draft c.target.new.builder) (draft c.operand.new.builder) find (view.target c.args.t.now) (typed (view.expr c.args.value.now) find false).expression (1 + target_depth (view.target c.args.t.now)) (1 + expr_depth (view.expr c.args.value.now)) (assigning (home (draft c.args.builder.now)) body find (view.target c.args.t.now) (view.expr c.args.value.now) c.args.blocking c.requires).target_is c.in_ok-target.ensures c.in_ok-operand.ensures
+    (omega (arith, (assigning (home (draft c.args.builder.now)) body find (view.target c.args.t.now) (view.expr c.args.value.now) c.args.blocking c.requires).target_is.shallow)) (omega (arith, (assigning (home (draft c.args.builder.now)) body find (view.target c.args.t.now) (view.expr c.args.value.now) c.args.blocking c.requires).value_is.shallow))
 
 pub returns : goal.returns
 returns g c =
-    assignment_arm c.assignment.result (draft c.args.builder.now) (draft c.target.new.builder) (draft c.operand.new.builder) (draft c.assignment.new.self) (g.E.Env.names c.args.env.now) (view.target c.args.t.now) (view.expr c.args.value.now) c.args.blocking c.target_at.result c.target_at.ensures (assigning (draft c.args.builder.now).design (g.E.Env.names c.args.env.now) (view.target c.args.t.now) (view.expr c.args.value.now) c.args.blocking c.requires).target_is c.in_ok-target.ensures c.in_ok-operand.ensures
+    let find = within (g.S.Surroundings.declared c.args.here.now.around.now) c.args.here.now.layers.now (g.S.Env.names c.args.here.now.around.now) in
+    let body = body_of c.args.kind true (g.S.Surroundings.declared c.args.here.now.around.now) in
+    assignment_arm c.assignment.result (draft c.args.builder.now) (draft c.target.new.builder) (draft c.operand.new.builder) (draft c.assignment.new.self) body find (view.target c.args.t.now) (view.expr c.args.value.now) c.args.blocking c.target_at.result c.target_at.ensures (assigning (home (draft c.args.builder.now)) body find (view.target c.args.t.now) (view.expr c.args.value.now) c.args.blocking c.requires).target_is c.in_ok-target.ensures c.in_ok-operand.ensures
     c.assignment.ensures

@@ -6,9 +6,9 @@ use Rattle.vs_ast.specs.declared.items.Assign.{Assign}
 use Rattle.vs_ast.specs.Views as view
 use Rattle.vs_elaborated.specs.Generate.{Nested}
 use Rattle.vs_elaborated.specs.Pieces.{Piece, all_said}
-use Rattle.vs_elaborated.specs.Surveys.{assign_said, wire_said, item_said, nested_piece}
+use Rattle.vs_elaborated.specs.Surveys.{assign_said, wire_said, nested_piece}
 use Rattle.vs_scope.specs.Made as code
-use Rattle.vs_elab.specs.Fine.{IsFineAssign, IsFineWire, AreFineInside, IsFineItem}
+use Rattle.vs_elab.specs.Fine.{IsFineAssign, IsFineWire, AreFineInside, IsFineItem, plain_said}
 use Rattle.vs_elab.specs.Pending.{parts_pieces}
 use Rattle.vs_elab.proofs.FineItems.{wires_fine, assigns_fine, block_fine, instances_fine}
 use Rattle.vs_elab.proofs.FineParts.{part_fine}
@@ -18,7 +18,7 @@ use Rattle.vs_elab.proofs.parts.push_item.Goals as goal
 pub returns-in-Signals : goal.returns-in-Signals
 returns-in-Signals c = record {
   pieces = λ source around m same.
-      subst (λ (x : Item). OnOk c.push_wires.result (parts_pieces source around c.push_wires.new.parts.items ≡ parts_pieces source around c.args.parts.now.items ++ (item_said source around (view.item x) m).pieces)) (sym c.in-Signals.is)
+      subst (λ (x : Item). OnOk c.push_wires.result (parts_pieces source around c.push_wires.new.parts.items ≡ parts_pieces source around c.args.parts.now.items ++ (plain_said source around (view.item x) m).pieces)) (sym c.in-Signals.is)
       (subst (λ (xs : List Declarator). OnOk c.push_wires.result (parts_pieces source around c.push_wires.new.parts.items ≡ parts_pieces source around c.args.parts.now.items ++ (all_said (wire_said around.env c.in-Signals.s.place) (map view.declarator xs)).pieces))
       c.deref.ensures.value (c.push_wires.ensures.pieces source around));
   fine = λ source around m same f.
@@ -30,7 +30,7 @@ returns-in-Signals c = record {
 pub returns-in-Assigns : goal.returns-in-Assigns
 returns-in-Assigns c = record {
   pieces = λ source around m same.
-      subst (λ (x : Item). OnOk c.push_assigns.result (parts_pieces source around c.push_assigns.new.parts.items ≡ parts_pieces source around c.args.parts.now.items ++ (item_said source around (view.item x) m).pieces)) (sym c.in-Assigns.is)
+      subst (λ (x : Item). OnOk c.push_assigns.result (parts_pieces source around c.push_assigns.new.parts.items ≡ parts_pieces source around c.args.parts.now.items ++ (plain_said source around (view.item x) m).pieces)) (sym c.in-Assigns.is)
       (subst (λ (xs : List Assign). OnOk c.push_assigns.result (parts_pieces source around c.push_assigns.new.parts.items ≡ parts_pieces source around c.args.parts.now.items ++ (all_said (assign_said around.env c.in-Assigns.place) (map view.assign xs)).pieces))
       c.deref-in-Assigns.ensures.value (c.push_assigns.ensures.pieces source around));
   fine = λ source around m same f.
@@ -47,7 +47,7 @@ returns-in_ok-push-in-Always-clause-fine c = λ source around m same f old.
 pub returns-in-Instances : goal.returns-in-Instances
 returns-in-Instances c = record {
   pieces = λ source around m same.
-      subst (λ (x : Item). OnOk c.push_instances.result (parts_pieces source around c.push_instances.new.parts.items ≡ parts_pieces source around c.args.parts.now.items ++ (item_said source around (view.item x) m).pieces)) (sym c.in-Instances.is)
+      subst (λ (x : Item). OnOk c.push_instances.result (parts_pieces source around c.push_instances.new.parts.items ≡ parts_pieces source around c.args.parts.now.items ++ (plain_said source around (view.item x) m).pieces)) (sym c.in-Instances.is)
       (c.push_instances.ensures.pieces source around);
   fine = λ source around m same f.
       c.push_instances.ensures.fine source around.env

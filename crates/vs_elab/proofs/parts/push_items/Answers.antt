@@ -3,8 +3,8 @@ use Rattle.std.proofs.lemmas.List.{append-nil, take_all}
 use Rattle.vs_ast.specs.declared.items.Item.{Item}
 use Rattle.vs_ast.specs.Views as view
 use Rattle.vs_elaborated.specs.Generate.{Made, nothing_made}
-use Rattle.vs_elaborated.specs.Surveys.{items_said}
 use Rattle.vs_scope.specs.Made as code
+use Rattle.vs_elab.specs.Fine.{plains_said}
 use Rattle.vs_elab.specs.Pending.{parts_pieces}
 use Rattle.vs_elab.proofs.FineItems.{item_at}
 use Rattle.vs_elab.proofs.PartItems.{alike_at, alike_length, made_at, item_more}
@@ -34,7 +34,7 @@ returns c = record {
   pieces = λ source around ms same.
       let many : length ms ≡ length c.args.items.now = alike_length code.made code.kept c.args.made.now ms same ∙ c.requires in
       c.loop-i.invariant.pieces source around ms same
-      ∙ ap (λ (xs : List Made). parts_pieces source around c.args.parts.now.items ++ (items_said source around (map view.item (take c.loop-i.i c.args.items.now)) xs).pieces) (take_all c.loop-i.i ms (omega (arith, many, c.loop-i-test.false)))
-      ∙ ap (λ (xs : List Item). parts_pieces source around c.args.parts.now.items ++ (items_said source around (map view.item xs) ms).pieces) (take_all c.loop-i.i c.args.items.now c.loop-i-test.false);
+      ∙ ap (λ (xs : List Made). parts_pieces source around c.args.parts.now.items ++ (plains_said source around (map view.item (take c.loop-i.i c.args.items.now)) xs).pieces) (take_all c.loop-i.i ms (omega (arith, many, c.loop-i-test.false)))
+      ∙ ap (λ (xs : List Item). parts_pieces source around c.args.parts.now.items ++ (plains_said source around (map view.item xs) ms).pieces) (take_all c.loop-i.i c.args.items.now c.loop-i-test.false);
   fine = c.loop-i.invariant.fine;
 }

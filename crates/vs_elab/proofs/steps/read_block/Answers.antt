@@ -10,9 +10,9 @@ use Rattle.vs_elab.specs.declared.error.ElabError.TheVariants.{Memory}
 use Rattle.vs_elab.specs.declared.pending.Part.TheVariants as parts
 use Rattle.vs_elab.specs.Fine.{AreFineParts}
 use Rattle.vs_elab.specs.Pending.{parts_pieces, scope_around, stack_pieces}
-use Rattle.vs_elab.specs.Reading.{FailsBy, IsPending, design_so_far, outcome, pending_at, source_of, totals_of}
+use Rattle.vs_elab.specs.Reading.{FailsBy, IsPending, design_so_far, outcome, pending_at, source_of, totals_so_far}
 use Rattle.vs_elab.specs.Stacks.{pending}
-use Rattle.vs_elab.proofs.BlockSteps.{below_one, block_faulty, block_opened, block_sound, block_task}
+use Rattle.vs_elab.proofs.BlockSteps.{below_one, block_faulty, block_numbered, block_opened, block_sound, block_task}
 use Rattle.vs_elab.proofs.OpenedSteps.{each_front, each_last, opened_before, opened_fine, opened_within, tells, told, told_exit}
 use Rattle.vs_elab.proofs.steps.read_block.Goals as goal
 use Rattle.vs_const.specs.declared.rules.Rule.TheVariants.{InstanceDepth}
@@ -48,6 +48,12 @@ open_scope-requires-clause-sound c =
     subst (λ (k : Task). IsSoundTask (design_so_far old) k) (ap (λ (n : List ℕ). block_task old.frames.items c.args.at n c.args.items c.args.turn) (sym c.deref.ensures.value))
     (block_sound source (design_so_far old) old.frames.items c.args.at c.args.name c.args.items c.args.turn last c.requires.reading.read.seen)
 
+pub open_scope-requires-clause-numbered : goal.open_scope-requires-clause-numbered
+open_scope-requires-clause-numbered c =
+    let old = c.args.reading.now in
+    let last = each_last (IsPending (source_of c.args.text.now) old.frames.items) c.args.stack.now.items (pending_at c.args.at (parts.Block c.args.name c.args.items c.args.turn)) c.requires.reading.pending in
+    block_numbered (design_so_far old) old.frames.items c.args.at c.deref.result.now c.args.items c.args.turn last.within c.requires.reading.read.numbered
+
 pub open_scope-requires-clause-overrides : goal.open_scope-requires-clause-overrides
 open_scope-requires-clause-overrides c = record { each = subst (EachOverride (length c.args.reading.now.frames.items)) (sym c.new-none.ensures) tt }
 
@@ -78,7 +84,7 @@ returns-in_err-parts-clause-broken c =
     let same : block_task old.frames.items c.args.at c.args.name.items c.args.items c.args.turn ≡ k = ap (λ (n : List ℕ). block_task old.frames.items c.args.at n c.args.items c.args.turn) (sym c.deref.ensures.value) in
     let P = λ (f : Fault). outcome c.args.text.now old (c.args.stack.now.items ++ pending_at c.args.at (parts.Block c.args.name c.args.items c.args.turn) ∷ []) ≡ Err f in
     told_exit P c.from_residual-in_err-parts.result c.in_err-parts.field-0.0 c.from_residual-in_err-parts.ensures.1
-    (tells c.in_err-parts.field-0.0 (FailsBy source k (totals_of old.counts)) P
+    (tells c.in_err-parts.field-0.0 (FailsBy source k (totals_so_far old)) P
     (λ f h. block_faulty c.args.text.now k old (suc c.in_ok-left.left) c.args.at c.args.name c.args.items c.args.turn c.args.stack.now.items f same c.in_ok-left.ensures.deeper (h c.in_ok-left.left))
     c.in_err-parts.ensures.broken)
 

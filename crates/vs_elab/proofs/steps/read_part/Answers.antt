@@ -12,7 +12,7 @@ use Rattle.vs_elab.specs.Fine.{IsFineInstance, IsFinePart}
 use Rattle.vs_elab.specs.Reading.{IsPending, IsReading, IsStep, Tells, outcome, pending_at, source_of}
 use Rattle.vs_elab.proofs.KnownModules.{found_known, found_some}
 use Rattle.vs_elab.proofs.OpenedSteps.{each_last, told_exit}
-use Rattle.vs_elab.proofs.OwnSteps.{next_built, next_fine, next_room, next_seen, next_within}
+use Rattle.vs_elab.proofs.OwnSteps.{next_built, next_fine, next_numbered, next_room, next_seen, next_within}
 use Rattle.vs_elab.proofs.steps.read_part.Goals as goal
 
 pub read_block-requires-clause-text : goal.read_block-requires-clause-text
@@ -74,6 +74,9 @@ returns-in-Some-clause-broken c =
 pub read_own-requires : goal.read_own-requires
 read_own-requires c = record {
   within = next_within c.args.text.now c.args.reading.now c.args.next c.args.stack.now.items c.in_default.not-Block c.in_default.not-Instance c.requires.reading;
+  kept = c.requires.reading.read.kept;
+  idle = c.requires.reading.read.idle;
+  numbered = next_numbered c.args.text.now c.args.reading.now c.args.next c.args.stack.now.items c.in_default.not-Block c.in_default.not-Instance c.requires.reading;
   seen = next_seen c.args.text.now c.args.reading.now c.args.next c.args.stack.now.items c.in_default.not-Block c.in_default.not-Instance c.requires.reading;
   room = next_room c.args.text.now c.args.reading.now c.args.next c.args.stack.now.items c.in_default.not-Block c.in_default.not-Instance c.requires.reading;
   fine = next_fine c.args.text.now c.args.reading.now c.args.next c.args.stack.now.items c.in_default.not-Block c.in_default.not-Instance c.requires.reading;
@@ -88,6 +91,6 @@ returns-in_err-read_own-in_default c = record {
 
 pub returns-in_ok-read_own-in_default : goal.returns-in_ok-read_own-in_default
 returns-in_ok-read_own-in_default c = record {
-  step = next_built c.args.text.now c.args.reading.now c.args.next c.args.stack.now.items c.in_default.not-Block c.in_default.not-Instance c.requires.reading c.read_own.new.reading c.in_ok-read_own-in_default.ensures.built c.read_own.ensures.frames c.read_own.ensures.counts;
+  step = next_built c.args.text.now c.args.reading.now c.args.next c.args.stack.now.items c.in_default.not-Block c.in_default.not-Instance c.requires.reading c.read_own.new.reading c.in_ok-read_own-in_default.ensures.built c.read_own.ensures.frames c.read_own.ensures.counts c.read_own.ensures.loops;
   broken = tt;
 }

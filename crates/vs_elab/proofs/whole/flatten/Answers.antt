@@ -23,8 +23,11 @@ returns-in_err-reading-in-Some-get-clause-broken c =
     told_top source c.args.top.now c.in_ok-by_name.field-0.repeated (Some (view.module_tree c.in-Some-get.known.now.of.now)) c.from_residual-in_err-reading-in-Some-get.result c.in_err-reading-in-Some-get.field-0.0 c.in_ok-by_name.ensures.repeated c.in_default.is found
     c.from_residual-in_err-reading-in-Some-get.ensures.1 c.in_err-reading-in-Some-get.ensures.broken
 
-pub finish-requires : goal.finish-requires
-finish-requires c =
+pub finish-requires-clause-outside : goal.finish-requires-clause-outside
+finish-requires-clause-outside c = c.in_ok-reading-in-Some-get.ensures.idle.outside
+
+pub finish-requires-clause-lawful : goal.finish-requires-clause-lawful
+finish-requires-clause-lawful c =
     let source = view.source c.args.source.now in
     let found = known_found source c.args.top.now c.in_ok-by_name.field-0.by_name c.in-Some-get.known.now c.in_ok-by_name.ensures.by_name c.in-Some-get.ensures.value in
     c.elaborated_law.ensures.lawful source c.args.top.now _ c.requires

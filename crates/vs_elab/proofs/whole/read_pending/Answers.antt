@@ -30,3 +30,6 @@ pub returns-clause-design : goal.returns-clause-design
 returns-clause-design c =
     let none = none_taken c.pop.result _ _ c.pop.ensures.cases c.in_default.is in
     sym c.loop-next.invariant.same ∙ all_read c.args.text.now c.loop-next.reading c.loop-next.stack.items (omega (arith, none.0, c.loop-next.stack.ok.0))
+
+pub returns-clause-idle : goal.returns-clause-idle
+returns-clause-idle c = c.loop-next.invariant.reading.read.idle

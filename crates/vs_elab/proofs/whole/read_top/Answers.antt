@@ -6,7 +6,7 @@ use Rattle.vs_ast.specs.Views as view
 use Rattle.vs_const.specs.declared.faults.Fault.{Fault}
 use Rattle.vs_elab.specs.declared.error.ElabError.{ElabError}
 use Rattle.vs_elab.specs.declared.reading.Reading.{Reading}
-use Rattle.vs_elab.specs.Reading.{Tells, design_so_far, source_of, totals_of}
+use Rattle.vs_elab.specs.Reading.{Tells, design_so_far, source_of, totals_so_far}
 use Rattle.vs_elab.proofs.TopReading.{items_shallow, none_override, top_sound, top_is, top_reading, top_outcome, top_fails, first_pieces, first_parts, first_there, none_pending}
 use Rattle.vs_elab.proofs.whole.read_top.Goals as goal
 
@@ -25,7 +25,7 @@ returns-in_err-parts-clause-broken c =
     let m = c.args.top.now.of in
     let p = err_from_is_err_and c.from_residual.result c.from_residual.ensures.1 in
     let is = top_is old.frames.items m c.as_slice.result.now c.new-none.result c.as_slice.ensures c.new-none.ensures in
-    rw (p.1, p.2) (top_fails (source_of c.args.text.now) (view.module_tree m.now) _ (totals_of old.counts) _ is c.nothing_read-reading.ensures.totals c.in_err-parts.ensures.broken)
+    rw (p.1, p.2) (top_fails (source_of c.args.text.now) (view.module_tree m.now) _ (totals_so_far old) _ is c.nothing_read-reading.ensures.totals c.in_err-parts.ensures.broken)
 
 pub read_pending-requires-clause-reading : goal.read_pending-requires-clause-reading
 read_pending-requires-clause-reading c =

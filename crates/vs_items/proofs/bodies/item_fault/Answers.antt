@@ -1,4 +1,5 @@
-use Rattle.std.proofs.Common.{◌≡◌, List, Option, IfOk, map, sym, ap, ◌∙◌, subst}
+use Rattle.std.proofs.Common.{◌≡◌, List, Option, IfOk, OnOk, map, sym, ap, ◌∙◌, subst}
+use Rattle.vs_grammar.specs.Trees.{AlwaysItem}
 use Rattle.vs_ast.specs.declared.items.Item.{Item}
 use Rattle.vs_ast.specs.declared.items.Declarator.{Declarator}
 use Rattle.vs_ast.specs.declared.items.Assign.{Assign}
@@ -6,30 +7,44 @@ use Rattle.vs_ast.specs.Views as view
 use Rattle.vs_const.specs.declared.faults.Fault.{Fault}
 use Rattle.vs_const.specs.Faults.{least}
 use Rattle.vs_elaborated.specs.Pieces.{all_said}
-use Rattle.vs_elaborated.specs.Surveys.{assign_said, wire_said, item_said}
+use Rattle.vs_elaborated.specs.Limits.{the_limits}
+use Rattle.vs_elaborated.specs.Surveys.{Loops, assign_said, wire_said, item_said, loops_after}
 use Rattle.vs_scope.specs.Frames.{view_env}
-use Rattle.vs_items.proofs.BodyFaults.{assigns_alike, wires_alike}
+use Rattle.vs_items.proofs.BodyFaults.{assigns_alike, wires_alike, block_alike, after_alike}
 use Rattle.vs_items.proofs.bodies.item_fault.Goals as goal
 
-pub returns-in-Signals : goal.returns-in-Signals
-returns-in-Signals c = λ source around made a names.
+pub returns-in-Signals-clause-fault : goal.returns-in-Signals-clause-fault
+returns-in-Signals-clause-fault c = λ source around made a names.
     let env = view_env c.args.here.now in
     let t = view.signals c.in-Signals.s in
-    subst (λ (x : Item). IfOk c.wires_fault.result (λ (f : Option Fault). f ≡ least (item_said source around (view.item x) made).faults)) (sym c.in-Signals.is)
+    subst (λ (x : Item). IfOk c.wires_fault.result (λ (f : Option Fault). f ≡ least (item_said the_limits source around c.args.loops.now (view.item x) made).faults)) (sym c.in-Signals.is)
     (subst (λ (fs : List Fault). IfOk c.wires_fault.result (λ (f : Option Fault). f ≡ least fs))
-    (ap (λ (xs : List Declarator). (all_said (wire_said env t.place) (map view.declarator xs)).faults) c.deref.ensures.value ∙ wires_alike env around.env (sym names) t.place t.names)
+    (ap (λ (xs : List Declarator). (all_said (wire_said env t.place) (map view.declarator xs)).faults) c.deref.ensures.value ∙ wires_alike env around.env (sym names.names) t.place t.names)
     (c.wires_fault.ensures t.place))
 
-pub returns-in-Assigns : goal.returns-in-Assigns
-returns-in-Assigns c = λ source around made a names.
+pub returns-in-Assigns-clause-fault : goal.returns-in-Assigns-clause-fault
+returns-in-Assigns-clause-fault c = λ source around made a names.
     let env = view_env c.args.here.now in
     let place = c.in-Assigns.place in
-    subst (λ (x : Item). IfOk c.assigns_fault.result (λ (f : Option Fault). f ≡ least (item_said source around (view.item x) made).faults)) (sym c.in-Assigns.is)
+    subst (λ (x : Item). IfOk c.assigns_fault.result (λ (f : Option Fault). f ≡ least (item_said the_limits source around c.args.loops.now (view.item x) made).faults)) (sym c.in-Assigns.is)
     (subst (λ (fs : List Fault). IfOk c.assigns_fault.result (λ (f : Option Fault). f ≡ least fs))
-    (ap (λ (xs : List Assign). (all_said (assign_said env place) (map view.assign xs)).faults) c.deref-in-Assigns.ensures.value ∙ assigns_alike env around.env (sym names) place (map view.assign c.in-Assigns.assigns.items))
+    (ap (λ (xs : List Assign). (all_said (assign_said env place) (map view.assign xs)).faults) c.deref-in-Assigns.ensures.value ∙ assigns_alike env around.env (sym names.names) place (map view.assign c.in-Assigns.assigns.items))
     (c.assigns_fault.ensures place))
 
-pub returns-in-Instances : goal.returns-in-Instances
-returns-in-Instances c = λ source around made a names.
-    subst (λ (x : Item). IfOk c.instances_fault.result (λ (f : Option Fault). f ≡ least (item_said source around (view.item x) made).faults)) (sym c.in-Instances.is)
-    (c.instances_fault.ensures source around (c.seen_by.ensures source a) names)
+pub returns-in-Instances-clause-fault : goal.returns-in-Instances-clause-fault
+returns-in-Instances-clause-fault c = λ source around made a names.
+    subst (λ (x : Item). IfOk c.instances_fault.result (λ (f : Option Fault). f ≡ least (item_said the_limits source around c.args.loops.now (view.item x) made).faults)) (sym c.in-Instances.is)
+    (c.instances_fault.ensures source around (c.seen_by.ensures source a) names.names)
+
+pub returns-in-Always-clause-fault : goal.returns-in-Always-clause-fault
+returns-in-Always-clause-fault c = λ source around made a names.
+    subst (λ (x : Item). IfOk c.block_fault.result (λ (f : Option Fault). f ≡ least (item_said the_limits source around c.args.loops.now (view.item x) made).faults)) (sym c.in-Always.is)
+    (subst (λ (fs : List Fault). IfOk c.block_fault.result (λ (f : Option Fault). f ≡ least fs)) (sym (block_alike the_limits c.args.loops.now around.env (view_env c.args.here.now) names (view.always_block c.in-Always.b)))
+    c.block_fault.ensures.fault)
+
+pub returns-in-Always-clause-loops : goal.returns-in-Always-clause-loops
+returns-in-Always-clause-loops c = λ env names.
+    let b = view.always_block c.in-Always.b in
+    subst (λ (x : Item). OnOk c.block_fault.result (c.block_fault.new.loops ≡ loops_after the_limits env c.args.loops.now (view.item x))) (sym c.in-Always.is)
+    (subst (λ (l : Loops). OnOk c.block_fault.result (c.block_fault.new.loops ≡ l)) (sym (after_alike the_limits c.args.loops.now env (view_env c.args.here.now) names (AlwaysItem b)))
+    c.block_fault.ensures.loops)

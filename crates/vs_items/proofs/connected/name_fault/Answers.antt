@@ -6,8 +6,8 @@ use Rattle.vs_ast.specs.Views as view
 use Rattle.vs_const.specs.Faults.{least, better}
 use Rattle.vs_const.proofs.Least.{least_append}
 use Rattle.vs_elaborated.specs.Instances.{connected_names}
-use Rattle.vs_scope.specs.Maps.{value_at}
-use Rattle.vs_scope.specs.MapViews.{pairs}
+use Rattle.vs_maps.specs.Maps.{value_at}
+use Rattle.vs_maps.specs.MapViews.{pairs}
 use Rattle.vs_items.specs.Noted.{AreFirst, named}
 use Rattle.vs_items.specs.Connected.{is_known, name_faults}
 use Rattle.vs_items.proofs.Repeats.{one_more}

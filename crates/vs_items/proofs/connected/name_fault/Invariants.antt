@@ -2,7 +2,7 @@ use Rattle.std.proofs.Common.{◌≡◌, [], map, take}
 use Rattle.vs_ast.specs.Views as view
 use Rattle.vs_const.specs.Faults.{least}
 use Rattle.vs_elaborated.specs.Instances.{connected_names}
-use Rattle.vs_scope.specs.MapViews.{pairs}
+use Rattle.vs_maps.specs.MapViews.{pairs}
 use Rattle.vs_items.specs.Noted.{AreFirst}
 use Rattle.vs_items.specs.Connected.{is_known}
 use Rattle.vs_items.proofs.ConnectedNames.{named_only}

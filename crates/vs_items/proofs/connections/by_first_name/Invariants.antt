@@ -1,6 +1,6 @@
 use Rattle.std.proofs.Common.{map, take}
 use Rattle.vs_ast.specs.Views as view
-use Rattle.vs_scope.specs.MapViews.{pairs}
+use Rattle.vs_maps.specs.MapViews.{pairs}
 use Rattle.vs_items.specs.Connections.{AreNamed}
 use Rattle.vs_items.proofs.connections.by_first_name.Given as goal
 

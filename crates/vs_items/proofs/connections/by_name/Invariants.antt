@@ -3,7 +3,7 @@ use Rattle.vs_grammar.specs.Trees as tree
 use Rattle.vs_grammar.specs.Shapes.{Each}
 use Rattle.vs_elaborated.specs.Environments.{Env}
 use Rattle.vs_elaborated.specs.Ports as spec
-use Rattle.vs_scope.specs.MapViews.{pairs}
+use Rattle.vs_maps.specs.MapViews.{pairs}
 use Rattle.vs_items.specs.Connections.{said, AreNamed, connected_at}
 use Rattle.vs_items.specs.Fine.{IsFineConnected, IsFineNamed}
 use Rattle.vs_items.specs.PortTables.{ArePorts}

@@ -3,7 +3,7 @@ use Rattle.std.specs.Prelude.{OnOk}
 use Rattle.std.proofs.lemmas.List.{append-nil}
 use Rattle.vs_elaborated.specs.Ports.{Port}
 use Rattle.vs_elaborated.specs.Instances.{connected}
-use Rattle.vs_scope.specs.MapViews.{pairs}
+use Rattle.vs_maps.specs.MapViews.{pairs}
 use Rattle.vs_items.specs.Connections.{said, connected_if}
 use Rattle.vs_items.specs.Fine.{IsFineValue}
 use Rattle.vs_items.proofs.FineConnections.{named_at}

@@ -5,8 +5,8 @@ use Rattle.vs_grammar.specs.Trees as tree
 use Rattle.vs_ast.specs.declared.items.NamedConnection.{NamedConnection}
 use Rattle.vs_ast.specs.Views as view
 use Rattle.vs_elaborated.specs.Instances.{connected_by_name}
-use Rattle.vs_scope.specs.Maps.{value_at}
-use Rattle.vs_scope.specs.MapViews.{pairs}
+use Rattle.vs_maps.specs.Maps.{value_at}
+use Rattle.vs_maps.specs.MapViews.{pairs}
 use Rattle.vs_items.specs.Counts.{HasNames}
 use Rattle.vs_items.proofs.Repeats.{one_more}
 use Rattle.vs_items.proofs.counts.connected_names.Goals as goal

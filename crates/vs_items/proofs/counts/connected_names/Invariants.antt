@@ -3,7 +3,7 @@ use Rattle.vs_ast.specs.Views as view
 use Rattle.vs_elaborated.specs.Environments.{Env}
 use Rattle.vs_elaborated.specs.Ports.{Port}
 use Rattle.vs_elaborated.specs.Instances.{connected_by_name}
-use Rattle.vs_scope.specs.MapViews.{pairs}
+use Rattle.vs_maps.specs.MapViews.{pairs}
 use Rattle.vs_items.specs.Counts.{HasNames}
 use Rattle.vs_items.specs.PortTables.{ArePorts}
 use Rattle.vs_items.proofs.counts.connected_names.Given as goal

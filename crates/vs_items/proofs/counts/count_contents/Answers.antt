@@ -9,8 +9,8 @@ use Rattle.vs_items.proofs.Repeats.{items_are}
 use Rattle.vs_items.proofs.counts.count_contents.Goals as goal
 
 pub returns-in-Module-clause-counted : goal.returns-in-Module-clause-counted
-returns-in-Module-clause-counted c = λ source around made before ps a same h.
+returns-in-Module-clause-counted c = λ limits source around loops made before ps a same h.
     let all : contents_items c.args.contents ≡ map view.item c.deref.result.now =
     ap contents_items c.in-Module.is ∙ items_are c.in-Module.m.now.items.items ∙ ap (map view.item) (sym c.deref.ensures.value) in
-    subst (λ (is : List tree.Item). OnOk c.count_items.result (IsCounted c.count_items.new.count before (ps ++ (items_said source around is made).pieces))) (sym all)
-    (c.count_items.ensures.counted source around made before ps a (same ∙ ap (λ (is : List tree.Item). length is) all ∙ length-map c.deref.result.now view.item) h)
+    subst (λ (is : List tree.Item). OnOk c.count_items.result (IsCounted c.count_items.new.count before (ps ++ (items_said limits source around loops is made).pieces))) (sym all)
+    (c.count_items.ensures.counted limits source around loops made before ps a (same ∙ ap (λ (is : List tree.Item). length is) all ∙ length-map c.deref.result.now view.item) h)

@@ -3,29 +3,29 @@ use Rattle.vs_design.specs.Designs.{Always}
 use Rattle.vs_ast.specs.declared.items.Item.{Item}
 use Rattle.vs_ast.specs.Views as view
 use Rattle.vs_elaborated.specs.Environments.{named}
-use Rattle.vs_elaborated.specs.Statements.{typed_control, typed_statement}
+use Rattle.vs_elaborated.specs.Statements.{typed_control}
 use Rattle.vs_elaborated.specs.Pieces.{Own}
-use Rattle.vs_elaborated.specs.Surveys.{item_said}
+use Rattle.vs_elaborated.specs.Surveys.{block_statement, item_said}
 use Rattle.vs_items.specs.Counts.{IsCounted}
 use Rattle.vs_items.proofs.ItemLists.{other_counted, are_others}
 use Rattle.vs_items.proofs.counts.count_item.Goals as goal
 
 pub returns-in-Always-clause-counted : goal.returns-in-Always-clause-counted
-returns-in-Always-clause-counted c = λ source around made before ps a h.
+returns-in-Always-clause-counted c = λ limits source around loops made before ps a h.
     let b = view.always_block c.in-Always.b in
     let e = typed_control b.control (named around.env) in
-    subst (λ (x : Item). IsCounted c.add.new.self before (ps ++ (item_said source around (view.item x) made).pieces)) (sym c.in-Always.is)
-    (c.add.ensures.counted before ps (Own (Always b.place e.star e.events (typed_statement b.statement (named around.env)).statement)) h refl refl)
+    subst (λ (x : Item). IsCounted c.add.new.self before (ps ++ (item_said limits source around loops (view.item x) made).pieces)) (sym c.in-Always.is)
+    (c.add.ensures.counted before ps (Own (Always b.place e.star e.events (block_statement limits around.env loops b).statement)) h refl refl)
 
 pub returns-in-Instances-clause-counted : goal.returns-in-Instances-clause-counted
-returns-in-Instances-clause-counted c = λ source around made before ps a h.
-    subst (λ (x : Item). OnOk c.count_instances.result (IsCounted c.count_instances.new.count before (ps ++ (item_said source around (view.item x) made).pieces))) (sym c.in-Instances.is)
+returns-in-Instances-clause-counted c = λ limits source around loops made before ps a h.
+    subst (λ (x : Item). OnOk c.count_instances.result (IsCounted c.count_instances.new.count before (ps ++ (item_said limits source around loops (view.item x) made).pieces))) (sym c.in-Instances.is)
     (c.count_instances.ensures.counted source around before ps a h)
 
 pub returns-in_default : goal.returns-in_default
 returns-in_default c = record {
   most = refl;
-  counted = λ source around made before ps a h.
-      other_counted source around (view.item c.args.item.now) made c.args.count.now before ps
+  counted = λ limits source around loops made before ps a h.
+      other_counted limits source around loops (view.item c.args.item.now) made c.args.count.now before ps
       (are_others c.args.item.now c.in_default.not-Signals c.in_default.not-Assigns c.in_default.not-Always c.in_default.not-Instances) h;
 }

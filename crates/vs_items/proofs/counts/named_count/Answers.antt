@@ -3,8 +3,8 @@ use Rattle.std.proofs.lemmas.List.{take_all, get_or_default}
 use Rattle.vs_ast.specs.Views as view
 use Rattle.vs_elaborated.specs.Ports.{Port}
 use Rattle.vs_elaborated.specs.Instances.{connected_by_name, in_port_order}
-use Rattle.vs_scope.specs.Maps.{value_at}
-use Rattle.vs_scope.specs.MapViews.{pairs}
+use Rattle.vs_maps.specs.Maps.{value_at}
+use Rattle.vs_maps.specs.MapViews.{pairs}
 use Rattle.vs_items.specs.declared.ports.Port.{Port as Port'}
 use Rattle.vs_items.specs.Ports.{port_of}
 use Rattle.vs_items.proofs.Repeats.{one_more}

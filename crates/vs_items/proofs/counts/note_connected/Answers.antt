@@ -2,8 +2,8 @@ use Rattle.std.proofs.Common.{◌++◌, [], ◌∷◌, List, Option, length, sym
 use Rattle.vs_ast.specs.Views as view
 use Rattle.vs_elaborated.specs.Ports.{Port, find_port}
 use Rattle.vs_elaborated.specs.Instances.{connected}
-use Rattle.vs_scope.specs.Maps.{Pair}
-use Rattle.vs_scope.specs.MapViews.{pairs}
+use Rattle.vs_maps.specs.Maps.{Pair}
+use Rattle.vs_maps.specs.MapViews.{pairs}
 use Rattle.vs_items.specs.Noted.{AreFirst, named}
 use Rattle.vs_items.proofs.CountedPorts.{one_if, names_noted, names_kept}
 use Rattle.vs_items.proofs.counts.note_connected.Goals as goal

@@ -1,5 +1,5 @@
 use Rattle.std.proofs.Common.{map, take}
-use Rattle.vs_scope.specs.MapViews.{pairs}
+use Rattle.vs_maps.specs.MapViews.{pairs}
 use Rattle.vs_items.specs.Noted.{AreFirst}
 use Rattle.vs_items.specs.Ports.{name_bytes, name_only}
 use Rattle.vs_items.proofs.interfaces.name_set.Given as goal

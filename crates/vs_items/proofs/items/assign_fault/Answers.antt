@@ -8,6 +8,9 @@ use Rattle.vs_elaborated.specs.Targets.{typed_target}
 use Rattle.vs_scope.specs.Frames.{view_env}
 use Rattle.vs_items.proofs.items.assign_fault.Goals as goal
 
+pub check_target-requires-clause-fair : goal.check_target-requires-clause-fair
+check_target-requires-clause-fair c = c.fair_law.ensures c.args.here.now
+
 pub returns : goal.returns
 returns c =
     let find = named (view_env c.args.here.now) in

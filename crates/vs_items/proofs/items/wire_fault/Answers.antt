@@ -10,12 +10,15 @@ use Rattle.vs_scope.specs.Frames.{view_env}
 use Rattle.vs_items.specs.Items.{value_faults}
 use Rattle.vs_items.proofs.items.wire_fault.Goals as goal
 
+pub check_selected-requires-clause-fair : goal.check_selected-requires-clause-fair
+check_selected-requires-clause-fair c = c.fair_law.ensures c.args.here.now
+
 pub returns-in_ok-value-in-Some : goal.returns-in_ok-value-in-Some
 returns-in_ok-value-in-Some c =
     let env = view_env c.args.here.now in
     let n = view.name c.args.d.now.name in
     let e = view.expr c.in-Some.e in
     let b = (target_base false n.place false (named env n.bytes)).faults in
-    c.first_of.ensures ∙ ap (λ x. better x c.in_ok-value-in-Some.value) c.base_of-target.ensures.fault ∙ ap (better (least b)) c.in_ok-value-in-Some.ensures
+    c.first_of.ensures ∙ ap (λ x. better x c.in_ok-value-in-Some.value) c.in_ok-target-in-Some.ensures ∙ ap (better (least b)) c.in_ok-value-in-Some.ensures
     ∙ sym (least_append b (typed e (named env) false).faults)
     ∙ ap (λ (o : Option Expr). least (value_faults env n (view.option view.expr o))) (sym c.in-Some.is)

@@ -6,8 +6,8 @@ use Rattle.vs_const.proofs.Least.{least_append}
 use Rattle.std.proofs.lemmas.List.{take_all}
 use Rattle.vs_elaborated.specs.Ports.{find_in}
 use Rattle.vs_elaborated.specs.Elaborated.{repeated_modules}
-use Rattle.vs_scope.specs.Maps.{value_at}
-use Rattle.vs_scope.specs.MapViews.{pairs}
+use Rattle.vs_maps.specs.Maps.{value_at}
+use Rattle.vs_maps.specs.MapViews.{pairs}
 use Rattle.vs_items.specs.Modules.{IsOf}
 use Rattle.vs_items.proofs.Repeats.{AreModules, no_modules, modules_more, module_had, module_found, repeated_more, one_more}
 use Rattle.vs_items.proofs.modules.modules_of.Goals as goal

@@ -1,6 +1,6 @@
 use Rattle.std.proofs.Common.{◌++◌, [], ◌∷◌, is_some, inl, inr, refl, sym, ap, ◌∙◌, subst}
-use Rattle.vs_scope.specs.MapViews.{pairs}
-use Rattle.vs_scope.specs.Maps.{value_at}
+use Rattle.vs_maps.specs.MapViews.{pairs}
+use Rattle.vs_maps.specs.Maps.{value_at}
 use Rattle.vs_items.specs.Noted.{AreFirst, named}
 use Rattle.vs_items.proofs.Firsts.{first_more, first_again, copied_some, copied_none}
 use Rattle.vs_items.proofs.noted.note.Goals as goal

@@ -16,12 +16,15 @@ use Rattle.vs_items.proofs.FaultLists.{least_more}
 use Rattle.vs_items.proofs.OutputFaults.{parts_found, parts_shaped, part_at}
 use Rattle.vs_items.proofs.outputs.+outputs.Goals as goal
 
-pub part_fault-selected_fault-requires : goal.part_fault-selected_fault-requires
-part_fault-selected_fault-requires t c = (subst (λ (x : Expr). IsExpr (view.expr x)) c.in-Named.is c.requires).1
+pub part_fault-check_selected-requires-clause-shaped : goal.part_fault-check_selected-requires-clause-shaped
+part_fault-check_selected-requires-clause-shaped t c = (subst (λ (x : Expr). IsExpr (view.expr x)) c.in-Named.is c.requires).1
+
+pub part_fault-check_selected-requires-clause-fair : goal.part_fault-check_selected-requires-clause-fair
+part_fault-check_selected-requires-clause-fair t c = c.fair_law.ensures c.args.here.now
 
 pub part_fault-returns-in-Named : goal.part_fault-returns-in-Named
 part_fault-returns-in-Named t c =
-    subst (λ (x : Expr). IfOk c.selected_fault.result (λ (f : Option Fault). f ≡ least (found_faults (view.expr x) (named (view_env c.args.here.now))))) (sym c.in-Named.is) c.selected_fault.ensures
+    subst (λ (x : Expr). IfOk c.check_selected.result (λ (f : Option Fault). f ≡ least (found_faults (view.expr x) (named (view_env c.args.here.now))))) (sym c.in-Named.is) c.check_selected.ensures
 
 pub part_fault-parts_fault-requires : goal.part_fault-parts_fault-requires
 part_fault-parts_fault-requires t c = (

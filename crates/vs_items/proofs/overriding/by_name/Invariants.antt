@@ -2,8 +2,8 @@ use Rattle.std.proofs.Common.{◌<◌, List, length, take, map, Some}
 use Rattle.vs_ast.specs.Views as view
 use Rattle.vs_elaborated.specs.Instances.{overrides_by_name}
 use Rattle.vs_scope.specs.Frames.{env_at, envs}
-use Rattle.vs_scope.specs.Maps.{AreDistinct}
-use Rattle.vs_scope.specs.MapViews.{pairs}
+use Rattle.vs_maps.specs.Maps.{AreDistinct}
+use Rattle.vs_maps.specs.MapViews.{pairs}
 use Rattle.vs_scope.specs.Overrides.{AreOverrides}
 use Rattle.vs_scope.specs.declared.frames.Frame.{Frame}
 use Rattle.vs_items.specs.Overriding.{AreSaid}

@@ -2,7 +2,7 @@ use Rattle.std.proofs.Common.{Option, length, subst}
 use Rattle.vs_grammar.specs.Shapes.{Given, IsExpr}
 use Rattle.vs_ast.specs.declared.expressions.Expr.{Expr}
 use Rattle.vs_ast.specs.Views as view
-use Rattle.vs_scope.specs.MapViews.{pairs}
+use Rattle.vs_maps.specs.MapViews.{pairs}
 use Rattle.vs_items.proofs.OverridingSteps.{each_may}
 use Rattle.vs_items.proofs.overriding.note_override.Goals as goal
 

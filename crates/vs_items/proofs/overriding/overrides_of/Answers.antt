@@ -5,7 +5,7 @@ use Rattle.vs_ast.specs.declared.items.Connections.{Connections}
 use Rattle.vs_ast.specs.declared.items.NamedConnection.{NamedConnection}
 use Rattle.vs_ast.specs.Views as view
 use Rattle.vs_elaborated.specs.Instances.{overrides_by_order, overrides_by_name, said_overrides}
-use Rattle.vs_scope.specs.declared.maps.NameMap.{NameMap}
+use Rattle.vs_maps.specs.declared.maps.NameMap.{NameMap}
 use Rattle.vs_scope.specs.declared.parameters.Override.{Override}
 use Rattle.vs_scope.specs.Frames.{env_at, envs}
 use Rattle.vs_scope.specs.Overrides.{overrides_of}

@@ -1,7 +1,7 @@
 use Rattle.std.proofs.Common.{map, flat_map, take}
 use Rattle.vs_ast.specs.Views as view
 use Rattle.vs_elaborated.specs.Ports.{item_directions}
-use Rattle.vs_scope.specs.MapViews.{pairs}
+use Rattle.vs_maps.specs.MapViews.{pairs}
 use Rattle.vs_items.specs.Noted.{AreFirst}
 use Rattle.vs_items.specs.Ports.{named_direction}
 use Rattle.vs_items.proofs.ports.body_directions.Given as goal

@@ -2,7 +2,7 @@ use Rattle.std.proofs.Common.{◌++◌, map, refl, ap, ◌∙◌, subst}
 use Rattle.std.proofs.lemmas.List.{take_all}
 use Rattle.vs_ast.specs.Views as view
 use Rattle.vs_elaborated.specs.Signals as spec
-use Rattle.vs_scope.specs.MapViews.{pairs}
+use Rattle.vs_maps.specs.MapViews.{pairs}
 use Rattle.vs_items.specs.Noted.{AreFirst}
 use Rattle.vs_items.proofs.Directions.{declared_direction, declared_directions}
 use Rattle.vs_items.proofs.ports.note_signals.Goals as goal

@@ -1,8 +1,8 @@
 use Rattle.std.proofs.Common.{◌++◌, Bool, List, map, take}
 use Rattle.vs_ast.specs.Views as view
 use Rattle.vs_elaborated.specs.Signals as spec
-use Rattle.vs_scope.specs.Maps.{Pair}
-use Rattle.vs_scope.specs.MapViews.{pairs}
+use Rattle.vs_maps.specs.Maps.{Pair}
+use Rattle.vs_maps.specs.MapViews.{pairs}
 use Rattle.vs_items.specs.Noted.{AreFirst}
 use Rattle.vs_items.proofs.Directions.{declared_direction}
 use Rattle.vs_items.proofs.ports.note_signals.Given as goal

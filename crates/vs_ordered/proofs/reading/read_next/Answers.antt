@@ -4,8 +4,6 @@ use Rattle.vs_feed.specs.Reading.{AreRead}
 use Rattle.vs_rounds.specs.Stops.{ReadStops, stop_of}
 use Rattle.vs_rounds.proofs.Rereads.{all_read, of_stimulus, read_stops}
 use Rattle.vs_ordered.proofs.Rounds.{lone_live, of_lane}
-use Rattle.vs_ordered.proofs.Giving.{vectors_given}
-use Rattle.vs_ordered.proofs.Same.{every_dump}
 use Rattle.vs_ordered.proofs.reading.read_next.Goals as goal
 
 pub returns-in-Ok-clause-lone : goal.returns-in-Ok-clause-lone

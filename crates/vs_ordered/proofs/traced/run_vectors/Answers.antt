@@ -1,4 +1,4 @@
-use Rattle.std.proofs.Common.{List, ap, map, ◌∙◌, subst, sym}
+use Rattle.std.proofs.Common.{ap, map, ◌∙◌, subst, sym}
 use Rattle.vs_flat.specs.Arena.{Arena}
 use Rattle.vs_flat.specs.DesignOf.{design_of}
 use Rattle.vs_flat.specs.Lawful.{IsLawful}

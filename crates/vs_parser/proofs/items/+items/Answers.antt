@@ -12,8 +12,7 @@ use Rattle.vs_statements.proofs.Firsts.{too_deep_first, stopped_first}
 use Rattle.vs_statements.proofs.Lists.{shorter, listing_start, listing_more, pushed_first, listing_behind}
 use Rattle.vs_grammar.specs.Grammars.Tree.{leaf, nothing}
 use Rattle.vs_statements.proofs.Pairs.{ok_at, err_at}
-use Rattle.vs_parser.proofs.Fronts.{read_front, refused_front, refused_after_front}
-use Rattle.vs_parser.proofs.Blocks.{for_made, items_made, block_default_first, block_arms_alone, block_arms_around}
+use Rattle.vs_parser.proofs.Blocks.{items_made, block_default_first, block_arms_alone, block_arms_around}
 use Rattle.vs_parser.proofs.items.+items.Goals as goal
 
 pub generate_item-returns-then-stands : goal.generate_item-returns-then-stands
@@ -35,49 +34,31 @@ pub generate_item-returns-then-stands-6 : goal.generate_item-returns-then-stands
 generate_item-returns-then-stands-6 t c = answer_more c.genvars.result c.genvars.ensures (λ f w. parsed (read_var (read_latter (one_false _ c.stands.result c.stands.ensures c.if-stands.false) (read_latter (one_false _ c.stands-else-stands.result c.stands-else-stands.ensures c.if-stands-2.false) (read_latter (one_false _ c.stands-else-stands-2.result c.stands-else-stands-2.ensures c.if-stands-3.false) (read_latter (one_false _ c.stands-else-stands-3.result c.stands-else-stands-3.ensures c.if-stands-4.false) (read_latter (one_false _ c.stands-else-stands-4.result c.stands-else-stands-4.ensures c.if-stands-5.false) (read_former (one_true _ c.stands-else-stands-5.result c.stands-else-stands-5.ensures c.if-stands-6.true) w.read))))))) w.made) (λ e w. (refused_var (refused_latter (one_false _ c.stands.result c.stands.ensures c.if-stands.false) (refused_latter (one_false _ c.stands-else-stands.result c.stands-else-stands.ensures c.if-stands-2.false) (refused_latter (one_false _ c.stands-else-stands-2.result c.stands-else-stands-2.ensures c.if-stands-3.false) (refused_latter (one_false _ c.stands-else-stands-3.result c.stands-else-stands-3.ensures c.if-stands-4.false) (refused_latter (one_false _ c.stands-else-stands-4.result c.stands-else-stands-4.ensures c.if-stands-5.false) (refused_former (one_true _ c.stands-else-stands-5.result c.stands-else-stands-5.ensures c.if-stands-6.true) w))))))))
 
 pub generate_item-returns-then-stands-7 : goal.generate_item-returns-then-stands-7
-generate_item-returns-then-stands-7 t c = answer_more c.instances.result c.instances.ensures (λ f w. parsed (read_var (read_latter (one_false _ c.stands.result c.stands.ensures c.if-stands.false) (read_latter (one_false _ c.stands-else-stands.result c.stands-else-stands.ensures c.if-stands-2.false) (read_latter (one_false _ c.stands-else-stands-2.result c.stands-else-stands-2.ensures c.if-stands-3.false) (read_latter (one_false _ c.stands-else-stands-3.result c.stands-else-stands-3.ensures c.if-stands-4.false) (read_latter (one_false _ c.stands-else-stands-4.result c.stands-else-stands-4.ensures c.if-stands-5.false) (read_latter (one_false _ c.stands-else-stands-5.result c.stands-else-stands-5.ensures c.if-stands-6.false) (read_former (one_true _ c.stands-else-stands-6.result c.stands-else-stands-6.ensures c.if-stands-7.true) w.read)))))))) w.made) (λ e w. (refused_var (refused_latter (one_false _ c.stands.result c.stands.ensures c.if-stands.false) (refused_latter (one_false _ c.stands-else-stands.result c.stands-else-stands.ensures c.if-stands-2.false) (refused_latter (one_false _ c.stands-else-stands-2.result c.stands-else-stands-2.ensures c.if-stands-3.false) (refused_latter (one_false _ c.stands-else-stands-3.result c.stands-else-stands-3.ensures c.if-stands-4.false) (refused_latter (one_false _ c.stands-else-stands-4.result c.stands-else-stands-4.ensures c.if-stands-5.false) (refused_latter (one_false _ c.stands-else-stands-5.result c.stands-else-stands-5.ensures c.if-stands-6.false) (refused_former (one_true _ c.stands-else-stands-6.result c.stands-else-stands-6.ensures c.if-stands-7.true) w)))))))))
+generate_item-returns-then-stands-7 t c = answer_more c.integers.result c.integers.ensures (λ f w. parsed (read_var (read_latter (one_false _ c.stands.result c.stands.ensures c.if-stands.false) (read_latter (one_false _ c.stands-else-stands.result c.stands-else-stands.ensures c.if-stands-2.false) (read_latter (one_false _ c.stands-else-stands-2.result c.stands-else-stands-2.ensures c.if-stands-3.false) (read_latter (one_false _ c.stands-else-stands-3.result c.stands-else-stands-3.ensures c.if-stands-4.false) (read_latter (one_false _ c.stands-else-stands-4.result c.stands-else-stands-4.ensures c.if-stands-5.false) (read_latter (one_false _ c.stands-else-stands-5.result c.stands-else-stands-5.ensures c.if-stands-6.false) (read_former (one_true _ c.stands-else-stands-6.result c.stands-else-stands-6.ensures c.if-stands-7.true) w.read)))))))) w.made) (λ e w. (refused_var (refused_latter (one_false _ c.stands.result c.stands.ensures c.if-stands.false) (refused_latter (one_false _ c.stands-else-stands.result c.stands-else-stands.ensures c.if-stands-2.false) (refused_latter (one_false _ c.stands-else-stands-2.result c.stands-else-stands-2.ensures c.if-stands-3.false) (refused_latter (one_false _ c.stands-else-stands-3.result c.stands-else-stands-3.ensures c.if-stands-4.false) (refused_latter (one_false _ c.stands-else-stands-4.result c.stands-else-stands-4.ensures c.if-stands-5.false) (refused_latter (one_false _ c.stands-else-stands-5.result c.stands-else-stands-5.ensures c.if-stands-6.false) (refused_former (one_true _ c.stands-else-stands-6.result c.stands-else-stands-6.ensures c.if-stands-7.true) w)))))))))
 
 pub generate_item-returns-then-stands-8 : goal.generate_item-returns-then-stands-8
-generate_item-returns-then-stands-8 t c = answer_more c.generate_for.result c.generate_for.ensures (λ f w. parsed (read_var (read_latter (one_false _ c.stands.result c.stands.ensures c.if-stands.false) (read_latter (one_false _ c.stands-else-stands.result c.stands-else-stands.ensures c.if-stands-2.false) (read_latter (one_false _ c.stands-else-stands-2.result c.stands-else-stands-2.ensures c.if-stands-3.false) (read_latter (one_false _ c.stands-else-stands-3.result c.stands-else-stands-3.ensures c.if-stands-4.false) (read_latter (one_false _ c.stands-else-stands-4.result c.stands-else-stands-4.ensures c.if-stands-5.false) (read_latter (one_false _ c.stands-else-stands-5.result c.stands-else-stands-5.ensures c.if-stands-6.false) (read_latter (one_false _ c.stands-else-stands-6.result c.stands-else-stands-6.ensures c.if-stands-7.false) (read_former (one_true _ c.stands-else-stands-7.result c.stands-else-stands-7.ensures c.if-stands-8.true) w.read))))))))) w.made) (λ e w. (refused_var (refused_latter (one_false _ c.stands.result c.stands.ensures c.if-stands.false) (refused_latter (one_false _ c.stands-else-stands.result c.stands-else-stands.ensures c.if-stands-2.false) (refused_latter (one_false _ c.stands-else-stands-2.result c.stands-else-stands-2.ensures c.if-stands-3.false) (refused_latter (one_false _ c.stands-else-stands-3.result c.stands-else-stands-3.ensures c.if-stands-4.false) (refused_latter (one_false _ c.stands-else-stands-4.result c.stands-else-stands-4.ensures c.if-stands-5.false) (refused_latter (one_false _ c.stands-else-stands-5.result c.stands-else-stands-5.ensures c.if-stands-6.false) (refused_latter (one_false _ c.stands-else-stands-6.result c.stands-else-stands-6.ensures c.if-stands-7.false) (refused_former (one_true _ c.stands-else-stands-7.result c.stands-else-stands-7.ensures c.if-stands-8.true) w))))))))))
+generate_item-returns-then-stands-8 t c = answer_more c.instances.result c.instances.ensures (λ f w. parsed (read_var (read_latter (one_false _ c.stands.result c.stands.ensures c.if-stands.false) (read_latter (one_false _ c.stands-else-stands.result c.stands-else-stands.ensures c.if-stands-2.false) (read_latter (one_false _ c.stands-else-stands-2.result c.stands-else-stands-2.ensures c.if-stands-3.false) (read_latter (one_false _ c.stands-else-stands-3.result c.stands-else-stands-3.ensures c.if-stands-4.false) (read_latter (one_false _ c.stands-else-stands-4.result c.stands-else-stands-4.ensures c.if-stands-5.false) (read_latter (one_false _ c.stands-else-stands-5.result c.stands-else-stands-5.ensures c.if-stands-6.false) (read_latter (one_false _ c.stands-else-stands-6.result c.stands-else-stands-6.ensures c.if-stands-7.false) (read_former (one_true _ c.stands-else-stands-7.result c.stands-else-stands-7.ensures c.if-stands-8.true) w.read))))))))) w.made) (λ e w. (refused_var (refused_latter (one_false _ c.stands.result c.stands.ensures c.if-stands.false) (refused_latter (one_false _ c.stands-else-stands.result c.stands-else-stands.ensures c.if-stands-2.false) (refused_latter (one_false _ c.stands-else-stands-2.result c.stands-else-stands-2.ensures c.if-stands-3.false) (refused_latter (one_false _ c.stands-else-stands-3.result c.stands-else-stands-3.ensures c.if-stands-4.false) (refused_latter (one_false _ c.stands-else-stands-4.result c.stands-else-stands-4.ensures c.if-stands-5.false) (refused_latter (one_false _ c.stands-else-stands-5.result c.stands-else-stands-5.ensures c.if-stands-6.false) (refused_latter (one_false _ c.stands-else-stands-6.result c.stands-else-stands-6.ensures c.if-stands-7.false) (refused_former (one_true _ c.stands-else-stands-7.result c.stands-else-stands-7.ensures c.if-stands-8.true) w))))))))))
 
 pub generate_item-returns-then-stands-9 : goal.generate_item-returns-then-stands-9
-generate_item-returns-then-stands-9 t c = answer_more c.generate_if.result c.generate_if.ensures (λ f w. parsed (read_var (read_latter (one_false _ c.stands.result c.stands.ensures c.if-stands.false) (read_latter (one_false _ c.stands-else-stands.result c.stands-else-stands.ensures c.if-stands-2.false) (read_latter (one_false _ c.stands-else-stands-2.result c.stands-else-stands-2.ensures c.if-stands-3.false) (read_latter (one_false _ c.stands-else-stands-3.result c.stands-else-stands-3.ensures c.if-stands-4.false) (read_latter (one_false _ c.stands-else-stands-4.result c.stands-else-stands-4.ensures c.if-stands-5.false) (read_latter (one_false _ c.stands-else-stands-5.result c.stands-else-stands-5.ensures c.if-stands-6.false) (read_latter (one_false _ c.stands-else-stands-6.result c.stands-else-stands-6.ensures c.if-stands-7.false) (read_latter (one_false _ c.stands-else-stands-7.result c.stands-else-stands-7.ensures c.if-stands-8.false) (read_former (one_true _ c.stands-else-stands-8.result c.stands-else-stands-8.ensures c.if-stands-9.true) w.read)))))))))) w.made) (λ e w. (refused_var (refused_latter (one_false _ c.stands.result c.stands.ensures c.if-stands.false) (refused_latter (one_false _ c.stands-else-stands.result c.stands-else-stands.ensures c.if-stands-2.false) (refused_latter (one_false _ c.stands-else-stands-2.result c.stands-else-stands-2.ensures c.if-stands-3.false) (refused_latter (one_false _ c.stands-else-stands-3.result c.stands-else-stands-3.ensures c.if-stands-4.false) (refused_latter (one_false _ c.stands-else-stands-4.result c.stands-else-stands-4.ensures c.if-stands-5.false) (refused_latter (one_false _ c.stands-else-stands-5.result c.stands-else-stands-5.ensures c.if-stands-6.false) (refused_latter (one_false _ c.stands-else-stands-6.result c.stands-else-stands-6.ensures c.if-stands-7.false) (refused_latter (one_false _ c.stands-else-stands-7.result c.stands-else-stands-7.ensures c.if-stands-8.false) (refused_former (one_true _ c.stands-else-stands-8.result c.stands-else-stands-8.ensures c.if-stands-9.true) w)))))))))))
+generate_item-returns-then-stands-9 t c = answer_more c.generate_for.result c.generate_for.ensures (λ f w. parsed (read_var (read_latter (one_false _ c.stands.result c.stands.ensures c.if-stands.false) (read_latter (one_false _ c.stands-else-stands.result c.stands-else-stands.ensures c.if-stands-2.false) (read_latter (one_false _ c.stands-else-stands-2.result c.stands-else-stands-2.ensures c.if-stands-3.false) (read_latter (one_false _ c.stands-else-stands-3.result c.stands-else-stands-3.ensures c.if-stands-4.false) (read_latter (one_false _ c.stands-else-stands-4.result c.stands-else-stands-4.ensures c.if-stands-5.false) (read_latter (one_false _ c.stands-else-stands-5.result c.stands-else-stands-5.ensures c.if-stands-6.false) (read_latter (one_false _ c.stands-else-stands-6.result c.stands-else-stands-6.ensures c.if-stands-7.false) (read_latter (one_false _ c.stands-else-stands-7.result c.stands-else-stands-7.ensures c.if-stands-8.false) (read_former (one_true _ c.stands-else-stands-8.result c.stands-else-stands-8.ensures c.if-stands-9.true) w.read)))))))))) w.made) (λ e w. (refused_var (refused_latter (one_false _ c.stands.result c.stands.ensures c.if-stands.false) (refused_latter (one_false _ c.stands-else-stands.result c.stands-else-stands.ensures c.if-stands-2.false) (refused_latter (one_false _ c.stands-else-stands-2.result c.stands-else-stands-2.ensures c.if-stands-3.false) (refused_latter (one_false _ c.stands-else-stands-3.result c.stands-else-stands-3.ensures c.if-stands-4.false) (refused_latter (one_false _ c.stands-else-stands-4.result c.stands-else-stands-4.ensures c.if-stands-5.false) (refused_latter (one_false _ c.stands-else-stands-5.result c.stands-else-stands-5.ensures c.if-stands-6.false) (refused_latter (one_false _ c.stands-else-stands-6.result c.stands-else-stands-6.ensures c.if-stands-7.false) (refused_latter (one_false _ c.stands-else-stands-7.result c.stands-else-stands-7.ensures c.if-stands-8.false) (refused_former (one_true _ c.stands-else-stands-8.result c.stands-else-stands-8.ensures c.if-stands-9.true) w)))))))))))
 
-pub generate_item-returns-else-stands-9 : goal.generate_item-returns-else-stands-9
-generate_item-returns-else-stands-9 t c = answer_more c.generate_case.result c.generate_case.ensures (λ f w. parsed (read_var (read_latter (one_false _ c.stands.result c.stands.ensures c.if-stands.false) (read_latter (one_false _ c.stands-else-stands.result c.stands-else-stands.ensures c.if-stands-2.false) (read_latter (one_false _ c.stands-else-stands-2.result c.stands-else-stands-2.ensures c.if-stands-3.false) (read_latter (one_false _ c.stands-else-stands-3.result c.stands-else-stands-3.ensures c.if-stands-4.false) (read_latter (one_false _ c.stands-else-stands-4.result c.stands-else-stands-4.ensures c.if-stands-5.false) (read_latter (one_false _ c.stands-else-stands-5.result c.stands-else-stands-5.ensures c.if-stands-6.false) (read_latter (one_false _ c.stands-else-stands-6.result c.stands-else-stands-6.ensures c.if-stands-7.false) (read_latter (one_false _ c.stands-else-stands-7.result c.stands-else-stands-7.ensures c.if-stands-8.false) (read_latter (one_false _ c.stands-else-stands-8.result c.stands-else-stands-8.ensures c.if-stands-9.false) w.read)))))))))) w.made) (λ e w. (refused_var (refused_latter (one_false _ c.stands.result c.stands.ensures c.if-stands.false) (refused_latter (one_false _ c.stands-else-stands.result c.stands-else-stands.ensures c.if-stands-2.false) (refused_latter (one_false _ c.stands-else-stands-2.result c.stands-else-stands-2.ensures c.if-stands-3.false) (refused_latter (one_false _ c.stands-else-stands-3.result c.stands-else-stands-3.ensures c.if-stands-4.false) (refused_latter (one_false _ c.stands-else-stands-4.result c.stands-else-stands-4.ensures c.if-stands-5.false) (refused_latter (one_false _ c.stands-else-stands-5.result c.stands-else-stands-5.ensures c.if-stands-6.false) (refused_latter (one_false _ c.stands-else-stands-6.result c.stands-else-stands-6.ensures c.if-stands-7.false) (refused_latter (one_false _ c.stands-else-stands-7.result c.stands-else-stands-7.ensures c.if-stands-8.false) (refused_latter (one_false _ c.stands-else-stands-8.result c.stands-else-stands-8.ensures c.if-stands-9.false) w)))))))))))
+pub generate_item-returns-then-stands-10 : goal.generate_item-returns-then-stands-10
+generate_item-returns-then-stands-10 t c = answer_more c.generate_if.result c.generate_if.ensures (λ f w. parsed (read_var (read_latter (one_false _ c.stands.result c.stands.ensures c.if-stands.false) (read_latter (one_false _ c.stands-else-stands.result c.stands-else-stands.ensures c.if-stands-2.false) (read_latter (one_false _ c.stands-else-stands-2.result c.stands-else-stands-2.ensures c.if-stands-3.false) (read_latter (one_false _ c.stands-else-stands-3.result c.stands-else-stands-3.ensures c.if-stands-4.false) (read_latter (one_false _ c.stands-else-stands-4.result c.stands-else-stands-4.ensures c.if-stands-5.false) (read_latter (one_false _ c.stands-else-stands-5.result c.stands-else-stands-5.ensures c.if-stands-6.false) (read_latter (one_false _ c.stands-else-stands-6.result c.stands-else-stands-6.ensures c.if-stands-7.false) (read_latter (one_false _ c.stands-else-stands-7.result c.stands-else-stands-7.ensures c.if-stands-8.false) (read_latter (one_false _ c.stands-else-stands-8.result c.stands-else-stands-8.ensures c.if-stands-9.false) (read_former (one_true _ c.stands-else-stands-9.result c.stands-else-stands-9.ensures c.if-stands-10.true) w.read))))))))))) w.made) (λ e w. (refused_var (refused_latter (one_false _ c.stands.result c.stands.ensures c.if-stands.false) (refused_latter (one_false _ c.stands-else-stands.result c.stands-else-stands.ensures c.if-stands-2.false) (refused_latter (one_false _ c.stands-else-stands-2.result c.stands-else-stands-2.ensures c.if-stands-3.false) (refused_latter (one_false _ c.stands-else-stands-3.result c.stands-else-stands-3.ensures c.if-stands-4.false) (refused_latter (one_false _ c.stands-else-stands-4.result c.stands-else-stands-4.ensures c.if-stands-5.false) (refused_latter (one_false _ c.stands-else-stands-5.result c.stands-else-stands-5.ensures c.if-stands-6.false) (refused_latter (one_false _ c.stands-else-stands-6.result c.stands-else-stands-6.ensures c.if-stands-7.false) (refused_latter (one_false _ c.stands-else-stands-7.result c.stands-else-stands-7.ensures c.if-stands-8.false) (refused_latter (one_false _ c.stands-else-stands-8.result c.stands-else-stands-8.ensures c.if-stands-9.false) (refused_former (one_true _ c.stands-else-stands-9.result c.stands-else-stands-9.ensures c.if-stands-10.true) w))))))))))))
 
-pub generate_for-returns-in_err-word : goal.generate_for-returns-in_err-word
-generate_for-returns-in_err-word t c = answer_exit _ _ c.from_residual.result c.in_err-word.field-0.0 c.from_residual.ensures.1 (refused_seq (refused_missing c.in_err-word.ensures))
-
-pub generate_for-returns-in_err-open : goal.generate_for-returns-in_err-open
-generate_for-returns-in_err-open t c = answer_exit _ _ c.from_residual-in_err-open.result c.in_err-open.field-0.0 c.from_residual-in_err-open.ensures.1 (refused_then (read_tok c.args.depth.limit c.in_ok-word.ensures) (refused_seq (refused_missing c.in_err-open.ensures)))
-
-pub generate_for-returns-in_err-start : goal.generate_for-returns-in_err-start
-generate_for-returns-in_err-start t c = answer_exit _ _ c.from_residual-in_err-start.result c.in_err-start.field-0.0 c.from_residual-in_err-start.ensures.1 (refused_then (read_tok c.args.depth.limit c.in_ok-word.ensures) (refused_then (read_tok c.args.depth.limit c.in_ok-open.ensures) (refused_front c.in_err-start.ensures)))
-
-pub generate_for-returns-in_err-start-2 : goal.generate_for-returns-in_err-start-2
-generate_for-returns-in_err-start-2 t c = answer_exit _ _ c.from_residual-in_err-start-2.result c.in_err-start-2.field-0.0 c.from_residual-in_err-start-2.ensures.1 (refused_then (read_tok c.args.depth.limit c.in_ok-word.ensures) (refused_then (read_tok c.args.depth.limit c.in_ok-open.ensures) (refused_after_front c.in_ok-start.ensures.read (refused_seq (refused_missing (err_at _ _ c.in_err-start-2.ensures c.take-start_end.ensures))))))
-
-pub generate_for-returns-in_err-start-3 : goal.generate_for-returns-in_err-start-3
-generate_for-returns-in_err-start-3 t c = answer_exit _ _ c.from_residual-in_err-start-3.result c.in_err-start-3.field-0.0 c.from_residual-in_err-start-3.ensures.1 (refused_then (read_tok c.args.depth.limit c.in_ok-word.ensures) (refused_then (read_tok c.args.depth.limit c.in_ok-open.ensures) (refused_after_front c.in_ok-start.ensures.read (refused_then (read_tok c.args.depth.limit (ok_at _ _ c.in_ok-start-2.ensures.1 c.take-start_end.ensures)) (refused_seq (err_at _ _ c.in_err-start-3.ensures c.expression-test.ensures))))))
-
-pub generate_for-returns-in_err-tested : goal.generate_for-returns-in_err-tested
-generate_for-returns-in_err-tested t c = answer_exit _ _ c.from_residual-in_err-tested.result c.in_err-tested.field-0.0 c.from_residual-in_err-tested.ensures.1 (refused_then (read_tok c.args.depth.limit c.in_ok-word.ensures) (refused_then (read_tok c.args.depth.limit c.in_ok-open.ensures) (refused_after_front c.in_ok-start.ensures.read (refused_then (read_tok c.args.depth.limit (ok_at _ _ c.in_ok-start-2.ensures.1 c.take-start_end.ensures)) (refused_then (ok_at _ _ c.in_ok-start-3.ensures.1 c.expression-test.ensures).read (refused_seq (refused_missing (err_at _ _ c.in_err-tested.ensures c.take-test_end.ensures))))))))
-
-pub generate_for-returns-in_err-tested-2 : goal.generate_for-returns-in_err-tested-2
-generate_for-returns-in_err-tested-2 t c = answer_exit _ _ c.from_residual-in_err-tested-2.result c.in_err-tested-2.field-0.0 c.from_residual-in_err-tested-2.ensures.1 (refused_then (read_tok c.args.depth.limit c.in_ok-word.ensures) (refused_then (read_tok c.args.depth.limit c.in_ok-open.ensures) (refused_after_front c.in_ok-start.ensures.read (refused_then (read_tok c.args.depth.limit (ok_at _ _ c.in_ok-start-2.ensures.1 c.take-start_end.ensures)) (refused_then (ok_at _ _ c.in_ok-start-3.ensures.1 c.expression-test.ensures).read (refused_then (read_tok c.args.depth.limit (ok_at _ _ c.in_ok-tested.ensures.1 c.take-test_end.ensures)) (refused_front (err_at _ _ c.in_err-tested-2.ensures c.assigned-step.ensures))))))))
+pub generate_item-returns-else-stands-10 : goal.generate_item-returns-else-stands-10
+generate_item-returns-else-stands-10 t c = answer_more c.generate_case.result c.generate_case.ensures (λ f w. parsed (read_var (read_latter (one_false _ c.stands.result c.stands.ensures c.if-stands.false) (read_latter (one_false _ c.stands-else-stands.result c.stands-else-stands.ensures c.if-stands-2.false) (read_latter (one_false _ c.stands-else-stands-2.result c.stands-else-stands-2.ensures c.if-stands-3.false) (read_latter (one_false _ c.stands-else-stands-3.result c.stands-else-stands-3.ensures c.if-stands-4.false) (read_latter (one_false _ c.stands-else-stands-4.result c.stands-else-stands-4.ensures c.if-stands-5.false) (read_latter (one_false _ c.stands-else-stands-5.result c.stands-else-stands-5.ensures c.if-stands-6.false) (read_latter (one_false _ c.stands-else-stands-6.result c.stands-else-stands-6.ensures c.if-stands-7.false) (read_latter (one_false _ c.stands-else-stands-7.result c.stands-else-stands-7.ensures c.if-stands-8.false) (read_latter (one_false _ c.stands-else-stands-8.result c.stands-else-stands-8.ensures c.if-stands-9.false) (read_latter (one_false _ c.stands-else-stands-9.result c.stands-else-stands-9.ensures c.if-stands-10.false) w.read))))))))))) w.made) (λ e w. (refused_var (refused_latter (one_false _ c.stands.result c.stands.ensures c.if-stands.false) (refused_latter (one_false _ c.stands-else-stands.result c.stands-else-stands.ensures c.if-stands-2.false) (refused_latter (one_false _ c.stands-else-stands-2.result c.stands-else-stands-2.ensures c.if-stands-3.false) (refused_latter (one_false _ c.stands-else-stands-3.result c.stands-else-stands-3.ensures c.if-stands-4.false) (refused_latter (one_false _ c.stands-else-stands-4.result c.stands-else-stands-4.ensures c.if-stands-5.false) (refused_latter (one_false _ c.stands-else-stands-5.result c.stands-else-stands-5.ensures c.if-stands-6.false) (refused_latter (one_false _ c.stands-else-stands-6.result c.stands-else-stands-6.ensures c.if-stands-7.false) (refused_latter (one_false _ c.stands-else-stands-7.result c.stands-else-stands-7.ensures c.if-stands-8.false) (refused_latter (one_false _ c.stands-else-stands-8.result c.stands-else-stands-8.ensures c.if-stands-9.false) (refused_latter (one_false _ c.stands-else-stands-9.result c.stands-else-stands-9.ensures c.if-stands-10.false) w))))))))))))
 
 pub generate_for-returns-in_err-head : goal.generate_for-returns-in_err-head
-generate_for-returns-in_err-head t c = answer_exit _ _ c.from_residual-in_err-head.result c.in_err-head.field-0.0 c.from_residual-in_err-head.ensures.1 (refused_then (read_tok c.args.depth.limit c.in_ok-word.ensures) (refused_then (read_tok c.args.depth.limit c.in_ok-open.ensures) (refused_after_front c.in_ok-start.ensures.read (refused_then (read_tok c.args.depth.limit (ok_at _ _ c.in_ok-start-2.ensures.1 c.take-start_end.ensures)) (refused_then (ok_at _ _ c.in_ok-start-3.ensures.1 c.expression-test.ensures).read (refused_then (read_tok c.args.depth.limit (ok_at _ _ c.in_ok-tested.ensures.1 c.take-test_end.ensures)) (refused_after_front (ok_at _ _ c.in_ok-tested-2.ensures.1 c.assigned-step.ensures).read (refused_seq (refused_missing (err_at _ _ c.in_err-head.ensures c.take-close.ensures))))))))))
+generate_for-returns-in_err-head t c = answer_exit _ _ c.from_residual.result c.in_err-head.field-0.0 c.from_residual.ensures.1 (refused_seq c.in_err-head.ensures)
 
 pub generate_for-returns-in_err-head-2 : goal.generate_for-returns-in_err-head-2
-generate_for-returns-in_err-head-2 t c = answer_exit _ _ c.from_residual-in_err-head-2.result c.in_err-head-2.field-0.0 c.from_residual-in_err-head-2.ensures.1 (refused_then (read_tok c.args.depth.limit c.in_ok-word.ensures) (refused_then (read_tok c.args.depth.limit c.in_ok-open.ensures) (refused_after_front c.in_ok-start.ensures.read (refused_then (read_tok c.args.depth.limit (ok_at _ _ c.in_ok-start-2.ensures.1 c.take-start_end.ensures)) (refused_then (ok_at _ _ c.in_ok-start-3.ensures.1 c.expression-test.ensures).read (refused_then (read_tok c.args.depth.limit (ok_at _ _ c.in_ok-tested.ensures.1 c.take-test_end.ensures)) (refused_after_front (ok_at _ _ c.in_ok-tested-2.ensures.1 c.assigned-step.ensures).read (refused_then (read_tok c.args.depth.limit (ok_at _ _ c.in_ok-head.ensures.1 c.take-close.ensures)) (err_at _ _ c.in_err-head-2.ensures c.block-block.ensures)))))))))
+generate_for-returns-in_err-head-2 t c = answer_exit _ _ c.from_residual-in_err-head-2.result c.in_err-head-2.field-0.0 c.from_residual-in_err-head-2.ensures.1 (refused_then c.in_ok-head.ensures.read (err_at _ _ c.in_err-head-2.ensures c.block-block.ensures))
 
 pub generate_for-returns-in_err-value : goal.generate_for-returns-in_err-value
 generate_for-returns-in_err-value t c = answer_exit _ _ c.from_residual-in_err-value.result Memory c.from_residual-in_err-value.ensures.1 (out_of_memory)
 
 pub generate_for-returns : goal.generate_for-returns
-generate_for-returns t c = let s = c.in_ok-start.ensures in let q = (ok_at _ _ c.in_ok-start-3.ensures.1 c.expression-test.ensures) in let u = (ok_at _ _ c.in_ok-tested-2.ensures.1 c.assigned-step.ensures) in let k = (ok_at _ _ c.in_ok-head-2.ensures.1 c.block-block.ensures) in parsed (read_seq (read_tok c.args.depth.limit c.in_ok-word.ensures) (read_seq (read_tok c.args.depth.limit c.in_ok-open.ensures) (read_front s.read (read_seq (read_tok c.args.depth.limit (ok_at _ _ c.in_ok-start-2.ensures.1 c.take-start_end.ensures)) (read_seq q.read (read_seq (read_tok c.args.depth.limit (ok_at _ _ c.in_ok-tested.ensures.1 c.take-test_end.ensures)) (read_front u.read (read_seq (read_tok c.args.depth.limit (ok_at _ _ c.in_ok-head.ensures.1 c.take-close.ensures)) k.read)))))))) (for_made (bytes_in c.args.input.now) (terminal_at c.args.input.now.tokens.now c.args.at) (leaf (terminal_at c.args.input.now.tokens.now c.in_ok-word.word)) s.tree _ q.tree _ u.tree _ k.tree s.made q.made u.made k.made ∙ sym (rw (c.in_ok-head-2.ensures.0, c.in_ok-head.ensures.0, c.in_ok-tested-2.ensures.0, c.in_ok-tested.ensures.0, c.in_ok-start-3.ensures.0, c.in_ok-start-2.ensures.0) at c.in_ok-value.ensures))
+generate_for-returns t c = let s = ok_at _ _ c.in_ok-head-2.ensures.1 c.block-block.ensures in parsed (read_seq c.in_ok-head.ensures.read s.read) (ap2 tree.GenerateFor c.in_ok-head.ensures.made s.made ∙ sym (rw c.in_ok-head-2.ensures.0 at c.in_ok-value.ensures))
 
 pub generate_if-returns-in_err-word : goal.generate_if-returns-in_err-word
 generate_if-returns-in_err-word t c = answer_exit _ _ c.from_residual.result c.in_err-word.field-0.0 c.from_residual.ensures.1 (refused_seq (refused_missing c.in_err-word.ensures))

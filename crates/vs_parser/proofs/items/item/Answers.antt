@@ -1,4 +1,6 @@
 use Rattle.std.proofs.Common.{sym, ◌∙◌, ap, map}
+use Rattle.vs_grammar.specs.Trees as tree
+use Rattle.vs_ast.specs.declared.items.Item as item
 use Rattle.vs_ast.specs.Views as view
 use Rattle.vs_statements.specs.declared.error.ParseError.TheVariants.{Memory}
 use Rattle.vs_statements.specs.Reading.{bytes_in}
@@ -40,10 +42,19 @@ pub returns-in_ok-items-2 : goal.returns-in_ok-items-2
 returns-in_ok-items-2 c = let p = rw c.in_ok-before-3.ensures.0 at c.in_ok-items.ensures in rw c.in_ok-items-2.ensures.0 (read_item (read_var (read_latter (sym c.stands_any.ensures ∙ c.if-stands_any.false) (read_latter (one_false _ c.stands.result c.stands.ensures c.if-stands.false) (read_former (one_true _ c.stands-else-stands.result c.stands-else-stands.ensures c.if-stands-2.true) (read_seq (read_tok c.args.depth.limit (ok_at _ _ c.in_ok-before-3.ensures.1 c.take-word.ensures)) (read_seq p.read (read_tok c.args.depth.limit (ok_at _ _ c.in_ok-items-2.ensures.1 c.take-end.ensures)))))))) (generated (bytes_in c.args.input.now) p.tree c.args.before.items c.in_ok-items.items.value.items p.made))
 
 pub returns-in_err-before-4 : goal.returns-in_err-before-4
-returns-in_err-before-4 c = answer_exit _ _ c.from_residual-in_err-before-4.result c.in_err-before-4.field-0.0 c.from_residual-in_err-before-4.ensures.1 (refused_var (refused_latter (sym c.stands_any.ensures ∙ c.if-stands_any.false) (refused_latter (one_false _ c.stands.result c.stands.ensures c.if-stands.false) (refused_latter (one_false _ c.stands-else-stands.result c.stands-else-stands.ensures c.if-stands-2.false) (err_at _ _ c.in_err-before-4.ensures c.generate_item-other.ensures)))))
+returns-in_err-before-4 c = answer_exit _ _ c.from_residual-in_err-before-4.result c.in_err-before-4.field-0.0 c.from_residual-in_err-before-4.ensures.1 (refused_var (refused_latter (sym c.stands_any.ensures ∙ c.if-stands_any.false) (refused_latter (one_false _ c.stands.result c.stands.ensures c.if-stands.false) (refused_latter (one_false _ c.stands-else-stands.result c.stands-else-stands.ensures c.if-stands-2.false) (refused_former (one_true _ c.stands-else-stands-2.result c.stands-else-stands-2.ensures c.if-stands-3.true) (err_at _ _ c.in_err-before-4.ensures c.function-declared.ensures))))))
 
 pub returns-in_err-list-3 : goal.returns-in_err-list-3
 returns-in_err-list-3 c = answer_exit _ _ c.from_residual-in_err-list-3.result c.in_err-list-3.field-0.0 c.from_residual-in_err-list-3.ensures.1 (refused_memory c.in_err-list-3.ensures)
 
 pub returns-in_ok-list-3 : goal.returns-in_ok-list-3
-returns-in_ok-list-3 c = let l = rw c.in_ok-before-4.ensures.0 at c.in_ok-list-3.ensures in read_item (read_var (read_latter (sym c.stands_any.ensures ∙ c.if-stands_any.false) (read_latter (one_false _ c.stands.result c.stands.ensures c.if-stands.false) (read_latter (one_false _ c.stands-else-stands.result c.stands-else-stands.ensures c.if-stands-2.false) (ok_at _ _ c.in_ok-before-4.ensures.1 c.generate_item-other.ensures).read)))) (one_more c.args.before.items _ _ c.in_ok-before-4.other.value (ok_at _ _ c.in_ok-before-4.ensures.1 c.generate_item-other.ensures).made l)
+returns-in_ok-list-3 c = let l = rw c.in_ok-before-4.ensures.0 at c.in_ok-list-3.ensures in read_item (read_var (read_latter (sym c.stands_any.ensures ∙ c.if-stands_any.false) (read_latter (one_false _ c.stands.result c.stands.ensures c.if-stands.false) (read_latter (one_false _ c.stands-else-stands.result c.stands-else-stands.ensures c.if-stands-2.false) (read_former (one_true _ c.stands-else-stands-2.result c.stands-else-stands-2.ensures c.if-stands-3.true) (ok_at _ _ c.in_ok-before-4.ensures.1 c.function-declared.ensures).read))))) (one_more c.args.before.items _ _ (item.Function c.in_ok-before-4.declared.value) (ap tree.FunctionItem (ok_at _ _ c.in_ok-before-4.ensures.1 c.function-declared.ensures).made) l)
+
+pub returns-in_err-before-5 : goal.returns-in_err-before-5
+returns-in_err-before-5 c = answer_exit _ _ c.from_residual-in_err-before-5.result c.in_err-before-5.field-0.0 c.from_residual-in_err-before-5.ensures.1 (refused_var (refused_latter (sym c.stands_any.ensures ∙ c.if-stands_any.false) (refused_latter (one_false _ c.stands.result c.stands.ensures c.if-stands.false) (refused_latter (one_false _ c.stands-else-stands.result c.stands-else-stands.ensures c.if-stands-2.false) (refused_latter (one_false _ c.stands-else-stands-2.result c.stands-else-stands-2.ensures c.if-stands-3.false) (err_at _ _ c.in_err-before-5.ensures c.generate_item-other.ensures))))))
+
+pub returns-in_err-list-4 : goal.returns-in_err-list-4
+returns-in_err-list-4 c = answer_exit _ _ c.from_residual-in_err-list-4.result c.in_err-list-4.field-0.0 c.from_residual-in_err-list-4.ensures.1 (refused_memory c.in_err-list-4.ensures)
+
+pub returns-in_ok-list-4 : goal.returns-in_ok-list-4
+returns-in_ok-list-4 c = let l = rw c.in_ok-before-5.ensures.0 at c.in_ok-list-4.ensures in read_item (read_var (read_latter (sym c.stands_any.ensures ∙ c.if-stands_any.false) (read_latter (one_false _ c.stands.result c.stands.ensures c.if-stands.false) (read_latter (one_false _ c.stands-else-stands.result c.stands-else-stands.ensures c.if-stands-2.false) (read_latter (one_false _ c.stands-else-stands-2.result c.stands-else-stands-2.ensures c.if-stands-3.false) (ok_at _ _ c.in_ok-before-5.ensures.1 c.generate_item-other.ensures).read))))) (one_more c.args.before.items _ _ c.in_ok-before-5.other.value (ok_at _ _ c.in_ok-before-5.ensures.1 c.generate_item-other.ensures).made l)

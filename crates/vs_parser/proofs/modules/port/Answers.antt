@@ -4,7 +4,7 @@ use Rattle.vs_statements.specs.declared.error.ParseError.TheVariants.{Memory}
 use Rattle.vs_statements.specs.Reading.Refused.{out_of_memory}
 use Rattle.vs_statements.proofs.Places.{answer_exit, refused_memory, refused_var, refused_seq, refused_then, read_var, read_seq, ap5}
 use Rattle.vs_statements.proofs.Lists.{pushed_first}
-use Rattle.vs_parser.proofs.Pieces.{first_is}
+use Rattle.vs_statements.proofs.Lists.{first_is}
 use Rattle.vs_parser.specs.Headings as part
 use Rattle.vs_parser.proofs.Headers.{port_read}
 use Rattle.vs_statements.proofs.Pairs.{ok_at, err_at}

@@ -6,8 +6,8 @@ use Rattle.vs_statements.proofs.Places.{answer_exit}
 use Rattle.vs_statements.proofs.Pairs.{ok_at, err_at}
 use Rattle.vs_parser.proofs.modules.with_setting.Goals as goal
 
-pub returns-in_err-range : goal.returns-in_err-range
-returns-in_err-range c = answer_exit _ _ c.from_residual.result c.in_err-range.field-0.0 c.from_residual.ensures.1 (err_at _ _ c.in_err-range.ensures c.longer-settings.ensures)
+pub returns-in_err-value_type : goal.returns-in_err-value_type
+returns-in_err-value_type c = answer_exit _ _ c.from_residual.result c.in_err-value_type.field-0.0 c.from_residual.ensures.1 (err_at _ _ c.in_err-value_type.ensures c.longer-settings.ensures)
 
 pub returns : goal.returns
-returns c = rw c.in_ok-range.ensures.0 (ap (λ z. record (view.parameters c.args.declared) { settings = z }) (map_pushed view.setting _ _ c.args.setting (ok_at _ _ c.in_ok-range.ensures.1 c.longer-settings.ensures)))
+returns c = rw c.in_ok-value_type.ensures.0 (ap (λ z. record (view.parameters c.args.declared) { settings = z }) (map_pushed view.setting _ _ c.args.setting (ok_at _ _ c.in_ok-value_type.ensures.1 c.longer-settings.ensures)))

@@ -1,4 +1,4 @@
-use Rattle.std.proofs.Common.{◌+◌, ℕ, List, length, sym, ap, ◌∙◌, subst, arith}
+use Rattle.std.proofs.Common.{◌+◌, ℕ, List, sym, ◌∙◌, subst, arith}
 use Rattle.vs_four.specs.declared.Bit4.{Bit4}
 use Rattle.vs_queue.proofs.Plainly.{ArePlain, none_plain, plain_more, all_plain}
 use Rattle.vs_queue.proofs.first.plain_by.Goals as goal

@@ -1,10 +1,8 @@
-use Rattle.std.proofs.Common.{ℕ, ◌+◌, List, length, sym, ap, ap₂, ◌∙◌, subst}
-use Rattle.vs_net.specs.Network.{State}
+use Rattle.std.proofs.Common.{ℕ, ◌+◌, length, sym, ap, ap₂, ◌∙◌}
 use Rattle.vs_flat.specs.Arena.{Arena}
 use Rattle.vs_flat.specs.DesignOf.{design_of}
-use Rattle.vs_writes.specs.Held.{state_of}
-use Rattle.vs_queue.specs.First.{flag_at, idle_by}
-use Rattle.vs_queue.specs.Ordered.{driven_bits, x_values}
+use Rattle.vs_queue.specs.First.{flag_at}
+use Rattle.vs_queue.specs.Ordered.{x_values}
 use Rattle.vs_queue.specs.Spare.{is_spare}
 use Rattle.vs_queue.proofs.Firsts.{flagged_are, idle_is}
 use Rattle.vs_queue.proofs.Spares.{spare_is}

@@ -1,4 +1,4 @@
-use Rattle.std.proofs.Common.{◌+◌, ◌*◌, ◌∷◌, ◌++◌, [], List, length, ap, ◌∙◌, arith}
+use Rattle.std.proofs.Common.{◌+◌, ◌∷◌, ◌++◌, [], List, ap, ◌∙◌, arith}
 use Rattle.vs_four.specs.declared.Bit4.{Bit4}
 use Rattle.vs_flat.specs.DesignOf.{design_of}
 use Rattle.vs_queue.proofs.Periods.{solved}

@@ -1,6 +1,5 @@
 use Rattle.vs_net.specs.Queue.{Rise}
 use Rattle.vs_flat.specs.DesignOf.{design_of}
-use Rattle.vs_queue.proofs.Executed.{on_ok}
 use Rattle.vs_queue.proofs.Levelling.{first_gone}
 use Rattle.vs_queue.proofs.Listened.{item_got}
 use Rattle.vs_queue.proofs.Vectors.{some_drive, first_given}

@@ -1,4 +1,4 @@
-use Rattle.std.proofs.Common.{◌+◌, ◌<◌, refl, arith}
+use Rattle.std.proofs.Common.{◌+◌, refl, arith}
 use Rattle.vs_net.specs.Queue.{Fall, Rise}
 use Rattle.vs_flat.specs.DesignOf.{design_of}
 use Rattle.vs_queue.proofs.Executed.{on_ok}

@@ -9,7 +9,7 @@ use Rattle.vs_const.specs.Faults.{least}
 use Rattle.vs_elaborated.specs.Constructs.{label_of, labels_of, unknown_in}
 use Rattle.vs_scope.specs.Cases.{IsFit}
 use Rattle.vs_scope.specs.Frames.{view_env}
-use Rattle.vs_scope.specs.Sets.{IsFirstSoFar}
+use Rattle.vs_scope.specs.SoFar.{IsFirstSoFar}
 use Rattle.vs_scope.proofs.Steps.{none_left}
 use Rattle.vs_scope.proofs.CaseLabels.{arm_fit, arms_from}
 use Rattle.vs_scope.proofs.SoFar.{so_far_start, so_far_more, so_far_end}

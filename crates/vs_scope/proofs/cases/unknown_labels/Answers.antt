@@ -4,7 +4,7 @@ use Rattle.vs_ast.specs.declared.expressions.Expr.{Expr}
 use Rattle.vs_elaborated.specs.Constructs.{label_of, unknown_in}
 use Rattle.vs_scope.specs.Cases.{IsFit}
 use Rattle.vs_scope.specs.Frames.{view_env}
-use Rattle.vs_scope.specs.Sets.{IsFirstSoFar}
+use Rattle.vs_scope.specs.SoFar.{IsFirstSoFar}
 use Rattle.vs_scope.proofs.Steps.{from_place, none_left}
 use Rattle.vs_scope.proofs.CaseLabels.{each_at}
 use Rattle.vs_scope.proofs.SoFar.{so_far_start, so_far_more, so_far_end}

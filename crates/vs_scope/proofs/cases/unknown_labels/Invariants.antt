@@ -2,7 +2,7 @@ use Rattle.std.proofs.Common.{map, flat_map, drop}
 use Rattle.vs_ast.specs.Views as view
 use Rattle.vs_elaborated.specs.Constructs.{label_of, unknown_in}
 use Rattle.vs_scope.specs.Frames.{view_env}
-use Rattle.vs_scope.specs.Sets.{IsFirstSoFar}
+use Rattle.vs_scope.specs.SoFar.{IsFirstSoFar}
 use Rattle.vs_scope.proofs.cases.unknown_labels.Given as goal
 
 abbrev pub invariant-loop-e : goal.invariant-loop-e

@@ -8,7 +8,7 @@ use Rattle.vs_elaborated.specs.Environments.{find_entry}
 use Rattle.vs_elaborated.specs.Surveys.{clash_with}
 use Rattle.vs_scope.specs.declared.clashes.NamedBlock.{NamedBlock}
 use Rattle.vs_scope.specs.Clashes.{block_of}
-use Rattle.vs_scope.specs.Sets.{has}
+use Rattle.vs_maps.specs.Sets.{has}
 use Rattle.vs_scope.specs.Views.{entries}
 use Rattle.vs_scope.proofs.Steps.{from_place, none_left}
 use Rattle.vs_scope.proofs.ClashSteps.{AreClashing, clashing_start, clashing_more, clashing_end}

@@ -1,6 +1,6 @@
 use Rattle.std.proofs.Common.{map, drop}
 use Rattle.vs_scope.specs.Clashes.{block_of}
-use Rattle.vs_scope.specs.Sets.{has}
+use Rattle.vs_maps.specs.Sets.{has}
 use Rattle.vs_scope.specs.Views.{entries}
 use Rattle.vs_scope.proofs.ClashSteps.{AreClashing}
 use Rattle.vs_scope.proofs.clashes.clash_fault.Given as goal

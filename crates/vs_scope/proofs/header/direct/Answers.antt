@@ -6,7 +6,7 @@ use Rattle.vs_const.specs.Faults.{least, fault_if}
 use Rattle.vs_const.specs.declared.rules.Rule.TheVariants.{UnknownPort}
 use Rattle.vs_elaborated.specs.Ports.{has_direction}
 use Rattle.vs_scope.specs.Headers.{opposed_faults}
-use Rattle.vs_scope.specs.Sets.{has}
+use Rattle.vs_maps.specs.Sets.{has}
 use Rattle.vs_scope.proofs.Steps.{from_place, none_left}
 use Rattle.vs_scope.proofs.HeaderLoops.{AreDirected, direction, directed_start, directed_more, directed_end}
 use Rattle.vs_scope.proofs.header.direct.Goals as goal

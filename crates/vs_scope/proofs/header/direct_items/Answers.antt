@@ -2,7 +2,7 @@ use Rattle.std.proofs.Common.{◌||◌, ℕ, Bool, suc, List, map, flat_map, dro
 use Rattle.vs_ast.specs.Views as view
 use Rattle.vs_ast.specs.declared.items.Item.{Item}
 use Rattle.vs_elaborated.specs.Ports.{item_directions, has_direction}
-use Rattle.vs_scope.specs.Sets.{has}
+use Rattle.vs_maps.specs.Sets.{has}
 use Rattle.vs_scope.proofs.Steps.{from_place, none_left}
 use Rattle.vs_scope.proofs.HeaderLoops.{AreDirected, or_false, directed_start, directed_all, directed_end}
 use Rattle.vs_scope.proofs.header.direct_items.Goals as goal

@@ -1,7 +1,7 @@
 use Rattle.std.proofs.Common.{map, flat_map, drop}
 use Rattle.vs_ast.specs.Views as view
 use Rattle.vs_elaborated.specs.Ports.{item_directions}
-use Rattle.vs_scope.specs.Sets.{has}
+use Rattle.vs_maps.specs.Sets.{has}
 use Rattle.vs_scope.proofs.HeaderLoops.{AreDirected}
 use Rattle.vs_scope.proofs.header.direct_items.Given as goal
 

@@ -7,7 +7,7 @@ use Rattle.vs_const.specs.Faults.{least, better}
 use Rattle.vs_const.proofs.Least.{least_append}
 use Rattle.vs_elaborated.specs.Ports.{is_named, has_direction, item_directions, plain_names, repeated, body_directions}
 use Rattle.vs_scope.specs.Headers.{opposed_faults, undirected_faults}
-use Rattle.vs_scope.specs.Sets.{has}
+use Rattle.vs_maps.specs.Sets.{has}
 use Rattle.vs_scope.proofs.Steps.{items_are}
 use Rattle.vs_scope.proofs.HeaderLoops.{opposed_same, undirected_same}
 use Rattle.vs_scope.proofs.header.header_fault.Goals as goal

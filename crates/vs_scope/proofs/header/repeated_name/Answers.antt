@@ -5,7 +5,7 @@ use Rattle.vs_design.specs.Clocks.{same_name}
 use Rattle.vs_const.specs.Faults.{least, fault_if}
 use Rattle.vs_const.specs.declared.rules.Rule.TheVariants.{DuplicateName}
 use Rattle.vs_elaborated.specs.Ports.{repeated}
-use Rattle.vs_scope.specs.Sets.{has}
+use Rattle.vs_maps.specs.Sets.{has}
 use Rattle.vs_scope.proofs.Steps.{from_place, none_left}
 use Rattle.vs_scope.proofs.SoFar.{so_far_start}
 use Rattle.vs_scope.proofs.HeaderLoops.{AreRepeated, repeated_start, repeated_more, repeated_end}

@@ -1,6 +1,6 @@
 use Rattle.std.proofs.Common.{map, drop}
 use Rattle.vs_ast.specs.Views as view
-use Rattle.vs_scope.specs.Sets.{has}
+use Rattle.vs_maps.specs.Sets.{has}
 use Rattle.vs_scope.proofs.HeaderLoops.{AreRepeated}
 use Rattle.vs_scope.proofs.header.repeated_name.Given as goal
 

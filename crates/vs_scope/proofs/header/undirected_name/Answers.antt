@@ -4,7 +4,8 @@ use Rattle.vs_grammar.specs.Trees as tree
 use Rattle.vs_const.specs.Faults.{least, fault_if}
 use Rattle.vs_const.specs.declared.rules.Rule.TheVariants.{UnknownName}
 use Rattle.vs_scope.specs.Headers.{undirected_faults}
-use Rattle.vs_scope.specs.Sets.{has, IsFirstSoFar}
+use Rattle.vs_maps.specs.Sets.{has}
+use Rattle.vs_scope.specs.SoFar.{IsFirstSoFar}
 use Rattle.vs_scope.proofs.SoFar.{so_far_start, so_far_next, so_far_done}
 use Rattle.vs_scope.proofs.header.undirected_name.Goals as goal
 

@@ -1,6 +1,6 @@
 use Rattle.std.proofs.Common.{ap, ◌∙◌}
 use Rattle.vs_design.specs.Clocks.{same_name}
-use Rattle.vs_scope.proofs.NameMaps.{same_of}
+use Rattle.vs_maps.proofs.NameMaps.{same_of}
 use Rattle.vs_scope.proofs.loops.is_same_name.Goals as goal
 
 pub returns : goal.returns

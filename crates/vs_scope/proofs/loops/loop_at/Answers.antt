@@ -11,7 +11,7 @@ use Rattle.vs_scope.proofs.loops.loop_at.Goals as goal
 
 pub returns-in_ok-all-in-Some-first : goal.returns-in_ok-all-in-Some-first
 returns-in_ok-all-in-Some-first c = λ fs h.
-    let head = view.generate_head c.args.head.now in
+    let head = view.loop_head c.args.head.now in
     let env = view_env c.args.here.now in
     let turns = λ (b : Bool). spec.turns_from (suc the_limits.turns) the_limits head b c.in-Some.genvar env [] c.args.total c.in-Some-first.v in
     subst (λ (g : Option ℕ). IfOk c.loop_blocks.result (λ m. made m ≡ kept (spec.loop_from the_limits head g c.args.first fs (option block c.args.body) env c.args.total))) (sym c.in-Some.is)

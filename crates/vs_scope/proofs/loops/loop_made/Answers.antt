@@ -19,7 +19,7 @@ three a b c x y z i o h k m n p =
 
 pub returns : goal.returns
 returns c =
-    let head = view.generate_head c.args.head.now in
+    let head = view.loop_head c.args.head.now in
     let env = view_env c.args.here.now in
     let v = spec.variable_of head.variable.place (find_name env.frames head.variable.bytes) in
     let first = spec.genvar_value head.first env in

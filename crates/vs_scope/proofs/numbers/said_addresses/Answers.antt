@@ -1,6 +1,6 @@
 use Rattle.std.proofs.Common.{Option, sym, subst}
 use Rattle.vs_ast.specs.Views as view
-use Rattle.vs_ast.specs.declared.items.Range.{Range}
+use Rattle.vs_ast.specs.declared.types.Range.{Range}
 use Rattle.vs_elaborated.specs.Parameters as spec
 use Rattle.vs_scope.specs.Frames.{view_env}
 use Rattle.vs_scope.specs.Numbers.{IsSaidRange}

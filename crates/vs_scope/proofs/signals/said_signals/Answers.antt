@@ -1,7 +1,7 @@
 use Rattle.std.proofs.Common.{◌≡◌, ◌≤◌, ℕ, suc, List, [], ◌∷◌, ◌++◌, Option, drop, length, map, refl, sym, ap, ◌∙◌, subst, add-one}
 use Rattle.vs_elaborated.specs.Signals as spec
 use Rattle.vs_scope.specs.declared.signals.SaidSignal.{SaidSignal as SignalFound}
-use Rattle.vs_scope.specs.MapViews.{pairs}
+use Rattle.vs_maps.specs.MapViews.{pairs}
 use Rattle.vs_scope.specs.Declares.{entry_named, named_list, named_of}
 use Rattle.vs_scope.specs.Frames.{view_env}
 use Rattle.vs_scope.specs.Signalled.{start_of, IsSignalAt}

@@ -18,7 +18,7 @@ returns-clause-values c = c.in_ok-push_if.ensures
 
 pub returns-clause-turned : goal.returns-clause-turned
 returns-clause-turned c =
-    let head = view.generate_head c.args.head.now in
+    let head = view.loop_head c.args.head.now in
     let env = view_env c.args.inside.now in
     let again : not c.in_ok-is_new.is_new ≡ list_any (λ (u : ℕ). c.args.v == u) c.args.seen.now.keys =
     ap not c.in_ok-is_new.ensures.added ∙ not_not (list_any (λ (u : ℕ). c.args.v == u) c.args.seen.now.keys) in

@@ -13,7 +13,7 @@ use Rattle.vs_scope.proofs.turns.taken.Goals as goal
 
 pub returns-then-is_over : goal.returns-then-is_over
 returns-then-is_over c = λ fs h.
-    let head = view.generate_head c.args.head.now in
+    let head = view.loop_head c.args.head.now in
     let n : c.in_ok-count.count ≡ c.args.total + 1 = c.in_ok-count.ensures in
     taken_over c.ended.result c.args.is_last head c.args.is_same (view_env c.args.inside.now) fs c.args.total (ap (λ (x : ℕ). c.args.is_last || nat_lt the_limits.all_turns x) (sym n) ∙ sym c.is_over.ensures ∙ c.if-is_over.true)
     (record {
@@ -26,7 +26,7 @@ returns-then-is_over c = λ fs h.
 
 pub returns : goal.returns
 returns c = λ fs h.
-    let head = view.generate_head c.args.head.now in
+    let head = view.loop_head c.args.head.now in
     let n : c.in_ok-count.count ≡ c.args.total + 1 = c.in_ok-count.ensures in
     let next = step c.args.is_same head (view_env c.args.inside.now) in
     taken_within _ c.args.is_last head c.args.is_same (view_env c.args.inside.now) fs c.args.total (ap (λ (x : ℕ). c.args.is_last || nat_lt the_limits.all_turns x) (sym n) ∙ sym c.is_over.ensures ∙ c.if-is_over.false)

@@ -13,7 +13,7 @@ nothing (x ∷ xs) h = cc
 
 pub loop-next-init : goal.loop-next-init
 loop-next-init c =
-    let head = view.generate_head c.args.head.now in
+    let head = view.loop_head c.args.head.now in
     let env = view_env c.args.here.now in
     let all = whole head c.args.is_same c.args.genvar env c.args.total c.args.first in
     let none : c.new-seen.result.keys ≡ [] = nothing c.new-seen.result.keys c.new-seen.ensures.len in
@@ -22,7 +22,7 @@ loop-next-init c =
 
 pub loop-next-preserved : goal.loop-next-preserved
 loop-next-preserved c =
-    let head = view.generate_head c.args.head.now in
+    let head = view.loop_head c.args.head.now in
     let env = view_env c.args.here.now in
     let all = whole head c.args.is_same c.args.genvar env c.args.total c.args.first in
     let again : Bool = list_any (λ (u : ℕ). c.in-Some.v == u) c.loop-next.seen.keys in
@@ -35,7 +35,7 @@ loop-next-preserved c =
 
 pub loop-next-smaller : goal.loop-next-smaller
 loop-next-smaller c =
-    let head = view.generate_head c.args.head.now in
+    let head = view.loop_head c.args.head.now in
     let again : Bool = list_any (λ (u : ℕ). c.in-Some.v == u) c.loop-next.seen.keys in
     let is_last : Bool = nat_le 4096 (length c.loop-next.values.items) in
     subst (λ (x : Option ℕ). turns_left (length c.one_turn.new.values.items) c.in_ok-t.t.next < turns_left (length c.loop-next.values.items) x) (sym c.in-Some.is)
@@ -43,7 +43,7 @@ loop-next-smaller c =
 
 pub returns : goal.returns
 returns c =
-    let head = view.generate_head c.args.head.now in
+    let head = view.loop_head c.args.head.now in
     let env = view_env c.args.here.now in
     let all = whole head c.args.is_same c.args.genvar env c.args.total c.args.first in
     let e = turning_end head c.args.is_same c.args.genvar env all c.loop-next.values.items c.loop-next.seen.keys c.loop-next.fault c.loop-next.count

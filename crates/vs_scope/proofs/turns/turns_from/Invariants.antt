@@ -6,7 +6,7 @@ use Rattle.vs_scope.proofs.turns.turns_from.Given as goal
 
 abbrev pub invariant-loop-next : goal.invariant-loop-next
 invariant-loop-next l =
-    IsTurning (view.generate_head l.head) l.is_same l.genvar (view_env l.here) (whole (view.generate_head l.head) l.is_same l.genvar (view_env l.here) l.fn.total l.fn.first) l.values.items l.seen.keys l.fault l.count l.next
+    IsTurning (view.loop_head l.head) l.is_same l.genvar (view_env l.here) (whole (view.loop_head l.head) l.is_same l.genvar (view_env l.here) l.fn.total l.fn.first) l.values.items l.seen.keys l.fault l.count l.next
 
 abbrev pub decreases-loop-next : goal.decreases-loop-next
 decreases-loop-next l = turns_left (length l.values.items) l.next

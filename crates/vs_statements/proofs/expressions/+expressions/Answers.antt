@@ -1,4 +1,5 @@
 use Rattle.std.proofs.Common.{◌+◌, refl, sym, ◌∙◌, ap, subst, [], ◌∷◌, arith}
+use Rattle.std.specs.Prelude.{Some}
 use Rattle.vs_grammar.specs.Trees as tree
 use Rattle.vs_ast.specs.Views as view
 use Rattle.vs_ast.specs.declared.expressions.Expr.{Expr}
@@ -11,7 +12,7 @@ use Rattle.vs_statements.specs.Reading.{bytes_in, Measured, AnswersNested, Refus
 use Rattle.vs_statements.specs.Reading.Refused.{out_of_memory}
 use Rattle.vs_statements.proofs.Places.{answer_exit, refused_memory, refused_var, refused_seq, refused_then, refused_missing, refused_level, refused_former, refused_latter, refused_more, refused_alone, read_tok, read_eps, read_var, read_seq, read_level, read_former, read_latter, read_alone, one_true, one_false, stood, ap2, ap3, took_kind, first_took, answer_more}
 use Rattle.vs_statements.proofs.Pairs.{ok_at, err_at}
-use Rattle.vs_statements.proofs.Arms.{listed_exprs, choice_made, replication_made}
+use Rattle.vs_statements.proofs.Arms.{listed_exprs, choice_made, replication_made, select_made}
 use Rattle.vs_statements.proofs.Firsts.{too_deep_first, stopped_first}
 use Rattle.vs_statements.proofs.Tables.{read_chosen}
 use Rattle.vs_statements.proofs.Lists.{shorter, not_back}
@@ -112,10 +113,37 @@ pub named-returns-in_err-name : goal.named-returns-in_err-name
 named-returns-in_err-name t c = answer_exit _ _ c.from_residual.result c.in_err-name.field-0.0 c.from_residual.ensures.1 (refused_seq (refused_missing c.in_err-name.ensures))
 
 pub named-returns-in_err-name-2 : goal.named-returns-in_err-name-2
-named-returns-in_err-name-2 t c = answer_exit _ _ c.from_residual-in_err-name-2.result c.in_err-name-2.field-0.0 c.from_residual-in_err-name-2.ensures.1 (refused_then (read_tok c.args.depth.limit c.in_ok-name.ensures.took) (err_at _ _ c.in_err-name-2.ensures c.select-select.ensures))
+named-returns-in_err-name-2 t c = answer_exit _ _ c.from_residual-in_err-name-2.result c.in_err-name-2.field-0.0 c.from_residual-in_err-name-2.ensures.1 (refused_then (read_tok c.args.depth.limit c.in_ok-name.ensures.took) (refused_former (one_true _ c.stands.result c.stands.ensures c.if-stands.true) (err_at _ _ c.in_err-name-2.ensures c.arguments-list.ensures)))
 
-pub named-returns : goal.named-returns
-named-returns t c = let s = (ok_at _ _ c.in_ok-name-2.ensures.1 c.select-select.ensures) in rw c.in_ok-name-2.ensures.0 (measured (read_seq (read_tok c.args.depth.limit c.in_ok-name.ensures.took) s.read) (ap2 tree.Named c.in_ok-name.ensures.made s.made) (let a = s.high in omega arith))
+pub named-returns-in_ok-name-2 : goal.named-returns-in_ok-name-2
+named-returns-in_ok-name-2 t c = let s = (ok_at _ _ c.in_ok-name-2.ensures.1 c.arguments-list.ensures) in measured (read_seq (read_tok c.args.depth.limit c.in_ok-name.ensures.took) (read_former (one_true _ c.stands.result c.stands.ensures c.if-stands.true) s.read)) (ap2 tree.Apply c.in_ok-name.ensures.made s.made ∙ sym (rw c.in_ok-name-2.ensures.0 at c.new_application-value.ensures)) (let a = s.high in omega arith)
+
+pub named-returns-in_err-name-3 : goal.named-returns-in_err-name-3
+named-returns-in_err-name-3 t c = answer_exit _ _ c.from_residual-in_err-name-3.result c.in_err-name-3.field-0.0 c.from_residual-in_err-name-3.ensures.1 (refused_then (read_tok c.args.depth.limit c.in_ok-name.ensures.took) (refused_latter (one_false _ c.stands.result c.stands.ensures c.if-stands.false) (err_at _ _ c.in_err-name-3.ensures c.select-select.ensures)))
+
+pub named-returns-in_ok-name-3 : goal.named-returns-in_ok-name-3
+named-returns-in_ok-name-3 t c = let s = (ok_at _ _ c.in_ok-name-3.ensures.1 c.select-select.ensures) in rw c.in_ok-name-3.ensures.0 (measured (read_seq (read_tok c.args.depth.limit c.in_ok-name.ensures.took) (read_latter (one_false _ c.stands.result c.stands.ensures c.if-stands.false) s.read)) (ap2 tree.Named c.in_ok-name.ensures.made s.made) (let a = s.high in omega arith))
+
+pub arguments-returns-in_err-open : goal.arguments-returns-in_err-open
+arguments-returns-in_err-open t c = answer_exit _ _ c.from_residual.result c.in_err-open.field-0.0 c.from_residual.ensures.1 (refused_var (refused_level refl (refused_seq (refused_missing c.in_err-open.ensures))))
+
+pub arguments-returns-in_err-inner : goal.arguments-returns-in_err-inner
+arguments-returns-in_err-inner t c = answer_exit _ _ c.from_residual-in_err-inner.result c.in_err-inner.field-0.0 c.from_residual-in_err-inner.ensures.1 (refused_var (too_deep_first 1 (38 ∷ []) (first_took c.in_ok-open.ensures) refl c.in_err-inner.ensures.0 c.in_err-inner.ensures.1))
+
+pub arguments-returns-in_err-first : goal.arguments-returns-in_err-first
+arguments-returns-in_err-first t c = answer_exit _ _ c.from_residual-in_err-first.result c.in_err-first.field-0.0 c.from_residual-in_err-first.ensures.1 (refused_var (refused_level c.in_ok-inner.ensures (refused_then (read_tok c.in_ok-inner.inner.limit c.in_ok-open.ensures) (refused_seq (refused_seq c.in_err-first.ensures)))))
+
+pub arguments-returns-in_err-start : goal.arguments-returns-in_err-start
+arguments-returns-in_err-start t c = answer_exit _ _ c.from_residual-in_err-start.result c.in_err-start.field-0.0 c.from_residual-in_err-start.ensures.1 (refused_memory c.in_err-start.ensures)
+
+pub arguments-returns-in_err-list : goal.arguments-returns-in_err-list
+arguments-returns-in_err-list t c = answer_exit _ _ c.from_residual-in_err-list.result c.in_err-list.field-0.0 c.from_residual-in_err-list.ensures.1 (refused_var (refused_level c.in_ok-inner.ensures (refused_then (read_tok c.in_ok-inner.inner.limit c.in_ok-open.ensures) (refused_seq (refused_then c.in_ok-first.ensures.read c.in_err-list.ensures)))))
+
+pub arguments-returns-in_err-list-2 : goal.arguments-returns-in_err-list-2
+arguments-returns-in_err-list-2 t c = answer_exit _ _ c.from_residual-in_err-list-2.result c.in_err-list-2.field-0.0 c.from_residual-in_err-list-2.ensures.1 (refused_var (refused_level c.in_ok-inner.ensures (refused_then (read_tok c.in_ok-inner.inner.limit c.in_ok-open.ensures) (refused_then (read_seq c.in_ok-first.ensures.read c.in_ok-list.ensures.read) (refused_missing (err_at _ _ c.in_err-list-2.ensures c.take-close.ensures))))))
+
+pub arguments-returns : goal.arguments-returns
+arguments-returns t c = measured (read_var (read_level c.in_ok-inner.ensures (read_seq (read_tok c.in_ok-inner.inner.limit c.in_ok-open.ensures) (read_seq (read_seq c.in_ok-first.ensures.read c.in_ok-list.ensures.read) (read_tok c.in_ok-inner.inner.limit (ok_at _ _ c.in_ok-list-2.ensures.1 c.take-close.ensures)))))) (rw c.in_ok-list-2.ensures.0 (replicated (bytes_in c.args.input.now) c.in_ok-first.ensures.tree c.in_ok-list.ensures.tree c.in_ok-first.first.value _ c.in_ok-list.list.value.items c.in_ok-first.ensures.made c.in_ok-start.ensures c.in_ok-list.ensures.made)) (rw c.in_ok-list-2.ensures.0 (let a = c.in_ok-first.ensures.high in let d = c.in_ok-list.ensures.high in omega arith))
 
 pub brackets-returns-in_err-open : goal.brackets-returns-in_err-open
 brackets-returns-in_err-open t c = answer_exit _ _ c.from_residual.result c.in_err-open.field-0.0 c.from_residual.ensures.1 (refused_level refl (refused_seq (refused_missing c.in_err-open.ensures)))
@@ -169,25 +197,67 @@ pub select-returns-in_err-left : goal.select-returns-in_err-left
 select-returns-in_err-left t c = answer_exit _ _ c.from_residual-in_err-left.result c.in_err-left.field-0.0 c.from_residual-in_err-left.ensures.1 (refused_former (first_took c.in_ok-open.ensures) (refused_var (refused_level c.in_ok-inner.ensures (refused_then (read_tok c.in_ok-inner.inner.limit c.in_ok-open.ensures) (refused_seq c.in_err-left.ensures)))))
 
 pub select-returns-in_err-left-2 : goal.select-returns-in_err-left-2
-select-returns-in_err-left-2 t c = answer_exit _ _ c.from_residual-in_err-left-2.result c.in_err-left-2.field-0.0 c.from_residual-in_err-left-2.ensures.1 (refused_former (first_took c.in_ok-open.ensures) (refused_var (refused_level c.in_ok-inner.ensures (refused_then (read_tok c.in_ok-inner.inner.limit c.in_ok-open.ensures) (refused_then c.in_ok-left.ensures.read (refused_then (read_latter c.in_default.ensures (read_eps c.args.input.now.tokens.now _ c.in_ok-left.left.to c.in_ok-inner.inner.limit)) (refused_missing (err_at _ _ c.in_err-left-2.ensures c.take-close.ensures))))))))
+select-returns-in_err-left-2 t c = answer_exit _ _ c.from_residual-in_err-left-2.result c.in_err-left-2.field-0.0 c.from_residual-in_err-left-2.ensures.1 (refused_former (first_took c.in_ok-open.ensures) (refused_var (refused_level c.in_ok-inner.ensures (refused_then (read_tok c.in_ok-inner.inner.limit c.in_ok-open.ensures) (refused_then c.in_ok-left.ensures.read (refused_latter c.in_default.ensures (err_at _ _ c.in_err-left-2.ensures c.behind_index-rest.ensures)))))))
 
 pub select-returns-in_err-value : goal.select-returns-in_err-value
-select-returns-in_err-value t c = answer_exit _ _ c.from_residual-in_err-value.result Memory c.from_residual-in_err-value.ensures.1 (out_of_memory)
+select-returns-in_err-value t c = answer_exit _ _ c.from_residual-in_err-value.result c.in_err-value.field-0.0 c.from_residual-in_err-value.ensures.1 (refused_memory c.in_err-value.ensures)
 
 pub select-returns-in_default : goal.select-returns-in_default
-select-returns-in_default t c = measured (read_former (first_took c.in_ok-open.ensures) (read_var (read_level c.in_ok-inner.ensures (read_seq (read_tok c.in_ok-inner.inner.limit c.in_ok-open.ensures) (read_seq c.in_ok-left.ensures.read (read_seq (read_latter c.in_default.ensures (read_eps c.args.input.now.tokens.now _ c.in_ok-left.left.to c.in_ok-inner.inner.limit)) (read_tok c.in_ok-inner.inner.limit (ok_at _ _ c.in_ok-left-2.ensures.1 c.take-close.ensures)))))))) (ap (λ z. tree.BitAt c.args.at z) c.in_ok-left.ensures.made ∙ sym (rw c.in_ok-left-2.ensures.0 at c.in_ok-value.ensures)) (let a = c.in_ok-left.ensures.high in let e = ap (λ (z : Nested Expr). z.height) c.in_ok-left-2.ensures.0 in omega arith)
+select-returns-in_default t c = let w = ok_at _ _ c.in_ok-left-2.ensures.1 c.behind_index-rest.ensures in measured (read_former (first_took c.in_ok-open.ensures) (read_var (read_level c.in_ok-inner.ensures (read_seq (read_tok c.in_ok-inner.inner.limit c.in_ok-open.ensures) (read_seq c.in_ok-left.ensures.read (read_latter c.in_default.ensures w.read)))))) (select_made (bytes_in c.args.input.now) _ c.in_ok-left.ensures.tree w.tree c.in_ok-left.ensures.made w.made ∙ sym (rw c.in_ok-left-2.ensures.0 at c.in_ok-value.ensures)) (let a = c.in_ok-left.ensures.high in let b = w.high in let e = rw c.in_ok-left-2.ensures.0 at c.larger-deepest.ensures in omega arith)
 
 pub select-returns-in_err-left-3 : goal.select-returns-in_err-left-3
-select-returns-in_err-left-3 t c = answer_exit _ _ c.from_residual-in_err-left-3.result c.in_err-left-3.field-0.0 c.from_residual-in_err-left-3.ensures.1 (refused_former (first_took c.in_ok-open.ensures) (refused_var (refused_level c.in_ok-inner.ensures (refused_then (read_tok c.in_ok-inner.inner.limit c.in_ok-open.ensures) (refused_then c.in_ok-left.ensures.read (refused_seq (refused_former c.in-Some.ensures.here (refused_then (read_chosen c.in_ok-inner.inner.limit c.in-Some.ensures) (err_at _ _ c.in_err-left-3.ensures c.expression-right.ensures)))))))))
+select-returns-in_err-left-3 t c = answer_exit _ _ c.from_residual-in_err-left-3.result c.in_err-left-3.field-0.0 c.from_residual-in_err-left-3.ensures.1 (refused_former (first_took c.in_ok-open.ensures) (refused_var (refused_level c.in_ok-inner.ensures (refused_then (read_tok c.in_ok-inner.inner.limit c.in_ok-open.ensures) (refused_then c.in_ok-left.ensures.read (refused_former c.in-Some.ensures.here (refused_then (read_chosen c.in_ok-inner.inner.limit c.in-Some.ensures) (refused_seq (err_at _ _ c.in_err-left-3.ensures c.expression-right.ensures)))))))))
 
 pub select-returns-in_err-ends : goal.select-returns-in_err-ends
-select-returns-in_err-ends t c = answer_exit _ _ c.from_residual-in_err-ends.result c.in_err-ends.field-0.0 c.from_residual-in_err-ends.ensures.1 (refused_former (first_took c.in_ok-open.ensures) (refused_var (refused_level c.in_ok-inner.ensures (refused_then (read_tok c.in_ok-inner.inner.limit c.in_ok-open.ensures) (refused_then c.in_ok-left.ensures.read (refused_then (read_former c.in-Some.ensures.here (read_seq (read_chosen c.in_ok-inner.inner.limit c.in-Some.ensures) (ok_at _ _ c.in_ok-left-3.ensures.1 c.expression-right.ensures).read)) (refused_missing (err_at _ _ c.in_err-ends.ensures c.take-end.ensures))))))))
+select-returns-in_err-ends t c = answer_exit _ _ c.from_residual-in_err-ends.result c.in_err-ends.field-0.0 c.from_residual-in_err-ends.ensures.1 (refused_former (first_took c.in_ok-open.ensures) (refused_var (refused_level c.in_ok-inner.ensures (refused_then (read_tok c.in_ok-inner.inner.limit c.in_ok-open.ensures) (refused_then c.in_ok-left.ensures.read (refused_former c.in-Some.ensures.here (refused_then (read_chosen c.in_ok-inner.inner.limit c.in-Some.ensures) (refused_then (ok_at _ _ c.in_ok-left-3.ensures.1 c.expression-right.ensures).read (refused_missing (err_at _ _ c.in_err-ends.ensures c.take-end.ensures))))))))))
 
 pub select-returns-in_err-value-2 : goal.select-returns-in_err-value-2
 select-returns-in_err-value-2 t c = answer_exit _ _ c.from_residual-in_err-value-2.result Memory c.from_residual-in_err-value-2.ensures.1 (out_of_memory)
 
 pub select-returns : goal.select-returns
-select-returns t c = measured (read_former (first_took c.in_ok-open.ensures) (read_var (read_level c.in_ok-inner.ensures (read_seq (read_tok c.in_ok-inner.inner.limit c.in_ok-open.ensures) (read_seq c.in_ok-left.ensures.read (read_seq (read_former c.in-Some.ensures.here (read_seq (read_chosen c.in_ok-inner.inner.limit c.in-Some.ensures) (ok_at _ _ c.in_ok-left-3.ensures.1 c.expression-right.ensures).read)) (read_tok c.in_ok-inner.inner.limit (ok_at _ _ c.in_ok-ends.ensures.1 c.take-end.ensures)))))))) (ap3 (tree.Slice c.args.at) c.in-Some.ensures.made c.in_ok-left.ensures.made (ok_at _ _ c.in_ok-left-3.ensures.1 c.expression-right.ensures).made ∙ sym (rw (c.in_ok-ends.ensures.0, c.in_ok-left-3.ensures.0) at c.in_ok-value-2.ensures)) (let a = c.in_ok-left.ensures.high in let b = (ok_at _ _ c.in_ok-left-3.ensures.1 c.expression-right.ensures).high in let e = rw c.in_ok-left-3.ensures.0 at c.larger-height.ensures in let f = c.in-Some.ensures.flat in omega arith)
+select-returns t c = measured (read_former (first_took c.in_ok-open.ensures) (read_var (read_level c.in_ok-inner.ensures (read_seq (read_tok c.in_ok-inner.inner.limit c.in_ok-open.ensures) (read_seq c.in_ok-left.ensures.read (read_former c.in-Some.ensures.here (read_seq (read_chosen c.in_ok-inner.inner.limit c.in-Some.ensures) (read_seq (ok_at _ _ c.in_ok-left-3.ensures.1 c.expression-right.ensures).read (read_tok c.in_ok-inner.inner.limit (ok_at _ _ c.in_ok-ends.ensures.1 c.take-end.ensures)))))))))) (ap3 (tree.Slice c.args.at) c.in-Some.ensures.made c.in_ok-left.ensures.made (ok_at _ _ c.in_ok-left-3.ensures.1 c.expression-right.ensures).made ∙ sym (rw (c.in_ok-ends.ensures.0, c.in_ok-left-3.ensures.0) at c.in_ok-value-2.ensures)) (let a = c.in_ok-left.ensures.high in let b = (ok_at _ _ c.in_ok-left-3.ensures.1 c.expression-right.ensures).high in let e = rw c.in_ok-left-3.ensures.0 at c.larger-height.ensures in let f = c.in-Some.ensures.flat in omega arith)
+
+pub behind_index-returns-in_err-close : goal.behind_index-returns-in_err-close
+behind_index-returns-in_err-close t c = answer_exit _ _ c.from_residual.result c.in_err-close.field-0.0 c.from_residual.ensures.1 (refused_seq (refused_missing c.in_err-close.ensures))
+
+pub behind_index-returns-then-not-stands : goal.behind_index-returns-then-not-stands
+behind_index-returns-then-not-stands t c = measured (read_seq (read_tok c.args.depth.limit c.in_ok-close.ensures) (read_latter (one_false _ c.stands.result c.stands.ensures c.if-not-stands.true) (read_eps c.args.input.now.tokens.now c.args.depth.value c.in_ok-close.close c.args.depth.limit))) refl refl
+
+pub behind_index-returns-in_err-part : goal.behind_index-returns-in_err-part
+behind_index-returns-in_err-part t c = answer_exit _ _ c.from_residual-in_err-part.result c.in_err-part.field-0.0 c.from_residual-in_err-part.ensures.1 (refused_then (read_tok c.args.depth.limit c.in_ok-close.ensures) (refused_former (one_true _ c.stands.result c.stands.ensures c.if-not-stands.false) c.in_err-part.ensures))
+
+pub behind_index-returns : goal.behind_index-returns
+behind_index-returns t c = measured (read_seq (read_tok c.args.depth.limit c.in_ok-close.ensures) (read_former (one_true _ c.stands.result c.stands.ensures c.if-not-stands.false) c.in_ok-part.ensures.read)) (ap (λ z. Some z) c.in_ok-part.ensures.made) (let a = c.in_ok-part.ensures.high in omega arith)
+
+pub word_part-returns-in_err-open : goal.word_part-returns-in_err-open
+word_part-returns-in_err-open t c = answer_exit _ _ c.from_residual.result c.in_err-open.field-0.0 c.from_residual.ensures.1 ((refused_var (refused_level refl (refused_seq (refused_missing c.in_err-open.ensures)))))
+
+pub word_part-returns-in_err-inner : goal.word_part-returns-in_err-inner
+word_part-returns-in_err-inner t c = answer_exit _ _ c.from_residual-in_err-inner.result c.in_err-inner.field-0.0 c.from_residual-in_err-inner.ensures.1 ((refused_var (too_deep_first 1 (40 ∷ []) (first_took c.in_ok-open.ensures) refl c.in_err-inner.ensures.0 c.in_err-inner.ensures.1)))
+
+pub word_part-returns-in_err-left : goal.word_part-returns-in_err-left
+word_part-returns-in_err-left t c = answer_exit _ _ c.from_residual-in_err-left.result c.in_err-left.field-0.0 c.from_residual-in_err-left.ensures.1 ((refused_var (refused_level c.in_ok-inner.ensures (refused_then (read_tok c.in_ok-inner.inner.limit c.in_ok-open.ensures) (refused_seq c.in_err-left.ensures)))))
+
+pub word_part-returns-in_err-left-2 : goal.word_part-returns-in_err-left-2
+word_part-returns-in_err-left-2 t c = answer_exit _ _ c.from_residual-in_err-left-2.result c.in_err-left-2.field-0.0 c.from_residual-in_err-left-2.ensures.1 ((refused_var (refused_level c.in_ok-inner.ensures (refused_then (read_tok c.in_ok-inner.inner.limit c.in_ok-open.ensures) (refused_then c.in_ok-left.ensures.read (refused_then (read_latter c.in_default.ensures (read_eps c.args.input.now.tokens.now _ c.in_ok-left.left.to c.in_ok-inner.inner.limit)) (refused_missing (err_at _ _ c.in_err-left-2.ensures c.take-close.ensures))))))))
+
+pub word_part-returns-in_err-value : goal.word_part-returns-in_err-value
+word_part-returns-in_err-value t c = answer_exit _ _ c.from_residual-in_err-value.result Memory c.from_residual-in_err-value.ensures.1 (out_of_memory)
+
+pub word_part-returns-in_default : goal.word_part-returns-in_default
+word_part-returns-in_default t c = measured ((read_var (read_level c.in_ok-inner.ensures (read_seq (read_tok c.in_ok-inner.inner.limit c.in_ok-open.ensures) (read_seq c.in_ok-left.ensures.read (read_seq (read_latter c.in_default.ensures (read_eps c.args.input.now.tokens.now _ c.in_ok-left.left.to c.in_ok-inner.inner.limit)) (read_tok c.in_ok-inner.inner.limit (ok_at _ _ c.in_ok-left-2.ensures.1 c.take-close.ensures)))))))) (ap (λ z. tree.BitAt c.args.at z) c.in_ok-left.ensures.made ∙ sym (rw c.in_ok-left-2.ensures.0 at c.in_ok-value.ensures)) (let a = c.in_ok-left.ensures.high in let e = ap (λ (z : Nested Expr). z.height) c.in_ok-left-2.ensures.0 in omega arith)
+
+pub word_part-returns-in_err-left-3 : goal.word_part-returns-in_err-left-3
+word_part-returns-in_err-left-3 t c = answer_exit _ _ c.from_residual-in_err-left-3.result c.in_err-left-3.field-0.0 c.from_residual-in_err-left-3.ensures.1 ((refused_var (refused_level c.in_ok-inner.ensures (refused_then (read_tok c.in_ok-inner.inner.limit c.in_ok-open.ensures) (refused_then c.in_ok-left.ensures.read (refused_seq (refused_former c.in-Some.ensures.here (refused_then (read_chosen c.in_ok-inner.inner.limit c.in-Some.ensures) (err_at _ _ c.in_err-left-3.ensures c.expression-right.ensures)))))))))
+
+pub word_part-returns-in_err-ends : goal.word_part-returns-in_err-ends
+word_part-returns-in_err-ends t c = answer_exit _ _ c.from_residual-in_err-ends.result c.in_err-ends.field-0.0 c.from_residual-in_err-ends.ensures.1 ((refused_var (refused_level c.in_ok-inner.ensures (refused_then (read_tok c.in_ok-inner.inner.limit c.in_ok-open.ensures) (refused_then c.in_ok-left.ensures.read (refused_then (read_former c.in-Some.ensures.here (read_seq (read_chosen c.in_ok-inner.inner.limit c.in-Some.ensures) (ok_at _ _ c.in_ok-left-3.ensures.1 c.expression-right.ensures).read)) (refused_missing (err_at _ _ c.in_err-ends.ensures c.take-end.ensures))))))))
+
+pub word_part-returns-in_err-value-2 : goal.word_part-returns-in_err-value-2
+word_part-returns-in_err-value-2 t c = answer_exit _ _ c.from_residual-in_err-value-2.result Memory c.from_residual-in_err-value-2.ensures.1 (out_of_memory)
+
+pub word_part-returns : goal.word_part-returns
+word_part-returns t c = measured ((read_var (read_level c.in_ok-inner.ensures (read_seq (read_tok c.in_ok-inner.inner.limit c.in_ok-open.ensures) (read_seq c.in_ok-left.ensures.read (read_seq (read_former c.in-Some.ensures.here (read_seq (read_chosen c.in_ok-inner.inner.limit c.in-Some.ensures) (ok_at _ _ c.in_ok-left-3.ensures.1 c.expression-right.ensures).read)) (read_tok c.in_ok-inner.inner.limit (ok_at _ _ c.in_ok-ends.ensures.1 c.take-end.ensures)))))))) (ap3 (tree.Slice c.args.at) c.in-Some.ensures.made c.in_ok-left.ensures.made (ok_at _ _ c.in_ok-left-3.ensures.1 c.expression-right.ensures).made ∙ sym (rw (c.in_ok-ends.ensures.0, c.in_ok-left-3.ensures.0) at c.in_ok-value-2.ensures)) (let a = c.in_ok-left.ensures.high in let b = (ok_at _ _ c.in_ok-left-3.ensures.1 c.expression-right.ensures).high in let e = rw c.in_ok-left-3.ensures.0 at c.larger-height.ensures in let f = c.in-Some.ensures.flat in omega arith)
 
 pub braces-returns-in_err-open : goal.braces-returns-in_err-open
 braces-returns-in_err-open t c = answer_exit _ _ c.from_residual.result c.in_err-open.field-0.0 c.from_residual.ensures.1 (refused_level refl (refused_seq (refused_missing c.in_err-open.ensures)))

@@ -22,8 +22,17 @@ decreases-primary l = 32 * (201 - l.depth.value) + 2
 abbrev pub decreases-named : goal.decreases-named
 decreases-named l = 32 * (201 - l.depth.value) + 1
 
+abbrev pub decreases-arguments : goal.decreases-arguments
+decreases-arguments l = 32 * (201 - l.depth.value) + 0
+
 abbrev pub decreases-select : goal.decreases-select
 decreases-select l = 32 * (201 - l.depth.value) + 0
+
+abbrev pub decreases-behind_index : goal.decreases-behind_index
+decreases-behind_index l = 32 * (201 - l.depth.value) + 1
+
+abbrev pub decreases-word_part : goal.decreases-word_part
+decreases-word_part l = 32 * (201 - l.depth.value) + 0
 
 abbrev pub decreases-brackets : goal.decreases-brackets
 decreases-brackets l = 32 * (201 - l.depth.value) + 1

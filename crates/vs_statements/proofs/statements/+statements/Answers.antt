@@ -37,8 +37,11 @@ statement-returns-then-stands_any t c = answer_more c.case.result c.case.ensures
 pub statement-returns-then-stands-3 : goal.statement-returns-then-stands-3
 statement-returns-then-stands-3 t c = answer_more c.sequence.result c.sequence.ensures (λ f w. parsed (read_var (read_level c.in_ok-inner.ensures (read_latter (one_false _ c.stands.result c.stands.ensures c.if-stands.false) (read_latter (one_false _ c.stands-else-stands.result c.stands-else-stands.ensures c.if-stands-2.false) (read_latter (sym c.stands_any.ensures ∙ c.if-stands_any.false) (read_former (one_true _ c.stands-else-stands_any.result c.stands-else-stands_any.ensures c.if-stands-3.true) w.read)))))) w.made) (λ e w. (refused_var (refused_level c.in_ok-inner.ensures (refused_latter (one_false _ c.stands.result c.stands.ensures c.if-stands.false) (refused_latter (one_false _ c.stands-else-stands.result c.stands-else-stands.ensures c.if-stands-2.false) (refused_latter (sym c.stands_any.ensures ∙ c.if-stands_any.false) (refused_former (one_true _ c.stands-else-stands_any.result c.stands-else-stands_any.ensures c.if-stands-3.true) w)))))))
 
-pub statement-returns-else-stands-3 : goal.statement-returns-else-stands-3
-statement-returns-else-stands-3 t c = answer_more c.assignment.result c.assignment.ensures (λ f w. parsed (read_var (read_level c.in_ok-inner.ensures (read_latter (one_false _ c.stands.result c.stands.ensures c.if-stands.false) (read_latter (one_false _ c.stands-else-stands.result c.stands-else-stands.ensures c.if-stands-2.false) (read_latter (sym c.stands_any.ensures ∙ c.if-stands_any.false) (read_latter (one_false _ c.stands-else-stands_any.result c.stands-else-stands_any.ensures c.if-stands-3.false) w.read)))))) w.made) (λ e w. (refused_var (refused_level c.in_ok-inner.ensures (refused_latter (one_false _ c.stands.result c.stands.ensures c.if-stands.false) (refused_latter (one_false _ c.stands-else-stands.result c.stands-else-stands.ensures c.if-stands-2.false) (refused_latter (sym c.stands_any.ensures ∙ c.if-stands_any.false) (refused_latter (one_false _ c.stands-else-stands_any.result c.stands-else-stands_any.ensures c.if-stands-3.false) w)))))))
+pub statement-returns-then-stands-4 : goal.statement-returns-then-stands-4
+statement-returns-then-stands-4 t c = answer_more c.loop_statement.result c.loop_statement.ensures (λ f w. parsed (read_var (read_level c.in_ok-inner.ensures (read_latter (one_false _ c.stands.result c.stands.ensures c.if-stands.false) (read_latter (one_false _ c.stands-else-stands.result c.stands-else-stands.ensures c.if-stands-2.false) (read_latter (sym c.stands_any.ensures ∙ c.if-stands_any.false) (read_latter (one_false _ c.stands-else-stands_any.result c.stands-else-stands_any.ensures c.if-stands-3.false) (read_former (one_true _ c.stands-else-stands-3.result c.stands-else-stands-3.ensures c.if-stands-4.true) w.read))))))) w.made) (λ e w. (refused_var (refused_level c.in_ok-inner.ensures (refused_latter (one_false _ c.stands.result c.stands.ensures c.if-stands.false) (refused_latter (one_false _ c.stands-else-stands.result c.stands-else-stands.ensures c.if-stands-2.false) (refused_latter (sym c.stands_any.ensures ∙ c.if-stands_any.false) (refused_latter (one_false _ c.stands-else-stands_any.result c.stands-else-stands_any.ensures c.if-stands-3.false) (refused_former (one_true _ c.stands-else-stands-3.result c.stands-else-stands-3.ensures c.if-stands-4.true) w))))))))
+
+pub statement-returns-else-stands-4 : goal.statement-returns-else-stands-4
+statement-returns-else-stands-4 t c = answer_more c.assignment.result c.assignment.ensures (λ f w. parsed (read_var (read_level c.in_ok-inner.ensures (read_latter (one_false _ c.stands.result c.stands.ensures c.if-stands.false) (read_latter (one_false _ c.stands-else-stands.result c.stands-else-stands.ensures c.if-stands-2.false) (read_latter (sym c.stands_any.ensures ∙ c.if-stands_any.false) (read_latter (one_false _ c.stands-else-stands_any.result c.stands-else-stands_any.ensures c.if-stands-3.false) (read_latter (one_false _ c.stands-else-stands-3.result c.stands-else-stands-3.ensures c.if-stands-4.false) w.read))))))) w.made) (λ e w. (refused_var (refused_level c.in_ok-inner.ensures (refused_latter (one_false _ c.stands.result c.stands.ensures c.if-stands.false) (refused_latter (one_false _ c.stands-else-stands.result c.stands-else-stands.ensures c.if-stands-2.false) (refused_latter (sym c.stands_any.ensures ∙ c.if-stands_any.false) (refused_latter (one_false _ c.stands-else-stands_any.result c.stands-else-stands_any.ensures c.if-stands-3.false) (refused_latter (one_false _ c.stands-else-stands-3.result c.stands-else-stands-3.ensures c.if-stands-4.false) w))))))))
 
 pub conditional-returns-in_err-word : goal.conditional-returns-in_err-word
 conditional-returns-in_err-word t c = answer_exit _ _ c.from_residual.result c.in_err-word.field-0.0 c.from_residual.ensures.1 (refused_seq (refused_missing c.in_err-word.ensures))
@@ -79,17 +82,29 @@ alternative-returns t c = parsed (read_within c.in_ok-word.ensures c.in_ok-other
 pub sequence-returns-in_err-begin : goal.sequence-returns-in_err-begin
 sequence-returns-in_err-begin t c = answer_exit _ _ c.from_residual.result c.in_err-begin.field-0.0 c.from_residual.ensures.1 (refused_seq (refused_missing c.in_err-begin.ensures))
 
-pub sequence-returns-in_err-label : goal.sequence-returns-in_err-label
-sequence-returns-in_err-label t c = answer_exit _ _ c.from_residual-in_err-label.result c.in_err-label.field-0.0 c.from_residual-in_err-label.ensures.1 (refused_then (read_tok c.args.depth.limit c.in_ok-begin.ensures) (refused_seq c.in_err-label.ensures))
+pub sequence-returns-in_err-scope : goal.sequence-returns-in_err-scope
+sequence-returns-in_err-scope t c = answer_exit _ _ c.from_residual-in_err-scope.result c.in_err-scope.field-0.0 c.from_residual-in_err-scope.ensures.1 (refused_then (read_tok c.args.depth.limit c.in_ok-begin.ensures) (refused_seq c.in_err-scope.ensures))
 
-pub sequence-returns-in_err-parts : goal.sequence-returns-in_err-parts
-sequence-returns-in_err-parts t c = answer_exit _ _ c.from_residual-in_err-parts.result c.in_err-parts.field-0.0 c.from_residual-in_err-parts.ensures.1 (refused_then (read_tok c.args.depth.limit c.in_ok-begin.ensures) (refused_then c.in_ok-label.ensures.read (refused_seq (rw c.passed.ensures at c.in_err-parts.ensures))))
+pub sequence-returns-in_err-scope-2 : goal.sequence-returns-in_err-scope-2
+sequence-returns-in_err-scope-2 t c = answer_exit _ _ c.from_residual-in_err-scope-2.result c.in_err-scope-2.field-0.0 c.from_residual-in_err-scope-2.ensures.1 (refused_then (read_tok c.args.depth.limit c.in_ok-begin.ensures) (refused_then c.in_ok-scope.ensures.read (refused_seq (err_at _ _ c.in_err-scope-2.ensures c.statements-parts.ensures))))
 
-pub sequence-returns-in_err-parts-2 : goal.sequence-returns-in_err-parts-2
-sequence-returns-in_err-parts-2 t c = answer_exit _ _ c.from_residual-in_err-parts-2.result c.in_err-parts-2.field-0.0 c.from_residual-in_err-parts-2.ensures.1 (let s = rw c.passed.ensures at c.in_ok-parts.ensures in refused_then (read_tok c.args.depth.limit c.in_ok-begin.ensures) (refused_then c.in_ok-label.ensures.read (refused_then s.read (refused_missing (err_at _ _ c.in_err-parts-2.ensures c.take-end.ensures)))))
+pub sequence-returns-in_err-inner : goal.sequence-returns-in_err-inner
+sequence-returns-in_err-inner t c = answer_exit _ _ c.from_residual-in_err-inner.result c.in_err-inner.field-0.0 c.from_residual-in_err-inner.ensures.1 (refused_then (read_tok c.args.depth.limit c.in_ok-begin.ensures) (refused_then c.in_ok-scope.ensures.read (refused_then (ok_at _ _ c.in_ok-scope-2.ensures.1 c.statements-parts.ensures).read (refused_missing (err_at _ _ c.in_err-inner.ensures c.take-end.ensures)))))
 
 pub sequence-returns : goal.sequence-returns
-sequence-returns t c = let s = rw c.passed.ensures at c.in_ok-parts.ensures in parsed (read_seq (read_tok c.args.depth.limit c.in_ok-begin.ensures) (read_seq c.in_ok-label.ensures.read (read_seq s.read (read_tok c.args.depth.limit (ok_at _ _ c.in_ok-parts-2.ensures.1 c.take-end.ensures))))) (ap (λ z. tree.Sequence c.args.at z) (statements_made (bytes_in c.args.input.now) s.tree c.in_ok-parts.parts.value.items s.made) ∙ sym (rw c.in_ok-parts-2.ensures.0 at c.new_sequence-value.ensures))
+sequence-returns t c = let s = ok_at _ _ c.in_ok-scope-2.ensures.1 c.statements-parts.ensures in parsed (read_seq (read_tok c.args.depth.limit c.in_ok-begin.ensures) (read_seq c.in_ok-scope.ensures.read (read_seq s.read (read_tok c.args.depth.limit (ok_at _ _ c.in_ok-inner.ensures.1 c.take-end.ensures))))) (ap2 (tree.Sequence c.args.at) c.in_ok-scope.ensures.made (statements_made (bytes_in c.args.input.now) s.tree c.in_ok-scope-2.parts.value.items s.made) ∙ sym (rw (c.in_ok-inner.ensures.0, c.in_ok-scope-2.ensures.0) at c.new_sequence-value.ensures))
+
+pub loop_statement-returns-in_err-head : goal.loop_statement-returns-in_err-head
+loop_statement-returns-in_err-head t c = answer_exit _ _ c.from_residual.result c.in_err-head.field-0.0 c.from_residual.ensures.1 (refused_seq c.in_err-head.ensures)
+
+pub loop_statement-returns-in_err-head-2 : goal.loop_statement-returns-in_err-head-2
+loop_statement-returns-in_err-head-2 t c = answer_exit _ _ c.from_residual-in_err-head-2.result c.in_err-head-2.field-0.0 c.from_residual-in_err-head-2.ensures.1 (refused_then c.in_ok-head.ensures.read (err_at _ _ c.in_err-head-2.ensures c.statement-body.ensures))
+
+pub loop_statement-returns-in_err-value : goal.loop_statement-returns-in_err-value
+loop_statement-returns-in_err-value t c = answer_exit _ _ c.from_residual-in_err-value.result Memory c.from_residual-in_err-value.ensures.1 (out_of_memory)
+
+pub loop_statement-returns : goal.loop_statement-returns
+loop_statement-returns t c = let s = ok_at _ _ c.in_ok-head-2.ensures.1 c.statement-body.ensures in parsed (read_seq c.in_ok-head.ensures.read s.read) (ap2 tree.For c.in_ok-head.ensures.made s.made ∙ sym (rw c.in_ok-head-2.ensures.0 at c.in_ok-value.ensures))
 
 pub statements-loop-depth-init : goal.statements-loop-depth-init
 statements-loop-depth-init t c = listing_from (r rule.Statement) meaning.statement_of view.statement c.args.input.now _ c.args.at c.args.depth.limit c.new-list.ensures.items

@@ -30,6 +30,9 @@ decreases-alternative l = 16 * (201 - l.depth.value) + 2
 abbrev pub decreases-sequence : goal.decreases-sequence
 decreases-sequence l = 16 * (201 - l.depth.value) + 8
 
+abbrev pub decreases-loop_statement : goal.decreases-loop_statement
+decreases-loop_statement l = 16 * (201 - l.depth.value) + 8
+
 abbrev pub decreases-statements : goal.decreases-statements
 decreases-statements l = 16 * (201 - l.depth.value) + 2
 

@@ -1,4 +1,4 @@
-use Rattle.std.proofs.Common.{◌≡◌, sym, subst, arith}
+use Rattle.std.proofs.Common.{◌≡◌, subst, arith}
 use Rattle.vs_desk.specs.Desk.{FailsAlone}
 use Rattle.vs_waves.specs.Puts.{wave_place}
 use Rattle.vs_top.proofs.Writing.{all_put, part_put, held_back}

@@ -1,4 +1,4 @@
-use Rattle.std.proofs.Common.{List, set, ap, ◌∙◌}
+use Rattle.std.proofs.Common.{set, ap, ◌∙◌}
 use Rattle.vs_design.specs.Sets.{Set4}
 use Rattle.vs_sets.specs.Tables.{family_of}
 use Rattle.vs_zero.proofs.Sourcing.{clock_put, clock_left}

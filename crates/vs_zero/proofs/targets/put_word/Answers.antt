@@ -1,4 +1,4 @@
-use Rattle.std.proofs.Common.{◌≡◌, ◌+◌, ◌≤◌, ◌*◌, None, if◌then◌else◌, length, sym, ap, ap₂, ◌∙◌, arith}
+use Rattle.std.proofs.Common.{◌≡◌, ◌≤◌, ◌*◌, None, if◌then◌else◌, length, sym, ap, ap₂, ◌∙◌, arith}
 use Rattle.vs_four.specs.Logic.{all_known}
 use Rattle.vs_four.specs.Numbers.{integer}
 use Rattle.vs_four.specs.Selects.{place_of}

@@ -1,4 +1,4 @@
-use Rattle.std.proofs.Common.{true, false, Bool, [], ◌∷◌, refl, sym, ap, ◌∙◌}
+use Rattle.std.proofs.Common.{true, false, [], ◌∷◌, sym, ◌∙◌}
 use Rattle.vs_net.specs.Queue.{Evaluate, Apply}
 use Rattle.vs_design.specs.Networks.{network_of}
 use Rattle.vs_flat.specs.DesignOf.{design_of}

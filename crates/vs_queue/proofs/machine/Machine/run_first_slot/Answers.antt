@@ -1,4 +1,4 @@
-use Rattle.std.proofs.Common.{◌∷◌, []}
+use Rattle.std.proofs.Common.{◌∷◌}
 use Rattle.vs_net.specs.LevelRun.{Starts, Takes, Pass}
 use Rattle.vs_flat.specs.DesignOf.{design_of}
 use Rattle.vs_queue.specs.Sweeps.{slot_parts}

@@ -1,4 +1,4 @@
-use Rattle.std.proofs.Common.{ℕ, ◌+◌, length, sym, ap, ap₂, ◌∙◌, arith}
+use Rattle.std.proofs.Common.{ℕ, length, sym, ap, ap₂, ◌∙◌, arith}
 use Rattle.vs_flat.specs.Arena.{Arena}
 use Rattle.vs_flat.specs.Arena as A
 use Rattle.vs_flat.specs.DesignOf.{design_of}

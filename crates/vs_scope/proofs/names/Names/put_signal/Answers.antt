@@ -2,11 +2,11 @@ use Rattle.std.proofs.Common.{◌≡◌, map, refl, sym, ap, ◌∙◌, subst}
 use Rattle.vs_elaborated.specs.Environments.{OfSignal}
 use Rattle.vs_scope.specs.declared.names.Entry.{Entry}
 use Rattle.vs_scope.specs.declared.names.Declared.TheVariants as states
-use Rattle.vs_scope.specs.Maps.{with_value, AreDistinct}
-use Rattle.vs_scope.specs.MapViews.{pairs}
+use Rattle.vs_maps.specs.Maps.{with_value, AreDistinct}
+use Rattle.vs_maps.specs.MapViews.{pairs}
 use Rattle.vs_scope.specs.Views.{signal_meaning, pair_entry}
 use Rattle.vs_scope.specs.Declares.{named_of}
-use Rattle.vs_scope.proofs.Changes.{changed_none, changed_some, named_changed}
+use Rattle.vs_scope.proofs.Changes.{still_with, changed_none, changed_some, named_changed}
 use Rattle.vs_scope.proofs.names.Names.put_signal.Goals as goal
 
 pub returns-in-None-clause-entries : goal.returns-in-None-clause-entries
@@ -33,3 +33,9 @@ returns-in_ok-put-in-Some-clause-named c =
     let found = sym c.get.ensures.value ∙ sym c.copied.ensures ∙ c.in-Some.is in
     let put : pairs c.put.new.self ≡ with_value name new ps = c.in_ok-put-in-Some.ensures.put in
     ap (map named_of) put ∙ named_changed name old new ps found refl
+
+pub returns-in_ok-put-in-Some-clause-still : goal.returns-in_ok-put-in-Some-clause-still
+returns-in_ok-put-in-Some-clause-still c =
+    let old = c.in-Some.field-0 in
+    let new : Entry = record { first = old.first; second = old.second; declared = states.Signal c.args.signal } in
+    still_with c.args.self.now _ c.args.signal.name.now new refl refl refl c.in_ok-put-in-Some.ensures.put refl

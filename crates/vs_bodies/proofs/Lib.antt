@@ -1,0 +1,16 @@
+pub mod Joins
+pub mod Parts
+pub mod Telling
+pub mod Turning
+pub mod Naming
+pub mod Declaring
+pub mod Walking
+pub mod Saying
+pub mod EventFaults
+pub mod FaultLists
+pub mod Walked
+pub mod TargetParts
+pub mod Looped
+pub mod Gathered
+pub mod Heads
+pub mod AssignmentParts

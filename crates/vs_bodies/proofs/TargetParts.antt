@@ -1,0 +1,83 @@
+-- What is told of a name as a target, with what is selected of it.
+use Rattle.std.proofs.Common.{◌≡◌, ℕ, Bool, true, List, ◌++◌, is_some, if◌then◌else◌, Option, Some, None, refl, sym, ap, ◌∙◌, subst, arith}
+use Rattle.vs_four.specs.declared.Range.{Range}
+use Rattle.vs_design.specs.Expressions.{Signal}
+use Rattle.vs_const.specs.declared.faults.Fault.{Fault}
+use Rattle.vs_const.specs.declared.faults.Flaws.{Flaws}
+use Rattle.vs_const.specs.declared.found.Checked.{Checked}
+use Rattle.vs_const.specs.declared.selects.Taken.{Taken as TakenOf}
+use Rattle.vs_const.specs.declared.names.Named.{Named}
+use Rattle.vs_const.specs.declared.names.Named.TheVariants.{Value, Undefined as UndefinedValue, Signal as SignalNamed, Memory as MemoryNamed, Function as FunctionNamed, Incomplete as IncompleteNamed, Other, Barred as BarredName, Unknown as UnknownName}
+use Rattle.vs_const.specs.declared.names.SignalShape.{SignalShape}
+use Rattle.vs_const.specs.declared.rules.Rule.TheVariants.{WrongKind}
+use Rattle.vs_const.specs.CallDepths.{call_depth}
+use Rattle.vs_const.specs.Faults.{least, better, fault_if}
+use Rattle.vs_const.specs.Meanings.{SignalMeaning, FunctionMeaning, Meaning, AValue, Undefined, ASignal, AMemory, AFunction, Incomplete, Another, Barred, Unknown, Means}
+use Rattle.vs_const.specs.Typed.{Typed}
+use Rattle.vs_const.specs.Selects.{Base, Taken, taken}
+use Rattle.vs_const.specs.Checks.{Checks, ChecksTaken}
+use Rattle.vs_const.proofs.Least.{least_append}
+use Rattle.vs_elaborated.specs.Targets.{is_wrong_target, meant_signal, target_base, part_target, bit_target}
+use Rattle.vs_bodies.specs.declared.targets.Base.{Base as BaseOf}
+use Rattle.vs_bodies.specs.declared.told.Told.{Told}
+use Rattle.vs_bodies.specs.Told.{broken, joined, told_target}
+use Rattle.vs_bodies.specs.Targets.{IsBase}
+use Rattle.vs_bodies.proofs.Joins.{same}
+
+-- ---- bits of a signal
+
+both_faults : (f g : Option Fault) (fs gs : List Fault) (d e : ℕ) → f ≡ least fs → g ≡ least gs → d ≡ e → joined (broken f 0) (broken g d) ≡ broken (least (fs ++ gs)) e
+both_faults f g fs gs d e h k l = same _ _ _ _ _ _ (ap (λ z. better z g) h ∙ ap (better (least fs)) k ∙ sym (least_append fs gs)) refl (omega (arith, l))
+
+pub part_told : (s : Signal) (b : Base) (t : Taken) (base : BaseOf) (bits : TakenOf) → IsBase base b → ChecksTaken bits t → joined (broken base.fault 0) (broken bits.flaws.first bits.depth) ≡ told_target (part_target s b t)
+part_told s b t base bits h k = both_faults base.fault bits.flaws.first b.faults t.faults bits.depth (call_depth t.index) h.fault (ap (λ (f : Flaws). f.first) k.flaws) k.depth
+
+-- one bit, where the range is known
+bit_of : (s : Signal) (b : Base) (i : Typed) (index : Checked) (r : Option Range) (fault : Option Fault) (depth : ℕ) → fault ≡ least b.faults → Checks index i → depth ≡ (if is_some r then index.depth else 0)
+    → joined (broken fault 0) (broken index.flaws.first depth) ≡ told_target (part_target s b (taken r true 1 i i.faults))
+bit_of s b i index None fault depth h k d = both_faults fault index.flaws.first b.faults i.faults depth 0 h (ap (λ (f : Flaws). f.first) k.flaws) d
+bit_of s b i index (Some r) fault depth h k d = both_faults fault index.flaws.first b.faults i.faults depth (call_depth i.expression) h (ap (λ (f : Flaws). f.first) k.flaws) (d ∙ k.depth)
+
+pub bit_part_told : (s : Signal) (b : Base) (i : Typed) (base : BaseOf) (index : Checked) (depth : ℕ) → IsBase base b → Checks index i → depth ≡ (if is_some base.range then index.depth else 0)
+    → joined (broken base.fault 0) (broken index.flaws.first depth) ≡ told_target (part_target s b (taken b.range true 1 i i.faults))
+bit_part_told s b i base index depth h k d = bit_of s b i index b.range base.fault depth h.fault k (d ∙ ap (λ (r : Option Range). if is_some r then index.depth else 0) h.range)
+
+-- what is no memory has bits
+pub bit_told_of : (p : Bool) (place : ℕ) (named : Named) (m : Meaning) (i : Typed) (x : Told) → ((s : SignalShape) → named ≡ MemoryNamed s → ⊥) → Means named m
+    → x ≡ told_target (part_target (meant_signal m) (target_base p place true m) (taken (target_base p place true m).range true 1 i i.faults))
+    → x ≡ told_target (bit_target p place m i)
+bit_told_of p place named (AValue v q turns) i x other h f = f
+bit_told_of p place named (Undefined q) i x other h f = f
+bit_told_of p place named (ASignal s) i x other h f = f
+bit_told_of p place named (AFunction g) i x other h f = f
+bit_told_of p place named Incomplete i x other h f = f
+bit_told_of p place named Another i x other h f = f
+bit_told_of p place named (Barred rule) i x other h f = f
+bit_told_of p place named Unknown i x other h f = f
+bit_told_of p place (Value v q turns) (AMemory m) i x other h f = cc
+bit_told_of p place (UndefinedValue q) (AMemory m) i x other h f = cc
+bit_told_of p place (SignalNamed s) (AMemory m) i x other h f = absurd (differ h.1)
+  where
+    differ : {k : SignalMeaning} → AMemory m ≡ ASignal k → ⊥
+    differ e = cc
+bit_told_of p place (MemoryNamed s) (AMemory m) i x other h f = absurd (other s refl)
+bit_told_of p place (FunctionNamed g) (AMemory m) i x other h f = absurd (differ h.1)
+  where
+    differ : {k : FunctionMeaning} → AMemory m ≡ AFunction k → ⊥
+    differ e = cc
+bit_told_of p place IncompleteNamed (AMemory m) i x other h f = cc
+bit_told_of p place Other (AMemory m) i x other h f = cc
+bit_told_of p place (BarredName rule) (AMemory m) i x other h f = cc
+bit_told_of p place UnknownName (AMemory m) i x other h f = cc
+
+-- ---- a word of a memory
+
+pub word_told : (p : Bool) (place : ℕ) (named : Named) (s : SignalShape) (m : Meaning) (i : Typed) (index : Checked) (f : Option Fault) → named ≡ MemoryNamed s → Means named m
+    → ((t : SignalMeaning) → s.net ≡ t.signal.net → s.input ≡ t.input → f ≡ least (fault_if (is_wrong_target p t) WrongKind place)) → Checks index i
+    → joined (broken f 0) (broken index.flaws.first index.depth) ≡ told_target (bit_target p place m i)
+word_told p place named s m i index f e h w k = of (subst (λ n. Means n m) e h)
+  where
+    of : Means (MemoryNamed s) m → joined (broken f 0) (broken index.flaws.first index.depth) ≡ told_target (bit_target p place m i)
+    of h =
+        both_faults f index.flaws.first (fault_if (is_wrong_target p h.0) WrongKind place) i.faults index.depth (call_depth i.expression) (w h.0 h.8 h.9) (ap (λ (z : Flaws). z.first) k.flaws) k.depth
+        ∙ ap (λ (n : Meaning). told_target (bit_target p place n i)) (sym h.1)

@@ -1,0 +1,226 @@
+-- Functions of a scope, in text order, each by those before it (IEEE 1364-2005, 10.4).
+use Rattle.std.specs.Prelude.{ℕ, suc, ◌+◌, ◌-◌, Bool, true, false, ◌&&◌, ◌||◌, List, [], ◌∷◌, ◌++◌, map, flat_map, sum_by, if◌then◌else◌, ◌==◌, nat_lt, Option, Some, None}
+use Rattle.std.specs.List.{list_all}
+use Rattle.vs_design.specs.Clocks.{same_name}
+use Rattle.vs_design.specs.Expressions.{signal_length, Header, local_signals}
+use Rattle.vs_design.specs.Statements.{Function}
+use Rattle.vs_design.specs.Elaborated.{is_nil}
+use Rattle.vs_grammar.specs.Trees as tree
+use Rattle.vs_const.specs.declared.faults.Fault.{Fault}
+use Rattle.vs_const.specs.Faults.{fault_if}
+use Rattle.vs_const.specs.Expressions.{is_clean}
+use Rattle.vs_const.specs.declared.rules.Rule.TheVariants.{FunctionRule, WrongKind}
+use Rattle.vs_const.specs.declared.names.Role.{Role}
+use Rattle.vs_const.specs.declared.names.Role.TheVariants.{InFunction, AsResult}
+use Rattle.vs_const.specs.Meanings.{SignalMeaning, FunctionMeaning, Meaning, ASignal, Barred, Find}
+use Rattle.vs_elaborated.specs.Limits.{Limits}
+use Rattle.vs_elaborated.specs.Environments.{Declared, OfSignal, OfInteger, OfFunction, Entry, Env, inside_function, named, within}
+use Rattle.vs_elaborated.specs.Declarations.{FunctionOf, Declaration}
+use Rattle.vs_elaborated.specs.Parameters.{said_type, is_signed}
+use Rattle.vs_const.specs.CallDepths.{calls_in}
+use Rattle.vs_elaborated.specs.Statements.{Body, Local, locals_of, scope_locals, repeated_locals, is_integer, unrolled_within}
+
+-- ---- what a function declares
+
+-- its result, which has its name (10.4.2)
+abbrev pub result_local : tree.Function → Local
+result_local f = record { name = f.name; value_type = f.value_type }
+
+-- what it declares in its own name space, in the order of the text
+abbrev pub declared_locals : tree.Function → List Local
+declared_locals f = result_local f ∷ (flat_map locals_of f.inputs ++ flat_map locals_of f.variables)
+
+-- what the named blocks of a statement declare, in the order of the text
+abbrev mutual
+  pub block_locals : tree.Statement → List Local
+  block_locals (tree.Empty place) = []
+  block_locals (tree.Assignment target e blocking) = []
+  block_locals (tree.If place c taken other) = block_locals taken ++ fallback_locals other
+  block_locals (tree.Case place kind subject arms other) = arms_locals arms ++ fallback_locals other
+  block_locals (tree.Sequence place scope parts) = scope_locals scope ++ sequence_locals parts
+  block_locals (tree.For head statement) = block_locals statement
+
+  pub fallback_locals : tree.Fallback → List Local
+  fallback_locals tree.NoFallback = []
+  fallback_locals (tree.Otherwise statement) = block_locals statement
+
+  pub sequence_locals : tree.Statements → List Local
+  sequence_locals tree.NoStatement = []
+  sequence_locals (tree.AndStatement s rest) = block_locals s ++ sequence_locals rest
+
+  pub arms_locals : tree.CaseArms → List Local
+  arms_locals tree.NoArm = []
+  arms_locals (tree.AndArm labels statement rest) = block_locals statement ++ arms_locals rest
+
+-- its own variables: an integer heads loops, and is none
+abbrev pub variables_of : List Local → List Local
+variables_of [] = []
+variables_of (v ∷ vs) = if is_integer v then variables_of vs else v ∷ variables_of vs
+
+abbrev pub own_locals : tree.Function → List Local
+own_locals f = variables_of (flat_map locals_of f.variables ++ block_locals f.statement)
+
+-- ---- local signals, numbered from 0 on: the inputs, the result, its own variables
+
+-- where the next one begins
+pub record Start : Type 0 where
+  pub scope : ℕ
+  pub signal : ℕ
+  pub bit : ℕ
+
+-- a local signal, where it is declared, and the faults of its range
+pub record LocalSignal : Type 0 where
+  pub place : ℕ
+  pub meaning : SignalMeaning
+  pub faults : List Fault
+
+abbrev pub local_signal : Env → Start → Role → (input : Bool) → Local → LocalSignal
+local_signal env start role input v =
+    let r = said_type v.value_type env in
+    record {
+      place = v.name.place;
+      meaning = record {
+        signal = record { name = v.name.bytes; scope = start.scope; number = start.signal; net = false; input = input; range = r.range; signed = is_signed v.value_type; first = start.bit; words = None };
+        input = input;
+        role = role;
+        known = r.known;
+      };
+      faults = r.faults;
+    }
+
+abbrev pub behind : Start → LocalSignal → Start
+behind start s = record start { signal = start.signal + 1; bit = start.bit + signal_length s.meaning.signal }
+
+-- in this order
+abbrev pub signals_of : Env → Start → Role → (input : Bool) → List Local → List LocalSignal
+signals_of env start role input [] = []
+signals_of env start role input (v ∷ vs) = let s = local_signal env start role input v in s ∷ signals_of env (behind start s) role input vs
+
+abbrev pub behind_all : Start → List LocalSignal → Start
+behind_all start [] = start
+behind_all start (s ∷ ss) = behind_all (behind start s) ss
+
+-- all of a function
+pub record Locals : Type 0 where
+  pub inputs : List LocalSignal
+  pub result : LocalSignal
+  pub own : List LocalSignal
+
+abbrev pub function_locals : (scope : ℕ) → Env → tree.Function → Locals
+function_locals scope env f =
+    let inputs = signals_of env (record { scope = scope; signal = 0; bit = 0 }) InFunction true (flat_map locals_of f.inputs) in
+    let start = behind_all (record { scope = scope; signal = 0; bit = 0 }) inputs in
+    let result = local_signal env start AsResult false (result_local f) in
+    record { inputs = inputs; result = result; own = signals_of env (behind start result) InFunction false (own_locals f) }
+
+abbrev pub all_locals : Locals → List LocalSignal
+all_locals l = l.inputs ++ (l.result ∷ l.own)
+
+abbrev pub header_of : tree.Function → Locals → Header
+header_of f l = record {
+  place = f.place;
+  inputs = map (λ (s : LocalSignal). s.meaning.signal) l.inputs;
+  result = l.result.meaning.signal;
+  own = map (λ (s : LocalSignal). s.meaning.signal) l.own;
+}
+
+-- ---- what names mean in it
+
+-- the local signal that is declared at this place
+abbrev pub signal_at : List LocalSignal → ℕ → Option LocalSignal
+signal_at [] place = None
+signal_at (s ∷ ss) place = if s.place == place then Some s else signal_at ss place
+
+abbrev pub declared_or : Option LocalSignal → Declared
+declared_or None = OfInteger None
+declared_or (Some s) = OfSignal s.meaning
+
+abbrev pub meaning_or : Option LocalSignal → Meaning
+meaning_or None = Barred WrongKind
+meaning_or (Some s) = ASignal s.meaning
+
+-- its own name space
+abbrev pub local_entries : Locals → List Local → List Entry
+local_entries l vs = map (λ (v : Local). record { name = v.name.bytes; place = v.name.place; declared = declared_or (signal_at (all_locals l) v.name.place) }) vs
+
+-- what each name means in a function of this scope
+abbrev pub function_names : (scope : ℕ) → Env → tree.Function → Find
+function_names scope env f = named (inside_function env (local_entries (function_locals scope (inside_function env []) f) (declared_locals f)))
+
+-- its statement stands in it
+abbrev pub function_body : Locals → Body
+function_body l = record { declared = λ place. meaning_or (signal_at (all_locals l) place); in_function = true; clocked = false; unrolls = true }
+
+-- ---- how deep calls nest
+
+abbrev pub most_calls : ℕ
+most_calls = 64
+
+-- ---- a function
+
+-- what it is, its faults, and how many statements its loops copy
+pub record SaidFunction : Type 0 where
+  pub meaning : FunctionMeaning
+  pub faults : List Fault
+  pub copies : ℕ
+
+-- its local signals have at most so many bits
+abbrev pub most_bits : ℕ
+most_bits = 1048576
+
+abbrev pub are_known : List LocalSignal → Bool
+are_known ss = list_all (λ (s : LocalSignal). s.meaning.known) ss
+
+-- it has no input, calls in it nest too deep, or it has too many bits
+abbrev pub size_faults : (place : ℕ) → Header → (depth : ℕ) → List Fault
+size_faults place header depth = fault_if (is_nil header.inputs || (nat_lt most_calls depth || nat_lt most_bits (sum_by signal_length (local_signals header)))) FunctionRule place
+
+-- a function of this number in the design, whose loops copy at most so many statements
+abbrev pub said_function : (number most scope : ℕ) → Env → tree.Function → SaidFunction
+said_function number most scope env f =
+    let l = function_locals scope (inside_function env []) f in
+    let s = unrolled_within most f.statement (function_body l) (function_names scope env f) in
+    let header = header_of f l in
+    let faults = repeated_locals [] (declared_locals f) ++ (flat_map (λ (v : LocalSignal). v.faults) (all_locals l) ++ (s.faults ++ size_faults f.place header (suc (calls_in s.statement)))) in
+    record { meaning = record { number = number; header = header; statement = s.statement; known = are_known (all_locals l) && is_clean faults }; faults = faults; copies = s.copies }
+
+-- ---- all of them
+
+-- this function is complete now
+abbrev pub completed : FunctionMeaning → Declared → Declared
+completed f (OfFunction None) = OfFunction (Some f)
+completed f declared = declared
+
+abbrev pub put_function : List ℕ → FunctionMeaning → List Entry → List Entry
+put_function name f es = map (λ (e : Entry). if same_name e.name name then record e { declared = completed f e.declared } else e) es
+
+-- so far, in the order in which scopes are read: the statements that loops copied, and the functions
+pub record Counts : Type 0 where
+  pub copies : ℕ
+  pub functions : ℕ
+
+-- with one function more
+abbrev pub and_function : Counts → SaidFunction → Counts
+and_function counts s = record { copies = counts.copies + s.copies; functions = counts.functions + 1 }
+
+-- all names with the functions, these, their faults, and the counts then
+pub record SaidFunctions : Type 0 where
+  pub entries : List Entry
+  pub functions : List Function
+  pub faults : List Fault
+  pub counts : Counts
+
+-- the next function, behind so many
+abbrev pub next_function : Limits → (scope : ℕ) → Env → Counts → tree.Function → SaidFunction
+next_function limits scope env counts f = said_function counts.functions (limits.copies - counts.copies) scope env f
+
+-- the functions in text order, each by those before it; their loops copy statements as others' do
+abbrev pub said_functions : Limits → (scope : ℕ) → Env → Counts → List Declaration → List Entry → SaidFunctions
+said_functions limits scope outer counts [] entries = record { entries = entries; functions = []; faults = []; counts = counts }
+said_functions limits scope outer counts (d ∷ ds) entries = elim d.sort [
+  | FunctionOf f ↦
+      let s = next_function limits scope (within outer entries) counts f in
+      let r = said_functions limits scope outer (and_function counts s) ds (put_function d.name.bytes s.meaning entries) in
+      record { entries = r.entries; functions = record { header = s.meaning.header; statement = s.meaning.statement } ∷ r.functions; faults = s.faults ++ r.faults; counts = r.counts }
+  | _ ↦ said_functions limits scope outer counts ds entries
+]

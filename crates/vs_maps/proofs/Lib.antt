@@ -1,0 +1,3 @@
+pub mod NameMaps
+pub mod NameSets
+pub mod PlaceMaps

@@ -1,0 +1,218 @@
+//! What a function declares in its own name space, and what the named blocks in it declare (IEEE 1364-2005, 9.8.2 and 10.4.1).
+
+ghost use Rattle.std.specs.Prelude.{◌≡◌, ◌++◌, ◌∷◌, [], ℕ, IfOk, OnOk, List, map, flat_map, if◌then◌else◌};
+ghost use Rattle.vs_ast.specs.Views as view;
+ghost use Rattle.vs_const.specs.Faults.{least};
+ghost use Rattle.vs_elaborated.specs.Statements as statements;
+ghost use Rattle.vs_elaborated.specs.Functions as spec;
+ghost use Rattle.vs_maps.specs.Maps.{value_at};
+ghost use Rattle.vs_maps.specs.MapViews.{pairs};
+ghost use Rattle.vs_scope.specs.Locals.{local, place_of};
+ghost use Rattle.vs_bodies.specs.Locals.{later_faults};
+ghost use Rattle.vs_scope.specs.OwnNames.{ArePlaces};
+
+use std::alloc::{AllocError, Global};
+use vs_ast::{BlockScope, CaseArm, Function, Name, Statement, ValueType, Variables};
+use vs_const::{Fault, Rule, fault_at, first_of};
+use vs_maps::NameMap;
+
+/// A declaration in a function or in a named block of it: an input, its result, a variable or an integer, with its type.
+#[derive(Clone, Copy)]
+pub(crate) struct Local<'a> {
+    pub(crate) name: &'a Name,
+    pub(crate) value_type: &'a ValueType,
+}
+
+/// All names of one declaration.
+fn push_variables<'a>(list: &mut Vec<Local<'a>>, v: &'a Variables) -> Result<(), AllocError>
+    ensures { OnOk result (map local list.new.items ≡ map local list.old.items ++ statements.locals_of (view.variables v.now)) }
+{
+    for name in &v.names {
+        list.push(Local {
+            name,
+            value_type: &v.value_type,
+        })?;
+    }
+    Ok(())
+}
+
+/// All names of these declarations.
+fn push_declarations<'a>(list: &mut Vec<Local<'a>>, all: &'a [Variables]) -> Result<(), AllocError>
+    ensures { OnOk result (map local list.new.items ≡ map local list.old.items ++ flat_map statements.locals_of (map view.variables all.now)) }
+{
+    for v in all {
+        push_variables(list, v)?;
+    }
+    Ok(())
+}
+
+/// What a named block declares by itself; one without a name declares nothing.
+fn push_scope<'a>(
+    list: &mut Vec<Local<'a>>,
+    scope: &'a Option<BlockScope>,
+) -> Result<(), AllocError>
+    ensures { OnOk result (map local list.new.items ≡ map local list.old.items ++ statements.scope_locals (view.option view.block_scope scope.now)) }
+{
+    match scope {
+        None => Ok(()),
+        Some(scope) => push_declarations(list, &scope.variables),
+    }
+}
+
+/// What the named blocks of a statement declare, in the order of the text.
+#[cycle(blocks)]
+fn push_blocks<'a>(list: &mut Vec<Local<'a>>, s: &'a Statement) -> Result<(), AllocError>
+    ensures { OnOk result (map local list.new.items ≡ map local list.old.items ++ spec.block_locals (view.statement s.now)) }
+{
+    match s {
+        Statement::Empty { .. } => Ok(()),
+        Statement::Assignment { .. } => Ok(()),
+        Statement::If { taken, other, .. } => {
+            push_blocks(list, taken)?;
+            match other {
+                None => Ok(()),
+                Some(other) => push_blocks(list, other),
+            }
+        }
+        Statement::Case { arms, other, .. } => {
+            push_arms(list, arms)?;
+            match other {
+                None => Ok(()),
+                Some(other) => push_blocks(list, other),
+            }
+        }
+        Statement::Sequence { scope, parts, .. } => {
+            push_scope(list, scope)?;
+            push_sequence(list, parts)
+        }
+        Statement::For { body, .. } => push_blocks(list, body),
+    }
+}
+
+/// What the named blocks of these statements declare.
+#[cycle(blocks)]
+fn push_sequence<'a>(list: &mut Vec<Local<'a>>, parts: &'a [Statement]) -> Result<(), AllocError>
+    ensures { OnOk result (map local list.new.items ≡ map local list.old.items ++ spec.sequence_locals (view.statements parts.now)) }
+{
+    for s in parts {
+        push_blocks(list, s)?;
+    }
+    Ok(())
+}
+
+/// What the named blocks of the arms of a case declare.
+#[cycle(blocks)]
+fn push_arms<'a>(list: &mut Vec<Local<'a>>, arms: &'a [CaseArm]) -> Result<(), AllocError>
+    ensures { OnOk result (map local list.new.items ≡ map local list.old.items ++ spec.arms_locals (view.arms arms.now)) }
+{
+    for arm in arms {
+        push_blocks(list, &arm.statement)?;
+    }
+    Ok(())
+}
+
+/// The result of a function, which has its name (10.4.2).
+pub(crate) fn result_local<'a>(f: &'a Function) -> Local<'a>
+    ensures { local result ≡ spec.result_local (view.function f.now) }
+{
+    Local {
+        name: &f.name,
+        value_type: &f.value_type,
+    }
+}
+
+/// The inputs of a function.
+pub(crate) fn input_locals<'a>(alloc: Global, f: &'a Function) -> Result<Vec<Local<'a>>, AllocError>
+    ensures { IfOk result (λ list. map local list.items ≡ flat_map statements.locals_of (view.function f.now).inputs) }
+{
+    let mut list = Vec::new(alloc);
+    push_declarations(&mut list, &f.inputs)?;
+    Ok(list)
+}
+
+/// What a function declares in its own name space: its result, its inputs, its variables and its integers.
+pub(crate) fn declared_locals<'a>(
+    alloc: Global,
+    f: &'a Function,
+) -> Result<Vec<Local<'a>>, AllocError>
+    ensures { IfOk result (λ list. map local list.items ≡ spec.declared_locals (view.function f.now)) }
+{
+    let mut list = Vec::new(alloc);
+    list.push(result_local(f))?;
+    push_declarations(&mut list, &f.inputs)?;
+    push_declarations(&mut list, &f.variables)?;
+    Ok(list)
+}
+
+/// Whether it declares an integer, which heads loops and is no local signal (4.8).
+fn is_integer(v: &Local<'_>) -> bool
+    ensures { result ≡ statements.is_integer (local v.now) }
+{
+    matches!(v.value_type, ValueType::Integer)
+}
+
+/// One more, unless it is an integer.
+fn push_variable<'a>(list: &mut Vec<Local<'a>>, v: Local<'a>) -> Result<(), AllocError>
+    ensures { OnOk result (map local list.new.items ≡ (if statements.is_integer (local v.entry) then map local list.old.items else map local list.old.items ++ local v.entry ∷ [])) }
+{
+    if is_integer(&v) {
+        return Ok(());
+    }
+    list.push(v)?;
+    Ok(())
+}
+
+/// Those that are no integers.
+fn variables_of<'a>(alloc: Global, all: &[Local<'a>]) -> Result<Vec<Local<'a>>, AllocError>
+    ensures { IfOk result (λ list. map local list.items ≡ spec.variables_of (map local all.now)) }
+{
+    let mut list = Vec::new(alloc);
+    for v in all {
+        push_variable(&mut list, *v)?;
+    }
+    Ok(list)
+}
+
+/// The variables of a function and of the named blocks in it.
+pub(crate) fn own_locals<'a>(alloc: Global, f: &'a Function) -> Result<Vec<Local<'a>>, AllocError>
+    ensures { IfOk result (λ list. map local list.items ≡ spec.own_locals (view.function f.now)) }
+{
+    let mut all = Vec::new(alloc);
+    push_declarations(&mut all, &f.variables)?;
+    push_blocks(&mut all, &f.statement)?;
+    variables_of(alloc, all.as_slice())
+}
+
+/// Where each name of a function's own is declared first, and the first declaration of a name that was declared before.
+#[derive(Drop)]
+pub(crate) struct OwnNames<'a> {
+    pub(crate) places: NameMap<'a, u32>,
+    pub(crate) fault: Option<Fault>,
+}
+
+/// One more name, and its fault if it is one too many.
+fn add_name<'a>(places: &mut NameMap<'a, u32>, v: &Local<'a>) -> Result<Option<Fault>, AllocError>
+    ensures places { OnOk result ((before : List statements.Local) → ArePlaces places.old before → ArePlaces places.new (before ++ local v.now ∷ [])) }
+    ensures fault { IfOk result (λ f. (before : List statements.Local) → ArePlaces places.old before → f ≡ least (later_faults before (local v.now ∷ []))) }
+{
+    let name = v.name.text.as_slice();
+    if places.get(name).is_some() {
+        return Ok(fault_at(Rule::DuplicateName, v.name.place));
+    }
+    places.put(name, v.name.place)?;
+    Ok(None)
+}
+
+/// The name space of a function.
+pub(crate) fn own_names<'a>(alloc: Global, all: &[Local<'a>]) -> Result<OwnNames<'a>, AllocError>
+    ensures places { IfOk result (λ r. (name : List ℕ) → value_at name (pairs r.places) ≡ place_of (map local all.now) name) }
+    ensures fault { IfOk result (λ r. r.fault ≡ least (statements.repeated_locals [] (map local all.now))) }
+{
+    let mut places = NameMap::new(alloc);
+    let mut fault = None;
+    for v in all {
+        let found = add_name(&mut places, v)?;
+        fault = first_of(fault, found);
+    }
+    Ok(OwnNames { places, fault })
+}
