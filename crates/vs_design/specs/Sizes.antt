@@ -2,7 +2,7 @@
 use Rattle.vs_design.specs.Races.{doubled_bits}
 use Rattle.std.specs.Prelude.{ℕ, ◌+◌, ◌*◌, Bool, true, false, ◌&&◌, List, [], ◌∷◌, ◌++◌, max, sum_by, if◌then◌else◌}
 use Rattle.vs_four.specs.Selects.{range_length}
-use Rattle.vs_design.specs.Expressions.{Signal, signal_length, word_length, addresses, UnaryOp, Plus, Minus, BitNot, LogicalNot, Signed, Unsigned, BinaryOp, Add, Subtract, Multiply, Less, LessEqual, Greater, GreaterEqual, Equal, NotEqual, CaseEqual, CaseNotEqual, LogicalAnd, LogicalOr, ShiftLeft, ShiftRight, ShiftLeftArith, ShiftRightArith, Expression, Literal, Name, Select, Word, Unary, Binary, Choice, Join, Repeat, At, Call, Items, NoItem, Item, Way, Shifted, unary_way, way, width, is_constant}
+use Rattle.vs_design.specs.Expressions.{Signal, signal_length, word_length, addresses, UnaryOp, Plus, Minus, BitNot, LogicalNot, Signed, Unsigned, BinaryOp, Add, Subtract, Multiply, Less, LessEqual, Greater, GreaterEqual, Equal, NotEqual, CaseEqual, CaseNotEqual, LogicalAnd, LogicalOr, ShiftLeft, ShiftRight, ShiftLeftArith, ShiftRightArith, Expression, Literal, Name, Select, Word, Unary, Binary, Choice, Join, Repeat, At, Call, Items, NoItem, Item, Way, Shifted, Raised, unary_way, way, width, is_constant}
 use Rattle.vs_design.specs.Values.{left_width, right_width}
 use Rattle.vs_design.specs.Statements.{Target, Whole, PartOf, WordOf, Both, target_width, Statement, Empty, Assignment, Then, If, Case, Arms, Arm, Default, case_width}
 use Rattle.vs_design.specs.Designs.{Process, Continuous, Always, is_clocked, is_combinational, Design, top_inputs}

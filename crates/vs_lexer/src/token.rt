@@ -3,16 +3,16 @@
 use thiserror::Error;
 
 /// What a token is: one variant for each sign and each word of the grammar, and one for each class of token that is spelled
-/// in many ways. `Text` to `LeftOutWord`, `Power` and `Arrow` belong to no rule of the grammar.
+/// in many ways. `Text` to `LeftOutWord` and `Arrow` belong to no rule of the grammar.
 #[derive(Clone, Copy, Debug, PartialEq, Eq)]
 pub enum TokenKind {
     /// A simple identifier (IEEE 1364-2005, 3.7).
     Identifier,
     /// An unsized decimal number, 32 bits and signed (3.5.1).
     Decimal,
-    /// A number with a base, with or without a size (3.5.1).
+    /// A number with a base, with or without a size (3.5.1), or a string of at most eight characters (3.6).
     Based,
-    /// A string (3.6), left out.
+    /// A string (3.6) that is longer or has another escape, left out.
     Text,
     /// An escaped identifier (3.7.1), left out.
     EscapedIdentifier,
@@ -170,7 +170,7 @@ pub enum TokenKind {
     PlusColon,
     /// `-:`
     MinusColon,
-    /// `**`, left out
+    /// `**`
     Power,
     /// `->`, left out
     Arrow,

@@ -1,7 +1,7 @@
 use Rattle.std.proofs.Common.{arith}
-use Rattle.vs_lexer.proofs.Strings.{seen_none, seen_plain, last_quote, none_line, none_escape, seen_escape, none_past}
-use Rattle.vs_lexer.proofs.scan.closing_quote.Goals as goal
-use Rattle.vs_lexer.proofs.scan.closing_quote.Goals.{else-at-text-via-then-at-text+else-text-at-ne10, else-at-text-via-else-at-text}
+use Rattle.vs_lexer.proofs.Quotes.{seen_none, seen_plain, last_quote, none_line, none_escape, seen_escape, none_past}
+use Rattle.vs_lexer.proofs.strings.closing_quote.Goals as goal
+use Rattle.vs_lexer.proofs.strings.closing_quote.Goals.{else-at-text-via-then-at-text+else-text-at-ne10, else-at-text-via-else-at-text}
 
 pub loop-at-init : goal.loop-at-init
 loop-at-init c = record { inside = omega arith; seen = seen_none c.args.text.now }

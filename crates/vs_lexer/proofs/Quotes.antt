@@ -4,7 +4,7 @@ use Rattle.std.proofs.lemmas.List.{drop_all}
 use Rattle.std.specs.Prelude.{not, ◌&&◌, ◌==◌}
 use Rattle.std.proofs.lemmas.Bool.{ne_eqb}
 use Rattle.std.proofs.lemmas.List.{drop_more}
-use Rattle.vs_lexer.specs.Tokens.{ends_string}
+use Rattle.vs_lexer.specs.Strings.{ends_string}
 
 -- ---- one step, over the bytes that are left
 
