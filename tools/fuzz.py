@@ -23,7 +23,7 @@ REFUSALS = {
        "39 UnknownPort at,40 InstanceDepth at,41 TooManyInstances at,42 GenerateTurns at,43 WrongKind at,44 TooManyBits at,45 TooManyProcesses at,"
        "50 TooWide at,51 Division at,52 TooLarge size,53 Latch process bit at,54 MixedAssign at,55 Sensitivity process signal at,"
        "60 TwoDrivers bit first second at,61 NoClock,62 ClockRead process at,63 NotTheClock process at,64 Cycle processes at,65 TimeZero process at,"
-       "66 ResetForm process at",
+       "66 ResetForm process at,67 Race process bit at",
     4: "70 BadHeader lane,71 BadVector lane line,72 FirstUnknown lane,73 NoVector lane,74 TooManyVectors lane,75 StimulusTooLong lane,"
        "76 LineTooLong lane line,77 UnknownReset lane line"}
 FORMS = {" ".join(form.split()[:2]): (status, form.split()[2:]) for status, forms in REFUSALS.items() for form in forms.split(",")}

@@ -236,6 +236,14 @@ fn lines_of_other_refusals(rt: HostRuntime) -> Result<(), Fail> {
             "refused 60 TwoDrivers bit=2 first=0 second=1 at=56\n",
         ),
         (
+            Race {
+                process: 4,
+                bit: 17,
+                at: 90,
+            },
+            "refused 67 Race process=4 bit=17 at=90\n",
+        ),
+        (
             Cycle { processes, at: 43 },
             "refused 64 Cycle processes=7,0,12 at=43\n",
         ),

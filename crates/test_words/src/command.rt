@@ -21,7 +21,12 @@ fn job<'a>(alloc: Global, name: &'a str, about: &'a str) -> Result<Command<'a>, 
     Command::new(alloc, name)
         .disable_help_flag(true)
         .about(about)
-        .arg(named(alloc, "top", "T", "The name of the top module").required(true))?
+        .arg(named(
+            alloc,
+            "top",
+            "T",
+            "The name of the top module, by default the one that no instance names",
+        ))?
         .arg(named(
             alloc,
             "clock",

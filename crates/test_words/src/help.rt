@@ -8,14 +8,14 @@ use std::test::Fail;
 const RUN: &str = "\
 Runs a design under stimuli, and writes a waveform beside each
 
-Usage: cyclesim run [OPTIONS] --top <T> <DESIGN> <STIM>...
+Usage: cyclesim run [OPTIONS] <DESIGN> <STIM>...
 
 Arguments:
   <DESIGN>   The path of the design
   <STIM>...  The paths of 1 to 256 stimuli
 
 Options:
-      --top <T>               The name of the top module
+      --top <T>               The name of the top module, by default the one that no instance names
       --clock <C>             The name of the top's clock input, if it has one
       --half <H>              Half a clock period, from 1 to 1000000 [default: 5]
       --define <NAME[=TEXT]>  A macro that is defined before the design's text, up to 64 of them
@@ -26,14 +26,14 @@ Options:
 const CHECK: &str = "\
 Compares a design's outputs with what stimuli want of them, and writes no file
 
-Usage: cyclesim check [OPTIONS] --top <T> <DESIGN> <STIM>...
+Usage: cyclesim check [OPTIONS] <DESIGN> <STIM>...
 
 Arguments:
   <DESIGN>   The path of the design
   <STIM>...  The paths of 1 to 256 stimuli
 
 Options:
-      --top <T>               The name of the top module
+      --top <T>               The name of the top module, by default the one that no instance names
       --clock <C>             The name of the top's clock input, if it has one
       --half <H>              Half a clock period, from 1 to 1000000 [default: 5]
       --define <NAME[=TEXT]>  A macro that is defined before the design's text, up to 64 of them
@@ -43,14 +43,14 @@ Options:
 const QUEUE: &str = "\
 Runs a design under one stimulus by the event queue, and writes a waveform beside it
 
-Usage: cyclesim queue [OPTIONS] --top <T> --order <N> <DESIGN> <STIM>
+Usage: cyclesim queue [OPTIONS] --order <N> <DESIGN> <STIM>
 
 Arguments:
   <DESIGN>  The path of the design
   <STIM>    The path of the stimulus
 
 Options:
-      --top <T>               The name of the top module
+      --top <T>               The name of the top module, by default the one that no instance names
       --clock <C>             The name of the top's clock input, if it has one
       --half <H>              Half a clock period, from 1 to 1000000 [default: 5]
       --define <NAME[=TEXT]>  A macro that is defined before the design's text, up to 64 of them

@@ -17,6 +17,9 @@ x run --top t --clock c -- d -s --half
 x run --top t=u --clock==c d s
 x run --top t --clock c --define A d s
 x run --top t d s
+x run d s
+x run --clock c d s
+x check d s0 s1
 x check d s --half 7 --top=t
 x run --define=A=1 --top t --define B_2= --clock c d --define A=$b=c+`D s
 x run --share --top t --clock c d s
@@ -29,6 +32,7 @@ x queue --order 7 --top t --clock c d s
 x queue d s --half=7 --clock c --define A --top=t --order=0
 x queue --top t d --order 18446744073709551615 s
 x queue --order 10 --top t -- d --order
+x queue --order 7 --clock c d s
 x run --top t --clock c d queue
 x bench 1
 x bench 1000 256
@@ -41,7 +45,6 @@ x
 x run
 x runs --top t --clock c d s
 x run --top t --clock c --clock d d s
-x run --clock c d s
 x run --top t --clock c
 x run --top t --clock c d
 x run --top t --top u --clock c d s
@@ -65,7 +68,6 @@ x check --top t --clock c --half 0 d s
 x check --share --top t --clock c d s
 x queue
 x queue --top t --clock c d s
-x queue --order 7 --clock c d s
 x queue --order 7 --top t --clock c d
 x queue --order 7 --top t --clock c d s s1
 x queue --order 7 --order 8 --top t --clock c d s
@@ -139,7 +141,7 @@ fn is_head(head: &str, values: &[&str]) -> bool {
 
 /// Whether these are the words of the job, but for `--share`.
 fn is_job(matches: &ArgMatches<'_>, job: &Job) -> bool {
-    matches.get_str("top") == Some(job.top.as_str())
+    matches.get_str("top") == job.top.as_ref().map(|top| top.as_str())
         && matches.get_str("clock") == job.clock.as_ref().map(|clock| clock.as_str())
         && matches.get_one::<u32>("half") == Some(job.half)
         && is_head(job.head.as_str(), matches.get_strs("define").unwrap_or(&[]))

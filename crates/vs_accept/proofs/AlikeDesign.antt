@@ -3,7 +3,7 @@ use Rattle.std.proofs.Common.{◌≡◌, ℕ, true, List, refl, ap, Option, Some
 use Rattle.vs_design.specs.Designs.{Design}
 use Rattle.vs_design.specs.Levels.{level_order, has_no_cycle}
 use Rattle.vs_design.specs.Cycles.{IsCycle, IsDecided}
-use Rattle.vs_design.specs.Answers.{DesignRefusal, OfWidth, OfBlock, OfDriver, OfClock, Cycle, OfZero, IsRefusedBy}
+use Rattle.vs_design.specs.Answers.{DesignRefusal, OfWidth, OfBlock, OfDriver, OfClock, Cycle, OfRace, OfZero, IsRefusedBy}
 
 same : {A : Type 0} {a b : A} {x : Option A} → x ≡ Some a → x ≡ Some b → a ≡ b
 same p q = cc
@@ -31,34 +31,47 @@ alike_of_design decided d clock x y h k = go x y h k
     go (OfWidth a) (OfDriver b) h k = apart k.0 h
     go (OfWidth a) (OfClock b) h k = apart k.0 h
     go (OfWidth a) (Cycle ps at) h k = apart k.0 h
+    go (OfWidth a) (OfRace b) h k = apart k.0 h
     go (OfWidth a) (OfZero b) h k = apart k.0 h
     go (OfBlock a) (OfWidth b) h k = apart h.0 k
     go (OfBlock a) (OfBlock b) h k = Same (ap OfBlock (same h.1 k.1))
     go (OfBlock a) (OfDriver b) h k = apart k.1 h.1
     go (OfBlock a) (OfClock b) h k = apart k.1 h.1
     go (OfBlock a) (Cycle ps at) h k = apart k.1 h.1
+    go (OfBlock a) (OfRace b) h k = apart k.1 h.1
     go (OfBlock a) (OfZero b) h k = apart k.1 h.1
     go (OfDriver a) (OfWidth b) h k = apart h.0 k
     go (OfDriver a) (OfBlock b) h k = apart h.1 k.1
     go (OfDriver a) (OfDriver b) h k = Same (ap OfDriver (same h.2 k.2))
     go (OfDriver a) (OfClock b) h k = apart k.2 h.2
     go (OfDriver a) (Cycle ps at) h k = apart k.2 h.2
+    go (OfDriver a) (OfRace b) h k = apart k.2 h.2
     go (OfDriver a) (OfZero b) h k = apart k.2 h.2
     go (OfClock a) (OfWidth b) h k = apart h.0 k
     go (OfClock a) (OfBlock b) h k = apart h.1 k.1
     go (OfClock a) (OfDriver b) h k = apart h.2 k.2
     go (OfClock a) (OfClock b) h k = Same (ap OfClock (same h.3 k.3))
     go (OfClock a) (Cycle ps at) h k = apart k.3 h.3
+    go (OfClock a) (OfRace b) h k = apart k.3 h.3
     go (OfClock a) (OfZero b) h k = apart k.3 h.3
     go (Cycle ps at) (OfWidth b) h k = apart h.0 k
     go (Cycle ps at) (OfBlock b) h k = apart h.1 k.1
     go (Cycle ps at) (OfDriver b) h k = apart h.2 k.2
     go (Cycle ps at) (OfClock b) h k = apart h.3 k.3
     go (Cycle ps at) (Cycle qs by) h k = Cycles ps qs at by refl refl
+    go (Cycle ps at) (OfRace b) h k = cyclic ps k.4 h.4
     go (Cycle ps at) (OfZero b) h k = cyclic ps k.4 h.4
+    go (OfRace a) (OfWidth b) h k = apart h.0 k
+    go (OfRace a) (OfBlock b) h k = apart h.1 k.1
+    go (OfRace a) (OfDriver b) h k = apart h.2 k.2
+    go (OfRace a) (OfClock b) h k = apart h.3 k.3
+    go (OfRace a) (Cycle ps at) h k = cyclic ps h.4 k.4
+    go (OfRace a) (OfRace b) h k = Same (ap OfRace (same h.5 k.5))
+    go (OfRace a) (OfZero b) h k = apart k.5 h.5
     go (OfZero a) (OfWidth b) h k = apart h.0 k
     go (OfZero a) (OfBlock b) h k = apart h.1 k.1
     go (OfZero a) (OfDriver b) h k = apart h.2 k.2
     go (OfZero a) (OfClock b) h k = apart h.3 k.3
     go (OfZero a) (Cycle ps at) h k = cyclic ps h.4 k.4
-    go (OfZero a) (OfZero b) h k = Same (ap OfZero (same h.5 k.5))
+    go (OfZero a) (OfRace b) h k = apart h.5 k.5
+    go (OfZero a) (OfZero b) h k = Same (ap OfZero (same h.6 k.6))

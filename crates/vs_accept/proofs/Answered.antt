@@ -10,7 +10,7 @@ use Rattle.vs_grammar.specs.Trees.{Source}
 use Rattle.vs_grammar.specs.Spelled.{Spells, SpelledBy}
 use Rattle.vs_grammar.specs.SpelledLaws.{OneSource, SpelledHasNoFault}
 use Rattle.vs_const.specs.declared.faults.Fault.{Fault}
-use Rattle.vs_elaborated.specs.Elaborated.{elaborated}
+use Rattle.vs_tops.specs.Designs.{elaborated_from}
 use Rattle.vs_design.specs.Designs.{Design}
 use Rattle.vs_design.specs.Answers as D
 use Rattle.vs_design.specs.Answers.{IsRefusedBy}
@@ -58,9 +58,9 @@ pub same_source : OneSource → (text : List ℕ) (tokens others : List Token) (
 same_source one text tokens others source other r s = one text source other (spells text tokens source r) (spells text others other s)
 
 -- and so is what they elaborate to
-pub same_result : OneSource → (text top : List ℕ) (tokens others : List Token) (source other : Source) → IsRead text tokens source → IsRead text others other
-    → elaborated source top ≡ elaborated other top
-same_result one text top tokens others source other r s = subst (λ (z : Source). elaborated source top ≡ elaborated z top) (same_source one text tokens others source other r s) refl
+pub same_result : OneSource → (text : List ℕ) (top : Option (List ℕ)) (tokens others : List Token) (source other : Source) → IsRead text tokens source → IsRead text others other
+    → elaborated_from source top ≡ elaborated_from other top
+same_result one text top tokens others source other r s = subst (λ (z : Source). elaborated_from source top ≡ elaborated_from z top) (same_source one text tokens others source other r s) refl
 
 pub one_design : OneSource → OneDesign
 one_design one text top clock d e a b =

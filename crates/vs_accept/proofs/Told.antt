@@ -14,7 +14,7 @@ use Rattle.vs_pre.specs.Reads.{ReadsAs}
 use Rattle.vs_grammar.specs.Trees.{Source}
 use Rattle.vs_grammar.specs.Spelled.{SpelledBy}
 use Rattle.vs_const.specs.declared.faults.Fault.{Fault}
-use Rattle.vs_elaborated.specs.Elaborated.{elaborated}
+use Rattle.vs_tops.specs.Designs.{elaborated_from}
 use Rattle.vs_design.specs.Designs.{Design}
 use Rattle.vs_design.specs.Answers.{DesignRefusal, IsRefusedBy}
 use Rattle.vs_accept.specs.declared.error.AcceptError.{AcceptError}
@@ -30,19 +30,19 @@ some_none : {A : Type 0} {a : A} {x : Option A} → Some a ≡ x → x ≡ None 
 some_none p q = none_some q (sym p)
 
 -- a text that isn't cut
-pub uncut : (text top : List ℕ) (clock : Option (List ℕ)) (l : LexError) (e : AcceptError) → (cut_text text ≡ Err l) ⊎ (l ≡ lexer.Memory) → refusal_in e ≡ token_refusal l → IsRefusalOf text top clock e
+pub uncut : (text : List ℕ) (top clock : Option (List ℕ)) (l : LexError) (e : AcceptError) → (cut_text text ≡ Err l) ⊎ (l ≡ lexer.Memory) → refusal_in e ≡ token_refusal l → IsRefusalOf text top clock e
 uncut text top clock l (Refused r) (inl cut) told = ByTokens l cut (sym told)
 uncut text top clock l (Refused r) (inr out) told = absurd (some_none told (ap token_refusal out))
 uncut text top clock l Memory h told = tt
 
 -- macros or conditional parts that aren't resolved
-pub unresolved : (text top : List ℕ) (clock : Option (List ℕ)) (written : List Token) (p : PreError) (e : AcceptError) → cut_text text ≡ Ok written → (pre text written ≡ Err p) ⊎ (p ≡ macro.Memory) → refusal_in e ≡ macro_refusal p → IsRefusalOf text top clock e
+pub unresolved : (text : List ℕ) (top clock : Option (List ℕ)) (written : List Token) (p : PreError) (e : AcceptError) → cut_text text ≡ Ok written → (pre text written ≡ Err p) ⊎ (p ≡ macro.Memory) → refusal_in e ≡ macro_refusal p → IsRefusalOf text top clock e
 unresolved text top clock written p (Refused r) cut (inl faulty) told = ByMacros written p cut faulty (sym told)
 unresolved text top clock written p (Refused r) cut (inr out) told = absurd (some_none told (ap macro_refusal out))
 unresolved text top clock written p Memory cut h told = tt
 
 -- tokens that spell no tree
-pub unspelled : (text top : List ℕ) (clock : Option (List ℕ)) (tokens : List Token) (x : TreeFault) (e : AcceptError) → ReadsAs text tokens → IsTreeFault tokens x
+pub unspelled : (text : List ℕ) (top clock : Option (List ℕ)) (tokens : List Token) (x : TreeFault) (e : AcceptError) → ReadsAs text tokens → IsTreeFault tokens x
     → e ≡ Refused (tree_refusal (byte_of text tokens) x) → IsRefusalOf text top clock e
 unspelled text top clock tokens x e reads fault is = subst (IsRefusalOf text top clock) (sym is) (ByTree tokens x reads fault refl)
 
@@ -57,7 +57,7 @@ read_by text tokens source reads s = record { reads = reads; spelled = s }
 -- ---- elaboration
 
 -- a tree that doesn't elaborate
-pub unelaborated : (text top : List ℕ) (clock : Option (List ℕ)) (tokens : List Token) (source : Source) (f : Fault) (e : AcceptError) → IsRead text tokens source → elaborated source top ≡ Err f
+pub unelaborated : (text : List ℕ) (top clock : Option (List ℕ)) (tokens : List Token) (source : Source) (f : Fault) (e : AcceptError) → IsRead text tokens source → elaborated_from source top ≡ Err f
     → e ≡ Refused (fault_refusal (byte_of text tokens) f) → IsRefusalOf text top clock e
 unelaborated text top clock tokens source f e read broken is = subst (IsRefusalOf text top clock) (sym is) (ByElaboration tokens source f read broken refl)
 
@@ -68,7 +68,7 @@ pub verdict : (byte : ℕ → ℕ) (d : Design) (clock : Option (List ℕ)) (x :
 verdict byte d clock x e refused is = subst (IsVerdict byte d clock) (sym is) (record { breaks = x; refused = refused; told = refl })
 
 -- what is told of the design is told of the text
-pub by_rule : (text top : List ℕ) (clock : Option (List ℕ)) (tokens : List Token) (source : Source) (d : Design) (e : AcceptError) → IsRead text tokens source → elaborated source top ≡ Ok d
+pub by_rule : (text : List ℕ) (top clock : Option (List ℕ)) (tokens : List Token) (source : Source) (d : Design) (e : AcceptError) → IsRead text tokens source → elaborated_from source top ≡ Ok d
     → IsVerdict (byte_of text tokens) d clock e → IsRefusalOf text top clock e
 by_rule text top clock tokens source d (Refused r) read elaborates v = ByRule tokens source d v.breaks read elaborates v.refused v.told
 by_rule text top clock tokens source d Memory read elaborates v = tt

@@ -9,7 +9,7 @@ use Rattle.vs_pre.specs.Reads.{ReadsAs}
 use Rattle.vs_grammar.specs.Trees.{Source}
 use Rattle.vs_grammar.specs.Spelled.{SpelledBy}
 use Rattle.vs_const.specs.declared.faults.Fault.{Fault}
-use Rattle.vs_elaborated.specs.Elaborated.{elaborated}
+use Rattle.vs_tops.specs.Designs.{elaborated_from}
 use Rattle.vs_design.specs.Designs.{Design}
 use Rattle.vs_design.specs.Accepted.{IsAcceptedDesign}
 use Rattle.vs_design.specs.Answers.{DesignRefusal, IsRefusedBy}
@@ -29,17 +29,17 @@ abbrev pub most_bytes : ℕ
 most_bytes = 4194304
 
 -- the text is read, its tree elaborates from the top to this design (clause 12), and that breaks no rule
-pub record IsAcceptedText (text top : List ℕ) (clock : Option (List ℕ)) (d : Design) : Type 0 where
+pub record IsAcceptedText (text : List ℕ) (top clock : Option (List ℕ)) (d : Design) : Type 0 where
   pub short : length text ≤ most_bytes
   pub tokens : List Token
   pub source : Source
   pub read : IsRead text tokens source
-  pub elaborates : elaborated source top ≡ Ok d
+  pub elaborates : elaborated_from source top ≡ Ok d
   pub accepted : IsAcceptedDesign d clock
 
 -- Why a text is refused. Each stage is tried only where none before it refuses. What is left open: which of several cycles is told, and whether
 -- that it is too deep at one token or that no list of tokens goes on with another one.
-pub data IsRefusedText (text top : List ℕ) (clock : Option (List ℕ)) (r : Refusal) : Type 0 where
+pub data IsRefusedText (text : List ℕ) (top clock : Option (List ℕ)) (r : Refusal) : Type 0 where
   -- it isn't cut into tokens
   ByTokens : (e : LexError) → cut_text text ≡ Err e → token_refusal e ≡ Some r → IsRefusedText text top clock r
   -- its macros or conditional parts aren't resolved
@@ -47,21 +47,21 @@ pub data IsRefusedText (text top : List ℕ) (clock : Option (List ℕ)) (r : Re
   -- its tokens spell no tree
   ByTree : (tokens : List Token) (x : TreeFault) → ReadsAs text tokens → IsTreeFault tokens x → tree_refusal (byte_of text tokens) x ≡ r → IsRefusedText text top clock r
   -- its tree doesn't elaborate
-  ByElaboration : (tokens : List Token) (source : Source) (f : Fault) → IsRead text tokens source → elaborated source top ≡ Err f
+  ByElaboration : (tokens : List Token) (source : Source) (f : Fault) → IsRead text tokens source → elaborated_from source top ≡ Err f
       → fault_refusal (byte_of text tokens) f ≡ r → IsRefusedText text top clock r
   -- its design breaks a rule
-  ByRule : (tokens : List Token) (source : Source) (d : Design) (x : DesignRefusal) → IsRead text tokens source → elaborated source top ≡ Ok d → IsRefusedBy d clock x
+  ByRule : (tokens : List Token) (source : Source) (d : Design) (x : DesignRefusal) → IsRead text tokens source → elaborated_from source top ≡ Ok d → IsRefusedBy d clock x
       → design_refusal (byte_of text tokens) x ≡ r → IsRefusedText text top clock r
 
 -- ---- what holds of every text
 
 -- it is accepted as one design at most
 abbrev pub OneDesign : Type 0
-OneDesign = (text top : List ℕ) (clock : Option (List ℕ)) (d e : Design) → IsAcceptedText text top clock d → IsAcceptedText text top clock e → d ≡ e
+OneDesign = (text : List ℕ) (top clock : Option (List ℕ)) (d e : Design) → IsAcceptedText text top clock d → IsAcceptedText text top clock e → d ≡ e
 
 -- a text that is accepted is not refused
 abbrev pub NotBoth : Type 0
-NotBoth = (text top : List ℕ) (clock : Option (List ℕ)) (d : Design) (r : Refusal) → IsAcceptedText text top clock d → IsRefusedText text top clock r → ⊥
+NotBoth = (text : List ℕ) (top clock : Option (List ℕ)) (d : Design) (r : Refusal) → IsAcceptedText text top clock d → IsRefusedText text top clock r → ⊥
 
 -- whether it tells that the tokens spell no tree
 abbrev pub tells_tree : AtName → Bool
@@ -81,4 +81,4 @@ AreAlike r q = (r ≡ q) ⊎ (is_open r q ≡ true)
 
 -- all refusals of one text are alike
 abbrev pub OneRefusal : Type 0
-OneRefusal = (text top : List ℕ) (clock : Option (List ℕ)) (r q : Refusal) → IsRefusedText text top clock r → IsRefusedText text top clock q → AreAlike r q
+OneRefusal = (text : List ℕ) (top clock : Option (List ℕ)) (r q : Refusal) → IsRefusedText text top clock r → IsRefusedText text top clock q → AreAlike r q

@@ -18,7 +18,7 @@ refusal_in (Refused r) = Some r
 refusal_in Memory = None
 
 -- the text is refused so
-abbrev pub IsRefusalOf : (text top : List ℕ) (clock : Option (List ℕ)) → AcceptError → Type 0
+abbrev pub IsRefusalOf : (text : List ℕ) (top clock : Option (List ℕ)) → AcceptError → Type 0
 IsRefusalOf text top clock (Refused r) = IsRefusedText text top clock r
 IsRefusalOf text top clock Memory = Unit {0}
 

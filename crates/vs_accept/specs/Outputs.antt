@@ -1,8 +1,9 @@
 -- The outputs of a text's top, by their names (IEEE 1364-2005, 12.3.3 and 12.3.4).
-use Rattle.std.specs.Prelude.{◌≡◌, ℕ, Bool, true, false, List, [], ◌++◌, map, flat_map, if◌then◌else◌, Some, None}
+use Rattle.std.specs.Prelude.{◌≡◌, ℕ, Bool, true, false, List, [], ◌++◌, map, flat_map, if◌then◌else◌, Option, Some, None}
 use Rattle.vs_grammar.specs.Trees as tree
 use Rattle.vs_grammar.specs.Trees.{items_list}
-use Rattle.vs_elaborated.specs.Ports.{find_module}
+use Rattle.vs_tops.specs.Tops.{top_name}
+use Rattle.vs_tops.specs.Designs.{named_module}
 use Rattle.vs_lexer.specs.declared.token.Token.{Token}
 use Rattle.vs_accept.specs.Accepted.{IsRead}
 use Rattle.vs_accept.specs.Lent.{Acceptance}
@@ -36,12 +37,16 @@ header_outputs _ = []
 abbrev pub module_outputs : tree.Module → List (List ℕ)
 module_outputs m = header_outputs m.header ++ flat_map item_outputs (items_list m.items)
 
--- of the module that is the top
-abbrev pub top_outputs : tree.Source → List ℕ → List (List ℕ)
-top_outputs source top = elim (find_module source top) [ None ↦ [] | Some m ↦ module_outputs m ]
+-- of the module of this name, if there is one
+abbrev pub named_outputs : tree.Source → Option (List ℕ) → List (List ℕ)
+named_outputs source name = elim (named_module source name) [ None ↦ [] | Some m ↦ module_outputs m ]
+
+-- of the module that is the top, where this one is given or none
+abbrev pub top_outputs : tree.Source → Option (List ℕ) → List (List ℕ)
+top_outputs source top = named_outputs source (top_name source top)
 
 -- these are the names of the outputs of a tree that the text is read as
-pub record HaveOutputs (text top : List ℕ) (a : Acceptance) : Type 0 where
+pub record HaveOutputs (text : List ℕ) (top : Option (List ℕ)) (a : Acceptance) : Type 0 where
   pub tokens : List Token
   pub source : tree.Source
   pub read : IsRead text tokens source

@@ -10,7 +10,7 @@ use Rattle.vs_grammar.specs.Spelled.{LeftOutAt, HasSyntaxFault, IsTooDeep}
 use Rattle.vs_const.specs.declared.faults.Fault.{Fault}
 use Rattle.vs_const.specs.declared.rules.Rule.{Rule}
 use Rattle.vs_const.specs.declared.rules.Rule.TheVariants as broken
-use Rattle.vs_design.specs.Answers.{DesignRefusal, OfWidth, OfBlock, OfDriver, OfClock, Cycle, OfZero}
+use Rattle.vs_design.specs.Answers.{DesignRefusal, OfWidth, OfBlock, OfDriver, OfClock, Cycle, OfRace, OfZero}
 use Rattle.vs_design.specs.Refusals as rule
 use Rattle.vs_refusal.specs.declared.names.BareName.TheVariants.{NoTop, NoClock}
 use Rattle.vs_refusal.specs.declared.names.AtName.{AtName}
@@ -109,6 +109,9 @@ clock_refusal byte (rule.ClockRead p at) = refusal.Process process.ClockRead p (
 clock_refusal byte (rule.NotTheClock p at) = refusal.Process process.NotTheClock p (byte at)
 clock_refusal byte (rule.ResetForm p at) = refusal.Process process.ResetForm p (byte at)
 
+abbrev pub race_refusal : (byte : ℕ → ℕ) → rule.RaceRefusal → Refusal
+race_refusal byte (rule.Race p bit at) = refusal.Race p bit (byte at)
+
 abbrev pub zero_refusal : (byte : ℕ → ℕ) → rule.ZeroRefusal → Refusal
 zero_refusal byte (rule.TimeZero p at) = refusal.Process process.TimeZero p (byte at)
 
@@ -118,4 +121,5 @@ design_refusal byte (OfBlock r) = block_refusal byte r
 design_refusal byte (OfDriver r) = driver_refusal byte r
 design_refusal byte (OfClock r) = clock_refusal byte r
 design_refusal byte (Cycle processes at) = refusal.Cycle processes (byte at)
+design_refusal byte (OfRace r) = race_refusal byte r
 design_refusal byte (OfZero r) = zero_refusal byte r

@@ -3,7 +3,8 @@
 ghost use Rattle.std.specs.Prelude.{◌≡◌, ◌≤◌, ℕ, List, Ok, IfOk, IfErr, IsErrAnd, MatchResult, length, option_map, Option};
 ghost use Rattle.vs_pre.specs.Reads.{ReadsAs};
 ghost use Rattle.vs_ast.specs.Views as view;
-ghost use Rattle.vs_elaborated.specs.Elaborated.{elaborated};
+ghost use Rattle.vs_tops.specs.Tops.{top_name};
+ghost use Rattle.vs_tops.specs.Designs.{elaborated_by};
 ghost use Rattle.vs_design.specs.Designs.{Design};
 ghost use Rattle.vs_flat.specs.DesignOf.{design_of};
 ghost use Rattle.vs_flat.specs.Lawful.{IsLawful};
@@ -15,23 +16,23 @@ ghost use Rattle.vs_accept.specs.Lent.{IsAcceptance};
 ghost use Rattle.vs_accept.specs.Outputs.{HaveOutputs};
 
 use crate::judge::judge;
-use crate::outputs::top_outputs;
+use crate::outputs::named_outputs;
 use crate::places::Places;
 use crate::{AcceptError, Accepted, answer_law};
 use std::alloc::Global;
 use vs_ast::Source;
-use vs_elab::flatten;
 use vs_flat::Flat;
 use vs_grammar::laws::shaped_law;
 use vs_lexer::{MAX_BYTES, Token, lex, tokens_law};
 use vs_parser::parse;
 use vs_pre::{kept_law, preprocess};
+use vs_tops::{flatten_by, top_name};
 
 /// The tokens as which a text is read: those that it is cut into, with its macros and conditional parts resolved.
 fn tokens_of(alloc: Global, text: &[u8]) -> Result<Vec<Token>, AcceptError>
     requires { length text.now ≤ MAX_BYTES }
     ensures read { IfOk result (λ v. ReadsAs text.now v.items) }
-    ensures refused { (top : List ℕ) (clock : Option (List ℕ)) → IfErr result (IsRefusalOf text.now top clock) }
+    ensures refused { (top clock : Option (List ℕ)) → IfErr result (IsRefusalOf text.now top clock) }
 {
     tokens_law();
     let written = lex(alloc, text)?;
@@ -43,7 +44,7 @@ fn tokens_of(alloc: Global, text: &[u8]) -> Result<Vec<Token>, AcceptError>
 fn tree_of(alloc: Global, places: &Places<'_>) -> Result<Source, AcceptError>
     requires { ReadsAs places.now.text.now places.now.tokens.now }
     ensures read { IfOk result (λ s. IsRead places.now.text.now places.now.tokens.now (view.source s)) }
-    ensures refused { (top : List ℕ) (clock : Option (List ℕ)) → IfErr result (IsRefusalOf places.now.text.now top clock) }
+    ensures refused { (top clock : Option (List ℕ)) → IfErr result (IsRefusalOf places.now.text.now top clock) }
 {
     tokens_law();
     kept_law();
@@ -53,22 +54,23 @@ fn tree_of(alloc: Global, places: &Places<'_>) -> Result<Source, AcceptError>
     }
 }
 
-/// The flat design that a tree elaborates to.
+/// The flat design that a tree elaborates to from the module of this name.
 fn flat_of(
     alloc: Global,
     places: &Places<'_>,
     source: &Source,
-    top: &[u8],
+    name: Option<&[u8]>,
 ) -> Result<Flat, AcceptError>
     requires { IsRead places.now.text.now places.now.tokens.now (view.source source.now) }
-    ensures elaborates { IfOk result (λ f. elaborated (view.source source.now) top.now ≡ Ok (design_of f)) }
+    ensures elaborates { IfOk result (λ f. elaborated_by (view.source source.now) (option_map (λ n. n.now) name.entry) ≡ Ok (design_of f)) }
     ensures lawful { IfOk result IsLawful }
-    ensures refused { (clock : Option (List ℕ)) → IfErr result (IsRefusalOf places.now.text.now top.now clock) }
+    ensures refused { (top clock : Option (List ℕ)) → option_map (λ n. n.now) name.entry ≡ top_name (view.source source.now) top
+        → IfErr result (IsRefusalOf places.now.text.now top clock) }
 {
     tokens_law();
     kept_law();
     shaped_law();
-    match flatten(alloc, source, top) {
+    match flatten_by(alloc, source, name) {
         Ok(flat) => Ok(flat),
         Err(error) => Err(places.elab_error(error)),
     }
@@ -78,14 +80,14 @@ fn flat_of(
 fn answer(
     alloc: Global,
     text: &[u8],
-    top: &[u8],
+    top: Option<&[u8]>,
     clock: Option<&[u8]>,
 ) -> Result<Accepted, AcceptError>
     requires { length text.now ≤ MAX_BYTES }
-    ensures accepted { IfOk result (λ a. IsAcceptedText text.now top.now (option_map (λ c. c.now) clock.entry) (design_of a.flat)) }
+    ensures accepted { IfOk result (λ a. IsAcceptedText text.now (option_map (λ t. t.now) top.entry) (option_map (λ c. c.now) clock.entry) (design_of a.flat)) }
     ensures lent { IfOk result (IsAcceptance (option_map (λ c. c.now) clock.entry)) }
-    ensures outputs { IfOk result (HaveOutputs text.now top.now) }
-    ensures refused { IfErr result (IsRefusalOf text.now top.now (option_map (λ c. c.now) clock.entry)) }
+    ensures outputs { IfOk result (HaveOutputs text.now (option_map (λ t. t.now) top.entry)) }
+    ensures refused { IfErr result (IsRefusalOf text.now (option_map (λ t. t.now) top.entry) (option_map (λ c. c.now) clock.entry)) }
 {
     let tokens = tokens_of(alloc, text)?;
     let places = Places {
@@ -93,32 +95,34 @@ fn answer(
         tokens: tokens.as_slice(),
     };
     let source = tree_of(alloc, &places)?;
-    let flat = flat_of(alloc, &places, &source, top)?;
-    let outputs = top_outputs(alloc, &source, top)?;
+    let name = top_name(alloc, &source, top)?;
+    let flat = flat_of(alloc, &places, &source, name)?;
+    let outputs = named_outputs(alloc, &source, name)?;
     judge(alloc, &places, flat, outputs, clock)
 }
 
-/// Accepts a text of at most `MAX_BYTES` bytes as a design whose top module and whose clock input have these names, or that has no clock where none is named, or refuses it by the
+/// Accepts a text of at most `MAX_BYTES` bytes as a design whose top module and whose clock input have these names, or refuses it by the
 /// first rule that it breaks (IEEE 1364-2005, clauses 3, 12 and 19, annex A, and the rules of an accepted design).
+/// Where no top is named it is the one module of the text that no instance of any module names (12.1.1), and where no clock is named the design has none.
 ///
 /// The stages are tokens, macros, tree, elaboration, lengths and size, blocks, drivers, the clock, the level order and time zero; each is tried only
 /// where none before it refuses. `Memory` may be the answer to any text.
 pub fn accept(
     alloc: Global,
     text: &[u8],
-    top: &[u8],
+    top: Option<&[u8]>,
     clock: Option<&[u8]>,
 ) -> Result<Accepted, AcceptError>
     requires { length text.now ≤ MAX_BYTES }
     // what is accepted is a design of the text, and all that is lent belongs to it
-    ensures accepted { IfOk result (λ a. IsAcceptedText text.now top.now (option_map (λ c. c.now) clock.entry) (design_of a.flat)) }
+    ensures accepted { IfOk result (λ a. IsAcceptedText text.now (option_map (λ t. t.now) top.entry) (option_map (λ c. c.now) clock.entry) (design_of a.flat)) }
     ensures lent { IfOk result (IsAcceptance (option_map (λ c. c.now) clock.entry)) }
-    ensures outputs { IfOk result (HaveOutputs text.now top.now) }
+    ensures outputs { IfOk result (HaveOutputs text.now (option_map (λ t. t.now) top.entry)) }
     // a refusal is one of the text
-    ensures refused { IfErr result (IsRefusalOf text.now top.now (option_map (λ c. c.now) clock.entry)) }
+    ensures refused { IfErr result (IsRefusalOf text.now (option_map (λ t. t.now) top.entry) (option_map (λ c. c.now) clock.entry)) }
     // a text that is accepted as a design is answered by it, and one that is refused by its refusal, but for what is left open
-    ensures kept { (d : Design) → IsAcceptedText text.now top.now (option_map (λ c. c.now) clock.entry) d → MatchResult result (λ a. design_of a.flat ≡ d) (λ e. e ≡ Memory) }
-    ensures refusal { (q : Refusal) → IsRefusedText text.now top.now (option_map (λ c. c.now) clock.entry) q → IsErrAnd result (TellsLike q) }
+    ensures kept { (d : Design) → IsAcceptedText text.now (option_map (λ t. t.now) top.entry) (option_map (λ c. c.now) clock.entry) d → MatchResult result (λ a. design_of a.flat ≡ d) (λ e. e ≡ Memory) }
+    ensures refusal { (q : Refusal) → IsRefusedText text.now (option_map (λ t. t.now) top.entry) (option_map (λ c. c.now) clock.entry) q → IsErrAnd result (TellsLike q) }
 {
     answer_law();
     answer(alloc, text, top, clock)

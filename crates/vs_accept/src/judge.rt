@@ -16,6 +16,7 @@ use vs_base::Text;
 use vs_block::block_forms;
 use vs_design::accepted_law;
 use vs_flat::Flat;
+use vs_race::races;
 use vs_reads::{Footprints, footprints};
 use vs_typed::{Typed, fits_law, type_design};
 
@@ -75,6 +76,9 @@ fn judge_typed(
         Ok(order) => order,
         Err(error) => return Err(places.level_error(error)),
     };
+    if let Err(error) = races(alloc, &typed, &footprints, &order) {
+        return Err(places.race_error(error));
+    }
     match vs_zero::check(alloc, &typed, &footprints, &clocks, &order) {
         Ok(()) => Ok(Accepted::of(typed, footprints, clocks, order, outputs)),
         Err(error) => Err(places.zero_error(error)),

@@ -3,7 +3,8 @@
 ghost use Rattle.std.specs.Prelude.{◌≡◌, ◌++◌, IfOk, OnOk, map, flat_map, option_map};
 ghost use Rattle.vs_ast.specs.Views as view;
 ghost use Rattle.vs_elaborated.specs.Ports.{find_in};
-ghost use Rattle.vs_accept.specs.Outputs.{is_output, names_in, outputs_in, item_outputs, header_outputs, module_outputs, top_outputs};
+ghost use Rattle.vs_tops.specs.Designs.{named_module};
+ghost use Rattle.vs_accept.specs.Outputs.{is_output, names_in, outputs_in, item_outputs, header_outputs, module_outputs, named_outputs};
 
 use std::alloc::{AllocError, Global};
 use vs_ast::{Declarator, Header, Item, Module, SignalKind, Signals, Source};
@@ -112,15 +113,25 @@ fn find_module<'a>(modules: &'a [Module], name: &[u8]) -> Option<&'a Module>
     None
 }
 
-/// The names of the outputs of the module that is the top; none where there is no such module.
-pub(crate) fn top_outputs(
+/// The module of this name, if there is a name, and a module of it.
+fn named_module<'a>(source: &'a Source, name: Option<&[u8]>) -> Option<&'a Module>
+    ensures { option_map (λ m. view.module_tree m.now) result ≡ named_module (view.source source.now) (option_map (λ n. n.now) name.entry) }
+{
+    match name {
+        Some(name) => find_module(&source.modules, name),
+        None => None,
+    }
+}
+
+/// The names of the outputs of the module of this name; none where there is no such module.
+pub(crate) fn named_outputs(
     alloc: Global,
     source: &Source,
-    top: &[u8],
+    name: Option<&[u8]>,
 ) -> Result<Vec<Text>, AllocError>
-    ensures { IfOk result (λ names. names.items ≡ top_outputs (view.source source.now) top.now) }
+    ensures { IfOk result (λ names. names.items ≡ named_outputs (view.source source.now) (option_map (λ n. n.now) name.entry)) }
 {
-    match find_module(&source.modules, top) {
+    match named_module(source, name) {
         Some(of) => module_outputs(alloc, of),
         None => Ok(Vec::new(alloc)),
     }

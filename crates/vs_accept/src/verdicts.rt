@@ -3,15 +3,16 @@
 ghost use Rattle.std.specs.Prelude.{◌≡◌, ℕ, true, List, Ok, None, Option};
 ghost use Rattle.vs_pre.specs.Reads.{ReadsAs};
 ghost use Rattle.vs_grammar.specs.Trees.{Source};
-ghost use Rattle.vs_elaborated.specs.Elaborated.{elaborated};
+ghost use Rattle.vs_tops.specs.Designs.{elaborated_from};
 ghost use Rattle.vs_parser.specs.Faults.{Fault as TreeFault};
 ghost use Rattle.vs_design.specs.Designs.{Design};
-ghost use Rattle.vs_design.specs.Refusals.{width_refusal};
+ghost use Rattle.vs_design.specs.Refusals.{race_refusal, width_refusal};
 ghost use Rattle.vs_typed.specs.Refused.{IsWidthError};
 ghost use Rattle.vs_block.specs.Refused.{IsBlockError};
 ghost use Rattle.vs_driver.specs.Refused.{IsDriverError};
 ghost use Rattle.vs_clock.specs.Refused.{IsClockError};
 ghost use Rattle.vs_level.specs.Level.{IsLevelError};
+ghost use Rattle.vs_race.specs.Refused.{IsRaceError};
 ghost use Rattle.vs_zero.specs.Refused.{IsZeroError};
 ghost use Rattle.vs_design.specs.Levels.{has_no_cycle};
 ghost use Rattle.vs_accept.specs.declared.error.AcceptError.TheVariants.{Refused};
@@ -29,6 +30,7 @@ use vs_driver::DriverError;
 use vs_elab::ElabError;
 use vs_level::LevelError;
 use vs_parser::ParseError;
+use vs_race::RaceError;
 use vs_refusal::{AtName, BareName, ProcessName, Processes, Refusal};
 use vs_typed::WidthError;
 use vs_zero::ZeroError;
@@ -65,7 +67,7 @@ fn rule_name(rule: Rule) -> Option<AtName>
 impl Places<'_> {
     /// The tokens spell no tree.
     pub(crate) fn tree_error(&self, error: ParseError) -> AcceptError
-        ensures { (top : List ℕ) (clock : Option (List ℕ)) → ReadsAs self.now.text.now self.now.tokens.now → TreeFault self.now.tokens.now error → IsRefusalOf self.now.text.now top clock result }
+        ensures { (top clock : Option (List ℕ)) → ReadsAs self.now.text.now self.now.tokens.now → TreeFault self.now.tokens.now error → IsRefusalOf self.now.text.now top clock result }
     {
         match error {
             ParseError::LeftOut(token) => self.refused_at(AtName::LeftOut, token),
@@ -77,7 +79,7 @@ impl Places<'_> {
 
     /// The tree doesn't elaborate.
     pub(crate) fn elab_error(&self, error: ElabError) -> AcceptError
-        ensures { (source : Source) (top : List ℕ) (clock : Option (List ℕ)) → IsRead self.now.text.now self.now.tokens.now source → IsElabError (elaborated source top) error → IsRefusalOf self.now.text.now top clock result }
+        ensures { (source : Source) (top clock : Option (List ℕ)) → IsRead self.now.text.now self.now.tokens.now source → IsElabError (elaborated_from source top) error → IsRefusalOf self.now.text.now top clock result }
     {
         match error {
             ElabError::Broken(fault) => self.fault_error(fault),
@@ -184,9 +186,23 @@ impl Places<'_> {
         }
     }
 
+    /// A clocked block reads what another one stirs.
+    pub(crate) fn race_error(&self, error: RaceError) -> AcceptError
+        ensures { (d : Design) (clock : Option (List ℕ)) → KeepsClock d clock → has_no_cycle d ≡ true → IsRaceError d error → IsVerdict (byte_of self.now.text.now self.now.tokens.now) d clock result }
+    {
+        match error {
+            RaceError::Race { process, bit, at } => AcceptError::Refused(Refusal::Race {
+                process,
+                bit,
+                at: self.byte(at),
+            }),
+            RaceError::Memory => AcceptError::Memory,
+        }
+    }
+
     /// A block is refused at time zero.
     pub(crate) fn zero_error(&self, error: ZeroError) -> AcceptError
-        ensures { (d : Design) (clock : Option (List ℕ)) → KeepsClock d clock → has_no_cycle d ≡ true → IsZeroError d clock error → IsVerdict (byte_of self.now.text.now self.now.tokens.now) d clock result }
+        ensures { (d : Design) (clock : Option (List ℕ)) → KeepsClock d clock → has_no_cycle d ≡ true → race_refusal d ≡ None → IsZeroError d clock error → IsVerdict (byte_of self.now.text.now self.now.tokens.now) d clock result }
     {
         match error {
             ZeroError::TimeZero { process, at } => {

@@ -37,7 +37,7 @@ pub fn bench_job(alloc: Global, lanes: u32) -> Result<Job, AllocError>
 {
     Ok(Job {
         mode: Mode::Run,
-        top: text(alloc, TOP)?,
+        top: Some(text(alloc, TOP)?),
         clock: Some(text(alloc, CLOCK)?),
         half: HALF,
         share: false,

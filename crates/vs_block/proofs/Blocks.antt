@@ -12,7 +12,8 @@ use Rattle.vs_design.specs.Statements as T
 use Rattle.vs_design.specs.Fits.{fits_process}
 use Rattle.vs_design.specs.Footprints.{contains, without, all_reads, reads_of, writes_of, waits_of, wait_signals, signals_bits, statement_bits}
 use Rattle.vs_design.specs.Latches.{assigned_after, early_reads, latch_bits}
-use Rattle.vs_design.specs.Rules.{mixed_in, mixed_assigns, missing_bits, latches, function_latches}
+use Rattle.vs_design.specs.Races.{nonblocking_bits}
+use Rattle.vs_design.specs.Rules.{mixed_in, blocking_to, mixed_assigns, missing_bits, latches, function_latches}
 use Rattle.vs_design.specs.Refusals.{least, otherwise, first_found, signal_of, block_refusal_of, block_refusal, width_refusal}
 use Rattle.vs_design.specs.Refusals as R
 use Rattle.vs_flat.specs.declared.processes.Event.{Event}
@@ -32,6 +33,7 @@ use Rattle.vs_typed.specs.Laws.{EachProcessFits}
 use Rattle.vs_block.specs.declared.error.BlockError.{BlockError}
 use Rattle.vs_block.specs.declared.error.BlockError.TheVariants.{FunctionLatch, MixedAssign, Sensitivity, Latch, Memory}
 use Rattle.vs_block.specs.Blocks.{IsBlock}
+use Rattle.vs_block.specs.Mixed.{mixed_by, later_of}
 use Rattle.vs_block.specs.Refused.{IsErrorOf, IsBlockError}
 use Rattle.vs_reads.specs.Laws.{HasBitsOf}
 use Rattle.vs_block.specs.Flags.{bit_at, is_set, AreUnset, AreSet}
@@ -137,10 +139,15 @@ pub is_clocked_as : (a : Arena) (place : ℕ) (star : Bool) (events : List Event
 is_clocked_as a place star events statement clocked b is h = edges_are (signal_at (arena_signals a)) events ∙ sym is ∙ h
 
 pub mixed_as : (a kept : Arena) (place : ℕ) (star : Bool) (events : List Event) (statement : ℕ) (clocked : Bool) (found o : Option ℕ) → kept ≡ a → clocked ≡ list_any (λ (e : Event). D.is_edge e.edge) events
-    → found ≡ least (mixed_in clocked (body_of kept statement)) → found ≡ o → least (mixed_assigns (block_in a place star events statement)) ≡ o
+    → found ≡ least (mixed_by clocked (later_of clocked (body_of kept statement)) (body_of kept statement)) → found ≡ o → least (mixed_assigns (block_in a place star events statement)) ≡ o
 mixed_as a kept place star events statement clocked found o same is least_is h =
-    ap (λ t. least (mixed_in t (body_of a statement))) (is_clocked_as a place star events statement clocked clocked is refl)
-    ∙ ap (λ (x : Arena). least (mixed_in clocked (body_of x statement))) (sym same) ∙ sym least_is ∙ h
+    ap (λ (t : Bool). least (if t then blocking_to (nonblocking_bits (body_of a statement)) (body_of a statement) else mixed_in false (body_of a statement))) (is_clocked_as a place star events statement clocked clocked is refl)
+    ∙ ap least (chosen clocked (body_of a statement))
+    ∙ ap (λ (x : Arena). least (mixed_by clocked (later_of clocked (body_of x statement)) (body_of x statement))) (sym same) ∙ sym least_is ∙ h
+  where
+    chosen : (t : Bool) (s : T.Statement) → (if t then blocking_to (nonblocking_bits s) s else mixed_in false s) ≡ mixed_by t (later_of t s) s
+    chosen true s = refl
+    chosen false s = refl
 
 -- a list that is told as that of a footprint
 all_at : (f : D.Process → Bool) (ps : List D.Process) (p : ℕ) (x : D.Process) → list_all f ps ≡ true → slice_get ps p ≡ Some x → f x ≡ true

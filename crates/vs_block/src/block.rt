@@ -12,7 +12,7 @@ use crate::BlockError;
 use crate::functions::first_latching;
 use crate::latches::first_latch;
 use crate::missing::{first_missing, signal_with};
-use crate::mixed::least_mixed;
+use crate::mixed::first_mixed;
 use std::alloc::Global;
 use vs_flat::{Event, Kind, has_edge, names_law, trees_law};
 use vs_reads::{Footprints, footprint_law};
@@ -38,7 +38,8 @@ fn check_block(
     trees_law();
     let flat = typed.flat();
     let clocked = has_edge(events);
-    if let Some(at) = least_mixed(typed.shapes(), statement, clocked, None) {
+    let mixed = first_mixed(alloc, typed.shapes(), statement, clocked)?;
+    if let Some(at) = mixed {
         return Err(BlockError::MixedAssign { at });
     }
     if clocked {
@@ -97,7 +98,7 @@ fn check_process(
     }
 }
 
-/// Whether every function and every block of a design keeps the rules. A function assigns what it writes before it reads it, on every path, and by its end; the first in the text that doesn't decides. Then no blocking assignment in a clocked one and no nonblocking one in any other, and a combinational one waits on all that it reads and keeps no bit; the first process that breaks a rule decides; within it a mixed assignment comes before a missing signal, and that before a latch.
+/// Whether every function and every block of a design keeps the rules. A function assigns what it writes before it reads it, on every path, and by its end; the first in the text that doesn't decides. Then a clocked block writes no bit by blocking and nonblocking assignments, any other has no nonblocking one, and a combinational one waits on all that it reads and keeps no bit; the first process that breaks a rule decides; within it a mixed assignment comes before a missing signal, and that before a latch.
 pub fn block_forms(alloc: Global, typed: &Typed, footprints: &Footprints) -> Result<(), BlockError>
     requires { footprints.now ≡ footprints_of (design_of typed.now) }
     ensures unrefused { OnOk result (block_refusal (design_of typed.now) ≡ None) }

@@ -9,7 +9,7 @@ pub enum BlockError {
     /// A function writes a variable of its own, or its result, and on some path reads it before it assigns it, or doesn't assign it (IEEE 1364-2005, 10.4). The function begins at token `at`.
     #[error("the function at {at} may keep a value")]
     FunctionLatch { at: u32 },
-    /// A clocked block has a blocking assignment, or a combinational one a nonblocking one (IEEE 1364-2005, 9.2). The first of these in the text begins at token `at`.
+    /// A clocked block has a blocking assignment to a bit that it may also write by a nonblocking one, or a combinational one has a nonblocking one (IEEE 1364-2005, 9.2). The first of these in the text begins at token `at`.
     #[error("a blocking and a nonblocking assignment are mixed at {at}")]
     MixedAssign { at: u32 },
     /// A combinational block reads a bit of the signal, which it neither writes nor waits on (IEEE 1364-2005, 9.7). Of several signals it is the least one. The block begins at token `at`.

@@ -19,7 +19,6 @@ pub mod Whole
 pub mod TargetFacts
 pub mod AssignFacts
 pub mod OutputFacts
-pub mod EventFaults
 pub mod BodySteps
 pub mod Cutting
 pub mod BodyKinds

@@ -4,7 +4,6 @@
 mod assigns;
 mod blocks;
 mod builder;
-mod checks;
 mod expressions;
 mod functions;
 mod items;
@@ -19,7 +18,6 @@ mod targets;
 pub use assigns::{assign, input_port, wire};
 pub use blocks::always;
 pub use builder::Builder;
-pub use checks::check_control;
 pub use functions::function;
 pub use items::{assign_each, wire_each};
 pub use laws::fine_law;

@@ -8,6 +8,7 @@ pub mod Finding
 pub mod Ruled
 pub mod Fixed
 pub mod Branches
+pub mod Comparing
 pub mod Refusing
 pub mod Resetting
 pub mod StillSteps

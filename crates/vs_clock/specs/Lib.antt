@@ -1,4 +1,5 @@
 pub mod Clocked
+pub mod Compared
 pub mod Found
 pub mod Forms
 pub mod Inputs

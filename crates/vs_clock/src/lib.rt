@@ -3,6 +3,7 @@
 
 mod clocked;
 mod clocks;
+mod compared;
 mod constant;
 mod error;
 mod events;

@@ -1,7 +1,8 @@
 //! The asynchronous resets of clocked blocks (IEEE 1364-2005, 9.7.2).
 
-ghost use Rattle.std.specs.Prelude.{◌≡◌, ℕ, ◌<◌, length, slice_get, IfOk};
+ghost use Rattle.std.specs.Prelude.{◌≡◌, ℕ, ◌<◌, true, length, slice_get, IfOk};
 ghost use Rattle.vs_design.specs.Designs as D;
+ghost use Rattle.vs_design.specs.Fits.{fits_statement};
 ghost use Rattle.vs_flat.specs.DesignOf.{arena_signals, arena_statements, design_of, event_of};
 ghost use Rattle.vs_flat.specs.Trees.{signal_at, statement_at};
 ghost use Rattle.vs_clock.specs.Nets.{AreNets};
@@ -13,7 +14,7 @@ use crate::nets::Nets;
 use std::alloc::{AllocError, Global};
 use vs_base::Edge;
 use vs_flat::{Event, Kind, names_law, trees_law};
-use vs_typed::Typed;
+use vs_typed::{Typed, fits_law};
 
 /// The asynchronous reset of a clocked block: the edge of a net, at which a branch runs that reads no signal.
 #[derive(Clone, Copy, PartialEq, Eq, Debug)]
@@ -52,6 +53,7 @@ pub(crate) enum Forms {
 fn event_reset(typed: &Typed, nets: &Nets, event: Event, statement: u32) -> BlockReset
     requires event { event.signal < length typed.now.signals }
     requires there { statement < length typed.now.statements }
+    requires fits { fits_statement (statement_at (arena_statements typed.now) statement) ≡ true }
     ensures { (c : ℕ) → AreNets (design_of typed.now) c nets.now → IsEventReset typed.now c (event_of (signal_at (arena_signals typed.now)) event) (statement_at (arena_statements typed.now) statement) result }
 {
     trees_law();
@@ -77,6 +79,7 @@ fn block_reset(typed: &Typed, nets: &Nets, p: u32) -> BlockReset
 {
     trees_law();
     names_law();
+    fits_law();
     let flat = typed.flat();
     match &flat.process(p).kind {
         Kind::Assign { .. } => BlockReset::Absent,

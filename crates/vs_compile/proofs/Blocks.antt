@@ -1,14 +1,16 @@
 -- A block with a reset is an `if` on it, and weighs no less than what is lowered for it.
-use Rattle.std.proofs.Common.{◌≡◌, ℕ, ◌+◌, ◌<◌, ◌≤◌, Bool, true, false, ◌&&◌, ◌||◌, ◌==◌, List, [], ◌∷◌, ◌++◌, if◌then◌else◌, Option, Some, None, refl, sym, ap, ◌∙◌, subst, arith, append-nil, eqb-true}
+use Rattle.std.proofs.Common.{◌≡◌, ℕ, ◌+◌, ◌<◌, ◌≤◌, Bool, true, false, ◌&&◌, ◌||◌, ◌==◌, ◌*◌, max, List, [], ◌∷◌, ◌++◌, if◌then◌else◌, Option, Some, None, refl, sym, ap, ◌∙◌, subst, arith, append-nil, eqb-true}
 use Rattle.std.specs.List.{list_any}
+use Rattle.vs_four.specs.declared.Bit4.{Bit4}
+use Rattle.vs_four.specs.declared.Bit4.TheVariants.{Zero, One}
 use Rattle.vs_net.specs.Network as N
-use Rattle.vs_design.specs.Expressions.{Signal, signal_length, BitNot, LogicalNot, Expression, Literal, Name, Select, Word, Unary, Binary, Choice, Join, Repeat, At, Call, is_constant, width, unary_way}
+use Rattle.vs_design.specs.Expressions.{Signal, signal_length, BitNot, LogicalNot, BinaryOp, Equal, CaseEqual, Expression, Literal, Name, Select, Word, Unary, Binary, Choice, Join, Repeat, At, Call, is_constant, width, unary_way}
 use Rattle.vs_design.specs.Values.{left_width}
 use Rattle.vs_design.specs.Statements.{Statement, Empty, Assignment, Then, If, Case}
 use Rattle.vs_design.specs.Designs.{Edge, Any, Posedge, Negedge, Event, Process, Continuous, Always, has_edge, is_clocked, Design}
 use Rattle.vs_design.specs.Footprints.{contains, statement_bits, writes_of}
 use Rattle.vs_design.specs.Clocks.{name_of, Events, ByClock, ByBoth, is_clock_event, is_reset_event, events_of, clock_nets, root_of}
-use Rattle.vs_design.specs.Resets.{is_signal, inverted, is_condition, is_fixed, net_edge, branch_writes, branch_updates, reset_branch, reset_with, reset_of}
+use Rattle.vs_design.specs.Resets.{is_signal, inverted, is_equality, beside_constant, compared, holds_at, is_comparison, is_condition, is_fixed, net_edge, branch_writes, branch_updates, reset_branch, reset_with, reset_of}
 use Rattle.vs_design.specs.Sizes.{distinct, process_weight, statement_weight, weight}
 use Rattle.vs_cone.specs.Lists.{AscendingIsOnce, FewAreApart}
 use Rattle.vs_clock.specs.Resets.{branch_of}
@@ -95,9 +97,65 @@ inverted_heavy (Join high low) s is one = cc
 inverted_heavy (Repeat count a) s is one = cc
 inverted_heavy (Call header statement arguments) s is one = cc
 
+-- of two operands one is the name of a signal of one bit, and so they aren't both constant
+record HasName (a d : Expression) : Type 0 where
+  wide : 1 ≤ max (width a) (width d)
+  varies : (is_constant a && is_constant d) ≡ false
+
+beside_named : (a d : Expression) (s : Signal) → beside_constant a d ≡ Some s → signal_length s ≡ 1 → HasName a d
+beside_named a d s is one = right (is_constant d) refl is
+  where
+    left : (k : Bool) → is_constant a ≡ k → (if k then name_of d else None) ≡ Some s → HasName a d
+    left true q h = let w = named_wide d s h one in record { wide = omega (arith, w.0); varies = ap (λ (t : Bool). t && is_constant d) q ∙ w.1 }
+    left false q h = cc
+
+    right : (k : Bool) → is_constant d ≡ k → (if k then name_of a else (if is_constant a then name_of d else None)) ≡ Some s → HasName a d
+    right true q h = let w = named_wide a s h one in record { wide = omega (arith, w.0); varies = ap (λ (t : Bool). t && is_constant d) w.1 }
+    right false q h = left (is_constant a) refl h
+
+-- a comparison costs twice the larger length of its operands
+equality_heavy : (op : BinaryOp) (a d : Expression) → is_equality op ≡ true → HasName a d → 2 ≤ width (Binary op a d) + weight (Binary op a d) (width (Binary op a d))
+equality_heavy Equal a d h n =
+    let w = max (width a) (width d) in
+    let here : weight (Binary Equal a d) 1 ≡ 2 * w + weight a w + weight d w = ap (λ (t : Bool). (if t then 0 else (2 * w)) + weight a w + weight d w) n.varies in
+    omega (arith, n.wide, here)
+equality_heavy CaseEqual a d h n =
+    let w = max (width a) (width d) in
+    let here : weight (Binary CaseEqual a d) 1 ≡ 2 * w + weight a w + weight d w = ap (λ (t : Bool). (if t then 0 else (2 * w)) + weight a w + weight d w) n.varies in
+    omega (arith, n.wide, here)
+equality_heavy _ a d h n = cc
+
+compared_heavy : (e : Expression) (s : Signal) → compared e ≡ Some s → signal_length s ≡ 1 → 2 ≤ width e + weight e (width e)
+compared_heavy (Binary op a d) s is one = at (is_equality op) refl is
+  where
+    at : (k : Bool) → is_equality op ≡ k → (if k then beside_constant a d else None) ≡ Some s → 2 ≤ width (Binary op a d) + weight (Binary op a d) (width (Binary op a d))
+    at true q h = equality_heavy op a d q (beside_named a d s h one)
+    at false q h = cc
+compared_heavy (At place e) s is one = compared_heavy e s is one
+compared_heavy (Unary op a) s is one = cc
+compared_heavy (Name x) s is one = cc
+compared_heavy (Literal bits signed sized) s is one = cc
+compared_heavy (Select source part index) s is one = cc
+compared_heavy (Word signal index) s is one = cc
+compared_heavy (Choice c p q) s is one = cc
+compared_heavy (Join high low) s is one = cc
+compared_heavy (Repeat count a) s is one = cc
+compared_heavy (Call header statement arguments) s is one = cc
+
+comparison_heavy : (b : ℕ) (v : Bit4) (c : Expression) → is_comparison b v c ≡ true → 2 ≤ width c + weight c (width c)
+comparison_heavy b v c h = let r = one_wide b (compared c) (and_true (is_signal b (compared c)) (holds_at b v c) h).0 in compared_heavy c r.0 r.1 r.2
+
 condition_heavy : (edge : Edge) (b : ℕ) (c : Expression) → is_condition edge b c ≡ true → 1 + inverse_weight (net_edge edge) ≤ width c + weight c (width c)
-condition_heavy Posedge b c h = let r = one_wide b (name_of c) h in let w = named_wide c r.0 r.1 r.2 in omega (arith, w.0)
-condition_heavy Negedge b c h = let r = one_wide b (inverted c) h in let w = inverted_heavy c r.0 r.1 r.2 in omega (arith, w)
+condition_heavy Posedge b c h = at (is_signal b (name_of c)) refl h
+  where
+    at : (k : Bool) → is_signal b (name_of c) ≡ k → (k || is_comparison b One c) ≡ true → 1 ≤ width c + weight c (width c)
+    at true q h = let r = one_wide b (name_of c) q in let w = named_wide c r.0 r.1 r.2 in omega (arith, w.0)
+    at false q h = let w = comparison_heavy b One c h in omega (arith, w)
+condition_heavy Negedge b c h = at (is_signal b (inverted c)) refl h
+  where
+    at : (k : Bool) → is_signal b (inverted c) ≡ k → (k || is_comparison b Zero c) ≡ true → 2 ≤ width c + weight c (width c)
+    at true q h = let r = one_wide b (inverted c) q in inverted_heavy c r.0 r.1 r.2
+    at false q h = comparison_heavy b Zero c h
 condition_heavy Any b c h = cc
 
 -- ---- the form of the block

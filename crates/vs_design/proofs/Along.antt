@@ -1,5 +1,5 @@
 -- The families of sets along a level order.
-use Rattle.std.proofs.Common.{◌≡◌, ◌≢◌, ℕ, zero, suc, ◌+◌, ◌-◌, ◌≤◌, ◌<◌, Bool, true, false, cond, List, [], ◌∷◌, ◌++◌, ◌||◌, ◌&&◌, not, if◌then◌else◌, ◌⊎◌, inl, inr, refl, sym, ap, ◌∙◌, subst, map, length, take, drop, arith, ◌==◌, eqb-true, Option, Some, None}
+use Rattle.std.proofs.Common.{◌≡◌, ℕ, ◌+◌, ◌-◌, Bool, true, false, List, [], ◌∷◌, ◌++◌, ◌||◌, if◌then◌else◌, inr, refl, sym, ap, ◌∙◌, subst, map, take, drop, ◌==◌, eqb-true, Option, Some, None}
 use Rattle.std.specs.Prelude.{slice_get}
 use Rattle.vs_net.specs.Network.{State, put, write_all}
 use Rattle.vs_net.proofs.Basics.{write_all_covered}
@@ -22,7 +22,7 @@ use Rattle.vs_design.specs.Fits.{fits_target, fits_statement, is_fit}
 use Rattle.vs_design.specs.Elaborated.{has_constant_selects}
 use Rattle.vs_design.specs.Accepted.{is_empty}
 use Rattle.vs_design.specs.TreeLaws.{InSets}
-use Rattle.vs_design.proofs.Lists.{by_test, or_neither, and_both, contains-append, contains-right}
+use Rattle.vs_design.proofs.Lists.{by_test, or_neither, and_both, contains-append}
 use Rattle.vs_design.proofs.Writes.{either_way, somes_all, assignment_assigns}
 use Rattle.vs_design.proofs.SetCalls.{assignment_in}
 use Rattle.vs_design.proofs.Words.{addressed_constant, addressed_variable}

@@ -14,9 +14,10 @@ use Rattle.vs_design.specs.Rules.{function_latches, mixed_assigns, missing_bits,
 use Rattle.vs_design.specs.Clocks.{clock_input, clock_nets, root_of, reads_clock, has_other_clock}
 use Rattle.vs_design.specs.Resets.{has_other_form}
 use Rattle.vs_design.specs.Levels.{level_order}
+use Rattle.vs_design.specs.Races.{race_bits}
 use Rattle.vs_design.specs.TimeZero.{families, is_uncertain}
-use Rattle.vs_design.specs.Refusals.{least_with, least, otherwise, first_found, where_true, WidthRefusal, TooWide, Division, TooLarge, wide_in, divisions_in, earlier, judged_size, told_size, too_large, BlockRefusal, FunctionLatch, MixedAssign, Sensitivity, Latch, signal_of, block_refusal_of, ClockRefusal, NoClock, ClockRead, NotTheClock, ResetForm, clock_refusal_by, ZeroRefusal, TimeZero, zero_refusal_by}
-use Rattle.vs_design.specs.RefusalLaws.{IsLeastOf, IsFirstOf, is_unfit, IsWidthRefusal, WidthRefusalIs, is_some_of, breaks_block, IsBlockRefusal, BlockRefusalIs, IsClockRefusal, ClockRefusalIs, IsZeroRefusal, ZeroRefusalIs}
+use Rattle.vs_design.specs.Refusals.{least_with, least, otherwise, first_found, where_true, WidthRefusal, TooWide, Division, TooLarge, wide_in, divisions_in, earlier, judged_size, told_size, too_large, BlockRefusal, FunctionLatch, MixedAssign, Sensitivity, Latch, signal_of, block_refusal_of, ClockRefusal, NoClock, ClockRead, NotTheClock, ResetForm, clock_refusal_by, RaceRefusal, Race, race_refusal_of, ZeroRefusal, TimeZero, zero_refusal_by}
+use Rattle.vs_design.specs.RefusalLaws.{IsLeastOf, IsFirstOf, is_unfit, IsWidthRefusal, WidthRefusalIs, is_some_of, breaks_block, IsBlockRefusal, BlockRefusalIs, IsClockRefusal, ClockRefusalIs, IsRaceRefusal, RaceRefusalIs, IsZeroRefusal, ZeroRefusalIs}
 use Rattle.vs_design.proofs.Lists.{by_test, and_both, or_left, or_right, or_neither, or_false, contains-append, contains-left, contains_head, contains_filter}
 use Rattle.vs_design.proofs.Writes.{either_way}
 use Rattle.vs_design.proofs.Parts.{all_at}
@@ -470,6 +471,62 @@ clock_refusal_is d name r h = go (clock_input d name) refl r h
         either (inr m) =
             second (any_none (λ p process. where_true (reads_clock (clock_nets d clock.first) process) (ClockRead p (process_place process))) (reads_clock (clock_nets d clock.first)) 0 d.processes (λ p x f. true_where (reads_clock (clock_nets d clock.first) x) (ClockRead p (process_place x)) f) m.0)
             (otherwise_some (first_found (λ p process. where_true (has_other_clock (clock_nets d clock.first) (root_of d clock.first) process) (NotTheClock p (process_place process))) 0 d.processes) (first_found (λ p process. where_true (has_other_form (clock_nets d clock.first) (root_of d clock.first) process) (ResetForm p (process_place process))) 0 d.processes) r m.1)
+
+-- what is found first, at this place of the list, and nothing before it
+record FoundIn {A : Type 0} (find : ℕ → Process → Option A) (k : ℕ) (ps : List Process) (a : A) : Type 0 where
+  pub number : ℕ
+  pub process : Process
+  pub is : slice_get ps number ≡ Some process
+  pub found : find (k + number) process ≡ Some a
+  pub before : (m : ℕ) (other : Process) → m < number → slice_get ps m ≡ Some other → find (k + m) other ≡ None
+
+found_in : {A : Type 0} (find : ℕ → Process → Option A) (k : ℕ) (ps : List Process) (a : A) → first_found find k ps ≡ Some a → FoundIn find k ps a
+found_in find k [] a h = cc
+found_in {A} find k (x ∷ ps) a h = cases (find k x) refl h (λ g. found_in find (suc k) ps a g)
+  where
+    same : (y : Process) → Some x ≡ Some y → x ≡ y
+    same y e = cc
+
+    earlier_ones : find k x ≡ None → (r : FoundIn find (suc k) ps a) (m : ℕ) (other : Process) → m < suc r.number → slice_get (x ∷ ps) m ≡ Some other → find (k + m) other ≡ None
+    earlier_ones e r zero other l f = subst (λ n. find n other ≡ None) (omega arith) (subst (λ y. find k y ≡ None) (same other f) e)
+    earlier_ones e r (suc m) other l f = subst (λ n. find n other ≡ None) (omega arith) (r.before m other (omega (arith, l)) f)
+
+    later : find k x ≡ None → FoundIn find (suc k) ps a → FoundIn find k (x ∷ ps) a
+    later e r = record {
+      number = suc r.number;
+      process = r.process;
+      is = r.is;
+      found = subst (λ n. find n r.process ≡ Some a) (omega arith) r.found;
+      before = earlier_ones e r;
+    }
+
+    cases : (o : Option A) → find k x ≡ o → otherwise o (first_found find (suc k) ps) ≡ Some a → (first_found find (suc k) ps ≡ Some a → FoundIn find (suc k) ps a) → FoundIn find k (x ∷ ps) a
+    cases (Some v) e h rest = record { number = 0; process = x; is = refl; found = subst (λ n. find n x ≡ Some a) (omega arith) (e ∙ h); before = λ m other l f. absurd (omega (arith, l)) }
+    cases None e h rest = later e (rest h)
+
+pub race_refusal_is : RaceRefusalIs
+race_refusal_is d r h =
+    let f = found_in (race_refusal_of d (level_order d)) 0 d.processes r h in
+    cases f.number f.process f.is (λ m other l e. no_bits m other (subst (λ n. race_refusal_of d (level_order d) n other ≡ None) (omega arith) (f.before m other l e))) r (subst (λ n. race_refusal_of d (level_order d) n f.process ≡ Some r) (omega arith) f.found)
+  where
+    bits : ℕ → Process → List ℕ
+    bits p process = race_bits d (level_order d) p process
+
+    no_bits : (p : ℕ) (x : Process) → race_refusal_of d (level_order d) p x ≡ None → bits p x ≡ []
+    no_bits p x e = no_least (bits p x) (unmapped (least (bits p x)) e)
+      where
+        unmapped : (o : Option ℕ) → option_map (λ b. Race p b (process_place x)) o ≡ None → o ≡ None
+        unmapped None e = refl
+        unmapped (Some b) e = cc
+
+    same_race : (p b a q c e : ℕ) → Race p b a ≡ Race q c e → (p ≡ q) × (b ≡ c) × (a ≡ e)
+    same_race p b a q c e h = (cc, cc, cc)
+
+    cases : (p : ℕ) (x : Process) → slice_get d.processes p ≡ Some x → ((q : ℕ) (other : Process) → q < p → slice_get d.processes q ≡ Some other → bits q other ≡ []) → (r : RaceRefusal) → race_refusal_of d (level_order d) p x ≡ Some r → IsRaceRefusal d r
+    cases p x i before (Race q b at) e =
+        let m = mapped_some (λ b. Race p b (process_place x)) (least (bits p x)) (Race q b at) e in
+        let s = same_race p m.0 (process_place x) q b at m.2 in
+        subst (λ n. IsRaceRefusal d (Race n b at)) s.0 (x, i, subst (IsLeastOf (bits p x)) s.1 (least_is (bits p x) m.0 m.1), sym s.2, before)
 
 pub zero_refusal_is : ZeroRefusalIs
 zero_refusal_is d name r h = go (clock_input d name) refl r h

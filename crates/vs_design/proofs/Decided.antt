@@ -2,8 +2,8 @@
 use Rattle.std.proofs.Common.{◌≡◌, true, ◌⊎◌, inl, inr, refl, Option, Some, None}
 use Rattle.vs_design.specs.Levels.{level_order, has_no_cycle}
 use Rattle.vs_design.specs.Accepted.{IsAcceptedDesign}
-use Rattle.vs_design.specs.Refusals.{WidthRefusal, width_refusal, BlockRefusal, block_refusal, DriverRefusal, driver_refusal, ClockRefusal, clock_refusal, ZeroRefusal, zero_refusal, place_at, IsUnrefused}
-use Rattle.vs_design.specs.Answers.{DesignRefusal, OfWidth, OfBlock, OfDriver, OfClock, Cycle, OfZero, first_of, IsRefusedBy, AcceptedOrRefused, NotBoth}
+use Rattle.vs_design.specs.Refusals.{WidthRefusal, width_refusal, BlockRefusal, block_refusal, DriverRefusal, driver_refusal, ClockRefusal, clock_refusal, RaceRefusal, race_refusal, ZeroRefusal, zero_refusal, place_at, IsUnrefused}
+use Rattle.vs_design.specs.Answers.{DesignRefusal, OfWidth, OfBlock, OfDriver, OfClock, Cycle, OfRace, OfZero, first_of, IsRefusedBy, AcceptedOrRefused, NotBoth}
 use Rattle.vs_design.proofs.Lists.{by_test}
 use Rattle.vs_design.proofs.Exactly.{accepted_exactly}
 use Rattle.vs_design.proofs.CycleFound.{order_or_cycle}
@@ -14,14 +14,18 @@ accepted_or_refused d name l = by_width (width_refusal d) refl
     Answer : Type 0
     Answer = IsAcceptedDesign d name ⊎ ((r : DesignRefusal) × IsRefusedBy d name r)
 
-    by_zero : width_refusal d ≡ None → block_refusal d ≡ None → driver_refusal d ≡ None → clock_refusal d name ≡ None → has_no_cycle d ≡ true → (o : Option ZeroRefusal) → zero_refusal d name ≡ o → Answer
-    by_zero w b r c n (Some z) e = inr (OfZero z, (w, b, r, c, n, e))
-    by_zero w b r c n None e = inl ((accepted_exactly d name l).1 (record { widths = w; blocks = b; drivers = r; clocks = c; no_cycle = n; zero = e }))
+    by_zero : width_refusal d ≡ None → block_refusal d ≡ None → driver_refusal d ≡ None → clock_refusal d name ≡ None → has_no_cycle d ≡ true → race_refusal d ≡ None → (o : Option ZeroRefusal) → zero_refusal d name ≡ o → Answer
+    by_zero w b r c n q (Some z) e = inr (OfZero z, (w, b, r, c, n, q, e))
+    by_zero w b r c n q None e = inl ((accepted_exactly d name l).1 (record { widths = w; blocks = b; drivers = r; clocks = c; no_cycle = n; races = q; zero = e }))
+
+    by_race : width_refusal d ≡ None → block_refusal d ≡ None → driver_refusal d ≡ None → clock_refusal d name ≡ None → has_no_cycle d ≡ true → (o : Option RaceRefusal) → race_refusal d ≡ o → Answer
+    by_race w b r c n (Some q) e = inr (OfRace q, (w, b, r, c, n, e))
+    by_race w b r c n None e = by_zero w b r c n e (zero_refusal d name) refl
 
     by_cycle : width_refusal d ≡ None → block_refusal d ≡ None → driver_refusal d ≡ None → clock_refusal d name ≡ None → Answer
     by_cycle w b r c =
         by_test (has_no_cycle d)
-        (λ n. by_zero w b r c n (zero_refusal d name) refl)
+        (λ n. by_race w b r c n (race_refusal d) refl)
         (λ n. let q = (order_or_cycle d).found n in inr (Cycle q.0 (place_at d.processes (first_of q.0)), (w, b, r, c, q.1, refl)))
 
     by_clock : width_refusal d ≡ None → block_refusal d ≡ None → driver_refusal d ≡ None → (o : Option ClockRefusal) → clock_refusal d name ≡ o → Answer
@@ -52,4 +56,5 @@ not_both d name a r h = go r h ((accepted_exactly d name a.lawful).0 a)
     go (OfDriver x) h u = none_some (driver_refusal d) x u.drivers h.2
     go (OfClock x) h u = none_some (clock_refusal d name) x u.clocks h.3
     go (Cycle processes at) h u = (order_or_cycle d).none (level_order d) u.no_cycle processes h.4
-    go (OfZero x) h u = none_some (zero_refusal d name) x u.zero h.5
+    go (OfRace x) h u = none_some (race_refusal d) x u.races h.5
+    go (OfZero x) h u = none_some (zero_refusal d name) x u.zero h.6

@@ -11,12 +11,12 @@ use Rattle.vs_design.specs.Rules.{function_latches, mixed_assigns, missing_bits,
 use Rattle.vs_design.specs.Clocks.{clock_input, clock_nets, root_of, reads_clock, has_other_clock}
 use Rattle.vs_design.specs.Resets.{has_other_form}
 use Rattle.vs_design.specs.Levels.{level_order}
+use Rattle.vs_design.specs.Races.{race_bits, is_none, race_free}
 use Rattle.vs_design.specs.TimeZero.{families, is_uncertain}
 use Rattle.vs_design.specs.Accepted.{is_empty, IsAcceptedDesign}
-use Rattle.vs_design.specs.Refusals.{least, otherwise, first_found, where_true, TooWide, Division, TooLarge, wide_in, divisions_in, earlier, judged_size, told_size, too_large, FunctionLatch, MixedAssign, Sensitivity, Latch, signal_of, block_refusal_of, ClockRead, NotTheClock, ResetForm, clock_refusal_by, TimeZero, zero_refusal_by, IsUnrefused}
+use Rattle.vs_design.specs.Refusals.{least, otherwise, first_found, where_true, TooWide, Division, TooLarge, wide_in, divisions_in, earlier, judged_size, told_size, too_large, FunctionLatch, MixedAssign, Sensitivity, Latch, signal_of, block_refusal_of, ClockRead, NotTheClock, ResetForm, clock_refusal_by, Race, race_refusal_of, TimeZero, zero_refusal_by, IsUnrefused}
 use Rattle.vs_design.specs.Laws.{AcceptedExactly}
 use Rattle.vs_design.proofs.Lists.{and_both, or_false, or_neither}
-use Rattle.vs_design.proofs.RaceLaws.{unmixed_has_no_race}
 use Rattle.vs_design.proofs.Drivers.{empty_is}
 use Rattle.vs_design.proofs.WidthExact.{and_true, process_clear, wide_none, divisions_none}
 
@@ -168,6 +168,35 @@ blocks_clear d ps h k l =
     let m = and_both (is_empty (mixed_assigns x)) (is_empty (missing_bits x)) g.0 in clear_block d p x m.0 m.1 g.1)
     (three (λ x. is_empty (mixed_assigns x)) (λ x. is_empty (missing_bits x)) (λ x. is_empty (latches x)) ps h k l)
 
+-- ---- races
+
+race_none : (d : Design) (order : List ℕ) (p : ℕ) (x : Process) → race_refusal_of d order p x ≡ None → is_none (race_bits d order p x) ≡ true
+race_none d order p x h = go (race_bits d order p x) h
+  where
+    go : (bs : List ℕ) → option_map (λ b. Race p b (process_place x)) (least bs) ≡ None → is_none bs ≡ true
+    go [] e = refl
+    go (b ∷ bs) e = cc
+
+none_race : (d : Design) (order : List ℕ) (p : ℕ) (x : Process) → is_none (race_bits d order p x) ≡ true → race_refusal_of d order p x ≡ None
+none_race d order p x h = go (race_bits d order p x) h
+  where
+    go : (bs : List ℕ) → is_none bs ≡ true → option_map (λ b. Race p b (process_place x)) (least bs) ≡ None
+    go [] e = refl
+    go (b ∷ bs) e = cc
+
+-- nothing is found exactly where there is no race
+pub races_clear : (d : Design) (order : List ℕ) (k : ℕ) (ps : List Process) → first_found (race_refusal_of d order) k ps ≡ None → race_free d order k ps ≡ true
+races_clear d order k [] h = refl
+races_clear d order k (x ∷ ps) h =
+    let g = otherwise_none (race_refusal_of d order k x) (first_found (race_refusal_of d order) (suc k) ps) h in
+    and_true _ _ (race_none d order k x g.0) (races_clear d order (suc k) ps g.1)
+
+clear_races : (d : Design) (order : List ℕ) (k : ℕ) (ps : List Process) → race_free d order k ps ≡ true → first_found (race_refusal_of d order) k ps ≡ None
+clear_races d order k [] h = refl
+clear_races d order k (x ∷ ps) h =
+    let g = and_both (is_none (race_bits d order k x)) (race_free d order (suc k) ps) h in
+    none_otherwise _ _ (none_race d order k x g.0) (clear_races d order (suc k) ps g.1)
+
 -- ---- the clock, and time zero
 
 -- what nothing of the clock and of time zero refuses
@@ -214,6 +243,7 @@ accepted_exactly d name lawful = (there, back)
           drivers = mapped_least _ (shared_bits d) a.one_driver;
           clocks = c.0;
           no_cycle = a.no_cycle;
+          races = clear_races d (level_order d) 0 d.processes a.no_race;
           zero = c.1;
         }
 
@@ -222,13 +252,12 @@ accepted_exactly d name lawful = (there, back)
         let w = otherwise_none (first_found (λ p process. earlier (least (wide_in process)) (least (divisions_in process))) 0 d.processes) (too_large d) u.widths in
         let c = clock_clear d (clock_input d name) u.clocks u.zero in
         let b = otherwise_none (option_map FunctionLatch (least (function_latches d.functions))) (first_found (block_refusal_of d) 0 d.processes) u.blocks in
-        let unmixed = found_none (block_refusal_of d) (λ x. is_empty (mixed_assigns x)) 0 d.processes (λ p x f. (block_clear d p x f).0) b.1 in
         record {
           lawful = lawful;
           fit = all_fit d 0 d.processes lawful.formed w.0;
           small = judged_small d (small_is (judged_size d) 16777216 (true_where (nat_lt 16777216 (judged_size d)) (TooLarge (told_size d)) w.1));
           no_function_latch = least_mapped FunctionLatch (function_latches d.functions) b.0;
-          unmixed = unmixed;
+          unmixed = found_none (block_refusal_of d) (λ x. is_empty (mixed_assigns x)) 0 d.processes (λ p x f. (block_clear d p x f).0) b.1;
           sensitive = found_none (block_refusal_of d) (λ x. is_empty (missing_bits x)) 0 d.processes (λ p x f. (block_clear d p x f).1) b.1;
           no_latch = found_none (block_refusal_of d) (λ x. is_empty (latches x)) 0 d.processes (λ p x f. (block_clear d p x f).2) b.1;
           one_driver = least_mapped _ (shared_bits d) u.drivers;
@@ -238,6 +267,6 @@ accepted_exactly d name lawful = (there, back)
           one_clock = c.2.one;
           reset_forms = c.2.forms;
           no_cycle = u.no_cycle;
-          no_race = unmixed_has_no_race d unmixed;
+          no_race = races_clear d (level_order d) 0 d.processes u.races;
           awake = c.2.awake;
         }

@@ -500,6 +500,10 @@ pub refusals_computed : RefusalsComputed
 refusals_computed = record {
   too_large_refused = refl;
   unformed_refused = refl;
+  compared_passes = refl;
+  turned_passes = refl;
+  compared_refused = refl;
+  signed_refused = refl;
   own_reset_refused = refl;
   on_net_refused = refl;
   stirred_refused = refl;
@@ -523,7 +527,7 @@ refusals_computed = record {
   list_second_refused = refl;
   lesser_block_refused = refl;
   first_in_text_refused = refl;
-  and_gate_passes = record { widths = refl; blocks = refl; drivers = refl; clocks = refl; no_cycle = refl; zero = refl };
+  and_gate_passes = record { widths = refl; blocks = refl; drivers = refl; clocks = refl; no_cycle = refl; races = refl; zero = refl };
 }
 
 greatest_is_accepted : IsAcceptedDesign greatest clk

@@ -48,7 +48,7 @@ together_computed = record {
   formed_address = refl;
   stepped_size = refl;
   stepped_free = refl;
-  stepped_refused = (refl, refl);
+  stepped_passes = record { widths = refl; blocks = refl; drivers = refl; clocks = refl; no_cycle = refl; races = refl; zero = refl };
   stepped_ends = refl;
   stepped_word = refl;
   raced_bits = refl;

@@ -45,6 +45,7 @@ pub mod SleepingIs
 pub mod Apart
 pub mod LevelTurns
 pub mod CycleFound
+pub mod Stirring
 pub mod OrderFacts
 pub mod OpenPaths
 pub mod SlotEnds

@@ -1,26 +1,22 @@
--- What a design without a race gives of its network, and that one whose clocked blocks write nothing at once has none.
-use Rattle.std.proofs.Common.{◌≡◌, ◌≢◌, ℕ, zero, suc, ◌+◌, Bool, true, false, List, [], ◌∷◌, ◌++◌, ◌||◌, ◌&&◌, ◌==◌, if◌then◌else◌, ◌⊎◌, inl, inr, refl, sym, ap, ◌∙◌, subst, Option, Some, None, eqb-true, ne_eqb, arith}
+-- What a design without a race gives of its network.
+use Rattle.std.proofs.Common.{◌≡◌, ◌≢◌, ℕ, zero, suc, ◌+◌, Bool, true, false, List, [], ◌∷◌, ◌++◌, ◌||◌, ◌&&◌, ◌==◌, if◌then◌else◌, ◌⊎◌, inl, inr, refl, sym, ap, ◌∙◌, subst, Option, Some, eqb-true, ne_eqb, arith}
 use Rattle.std.specs.Prelude.{filter, slice_get}
-use Rattle.std.specs.List.{list_any, list_all}
+use Rattle.std.specs.List.{list_any}
 use Rattle.vs_four.specs.Logic.{BitList, truth}
 use Rattle.vs_four.specs.Tables.{is_one}
 use Rattle.vs_net.specs.Network.{State, Effect, write_all, is_written}
 use Rattle.vs_design.specs.Statements.{CaseKind, Target, Statement, Empty, Assignment, Then, If, Case, Arms, Arm, Default, case_width, case_sign}
 use Rattle.vs_design.specs.Values.{own_value, value}
 use Rattle.vs_design.specs.Bodies.{assignment_writes, effect_of, body, arms_body, is_taken}
-use Rattle.vs_design.specs.Designs.{Process, Continuous, Always, is_clocked, Design}
+use Rattle.vs_design.specs.Designs.{Process, is_clocked, Design}
 use Rattle.vs_design.specs.Footprints.{contains, target_bits, writes_of, reads_of}
 use Rattle.vs_design.specs.Fits.{fits_target, is_fit, fit_items, fits_statement, fits_arms}
-use Rattle.vs_design.specs.Levels.{needs, is_order_after, level_order}
-use Rattle.vs_design.specs.Races.{blocking_bits, arms_blocking, at_once_bits, stirred_at, stir, stirred, raced_from, race_bits, is_none, race_free}
-use Rattle.vs_design.specs.Rules.{mixed_in, mixed_in_arms, mixed_assigns}
-use Rattle.vs_design.specs.Accepted.{is_empty}
-use Rattle.vs_design.specs.Laws.{UnmixedHasNoRace}
+use Rattle.vs_design.specs.Levels.{needs, is_order_after}
+use Rattle.vs_design.specs.Races.{blocking_bits, arms_blocking, stirred_at, stir, stirred, raced_from, race_bits, is_none, race_free}
 use Rattle.vs_design.proofs.Lists.{by_test, and_both, or_left, or_right, contains-left, contains-right}
 use Rattle.vs_design.proofs.Writes.{either_way, written-append, assignment_within}
 use Rattle.vs_design.proofs.Order.{turn_of, all_at_end, Turn}
 use Rattle.vs_design.proofs.BodyExact.{cond_of}
-use Rattle.vs_design.proofs.Drivers.{empty_is}
 
 -- ---- what is written at once
 
@@ -82,7 +78,7 @@ any_meets bits (c ∷ ns) b h k = by_test (b == c)
     (λ e. or_left (contains bits c) (list_any (contains bits) ns) (subst (λ x. contains bits x ≡ true) (eqb-true b c e) h))
     (λ e. or_right (contains bits c) (list_any (contains bits) ns) (any_meets bits ns b h (subst (λ t. (t || contains ns b) ≡ true) e k)))
 
-split : (xs ys : List ℕ) (b : ℕ) → contains (xs ++ ys) b ≡ true → (contains xs b ≡ true) ⊎ (contains ys b ≡ true)
+pub split : (xs ys : List ℕ) (b : ℕ) → contains (xs ++ ys) b ≡ true → (contains xs b ≡ true) ⊎ (contains ys b ≡ true)
 split [] ys b h = inr h
 split (x ∷ xs) ys b h = by_test (b == x)
     (λ e. inl (or_left (b == x) (contains xs b) e))
@@ -197,79 +193,3 @@ free_at d order k (y ∷ ps) (suc n) x h e =
 pub no_race_at : (d : Design) (order : List ℕ) (p q : ℕ) (x y : Process) (b : ℕ) → race_free d order 0 d.processes ≡ true → slice_get d.processes p ≡ Some x → is_clocked x ≡ true → slice_get d.processes q ≡ Some y → q ≢ p → contains (reads_of x) b ≡ true → contains (stirred d order y) b ≡ false
 no_race_at d order p q x y b h e k f ne c =
     unraced d order (reads_of x) p 0 d.processes q y b (subst (λ (t : Bool). (if t then raced_from d order (reads_of x) p 0 d.processes else []) ≡ []) k (subst (λ m. race_bits d order m x ≡ []) (omega arith) (free_at d order 0 d.processes p x h e))) f (λ g. ne (omega (arith, g))) c
-
--- ---- blocks that write nothing at once
-
-no_place : (t : Bool) (place : ℕ) → (if t then place ∷ [] else []) ≡ [] → t ≡ false
-no_place true place h = cc
-no_place false place h = refl
-
-mutual
-  none_blocking : (st : Statement) → mixed_in true st ≡ [] → blocking_bits st ≡ []
-  none_blocking Empty h = refl
-  none_blocking (Assignment place target e true) h = cc
-  none_blocking (Assignment place target e false) h = refl
-  none_blocking (Then first rest) h =
-      let k = none_append (mixed_in true first) (mixed_in true rest) h in
-      ap (λ xs. xs ++ blocking_bits rest) (none_blocking first k.0) ∙ none_blocking rest k.1
-  none_blocking (If c taken other) h =
-      let k = none_append (mixed_in true taken) (mixed_in true other) h in
-      ap (λ xs. xs ++ blocking_bits other) (none_blocking taken k.0) ∙ none_blocking other k.1
-  none_blocking (Case kind subject arms) h = arms_none_blocking arms h
-
-  arms_none_blocking : (arms : Arms) → mixed_in_arms true arms ≡ [] → arms_blocking arms ≡ []
-  arms_none_blocking (Arm items statement rest) h =
-      let k = none_append (mixed_in true statement) (mixed_in_arms true rest) h in
-      ap (λ xs. xs ++ arms_blocking rest) (none_blocking statement k.0) ∙ arms_none_blocking rest k.1
-  arms_none_blocking (Default statement) h = none_blocking statement h
-
-none_at_once : (x : Process) → mixed_assigns x ≡ [] → at_once_bits x ≡ []
-none_at_once (Continuous place port target_place target e) h = refl
-none_at_once (Always place star events st) h = by_test (is_clocked (Always place star events st))
-    (λ k. ap (λ (t : Bool). if t then blocking_bits st else []) k ∙ none_blocking st (subst (λ t. mixed_in t st ≡ []) k h))
-    (λ k. ap (λ (t : Bool). if t then blocking_bits st else []) k)
-
-none_meets : (ns : List ℕ) → list_any (contains []) ns ≡ false
-none_meets [] = refl
-none_meets (n ∷ ns) = none_meets ns
-
-none_stirred_at : (o : Option Process) → stirred_at [] o ≡ []
-none_stirred_at None = refl
-none_stirred_at (Some x) = ap (λ (t : Bool). if t then writes_of x else []) (none_meets (needs x))
-
-none_stir : (d : Design) (order : List ℕ) → stir d order [] ≡ []
-none_stir d [] = refl
-none_stir d (p ∷ order) = ap (stir d order) (none_stirred_at (slice_get d.processes p)) ∙ none_stir d order
-
-none_stirred : (d : Design) (order : List ℕ) (x : Process) → mixed_assigns x ≡ [] → stirred d order x ≡ []
-none_stirred d order x h = ap (stir d order) (none_at_once x h) ∙ none_stir d order
-
-no_filtered : (xs : List ℕ) → filter (contains []) xs ≡ []
-no_filtered [] = refl
-no_filtered (x ∷ xs) = no_filtered xs
-
-none_met : (t : Bool) (ys bits : List ℕ) → ys ≡ [] → (if t then [] else filter (contains ys) bits) ≡ []
-none_met true ys bits h = refl
-none_met false ys bits h = ap (λ zs. filter (contains zs) bits) h ∙ no_filtered bits
-
-abbrev AreUnmixed : List Process → Type 0
-AreUnmixed ps = list_all (λ p. is_empty (mixed_assigns p)) ps ≡ true
-
-none_raced : (d : Design) (order bits : List ℕ) (p k : ℕ) (ps : List Process) → AreUnmixed ps → raced_from d order bits p k ps ≡ []
-none_raced d order bits p k [] h = refl
-none_raced d order bits p k (x ∷ ps) h =
-    let g = and_both (is_empty (mixed_assigns x)) (list_all (λ y. is_empty (mixed_assigns y)) ps) h in
-    ap (λ xs. xs ++ raced_from d order bits p (suc k) ps) (none_met (k == p) (stirred d order x) bits (none_stirred d order x (empty_is (mixed_assigns x) g.0)))
-    ∙ none_raced d order bits p (suc k) ps g.1
-
-none_races : (d : Design) (order : List ℕ) (p : ℕ) (x : Process) → AreUnmixed d.processes → race_bits d order p x ≡ []
-none_races d order p x h = by_test (is_clocked x)
-    (λ k. ap (λ (t : Bool). if t then raced_from d order (reads_of x) p 0 d.processes else []) k ∙ none_raced d order (reads_of x) p 0 d.processes h)
-    (λ k. ap (λ (t : Bool). if t then raced_from d order (reads_of x) p 0 d.processes else []) k)
-
-all_free : (d : Design) (order : List ℕ) (k : ℕ) (ps : List Process) → AreUnmixed d.processes → race_free d order k ps ≡ true
-all_free d order k [] h = refl
-all_free d order k (x ∷ ps) h = ap (λ xs. is_none xs && race_free d order (suc k) ps) (none_races d order k x h) ∙ all_free d order (suc k) ps h
-
-pub unmixed_has_no_race : UnmixedHasNoRace
-unmixed_has_no_race d h = all_free d (level_order d) 0 d.processes h

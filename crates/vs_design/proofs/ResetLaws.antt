@@ -9,7 +9,7 @@ use Rattle.vs_four.specs.Logic.{BitList, truth}
 use Rattle.vs_net.specs.Network.{State, Update, Effect, to_value, Network, Kind, AnInput, AnAssign, kind, writes, effects}
 use Rattle.vs_net.specs.Network as N
 use Rattle.vs_net.specs.Lawful.{IsClockPort, IsResetPort}
-use Rattle.vs_design.specs.Expressions.{Signal, signal_length, Expression, Literal, Name, Select, Word, Unary, BitNot, LogicalNot, Binary, Choice, Join, Repeat, At, Call, sign}
+use Rattle.vs_design.specs.Expressions.{Signal, signal_length, Expression, Literal, Name, Select, Word, Unary, BitNot, LogicalNot, Binary, Choice, Join, Repeat, At, Call, width, sign, is_constant}
 use Rattle.vs_design.specs.Values.{bits_of_signal, count_from, own_value, value}
 use Rattle.vs_design.specs.Statements.{Target, Whole, Statement, Empty, Assignment, Then, If, Case}
 use Rattle.vs_design.specs.Bodies.{body}
@@ -17,13 +17,14 @@ use Rattle.vs_design.specs.Designs.{Edge, Any, Posedge, Negedge, Event, Port, Pr
 use Rattle.vs_design.specs.Footprints.{contains, read_bits, target_reads, target_bits, statement_signals, writes_of, signals_bits}
 use Rattle.vs_design.specs.Elaborated.{is_formed, is_formed_statement, is_formed_process, are_formed_events}
 use Rattle.vs_design.specs.Clocks.{name_of, is_one_of, port_target, clock_nets, is_clock_port, may_reset, first_of, one_bit_inputs, root_of, Events, ByClock, ByBoth}
-use Rattle.vs_design.specs.Resets.{is_signal, inverted, is_condition, has_none, is_fixed, reset_branch, branch_writes, branch_updates, net_edge, reset_with, reset_by, are_constant}
+use Rattle.vs_design.specs.Resets.{is_signal, inverted, is_equality, beside_constant, compared, alone, holds_at, is_comparison, is_condition, has_none, is_fixed, reset_branch, branch_writes, branch_updates, net_edge, reset_with, reset_by, are_constant}
 use Rattle.vs_design.specs.Calls.{statement_calls}
 use Rattle.vs_design.specs.Levels.{level_order}
 use Rattle.vs_design.specs.Networks.{network_of, process_of, events_in}
 use Rattle.vs_design.specs.Accepted.{IsAcceptedDesign}
-use Rattle.vs_design.proofs.Lists.{by_test, and_both, or_left, or_right, contains-left, contains-right}
+use Rattle.vs_design.proofs.Lists.{by_test, and_both, or_left, or_right, contains-append, contains-left, contains-right, or_false}
 use Rattle.vs_design.proofs.Writes.{either_way}
+use Rattle.vs_design.proofs.ReadValue.{constant_reads, value_reads}
 use Rattle.vs_design.proofs.Blocks.{body_reads}
 use Rattle.vs_design.proofs.Drivers.{one_process}
 use Rattle.vs_design.proofs.Order.{no_loop}
@@ -139,12 +140,73 @@ inverse_value (Join high low) s h l r = cc
 inverse_value (Repeat count a) s h l r = cc
 inverse_value (Call header statement arguments) s h l r = cc
 
+-- a name beside a constant is all that the two read
+beside_reads : (a c : Expression) (s : Signal) → beside_constant a c ≡ Some s → signal_length s ≡ 1 → (n : ℕ) → contains (read_bits a ++ read_bits c) n ≡ true → n ≡ s.first
+beside_reads a c s h l n m =
+    by_test (is_constant c)
+    (λ q. by_name a (subst (λ (t : Bool). (if t then name_of a else (if is_constant a then name_of c else None)) ≡ Some s) q h) (either (constant_reads c q n)))
+    (λ q. by_test (is_constant a)
+    (λ k. by_name c (subst (λ (t : Bool). (if t then name_of c else None) ≡ Some s) k (subst (λ (t : Bool). (if t then name_of a else (if is_constant a then name_of c else None)) ≡ Some s) q h)) (other (constant_reads a k n)))
+    (λ k. none (subst (λ (t : Bool). (if t then name_of c else None) ≡ Some s) k (subst (λ (t : Bool). (if t then name_of a else (if is_constant a then name_of c else None)) ≡ Some s) q h))))
+  where
+    none : None ≡ Some s → n ≡ s.first
+    none e = cc
+
+    in_both : (contains (read_bits a) n || contains (read_bits c) n) ≡ true
+    in_both = sym (contains-append (read_bits a) (read_bits c) n) ∙ m
+
+    either : contains (read_bits c) n ≡ false → contains (read_bits a) n ≡ true
+    either e = by_test (contains (read_bits a) n) (λ q. q) (λ q. absurd (either_way (contains (read_bits a) n || contains (read_bits c) n) in_both (or_false _ _ q e)))
+
+    other : contains (read_bits a) n ≡ false → contains (read_bits c) n ≡ true
+    other e = by_test (contains (read_bits c) n) (λ q. q) (λ q. absurd (either_way (contains (read_bits a) n || contains (read_bits c) n) in_both (or_false _ _ e q)))
+
+    by_name : (x : Expression) → name_of x ≡ Some s → contains (read_bits x) n ≡ true → n ≡ s.first
+    by_name x e k = one_listed s.first n (subst (λ xs. contains xs n ≡ true) ((name_facts x s e).reads_is ∙ one_bit_of s l) k)
+
+-- a comparison with a constant reads the signal alone
+compared_reads : (c : Expression) (s : Signal) → compared c ≡ Some s → signal_length s ≡ 1 → (n : ℕ) → contains (read_bits c) n ≡ true → n ≡ s.first
+compared_reads (Binary op a d) s h l n m = by_test (is_equality op)
+    (λ q. beside_reads a d s (subst (λ (t : Bool). (if t then beside_constant a d else None) ≡ Some s) q h) l n m)
+    (λ q. none (subst (λ (t : Bool). (if t then beside_constant a d else None) ≡ Some s) q h))
+  where
+    none : None ≡ Some s → n ≡ s.first
+    none e = cc
+compared_reads (At place e) s h l n m = compared_reads e s h l n m
+compared_reads (Literal bits signed sized) s h l n m = cc
+compared_reads (Name signal) s h l n m = cc
+compared_reads (Select source part index) s h l n m = cc
+compared_reads (Word signal index) s h l n m = cc
+compared_reads (Unary op a) s h l n m = cc
+compared_reads (Choice c p q) s h l n m = cc
+compared_reads (Join high low) s h l n m = cc
+compared_reads (Repeat count a) s h l n m = cc
+compared_reads (Call header statement arguments) s h l n m = cc
+
+compared_holds : (b : ℕ) (v : Bit4) (c : Expression) (r : State) → is_comparison b v c ≡ true → r b ≡ v → is_one (truth (own_value c r)) ≡ true
+compared_holds b v c r h e =
+    let p = and_both (is_signal b (compared c)) (holds_at b v c) h in
+    let s = signal_is (compared c) b p.0 in
+    subst (λ (bits : BitList). is_one (truth bits) ≡ true) (value_reads c (width c) (sign c) (alone b v) r (λ n m. same n (compared_reads c s.0 s.1 s.2 n m ∙ s.3))) p.1
+  where
+    same : (n : ℕ) → n ≡ b → alone b v n ≡ r n
+    same n q = ap (λ (t : Bool). if t then v else X) (eq-eqb n b q) ∙ sym e ∙ ap r (sym q)
+
 -- where the reset is active its condition holds
 condition_holds : (edge : Edge) (b : ℕ) (c : Expression) (r : State) → is_condition edge b c ≡ true → r b ≡ to_value (net_edge edge) → is_one (truth (own_value c r)) ≡ true
-condition_holds Posedge b c r h e = posedge_holds c b r h e
+condition_holds Posedge b c r h e =
+    by_test (is_signal b (name_of c))
+    (λ q. posedge_holds c b r q e)
+    (λ q. compared_holds b One c r (subst (λ (t : Bool). (t || is_comparison b One c) ≡ true) q h) e)
 condition_holds Negedge b c r h e =
-    let s = signal_is (inverted c) b h in
-    rw (inverse_value c s.0 s.1 s.2 r) (ap (λ (v : Bit4). is_one (truth (not_bit v ∷ []))) (ap r s.3 ∙ e))
+    by_test (is_signal b (inverted c))
+    (λ q. negedge_holds q)
+    (λ q. compared_holds b Zero c r (subst (λ (t : Bool). (t || is_comparison b Zero c) ≡ true) q h) e)
+  where
+    negedge_holds : is_signal b (inverted c) ≡ true → is_one (truth (own_value c r)) ≡ true
+    negedge_holds q =
+        let s = signal_is (inverted c) b q in
+        rw (inverse_value c s.0 s.1 s.2 r) (ap (λ (v : Bit4). is_one (truth (not_bit v ∷ []))) (ap r s.3 ∙ e))
 condition_holds Any b c r h e = cc
 
 -- ---- what a reset does

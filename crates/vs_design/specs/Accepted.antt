@@ -45,7 +45,7 @@ pub record IsAcceptedDesign (d : Design) (name : Option (List ℕ)) : Type 0 whe
   pub reset_forms : list_any (has_other_form (clock_nets d clock.first) (root_of d clock.first)) d.processes ≡ false
   -- Cycle
   pub no_cycle : has_no_cycle d ≡ true
-  -- no clocked block reads what another one writes at once; MixedAssign leaves none that writes at once (`race_law`)
+  -- Race
   pub no_race : has_no_race d ≡ true
   -- TimeZero
   pub awake : list_any (is_uncertain d (families d clock.first (level_order d))) d.processes ≡ false

@@ -5,7 +5,7 @@ use Rattle.vs_design.specs.Elaborated.{IsLawfulDesign}
 use Rattle.vs_design.specs.Levels.{has_no_cycle}
 use Rattle.vs_design.specs.Cycles.{IsCycle}
 use Rattle.vs_design.specs.Accepted.{IsAcceptedDesign}
-use Rattle.vs_design.specs.Refusals.{WidthRefusal, width_refusal, BlockRefusal, block_refusal, DriverRefusal, driver_refusal, ClockRefusal, clock_refusal, ZeroRefusal, zero_refusal, place_at}
+use Rattle.vs_design.specs.Refusals.{WidthRefusal, width_refusal, BlockRefusal, block_refusal, DriverRefusal, driver_refusal, ClockRefusal, clock_refusal, RaceRefusal, race_refusal, ZeroRefusal, zero_refusal, place_at}
 
 pub data DesignRefusal : Type 0 where
   OfWidth : (refusal : WidthRefusal) → DesignRefusal
@@ -14,6 +14,7 @@ pub data DesignRefusal : Type 0 where
   OfClock : (refusal : ClockRefusal) → DesignRefusal
   -- at the first of the processes
   Cycle : (processes : List ℕ) (at : ℕ) → DesignRefusal
+  OfRace : (refusal : RaceRefusal) → DesignRefusal
   OfZero : (refusal : ZeroRefusal) → DesignRefusal
 
 abbrev pub first_of : List ℕ → ℕ
@@ -27,7 +28,8 @@ IsRefusedBy d name (OfBlock r) = (width_refusal d ≡ None) × (block_refusal d 
 IsRefusedBy d name (OfDriver r) = (width_refusal d ≡ None) × (block_refusal d ≡ None) × (driver_refusal d ≡ Some r)
 IsRefusedBy d name (OfClock r) = (width_refusal d ≡ None) × (block_refusal d ≡ None) × (driver_refusal d ≡ None) × (clock_refusal d name ≡ Some r)
 IsRefusedBy d name (Cycle processes at) = (width_refusal d ≡ None) × (block_refusal d ≡ None) × (driver_refusal d ≡ None) × (clock_refusal d name ≡ None) × IsCycle d processes × (at ≡ place_at d.processes (first_of processes))
-IsRefusedBy d name (OfZero r) = (width_refusal d ≡ None) × (block_refusal d ≡ None) × (driver_refusal d ≡ None) × (clock_refusal d name ≡ None) × (has_no_cycle d ≡ true) × (zero_refusal d name ≡ Some r)
+IsRefusedBy d name (OfRace r) = (width_refusal d ≡ None) × (block_refusal d ≡ None) × (driver_refusal d ≡ None) × (clock_refusal d name ≡ None) × (has_no_cycle d ≡ true) × (race_refusal d ≡ Some r)
+IsRefusedBy d name (OfZero r) = (width_refusal d ≡ None) × (block_refusal d ≡ None) × (driver_refusal d ≡ None) × (clock_refusal d name ≡ None) × (has_no_cycle d ≡ true) × (race_refusal d ≡ None) × (zero_refusal d name ≡ Some r)
 
 -- a design that elaboration gives is accepted or refused, and not both
 abbrev pub AcceptedOrRefused : Type 0

@@ -1,4 +1,4 @@
--- Worked designs with blocking assignments in clocked blocks: what the queue makes of them, which have a race, and that the rule MixedAssign refuses them.
+-- Worked designs with blocking assignments in clocked blocks: what the queue makes of them, and which of them the rules Race and MixedAssign refuse.
 use Rattle.std.specs.Prelude.{◌≡◌, true, false, [], ◌∷◌, codes, None}
 use Rattle.vs_four.specs.declared.Bit4.TheVariants.{Zero, One, X}
 use Rattle.vs_design.specs.Expressions.{Signal, Name, Unary, BitNot}
@@ -7,8 +7,8 @@ use Rattle.vs_design.specs.Designs.{Posedge, Always, Design}
 use Rattle.vs_design.specs.Levels.{level_order}
 use Rattle.vs_design.specs.Races.{stirred, race_bits, has_no_race}
 use Rattle.vs_design.specs.Sizes.{size}
-use Rattle.vs_design.specs.Refusals.{MixedAssign}
-use Rattle.vs_design.specs.Answers.{OfBlock, IsRefusedBy}
+use Rattle.vs_design.specs.Refusals.{MixedAssign, Race, IsUnrefused}
+use Rattle.vs_design.specs.Answers.{OfBlock, OfRace, IsRefusedBy}
 use Rattle.vs_design.specs.ExampleParts.{clk, clk_signal, input_of, wire_of, reg_of, to_zero, lit, dec, bit, blocking, nonblocking, assign, on_posedge, design_of, slot_ends}
 
 abbrev pub d1 : Signal
@@ -71,27 +71,31 @@ pub record BlockingComputed : Type 0 where
   -- bits clk, d, q, t
   pub temporary_size : size temporary ≡ 9
   pub temporary_free : has_no_race temporary ≡ true
-  pub temporary_refused : IsRefusedBy temporary clk (OfBlock (MixedAssign 10))
+  pub temporary_passes : IsUnrefused temporary clk
   pub temporary_ends : slot_ends temporary (Zero ∷ One ∷ []) ((Zero ∷ Zero ∷ []) ∷ []) ≡
       ((Zero ∷ One ∷ X ∷ X ∷ []) ∷ (One ∷ One ∷ Zero ∷ One ∷ []) ∷ (Zero ∷ Zero ∷ Zero ∷ One ∷ []) ∷ (One ∷ Zero ∷ One ∷ Zero ∷ []) ∷ [])
   -- a variable that is read before it is written is a register
   pub read_first_size : size read_first ≡ 8
   pub read_first_free : has_no_race read_first ≡ true
-  pub read_first_refused : IsRefusedBy read_first clk (OfBlock (MixedAssign 20))
+  pub read_first_passes : IsUnrefused read_first clk
   pub read_first_ends : slot_ends read_first (Zero ∷ One ∷ []) ((Zero ∷ Zero ∷ []) ∷ []) ≡
       ((Zero ∷ One ∷ X ∷ X ∷ []) ∷ (One ∷ One ∷ X ∷ One ∷ []) ∷ (Zero ∷ Zero ∷ X ∷ One ∷ []) ∷ (One ∷ Zero ∷ One ∷ Zero ∷ []) ∷ [])
   -- another clocked block reads it, or what is made of it
   pub raced_bits : race_bits raced (level_order raced) 1 (on_posedge 20 clk_signal (nonblocking 30 q2 (Name t3))) ≡ 3 ∷ []
   pub raced_races : has_no_race raced ≡ false
+  pub raced_refused : IsRefusedBy raced clk (OfRace (Race 1 3 20))
   pub through_stirs : stirred raced_through (level_order raced_through) (on_posedge 30 clk_signal (blocking 40 t3 (Name d1))) ≡ 3 ∷ 4 ∷ []
   pub through_bits : race_bits raced_through (level_order raced_through) 0 (on_posedge 0 clk_signal (nonblocking 10 q2 (Name y4))) ≡ 4 ∷ []
   pub through_races : has_no_race raced_through ≡ false
-  -- `=` and `<=` to one register: bits clk, d, q
+  pub through_refused : IsRefusedBy raced_through clk (OfRace (Race 0 4 0))
+  -- `=` and `<=` to one register, which no program is made of: bits clk, d, q
   pub twice_size : size twice ≡ 16
   pub twice_free : has_no_race twice ≡ true
+  pub twice_refused : IsRefusedBy twice clk (OfBlock (MixedAssign 10))
   pub twice_ends : slot_ends twice (Zero ∷ One ∷ Zero ∷ []) ((Zero ∷ Zero ∷ One ∷ []) ∷ []) ≡
       ((Zero ∷ One ∷ Zero ∷ X ∷ X ∷ []) ∷ (One ∷ One ∷ Zero ∷ One ∷ Zero ∷ []) ∷ (Zero ∷ Zero ∷ One ∷ One ∷ Zero ∷ []) ∷ (One ∷ Zero ∷ One ∷ X ∷ X ∷ []) ∷ [])
   -- an asynchronous reset: bits clk, r, d, q, t
   pub reset_free : has_no_race reset_at_once ≡ true
+  pub reset_passes : IsUnrefused reset_at_once clk
   pub reset_ends : slot_ends reset_at_once (Zero ∷ Zero ∷ One ∷ []) ((Zero ∷ One ∷ One ∷ []) ∷ (Zero ∷ Zero ∷ Zero ∷ []) ∷ []) ≡
       ((Zero ∷ Zero ∷ One ∷ X ∷ X ∷ []) ∷ (One ∷ Zero ∷ One ∷ Zero ∷ One ∷ []) ∷ (Zero ∷ One ∷ One ∷ Zero ∷ Zero ∷ []) ∷ (One ∷ One ∷ One ∷ Zero ∷ Zero ∷ []) ∷ (Zero ∷ Zero ∷ Zero ∷ Zero ∷ Zero ∷ []) ∷ (One ∷ Zero ∷ Zero ∷ One ∷ Zero ∷ []) ∷ [])

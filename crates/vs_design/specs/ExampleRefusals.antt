@@ -1,8 +1,9 @@
 -- Worked designs that are refused, and with what.
-use Rattle.std.specs.Prelude.{◌≡◌, false, List, [], ◌∷◌, None, Some, codes, replicate}
-use Rattle.vs_design.specs.Expressions.{Signal, BitNot, Multiply, Divide, BitAnd, BitOr, Name, Unary, Binary, Join, Repeat, At, items_of}
+use Rattle.std.specs.Prelude.{◌≡◌, true, false, List, [], ◌∷◌, None, Some, codes, replicate}
+use Rattle.vs_four.specs.declared.Bit4.TheVariants.{Zero, One}
+use Rattle.vs_design.specs.Expressions.{Signal, BitNot, Multiply, Divide, BitAnd, BitOr, Equal, CaseEqual, Expression, Literal, Name, Unary, Binary, Join, Repeat, At, items_of}
 use Rattle.vs_design.specs.Statements.{Whole, Both, Statement, Exact, Empty, If, Then, Case, Arm, Default}
-use Rattle.vs_design.specs.Designs.{Any, Posedge, Always, Process, Design}
+use Rattle.vs_design.specs.Designs.{Edge, Any, Posedge, Negedge, Always, Process, Design}
 use Rattle.vs_design.specs.Levels.{has_no_cycle}
 use Rattle.vs_design.specs.Cycles.{IsCycle}
 use Rattle.vs_design.specs.Refusals.{TooWide, Division, TooLarge, width_refusal, MixedAssign, Sensitivity, Latch, block_refusal, TwoDrivers, driver_refusal, NoClock, ClockRead, NotTheClock, ResetForm, clock_refusal, TimeZero, zero_refusal, IsUnrefused}
@@ -26,6 +27,13 @@ stirred = design_of (clk_signal ∷ d1 ∷ q2 ∷ y3 ∷ []) (on_posedge 60 clk_
 -- `always @(posedge clk or posedge d) if (d) q <= d; else q <= 1'b1;`
 abbrev pub unformed : Design
 unformed = design_of (clk_signal ∷ d1 ∷ q2 ∷ []) (Always 60 false (record { signal = clk_signal; edge = Posedge } ∷ record { signal = d1; edge = Posedge } ∷ []) (If (Name d1) (nonblocking 90 q2 (Name d1)) (nonblocking 95 q2 (dec 1 1))) ∷ [])
+
+-- `if (c) q <= 1'b0; else q <= 1'b1;` on clk and this edge of d
+abbrev pub reset_when : Edge → Signal → Expression → Design
+reset_when edge d c = design_of (clk_signal ∷ d ∷ q2 ∷ []) (Always 60 false (record { signal = clk_signal; edge = Posedge } ∷ record { signal = d; edge = edge } ∷ []) (If c (nonblocking 90 q2 (dec 1 0)) (nonblocking 95 q2 (dec 1 1))) ∷ [])
+
+abbrev pub d1_signed : Signal
+d1_signed = record d1 { signed = true }
 
 -- `always @(posedge clk or posedge q) if (q) q <= 1'b0;`
 abbrev pub own_reset : Design
@@ -117,6 +125,11 @@ pub record RefusalsComputed : Type 0 where
   pub too_large_refused : width_refusal (design_of (clk_signal ∷ a64 ∷ b64 ∷ y64 ∷ []) (replicate 1024 (assign 0 (Whole y64) (Binary Multiply (Name a64) (Name b64))))) ≡ Some (TooLarge 16842881)
   -- a block that waits on a net: `assign w = 1'b0; always @* y = w;`
   pub unformed_refused : clock_refusal unformed clk ≡ Some (ResetForm 0 60)
+  -- `d == 1'b1` of posedge, and `0 === d` of negedge; `d == 1'b0` of posedge isn't one, nor `d == 2'sb01` of a signed d, which is -1 where it is 1
+  pub compared_passes : clock_refusal (reset_when Posedge d1 (Binary Equal (Name d1) (dec 1 1))) clk ≡ None
+  pub turned_passes : clock_refusal (reset_when Negedge d1 (Binary CaseEqual (dec 32 0) (Name d1))) clk ≡ None
+  pub compared_refused : clock_refusal (reset_when Posedge d1 (Binary Equal (Name d1) (dec 1 0))) clk ≡ Some (ResetForm 0 60)
+  pub signed_refused : clock_refusal (reset_when Posedge d1_signed (Binary Equal (Name d1_signed) (Literal (One ∷ Zero ∷ []) true true))) clk ≡ Some (ResetForm 0 60)
   pub own_reset_refused : clock_refusal own_reset clk ≡ Some (NotTheClock 0 60)
   pub on_net_refused : zero_refusal on_net clk ≡ Some (TimeZero 1 62)
   -- a block that waits on a register that may be written twice in a run

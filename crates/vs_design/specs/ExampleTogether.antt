@@ -12,8 +12,7 @@ use Rattle.vs_design.specs.Lifted.{own_sets}
 use Rattle.vs_design.specs.Elaborated.{is_formed, is_formed_header, is_formed_function}
 use Rattle.vs_design.specs.Races.{race_bits, has_no_race}
 use Rattle.vs_design.specs.Levels.{level_order}
-use Rattle.vs_design.specs.Refusals.{MixedAssign}
-use Rattle.vs_design.specs.Answers.{OfBlock, IsRefusedBy}
+use Rattle.vs_design.specs.Refusals.{IsUnrefused}
 use Rattle.vs_design.specs.Accepted.{IsAcceptedDesign}
 use Rattle.vs_design.specs.ExampleParts.{clk, clk_signal, wire_of, reg_of, to_zero, lit, dec, blocking, assign, on_posedge, slot_ends}
 use Rattle.vs_design.specs.ExampleCalls.{local_input, function_of, call, design_with}
@@ -89,7 +88,7 @@ pub record TogetherComputed : Type 0 where
   -- the design: bits clk, w, a, d, q, m. The second assignment reads what the first one wrote
   pub stepped_size : size stepped ≡ 189
   pub stepped_free : has_no_race stepped ≡ true
-  pub stepped_refused : IsRefusedBy stepped clk (OfBlock (MixedAssign 131))
+  pub stepped_passes : IsUnrefused stepped clk
   pub stepped_ends : after_clock (slot_ends stepped written_word (other_word ∷ same_word ∷ [])) ≡
       ((X ∷ X ∷ replicate 8 X) ∷ (One ∷ One ∷ (replicate 4 X ++ Zero ∷ One ∷ X ∷ X ∷ [])) ∷ (X ∷ X ∷ (replicate 4 X ++ Zero ∷ One ∷ X ∷ X ∷ [])) ∷ (X ∷ X ∷ (replicate 4 X ++ Zero ∷ One ∷ X ∷ X ∷ []))
       ∷ (One ∷ One ∷ (replicate 4 X ++ Zero ∷ One ∷ X ∷ X ∷ [])) ∷ (One ∷ One ∷ (replicate 4 X ++ Zero ∷ One ∷ X ∷ X ∷ [])) ∷ [])

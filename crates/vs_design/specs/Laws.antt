@@ -13,14 +13,14 @@ use Rattle.vs_net.specs.Bound.{IsWeighed, bound, IsPartOfRun, HasNoNext}
 use Rattle.vs_design.specs.Statements.{Statement}
 use Rattle.vs_design.specs.Designs.{Event, Process, Always, is_clocked, Design, bit_count}
 use Rattle.vs_design.specs.Footprints.{contains, all_reads, writes_of, waits_of, input_bits, ascending}
-use Rattle.vs_design.specs.Races.{has_no_race}
-use Rattle.vs_design.specs.Rules.{mixed_assigns, missing_bits}
+use Rattle.vs_design.specs.Rules.{missing_bits}
 use Rattle.vs_design.specs.Clocks.{port_targets, clock_nets, root_of, reads_clock, has_other_clock}
 use Rattle.vs_design.specs.Networks.{network_of}
 use Rattle.vs_design.specs.Bounds.{feeds_of, size_of}
-use Rattle.vs_design.specs.Levels.{is_level_order}
+use Rattle.vs_design.specs.Levels.{level_order, is_level_order}
 use Rattle.vs_design.specs.Elaborated.{IsLawfulDesign}
 use Rattle.vs_design.specs.Cycles.{IsDecided, IsOrder}
+use Rattle.vs_design.specs.Races.{stir, DependsOn, race_bits}
 use Rattle.vs_design.specs.Refusals.{IsUnrefused}
 use Rattle.vs_design.specs.Sleepers.{is_still, is_sleeping, sleeper_at}
 use Rattle.vs_design.specs.TimeZero.{Families, families, quiet_process, wakes}
@@ -75,9 +75,13 @@ LevelOrderIs = (d : Design) (order : List ℕ) → is_level_order d order ≡ tr
 abbrev pub AcceptedExactly : Type 0
 AcceptedExactly = (d : Design) (name : Option (List ℕ)) → IsLawfulDesign d → IsAcceptedDesign d name ↔ IsUnrefused d name
 
--- where the clocked blocks write nothing at once, no design has a race
-abbrev pub UnmixedHasNoRace : Type 0
-UnmixedHasNoRace = (d : Design) → list_all (λ p. is_empty (mixed_assigns p)) d.processes ≡ true → has_no_race d ≡ true
+-- what is stirred along a level order are the bits that depend on those that it begins with
+abbrev pub StirredBitsAre : Type 0
+StirredBitsAre = (d : Design) (order : List ℕ) → is_level_order d order ≡ true → (bits : List ℕ) (b : ℕ) → (contains (stir d order bits) b ≡ true) ↔ DependsOn d bits b
+
+-- so what breaks the rule Race is the same along each of them
+abbrev pub RaceByAnyOrder : Type 0
+RaceByAnyOrder = (d : Design) (order : List ℕ) → is_level_order d order ≡ true → (p : ℕ) (process : Process) → race_bits d order p process ≡ race_bits d (level_order d) p process
 
 -- the network of an accepted design is lawful
 abbrev pub AcceptedIsLawful : Type 0

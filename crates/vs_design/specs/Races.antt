@@ -1,5 +1,5 @@
 -- Blocking assignments in clocked blocks: what they write at once, what depends on it, and which designs have no race of clocked blocks by them (IEEE 1364-2005, 9.2 and 11.5).
-use Rattle.std.specs.Prelude.{ℕ, suc, Bool, true, false, ◌&&◌, List, [], ◌∷◌, ◌++◌, filter, if◌then◌else◌, ◌==◌, Option, Some, None, slice_get}
+use Rattle.std.specs.Prelude.{◌≡◌, ℕ, suc, Bool, true, false, ◌&&◌, List, [], ◌∷◌, ◌++◌, filter, if◌then◌else◌, ◌==◌, Option, Some, None, slice_get}
 use Rattle.std.specs.List.{list_any}
 use Rattle.vs_design.specs.Statements.{Statement, Empty, Assignment, Then, If, Case, Arms, Arm, Default}
 use Rattle.vs_design.specs.Designs.{Process, Continuous, Always, is_clocked, Design}
@@ -38,6 +38,11 @@ stir d (p ∷ order) bits = stir d order (bits ++ stirred_at bits (slice_get d.p
 abbrev pub stirred : Design → List ℕ → Process → List ℕ
 stirred d order p = stir d order (at_once_bits p)
 
+-- the bit depends on these: it is one of them, or an assign or a combinational block writes it that reads or waits on a bit which does
+pub data DependsOn (d : Design) (bits : List ℕ) : ℕ → Type 0 where
+  Itself : (b : ℕ) → contains bits b ≡ true → DependsOn d bits b
+  Through : (p : ℕ) (process : Process) (b c : ℕ) → slice_get d.processes p ≡ Some process → is_clocked process ≡ false → DependsOn d bits b → contains (needs process) b ≡ true → contains (writes_of process) c ≡ true → DependsOn d bits c
+
 -- the bits of these that any other process of the list stirs; the list is numbered from q on
 abbrev pub raced_from : Design → List ℕ → List ℕ → ℕ → ℕ → List Process → List ℕ
 raced_from d order bits p q [] = []
@@ -56,7 +61,7 @@ abbrev pub race_free : Design → List ℕ → ℕ → List Process → Bool
 race_free d order p [] = true
 race_free d order p (process ∷ ps) = is_none (race_bits d order p process) && race_free d order (suc p) ps
 
--- no clocked block reads what another one stirs; it is asked where there is a level order
+-- the rule Race: no clocked block reads what another one stirs; it is asked where there is a level order
 abbrev pub has_no_race : Design → Bool
 has_no_race d = race_free d (level_order d) 0 d.processes
 

@@ -12,8 +12,9 @@ use Rattle.vs_design.specs.Rules.{function_latches, mixed_assigns, missing_bits,
 use Rattle.vs_design.specs.Clocks.{clock_input, clock_nets, root_of, reads_clock, has_other_clock}
 use Rattle.vs_design.specs.Resets.{has_other_form}
 use Rattle.vs_design.specs.Levels.{level_order}
+use Rattle.vs_design.specs.Races.{race_bits}
 use Rattle.vs_design.specs.TimeZero.{families, is_uncertain}
-use Rattle.vs_design.specs.Refusals.{WidthRefusal, TooWide, Division, TooLarge, wide_in, divisions_in, told_size, width_refusal, BlockRefusal, FunctionLatch, MixedAssign, Sensitivity, Latch, block_refusal, DriverRefusal, TwoDrivers, driver_refusal, ClockRefusal, NoClock, ClockRead, NotTheClock, ResetForm, clock_refusal, ZeroRefusal, TimeZero, zero_refusal}
+use Rattle.vs_design.specs.Refusals.{WidthRefusal, TooWide, Division, TooLarge, wide_in, divisions_in, told_size, width_refusal, BlockRefusal, FunctionLatch, MixedAssign, Sensitivity, Latch, block_refusal, DriverRefusal, TwoDrivers, driver_refusal, ClockRefusal, NoClock, ClockRead, NotTheClock, ResetForm, clock_refusal, RaceRefusal, Race, race_refusal, ZeroRefusal, TimeZero, zero_refusal}
 
 -- n is the least of these numbers
 pub record IsLeastOf (ns : List ℕ) (n : ℕ) : Type 0 where
@@ -92,6 +93,15 @@ IsClockRefusal d name (ResetForm p at) =
 
 abbrev pub ClockRefusalIs : Type 0
 ClockRefusalIs = (d : Design) (name : Option (List ℕ)) (r : ClockRefusal) → clock_refusal d name ≡ Some r → IsClockRefusal d name r
+
+-- p is the process, b the least bit that it reads and another clocked block stirs, and no process before it reads such a bit
+abbrev pub IsRaceRefusal : Design → RaceRefusal → Type 0
+IsRaceRefusal d (Race p bit at) =
+    (process : Process) × (slice_get d.processes p ≡ Some process) × IsLeastOf (race_bits d (level_order d) p process) bit × (at ≡ process_place process)
+    × ((q : ℕ) (other : Process) → q < p → slice_get d.processes q ≡ Some other → race_bits d (level_order d) q other ≡ [])
+
+abbrev pub RaceRefusalIs : Type 0
+RaceRefusalIs = (d : Design) (r : RaceRefusal) → race_refusal d ≡ Some r → IsRaceRefusal d r
 
 abbrev pub IsZeroRefusal : Design → Option (List ℕ) → ZeroRefusal → Type 0
 IsZeroRefusal d name (TimeZero p at) = (clock : Signal) × (clock_input d name ≡ Some clock) × ((process : Process) × IsFirstOf d (is_uncertain d (families d clock.first (level_order d))) p process × (at ≡ process_place process))

@@ -11,6 +11,7 @@ use Rattle.vs_design.specs.Rules.{function_latches, mixed_assigns, missing_bits,
 use Rattle.vs_design.specs.Clocks.{clock_input, clock_nets, root_of, reads_clock, has_other_clock}
 use Rattle.vs_design.specs.Resets.{has_other_form}
 use Rattle.vs_design.specs.Levels.{level_order, has_no_cycle}
+use Rattle.vs_design.specs.Races.{race_bits}
 use Rattle.vs_design.specs.TimeZero.{families, is_uncertain}
 
 -- the least of these and n
@@ -240,6 +241,16 @@ clock_refusal_by d (Some clock) =
 abbrev pub clock_refusal : Design → Option (List ℕ) → Option ClockRefusal
 clock_refusal d name = clock_refusal_by d (clock_input d name)
 
+pub data RaceRefusal : Type 0 where
+  Race : (process bit at : ℕ) → RaceRefusal
+
+abbrev pub race_refusal_of : Design → List ℕ → ℕ → Process → Option RaceRefusal
+race_refusal_of d order p process = option_map (λ b. Race p b (process_place process)) (least (race_bits d order p process))
+
+-- the least clocked block that reads a bit which another one stirs, and its least such bit
+abbrev pub race_refusal : Design → Option RaceRefusal
+race_refusal d = first_found (race_refusal_of d (level_order d)) 0 d.processes
+
 pub data ZeroRefusal : Type 0 where
   TimeZero : (process at : ℕ) → ZeroRefusal
 
@@ -260,4 +271,5 @@ pub record IsUnrefused (d : Design) (name : Option (List ℕ)) : Type 0 where
   pub drivers : driver_refusal d ≡ None
   pub clocks : clock_refusal d name ≡ None
   pub no_cycle : has_no_cycle d ≡ true
+  pub races : race_refusal d ≡ None
   pub zero : zero_refusal d name ≡ None

@@ -1,10 +1,14 @@
 -- Asynchronous resets: the rule ResetForm, and what a reset does.
-use Rattle.std.specs.Prelude.{ℕ, Bool, true, false, not, ◌&&◌, List, [], ◌∷◌, ◌==◌, if◌then◌else◌, Option, Some, None, is_some, filter}
+use Rattle.std.specs.Prelude.{ℕ, Bool, true, false, not, ◌&&◌, ◌||◌, List, [], ◌∷◌, ◌==◌, if◌then◌else◌, Option, Some, None, is_some, filter}
 use Rattle.std.specs.List.{list_any}
-use Rattle.vs_four.specs.declared.Bit4.TheVariants.{X}
-use Rattle.vs_net.specs.Network.{Write, Update, branch, write_all, flatten, is_written}
+use Rattle.vs_four.specs.declared.Bit4.{Bit4}
+use Rattle.vs_four.specs.declared.Bit4.TheVariants.{Zero, One, X}
+use Rattle.vs_four.specs.Logic.{truth}
+use Rattle.vs_four.specs.Tables.{is_one}
+use Rattle.vs_net.specs.Network.{State, Write, Update, branch, write_all, flatten, is_written}
 use Rattle.vs_net.specs.Network as N
-use Rattle.vs_design.specs.Expressions.{Signal, signal_length, BitNot, LogicalNot, Expression, Unary, At}
+use Rattle.vs_design.specs.Expressions.{Signal, signal_length, BitNot, LogicalNot, BinaryOp, Equal, CaseEqual, Expression, Unary, Binary, At, is_constant}
+use Rattle.vs_design.specs.Values.{own_value}
 use Rattle.vs_design.specs.Statements.{Statement, Empty, Assignment, Then, If, Case, Arms, Arm, Default}
 use Rattle.vs_design.specs.Bodies.{body}
 use Rattle.vs_design.specs.Designs.{Edge, Any, Posedge, Negedge, Event, Process, Always, Design}
@@ -26,10 +30,38 @@ inverted (Unary LogicalNot a) = name_of a
 inverted (At place e) = inverted e
 inverted _ = None
 
--- the condition of a reset: the net's name for `posedge`, `!` or `~` and its name for `negedge`
+-- `==` and `===`
+abbrev pub is_equality : BinaryOp → Bool
+is_equality Equal = true
+is_equality CaseEqual = true
+is_equality _ = false
+
+-- of two operands the name beside a constant
+abbrev pub beside_constant : Expression → Expression → Option Signal
+beside_constant a b = if is_constant b then name_of a else (if is_constant a then name_of b else None)
+
+-- what is compared with a constant
+abbrev pub compared : Expression → Option Signal
+compared (Binary op a b) = if is_equality op then beside_constant a b else None
+compared (At place e) = compared e
+compared _ = None
+
+-- where the bit has this value, and every other is x
+abbrev pub alone : ℕ → Bit4 → State
+alone b v n = if n == b then v else X
+
+-- the expression holds where the bit has this value; it is asked of one that reads no other bit
+abbrev pub holds_at : ℕ → Bit4 → Expression → Bool
+holds_at b v c = is_one (truth (own_value c (alone b v)))
+
+-- a comparison of the one-bit signal with this bit and a constant, which holds where the bit has this value
+abbrev pub is_comparison : ℕ → Bit4 → Expression → Bool
+is_comparison b v c = is_signal b (compared c) && holds_at b v c
+
+-- the condition of a reset: for `posedge` the net's name, or `==` or `===` of it and a constant that it equals as 1, on either side; for `negedge` `!` or `~` and its name, or such a comparison that holds where it is 0
 abbrev pub is_condition : Edge → ℕ → Expression → Bool
-is_condition Posedge b c = is_signal b (name_of c)
-is_condition Negedge b c = is_signal b (inverted c)
+is_condition Posedge b c = is_signal b (name_of c) || is_comparison b One c
+is_condition Negedge b c = is_signal b (inverted c) || is_comparison b Zero c
 is_condition Any b c = false
 
 abbrev pub has_none : List Signal → Bool

@@ -15,11 +15,11 @@ ghost use Rattle.vs_design.specs.ExampleSets.{SetsComputed};
 ghost use Rattle.vs_design.specs.ExampleSizes.{SizesComputed};
 ghost use Rattle.vs_design.specs.ExampleTogether.{TogetherComputed};
 ghost use Rattle.vs_design.specs.ExampleValues.{ValuesComputed};
-ghost use Rattle.vs_design.specs.Laws.{AcceptedExactly, AcceptedIsLawful, AscendingHas, AscendingRises, BitsOfDesign, BoundOfDesign, ClockNetsAre, EveryOrderOfDesign, LevelOrderIs, LevelRunOfDesign, OneFamilies, OnePassOfDesign, OneSolutionOfDesign, OrderOrCycle, RunsEndOfDesign, SleepersOfDesign, SleepingIs, SpareClockIs, StarMissesNone, UnmixedHasNoRace};
+ghost use Rattle.vs_design.specs.Laws.{AcceptedExactly, AcceptedIsLawful, AscendingHas, AscendingRises, BitsOfDesign, BoundOfDesign, ClockNetsAre, EveryOrderOfDesign, LevelOrderIs, LevelRunOfDesign, OneFamilies, OnePassOfDesign, OneSolutionOfDesign, OrderOrCycle, RaceByAnyOrder, RunsEndOfDesign, SleepersOfDesign, SleepingIs, SpareClockIs, StarMissesNone, StirredBitsAre};
 ghost use Rattle.vs_design.specs.Memories.{WordsAre};
 ghost use Rattle.vs_design.specs.Paths.{LatchBitsAre};
 ghost use Rattle.vs_design.specs.PlaceLaws.{ItemPlacesAgree, StatementFits, StatementPlacesAgree};
-ghost use Rattle.vs_design.specs.RefusalLaws.{BlockRefusalIs, ClockRefusalIs, DriverRefusalIs, DriversAre, WidthRefusalIs, ZeroRefusalIs};
+ghost use Rattle.vs_design.specs.RefusalLaws.{BlockRefusalIs, ClockRefusalIs, DriverRefusalIs, DriversAre, RaceRefusalIs, WidthRefusalIs, ZeroRefusalIs};
 ghost use Rattle.vs_design.specs.SlotValues.{SlotValuesAre};
 ghost use Rattle.vs_design.specs.Within.{FormedIsWithin, FunctionIsWithin, StatementIsWithin, TargetIsWithin};
 ghost use Rattle.vs_design.specs.TreeLaws.{AssignWritesExactly, AssignedLength, BlockReads, BlockWritesExactly, BodyAssigns, BodyInSets, BodyReads, BodySetsRead, BodyWritesWithin, ConstantValue, NoUpdates, NoWrites, ValueInSets, ValueLength, ValueReads, ValueSetsRead};
@@ -112,7 +112,7 @@ pub fn latch_law()
     ensures { LatchBitsAre }
 {}
 
-/// A design that elaboration gives is accepted exactly where nothing refuses it: no refusal of a length, a block, a driver or the clock, no cycle, and none at time zero. Any other is refused, by the first rule that it breaks.
+/// A design that elaboration gives is accepted exactly where nothing refuses it: no refusal of a length, a block, a driver or the clock, no cycle, no race, and none at time zero. Any other is refused, by the first rule that it breaks.
 pub fn accepted_law()
     ensures exactly { AcceptedExactly }
     ensures either { AcceptedOrRefused }
@@ -126,6 +126,7 @@ pub fn refusal_law()
     ensures writers { DriversAre }
     ensures driver { DriverRefusalIs }
     ensures clock { ClockRefusalIs }
+    ensures race { RaceRefusalIs }
     ensures zero { ZeroRefusalIs }
 {}
 
@@ -136,9 +137,10 @@ pub fn places_law()
     ensures fits { StatementFits }
 {}
 
-/// Where no clocked block writes by a blocking assignment, no clocked block reads what another one writes at once.
+/// What a clocked block stirs are the bits that depend on those which it writes by a blocking assignment, through assigns and combinational blocks; which level order is taken is no matter, to what is stirred and to the rule Race.
 pub fn race_law()
-    ensures { UnmixedHasNoRace }
+    ensures stirred { StirredBitsAre }
+    ensures orders { RaceByAnyOrder }
 {}
 
 /// The network of an accepted design is lawful.
@@ -221,7 +223,7 @@ pub fn design_examples()
     ensures { DesignsComputed }
 {}
 
-/// Worked designs with blocking assignments in clocked blocks: their sizes, which of them have a race, that the rule MixedAssign refuses them, and the values that their networks have at the end of each slot.
+/// Worked designs with blocking assignments in clocked blocks: their sizes, which of them the rules Race and MixedAssign refuse, and the values that their networks have at the end of each slot.
 pub fn blocking_examples()
     ensures { BlockingComputed }
 {}

@@ -8,7 +8,7 @@ use Rattle.vs_lexer.specs.declared.token.LexError.{LexError}
 use Rattle.vs_lexer.specs.declared.token.LexError.TheVariants.{OpenComment, TooManyTokens}
 use Rattle.vs_lexer.specs.Classes.{is_letter, is_digit}
 use Rattle.vs_lexer.specs.Tokens.{start_of, longest_within, here, here_from, word_kind}
-use Rattle.vs_lexer.specs.Cuts.{cut, cut_text, fault_at, skipped, token_at, token_limit, with_token, word_of}
+use Rattle.vs_lexer.specs.Cuts.{byte_order_mark, cut, cut_text, fault_at, skipped, token_at, token_limit, with_token, word_of}
 use Rattle.vs_lexer.proofs.Longest.{lexeme}
 use Rattle.vs_lexer.proofs.Classes.{word_here}
 use Rattle.vs_lexer.proofs.Signs.{within_three}
@@ -116,8 +116,8 @@ same_cut (suc steps) left at (b ∷ bs) =
 
 -- the tokens of a text, or its first fault
 abbrev pub quick_text : List ℕ → Cut
-quick_text text = quick_cut (length text) token_limit 0 text
+quick_text text = let mark = byte_order_mark text in quick_cut (length text) token_limit mark (drop mark text)
 
 pub cut_is : (text : List ℕ) → cut_text text ≡ quick_text text
 unfolding cut_text
-cut_is text = sym (same_cut (length text) token_limit 0 text)
+cut_is text = sym (same_cut (length text) token_limit (byte_order_mark text) (drop (byte_order_mark text) text))

@@ -16,7 +16,7 @@ use Rattle.vs_explainer.specs.Looks.Look.{design, weighed, ported, stimulus}
 
 -- ---- the design
 
-design_read : {tells : Bool} (top path head : List ℕ) (draws : Bool) (old new : Told tells) (text : List ℕ) (drawn : Option Drawn) → IsStart tells head (old.contents.files path) text
+design_read : {tells : Bool} (top : Option (List ℕ)) (path head : List ℕ) (draws : Bool) (old new : Told tells) (text : List ℕ) (drawn : Option Drawn) → IsStart tells head (old.contents.files path) text
     → IsFaultless old.register new.register → MatchBool draws (IsDrawing text top drawn) (drawn ≡ None)
     → IsDesignRead top path head draws old new (record { file = Some (drop (length head) text); head = length head; drawn = drawn; heavy = None; ports = None })
 design_read top path head draws old new text drawn s quiet d = record {
@@ -30,7 +30,7 @@ design_read top path head draws old new text drawn s quiet d = record {
   faultless = quiet;
 }
 
-pub sees_design : {tells : Bool} (top path head : List ℕ) (draws : Bool) (old new : Told tells) (text : List ℕ) (drawn : Option Drawn) (seen : Seen) → OnlyRead old new
+pub sees_design : {tells : Bool} (top : Option (List ℕ)) (path head : List ℕ) (draws : Bool) (old new : Told tells) (text : List ℕ) (drawn : Option Drawn) (seen : Seen) → OnlyRead old new
     → IsStart tells head (old.contents.files path) text → IsFaultless old.register new.register → MatchBool draws (IsDrawing text top drawn) (drawn ≡ None)
     → seen ≡ record { file = Some (drop (length head) text); head = length head; drawn = drawn; heavy = None; ports = None } → SeesOf top (Some (design path head draws)) old new seen
 sees_design top path head draws old new text drawn seen only s quiet d e =
@@ -44,7 +44,7 @@ as_long head other text drawn heavy ports e = rw e refl
 
 -- ---- the design, accepted
 
-ports_read : {tells : Bool} (top path head : List ℕ) (clock : Option (List ℕ)) (old new : Told tells) (text : List ℕ) (ports : Option PortLists) → IsStart tells head (old.contents.files path) text
+ports_read : {tells : Bool} (top : Option (List ℕ)) (path head : List ℕ) (clock : Option (List ℕ)) (old new : Told tells) (text : List ℕ) (ports : Option PortLists) → IsStart tells head (old.contents.files path) text
     → IsFaultless old.register new.register → TellsPorts false text top clock ports
     → IsPortsRead top path head clock old new (record { file = Some (drop (length head) text); head = length head; drawn = None; heavy = None; ports = ports })
 ports_read top path head clock old new text ports s quiet p = record {
@@ -58,7 +58,7 @@ ports_read top path head clock old new text ports s quiet p = record {
   faultless = quiet;
 }
 
-pub sees_ported : {tells : Bool} (top path head : List ℕ) (clock : Option (List ℕ)) (old new : Told tells) (text : List ℕ) (ports : Option PortLists) (seen : Seen) → OnlyRead old new
+pub sees_ported : {tells : Bool} (top : Option (List ℕ)) (path head : List ℕ) (clock : Option (List ℕ)) (old new : Told tells) (text : List ℕ) (ports : Option PortLists) (seen : Seen) → OnlyRead old new
     → IsStart tells head (old.contents.files path) text → IsFaultless old.register new.register → TellsPorts false text top clock ports
     → seen ≡ record { file = Some (drop (length head) text); head = length head; drawn = None; heavy = None; ports = ports } → SeesOf top (Some (ported path head clock)) old new seen
 sees_ported top path head clock old new text ports seen only s quiet p e =
@@ -66,7 +66,7 @@ sees_ported top path head clock old new text ports seen only s quiet p e =
 
 -- ---- the design, weighed
 
-design_weighed : {tells : Bool} (top path head : List ℕ) (old new : Told tells) (text : List ℕ) (heavy : Option (List Heavy)) → IsStart tells head (old.contents.files path) text
+design_weighed : {tells : Bool} (top : Option (List ℕ)) (path head : List ℕ) (old new : Told tells) (text : List ℕ) (heavy : Option (List Heavy)) → IsStart tells head (old.contents.files path) text
     → IsFaultless old.register new.register → AreWeighed text top heavy
     → IsDesignWeighed top path head old new (record { file = Some (drop (length head) text); head = length head; drawn = None; heavy = heavy; ports = None })
 design_weighed top path head old new text heavy s quiet w = record {
@@ -80,7 +80,7 @@ design_weighed top path head old new text heavy s quiet w = record {
   faultless = quiet;
 }
 
-pub sees_weighed : {tells : Bool} (top path head : List ℕ) (old new : Told tells) (text : List ℕ) (heavy : Option (List Heavy)) (seen : Seen) → OnlyRead old new
+pub sees_weighed : {tells : Bool} (top : Option (List ℕ)) (path head : List ℕ) (old new : Told tells) (text : List ℕ) (heavy : Option (List Heavy)) (seen : Seen) → OnlyRead old new
     → IsStart tells head (old.contents.files path) text → IsFaultless old.register new.register → AreWeighed text top heavy
     → seen ≡ record { file = Some (drop (length head) text); head = length head; drawn = None; heavy = heavy; ports = None } → SeesOf top (Some (weighed path head)) old new seen
 sees_weighed top path head old new text heavy seen only s quiet w e =
@@ -88,12 +88,12 @@ sees_weighed top path head old new text heavy seen only s quiet w e =
 
 -- ---- a stimulus
 
-pub sees_stimulus : {tells : Bool} (top path : List ℕ) (lines : Option ℕ) (old new : Told tells) (text : List ℕ) (seen : Seen) → OnlyRead old new
+pub sees_stimulus : {tells : Bool} (top : Option (List ℕ)) (path : List ℕ) (lines : Option ℕ) (old new : Told tells) (text : List ℕ) (seen : Seen) → OnlyRead old new
     → (IsTrue tells → text ≡ read_of lines (old.contents.files path)) → IsFaultless old.register new.register → seen ≡ record { file = Some text; head = 0; drawn = None; heavy = None; ports = None }
     → SeesOf top (Some (stimulus path lines)) old new seen
 sees_stimulus top path lines old new text seen only is quiet e = (only, inr (record { taken = text; seen_is = e; taken_is = is; faultless = quiet }))
 
-pub stimulus_unseen : {tells : Bool} (top path : List ℕ) (lines : Option ℕ) (old new : Told tells) (seen : Seen) → OnlyRead old new → Rose old.register.faults new.register.faults
+pub stimulus_unseen : {tells : Bool} (top : Option (List ℕ)) (path : List ℕ) (lines : Option ℕ) (old new : Told tells) (seen : Seen) → OnlyRead old new → Rose old.register.faults new.register.faults
     → seen ≡ unseen 0 → SeesOf top (Some (stimulus path lines)) old new seen
 stimulus_unseen top path lines old new seen only rose e = (only, inl (record { seen_is = e; failed = rose }))
 

@@ -23,5 +23,5 @@ weighed_of None = None
 weighed_of (Some d) = weighed_in d
 
 -- of the design that a text elaborates to
-abbrev pub AreWeighed : (text top : List ℕ) → Option (List Heavy) → Type 0
+abbrev pub AreWeighed : (text : List ℕ) (top : Option (List ℕ)) → Option (List Heavy) → Type 0
 AreWeighed text top heavy = (drawn : Option Drawn) × IsDrawing text top drawn × (heavy ≡ weighed_of drawn)

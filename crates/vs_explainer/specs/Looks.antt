@@ -66,7 +66,7 @@ pub record IsUnread {tells : Bool} (head : ℕ) (old new : Told tells) (seen : S
   pub failed : Rose old.register.faults new.register.faults
 
 -- The design was read, as far as its text may go, and drawn where it is to be.
-pub record IsDesignRead {tells : Bool} (top path head : List ℕ) (draws : Bool) (old new : Told tells) (seen : Seen) : Type 0 where
+pub record IsDesignRead {tells : Bool} (top : Option (List ℕ)) (path head : List ℕ) (draws : Bool) (old new : Told tells) (seen : Seen) : Type 0 where
   pub taken : List ℕ
   pub file_is : seen.file ≡ Some taken
   pub taken_is : IsTrue tells → taken ≡ take (most_bytes - length head) (old.contents.files path)
@@ -77,7 +77,7 @@ pub record IsDesignRead {tells : Bool} (top path head : List ℕ) (draws : Bool)
   pub faultless : IsFaultless old.register new.register
 
 -- The design was read, as far as its text may go, and its processes were weighed.
-pub record IsDesignWeighed {tells : Bool} (top path head : List ℕ) (old new : Told tells) (seen : Seen) : Type 0 where
+pub record IsDesignWeighed {tells : Bool} (top : Option (List ℕ)) (path head : List ℕ) (old new : Told tells) (seen : Seen) : Type 0 where
   pub taken : List ℕ
   pub file_is : seen.file ≡ Some taken
   pub taken_is : IsTrue tells → taken ≡ take (most_bytes - length head) (old.contents.files path)
@@ -88,7 +88,7 @@ pub record IsDesignWeighed {tells : Bool} (top path head : List ℕ) (old new : 
   pub faultless : IsFaultless old.register new.register
 
 -- The design was read, as far as its text may go, and where this text is accepted its ports were seen, and where it is refused none. A header need not name an output for these.
-pub record IsPortsRead {tells : Bool} (top path head : List ℕ) (clock : Option (List ℕ)) (old new : Told tells) (seen : Seen) : Type 0 where
+pub record IsPortsRead {tells : Bool} (top : Option (List ℕ)) (path head : List ℕ) (clock : Option (List ℕ)) (old new : Told tells) (seen : Seen) : Type 0 where
   pub taken : List ℕ
   pub file_is : seen.file ≡ Some taken
   pub taken_is : IsTrue tells → taken ≡ take (most_bytes - length head) (old.contents.files path)
@@ -106,7 +106,7 @@ pub record IsStimulusRead {tells : Bool} (path : List ℕ) (lines : Option ℕ) 
   pub faultless : IsFaultless old.register new.register
 
 -- what is seen of the file, where one is read again
-abbrev pub SeesOf : {tells : Bool} → List ℕ → Option Look → Told tells → Told tells → Seen → Type 0
+abbrev pub SeesOf : {tells : Bool} → Option (List ℕ) → Option Look → Told tells → Told tells → Seen → Type 0
 SeesOf top None old new seen = (new ≡ old) × (seen ≡ unseen 0)
 SeesOf top (Some (design path head draws)) old new seen = OnlyRead old new × (IsUnread (length head) old new seen ⊎ IsDesignRead top path head draws old new seen)
 SeesOf top (Some (weighed path head)) old new seen = OnlyRead old new × (IsUnread (length head) old new seen ⊎ IsDesignWeighed top path head old new seen)

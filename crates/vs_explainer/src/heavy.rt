@@ -63,9 +63,13 @@ fn weigh(alloc: Global, drawing: Drawing) -> Result<Option<Vec<Heavy>>, AllocErr
 }
 
 /// The heaviest processes of the design of a text, or None where it has none, or one of which a length or a division is refused.
-fn weigh_text(alloc: Global, text: &[u8], top: &[u8]) -> Result<Option<Vec<Heavy>>, AllocError>
+fn weigh_text(
+    alloc: Global,
+    text: &[u8],
+    top: Option<&[u8]>,
+) -> Result<Option<Vec<Heavy>>, AllocError>
     requires { length text.now ≤ most_bytes }
-    ensures { IfOk result (λ o. AreWeighed text.now top.now (option_map (λ v. v.items) o)) }
+    ensures { IfOk result (λ o. AreWeighed text.now (option_map (λ t. t.now) top.entry) (option_map (λ v. v.items) o)) }
 {
     match draw(alloc, text, top)? {
         None => Ok(None),
@@ -80,7 +84,7 @@ fn weighed_view(alloc: Global, job: &Job, text: Vec<u8>) -> Result<View, AllocEr
     ensures view { IfOk result (λ view. (heavy : Option (List declared.Heavy)) × AreWeighed text.items job.now.top heavy
         × (seen_of view ≡ record { file = Some (drop (length job.now.head) text.items); head = length job.now.head; drawn = None; heavy = heavy; ports = None })) }
 {
-    let heavy = weigh_text(alloc, text.as_slice(), job.top.as_bytes())?;
+    let heavy = weigh_text(alloc, text.as_slice(), job.top_bytes())?;
     Ok(View {
         text: Some(text),
         head: job.head.as_bytes().len(),

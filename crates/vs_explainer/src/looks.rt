@@ -76,10 +76,10 @@ fn draw_text(
     alloc: Global,
     draws: bool,
     text: &[u8],
-    top: &[u8],
+    top: Option<&[u8]>,
 ) -> Result<Option<Drawing>, AllocError>
     requires { length text.now ≤ most_bytes }
-    ensures { IfOk result (λ o. MatchBool draws (IsDrawing text.now top.now o) (o ≡ None)) }
+    ensures { IfOk result (λ o. MatchBool draws (IsDrawing text.now (option_map (λ t. t.now) top.entry) o) (o ≡ None)) }
 {
     if draws {
         draw(alloc, text, top)
@@ -95,7 +95,7 @@ fn view_of(alloc: Global, job: &Job, draws: bool, text: Vec<u8>) -> Result<View,
     ensures view { IfOk result (λ view. (drawn : Option Drawn) × MatchBool draws (IsDrawing text.items job.now.top drawn) (drawn ≡ None)
         × (seen_of view ≡ record { file = Some (drop (length job.now.head) text.items); head = length job.now.head; drawn = drawn; heavy = None; ports = None })) }
 {
-    let drawing = draw_text(alloc, draws, text.as_slice(), job.top.as_bytes())?;
+    let drawing = draw_text(alloc, draws, text.as_slice(), job.top_bytes())?;
     Ok(View {
         text: Some(text),
         head: job.head.as_bytes().len(),
@@ -173,7 +173,7 @@ fn see_path<D: Desk>(
 ) -> Result<View, AllocError>
     requires free { IsNone ((D.told desk.old).register.attached stimulus_again) }
     ensures only { OnlyRead (D.told desk.old) (D.told desk.new) }
-    ensures sees { IfOk result (λ view. (top : List ℕ) → spec.SeesOf top (Some (spec.stimulus_look lines path.now)) (D.told desk.old) (D.told desk.new) (seen_of view)) }
+    ensures sees { IfOk result (λ view. (top : Option (List ℕ)) → spec.SeesOf top (Some (spec.stimulus_look lines path.now)) (D.told desk.old) (D.told desk.new) (seen_of view)) }
     ensures head { IfOk result (λ view. view.head ≡ 0) }
 {
     match read_stimulus(alloc, desk, path, lines)? {

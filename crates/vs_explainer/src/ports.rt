@@ -23,7 +23,7 @@ fn ported_view(alloc: Global, job: &Job, text: Vec<u8>) -> Result<View, AllocErr
     let ports = read_ports(
         alloc,
         text.as_slice(),
-        job.top.as_bytes(),
+        job.top_bytes(),
         job.clock_bytes(),
         false,
     )?;

@@ -5,7 +5,7 @@ use Rattle.std.specs.Option.{option_map_or}
 use Rattle.vs_names.specs.Drawn.{Drawn, process_byte}
 use Rattle.vs_refusal.specs.Refusals.{name}
 use Rattle.vs_refusal.specs.declared.refusal.Refusal.{Refusal}
-use Rattle.vs_refusal.specs.declared.refusal.Refusal.TheVariants.{Latch, Sensitivity, TwoDrivers, Process, Cycle}
+use Rattle.vs_refusal.specs.declared.refusal.Refusal.TheVariants.{Latch, Sensitivity, TwoDrivers, Process, Cycle, Race}
 use Rattle.vs_refusal.specs.declared.names.ProcessName.TheVariants.{NotTheClock}
 use Rattle.vs_hints.specs.Hints.{opening, closing, remedy}
 use Rattle.vs_explanation.specs.Seen.{Seen}
@@ -49,6 +49,7 @@ has_numbers (Latch process bit at) = true
 has_numbers (Sensitivity process signal at) = true
 has_numbers (TwoDrivers bit first second at) = true
 has_numbers (Cycle processes at) = true
+has_numbers (Race process bit at) = true
 has_numbers _ = false
 
 -- a file that no longer elaborates, so that numbers have no names

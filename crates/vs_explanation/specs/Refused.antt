@@ -4,7 +4,7 @@ use Rattle.std.specs.Option.{option_map_or}
 use Rattle.vs_desk.specs.Places.{stimulus_place}
 use Rattle.vs_job.specs.declared.job.Job.{Job}
 use Rattle.vs_refusal.specs.declared.refusal.Refusal.{Refusal}
-use Rattle.vs_refusal.specs.declared.refusal.Refusal.TheVariants.{SamePath, At, TooLarge, Latch, Sensitivity, TwoDrivers, Process, Cycle, Lane, Line}
+use Rattle.vs_refusal.specs.declared.refusal.Refusal.TheVariants.{SamePath, At, TooLarge, Latch, Sensitivity, TwoDrivers, Process, Cycle, Race, Lane, Line}
 use Rattle.vs_rows.specs.Fields.{Wrong}
 use Rattle.vs_rows.specs.Naming.{BadName}
 use Rattle.vs_explanation.specs.Seen.{Seen}
@@ -23,6 +23,7 @@ at_of (Sensitivity process signal at) = Some at
 at_of (TwoDrivers bit first second at) = Some at
 at_of (Process kind process at) = Some at
 at_of (Cycle processes at) = Some at
+at_of (Race process bit at) = Some at
 at_of _ = None
 
 -- the place of a job that a refusal without a byte is about

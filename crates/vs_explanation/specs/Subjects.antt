@@ -10,7 +10,7 @@ use Rattle.vs_job.specs.declared.job.Mode.{Mode}
 use Rattle.vs_job.specs.declared.job.Mode.TheVariants.{Run, Check, Queue}
 use Rattle.vs_refusal.specs.declared.names.BareName.TheVariants.{NoTop, NoClock}
 use Rattle.vs_refusal.specs.declared.refusal.Refusal.{Refusal}
-use Rattle.vs_refusal.specs.declared.refusal.Refusal.TheVariants.{Bare, SamePath, TooLarge, Latch, Sensitivity, TwoDrivers}
+use Rattle.vs_refusal.specs.declared.refusal.Refusal.TheVariants.{Bare, SamePath, TooLarge, Latch, Sensitivity, TwoDrivers, Race}
 use Rattle.vs_excerpt.specs.Escapes.{escaped}
 
 -- what the path of a stimulus has added in that of its waveform
@@ -55,6 +55,11 @@ roles_text first second = role_text first ++ (codes " and to " ++ role_text seco
 abbrev pub size_text : ℕ → List ℕ
 size_text size = decimal size ++ codes " plane operations a half-period"
 
+-- a refusal of the top is of the name that is given, or of the one module that no instance names
+abbrev pub top_text : Option (List ℕ) → List ℕ
+top_text None = codes "that alone has no instance"
+top_text (Some top) = escaped top
+
 -- a refusal of the clock is of the name that is given
 abbrev pub clock_text : Option (List ℕ) → List ℕ
 clock_text None = []
@@ -62,11 +67,12 @@ clock_text (Some clock) = escaped clock
 
 -- nothing where the sentence has neither
 abbrev pub subject : Job → Option Drawn → Refusal → List ℕ
-subject job drawn (Bare NoTop) = escaped job.top
+subject job drawn (Bare NoTop) = top_text job.top
 subject job drawn (Bare NoClock) = clock_text job.clock
 subject job drawn (SamePath first second) = roles_text first second
 subject job drawn (TooLarge size) = size_text size
 subject job drawn (Latch process bit at) = bit_subject drawn bit
 subject job drawn (Sensitivity process signal at) = signal_subject drawn signal
 subject job drawn (TwoDrivers bit first second at) = bit_subject drawn bit
+subject job drawn (Race process bit at) = bit_subject drawn bit
 subject job drawn _ = []

@@ -100,6 +100,7 @@ pub fn has_numbers(refusal: &Refusal) -> bool
             | Refusal::Sensitivity { .. }
             | Refusal::TwoDrivers { .. }
             | Refusal::Cycle { .. }
+            | Refusal::Race { .. }
     )
 }
 

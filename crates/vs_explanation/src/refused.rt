@@ -32,7 +32,8 @@ pub fn at_of(refusal: &Refusal) -> Option<u32>
         | Refusal::Sensitivity { at, .. }
         | Refusal::TwoDrivers { at, .. }
         | Refusal::Process(_, _, at)
-        | Refusal::Cycle { at, .. } => Some(*at),
+        | Refusal::Cycle { at, .. }
+        | Refusal::Race { at, .. } => Some(*at),
         _ => None,
     }
 }

@@ -53,6 +53,16 @@ pub(crate) fn push_size(page: &mut Page, size: u64) -> Result<(), AllocError>
     page.text(" plane operations a half-period")
 }
 
+/// Adds the name of the top, or what it would be where none is given.
+fn push_top(page: &mut Page, job: &Job) -> Result<(), AllocError>
+    ensures { OnOk result (page.new ≡ page.old ++ spec.top_text job.now.top) }
+{
+    match job.top_bytes() {
+        Some(top) => page.escaped(top),
+        None => page.text("that alone has no instance"),
+    }
+}
+
 /// Adds the name of the clock, if one is given.
 fn push_clock(page: &mut Page, job: &Job) -> Result<(), AllocError>
     ensures { OnOk result (page.new ≡ page.old ++ spec.clock_text job.now.clock) }
@@ -73,13 +83,14 @@ pub(crate) fn push_subject(
     ensures { OnOk result (page.new ≡ page.old ++ spec.subject job.now (option_map (λ d. d.now) drawing.entry) refusal.now) }
 {
     match refusal {
-        Refusal::Bare(BareName::NoTop) => page.escaped(job.top.as_bytes()),
+        Refusal::Bare(BareName::NoTop) => push_top(page, job),
         Refusal::Bare(BareName::NoClock) => push_clock(page, job),
         Refusal::SamePath { first, second } => push_roles(page, *first, *second),
         Refusal::TooLarge { size } => push_size(page, *size),
         Refusal::Latch { bit, .. } => push_bit(page, drawing, *bit),
         Refusal::Sensitivity { signal, .. } => push_signal(page, drawing, *signal),
         Refusal::TwoDrivers { bit, .. } => push_bit(page, drawing, *bit),
+        Refusal::Race { bit, .. } => push_bit(page, drawing, *bit),
         _ => Ok(()),
     }
 }

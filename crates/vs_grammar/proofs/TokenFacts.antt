@@ -6,7 +6,8 @@ use Rattle.std.proofs.lemmas.Bool.{and_parts}
 use Rattle.std.proofs.lemmas.Option.{get_or_from_slice_get, slice_get_within}
 use Rattle.std.proofs.lemmas.Bool.Decides.{nat_tests}
 use Rattle.vs_four.specs.declared.Bit4.{Bit4}
-use Rattle.vs_lexer.specs.Literals.{head_of, lacks_digits, literal_bits, literal_size, has_size, is_in_range, is_good_size, decimal_value, number_bits, fitted, fill_bit, digits_bits}
+use Rattle.vs_lexer.specs.Literals.{head_of, lacks_digits, literal_bits, literal_size, has_size, is_in_range, is_good_size, decimal_value, number_bits, fitted, fill_bit, digits_bits, plain_size, plain_value}
+use Rattle.vs_lexer.specs.Strings.{is_quoted, between_quotes, character_here, with_character, characters_within, character_limit, characters_of, characters_size, string_size, string_value}
 use Rattle.vs_lexer.specs.Classes.{is_letter, is_digit}
 use Rattle.vs_lexer.specs.Tokens.{token_kind, longest, here, number_here, other_here, checked, begins_number, start_of}
 use Rattle.vs_lexer.specs.declared.token.Token.{Token}
@@ -46,14 +47,47 @@ sized_length : (zero_size : Bool) (n : ℕ) (bits : List Bit4) → (zero_size ||
 sized_length true n bits e h = record { some = omega arith; most = omega arith; unsized = λ u. h }
 sized_length false n bits e h = let g = good_size n e in record { some = omega arith; most = omega arith; unsized = λ u. cc }
 
+-- ---- strings
+
+no_more : (n c : ℕ) (o : Option (List ℕ)) (cs : List ℕ) → ((ds : List ℕ) → o ≡ Some ds → length ds ≤ n) → with_character c o ≡ Some cs → length cs ≤ suc n
+no_more n c None cs f e = cc
+no_more n c (Some ds) cs f e = let q : c ∷ ds ≡ cs = cc in let l = ap length q in let h = f ds refl in omega arith
+
+few_by : {C : Type 0} (n : ℕ) (o : Option C) (value : C → ℕ) (rest : C → List ℕ) (cs : List ℕ) → ((bytes ds : List ℕ) → characters_within n bytes ≡ Some ds → length ds ≤ n)
+    → elim o as (λ _. Option (List ℕ)) [ None ↦ None | Some c ↦ with_character (value c) (characters_within n (rest c)) ] ≡ Some cs → length cs ≤ suc n
+few_by n None value rest cs f e = cc
+few_by n (Some c) value rest cs f e = no_more n (value c) (characters_within n (rest c)) cs (f (rest c)) e
+
+-- no more characters than are allowed
+few_characters : (n : ℕ) (bytes cs : List ℕ) → characters_within n bytes ≡ Some cs → length cs ≤ n
+few_characters zero [] cs e = let q : ◌≡◌ {A = List ℕ} [] cs = cc in let l = ap length q in omega arith
+few_characters zero (b ∷ bs) cs e = cc
+few_characters (suc n) [] cs e = let q : ◌≡◌ {A = List ℕ} [] cs = cc in let l = ap length q in omega arith
+few_characters (suc n) (b ∷ bs) cs e = few_by n (character_here (b ∷ bs)) (λ c. c.value) (λ c. drop c.length (b ∷ bs)) cs (few_characters n) e
+
+size_by : (o : Option (List ℕ)) → ((cs : List ℕ) → o ≡ Some cs → length cs ≤ 8) → let n : ℕ = elim o [ None ↦ 8 | Some cs ↦ characters_size (length cs) ] in (1 ≤ n) × (n ≤ 64)
+size_by None f = (omega arith, omega arith)
+size_by (Some cs) f = let h = f cs refl in (omega arith, omega arith)
+
+string_length : (text : List ℕ) → (1 ≤ string_size text) × (string_size text ≤ 64)
+unfolding characters_of
+string_length text = size_by (characters_within character_limit (between_quotes text)) (few_characters 8 (between_quotes text))
+
+plain_by : (q : Bool) (n value other : ℕ) → (1 ≤ n) × (n ≤ 64) → HasLength (number_bits (if q then n else 32) (if q then value else other)) q
+plain_by true n value other h = let l = length_number_bits n value in let a = h.0 in let b = h.1 in record { some = omega arith; most = omega arith; unsized = λ u. cc }
+plain_by false n value other h = let l = length_number_bits 32 other in record { some = omega arith; most = omega arith; unsized = λ u. l }
+
+plain_length : (text : List ℕ) → HasLength (number_bits (plain_size text) (plain_value text)) (is_quoted text)
+plain_length text = plain_by (is_quoted text) (string_size text) (string_value text) (decimal_value text) (string_length text)
+
 -- of a literal that may have a head of size h, and else is plain
-length_by : {H : Type 0} (o : Option H) (size value : H → ℕ) (fill : H → Bit4) (digits : H → List Bit4) (plain : List Bit4) (s : ℕ) →
-    length plain ≡ 32 →
-    s ≡ elim o [ None ↦ 32 | Some h ↦ if size h == 0 then 32 else value h ] →
+length_by : {H : Type 0} (o : Option H) (size value : H → ℕ) (fill : H → Bit4) (digits : H → List Bit4) (plain : List Bit4) (is_string : Bool) (n s : ℕ) →
+    HasLength plain is_string →
+    s ≡ elim o [ None ↦ n | Some h ↦ if size h == 0 then 32 else value h ] →
     elim o [ None ↦ true | Some h ↦ size h == 0 || is_good_size (value h) ] ≡ true →
-    HasLength (elim o [ None ↦ plain | Some h ↦ fitted s (fill h) (digits h) ]) (elim o [ None ↦ false | Some h ↦ not (size h == 0) ])
-length_by None size value fill digits plain s p e r = record { some = omega arith; most = omega arith; unsized = λ u. p }
-length_by (Some h) size value fill digits plain s p e r = sized_length (size h == 0) (value h) (fitted s (fill h) (digits h)) r (length_fitted s (fill h) (digits h) ∙ e)
+    HasLength (elim o [ None ↦ plain | Some h ↦ fitted s (fill h) (digits h) ]) (elim o [ None ↦ is_string | Some h ↦ not (size h == 0) ])
+length_by None size value fill digits plain is_string n s p e r = p
+length_by (Some h) size value fill digits plain is_string n s p e r = sized_length (size h == 0) (value h) (fitted s (fill h) (digits h)) r (length_fitted s (fill h) (digits h) ∙ e)
 
 -- the bytes are no number with a base, or their size is 1 to 64
 abbrev pub size_is_good : List ℕ → Bool
@@ -62,7 +96,7 @@ size_is_good text = elim (head_of text) [ None ↦ true | Some h ↦ h.size == 0
 pub literal_length : (text : List ℕ) → size_is_good text ≡ true → HasLength (literal_bits text) (has_size text)
 unfolding literal_bits literal_size has_size
 literal_length text r =
-    length_by (head_of text) (λ h. h.size) (λ h. decimal_value (take h.size text)) (λ h. fill_bit (slice_index (drop h.digits text) 0)) (λ h. digits_bits h.base (drop h.digits text)) (number_bits 32 (decimal_value text)) (literal_size text) (length_number_bits 32 (decimal_value text)) refl r
+    length_by (head_of text) (λ h. h.size) (λ h. decimal_value (take h.size text)) (λ h. fill_bit (slice_index (drop h.digits text) 0)) (λ h. digits_bits h.base (drop h.digits text)) (number_bits (plain_size text) (plain_value text)) (is_quoted text) (plain_size text) (literal_size text) (plain_length text) refl r
 
 first_part : {H : Type 0} (o : Option H) (n : Bool) (a b : H → Bool) → elim o [ None ↦ n | Some h ↦ a h && b h ] ≡ true → elim o [ None ↦ true | Some h ↦ a h ] ≡ true
 first_part None n a b e = refl

@@ -11,7 +11,7 @@ use Rattle.vs_refusal.specs.declared.names.LaneName.TheVariants.{BadHeader, Firs
 use Rattle.vs_refusal.specs.declared.names.LineName.{LineName}
 use Rattle.vs_refusal.specs.declared.names.LineName.TheVariants.{BadVector, LineTooLong, UnknownReset}
 use Rattle.vs_refusal.specs.declared.refusal.Refusal.{Refusal}
-use Rattle.vs_refusal.specs.declared.refusal.Refusal.TheVariants.{Bare, SamePath, At, TooLarge, Latch, Sensitivity, TwoDrivers, Process, Cycle, Lane, Line}
+use Rattle.vs_refusal.specs.declared.refusal.Refusal.TheVariants.{Bare, SamePath, At, TooLarge, Latch, Sensitivity, TwoDrivers, Process, Cycle, Race, Lane, Line}
 
 abbrev pub bare_sentence : BareName → List ℕ
 bare_sentence Usage = codes "the words aren't those of the program, or a value of --define is no macro"
@@ -59,7 +59,7 @@ at_sentence FunctionRule = codes "a function names a signal or an integer of its
 at_sentence Recursion = codes "a function calls itself, or one that isn't declared before it"
 at_sentence TooWide = codes "an expression or target is longer than 64 bits"
 at_sentence Division = codes "/ or % has an operand that names a signal"
-at_sentence MixedAssign = codes "<= stands in a combinational block, or = in a clocked one"
+at_sentence MixedAssign = codes "<= stands in a combinational block, or = writes a bit that its clocked block writes by <= too"
 at_sentence FunctionLatch = codes "a function leaves a variable that it writes unassigned on some path"
 
 abbrev pub at_remedy : AtName → List ℕ
@@ -148,6 +148,7 @@ opening (Sensitivity process signal at) = codes "a combinational block reads "
 opening (TwoDrivers bit first second at) = []
 opening (Process kind process at) = process_sentence kind
 opening (Cycle processes at) = codes "processes feed each other without a register between"
+opening (Race process bit at) = codes "a clocked block reads "
 opening (Lane kind lane) = lane_sentence kind
 opening (Line kind lane row) = line_sentence kind
 
@@ -157,6 +158,7 @@ closing (TooLarge size) = codes ", is over 16,777,216"
 closing (Latch process bit at) = codes " unassigned on some path"
 closing (Sensitivity process signal at) = codes " and its event list lacks it"
 closing (TwoDrivers bit first second at) = codes " is driven from two places"
+closing (Race process bit at) = codes ", which depends on what another one writes by = at the same edge"
 closing _ = []
 
 abbrev pub remedy : Refusal → List ℕ
@@ -169,5 +171,6 @@ remedy (Sensitivity process signal at) = codes "write @*"
 remedy (TwoDrivers bit first second at) = codes "drive it from one place"
 remedy (Process kind process at) = process_remedy kind
 remedy (Cycle processes at) = codes "break the loop by a register"
+remedy (Race process bit at) = codes "write it there by <=, or read it in the same block"
 remedy (Lane kind lane) = lane_remedy kind
 remedy (Line kind lane row) = line_remedy kind

@@ -75,7 +75,8 @@ fn at_sentence(name: AtName) -> &'static str
         AtName::Recursion => "a function calls itself, or one that isn't declared before it",
         AtName::TooWide => "an expression or target is longer than 64 bits",
         AtName::Division => "/ or % has an operand that names a signal",
-        AtName::MixedAssign => "<= stands in a combinational block, or = in a clocked one",
+        AtName::MixedAssign =>
+            "<= stands in a combinational block, or = writes a bit that its clocked block writes by <= too",
         AtName::FunctionLatch =>
             "a function leaves a variable that it writes unassigned on some path",
     }
@@ -223,6 +224,7 @@ pub fn opening(refusal: &Refusal) -> &'static str
         Refusal::TwoDrivers { .. } => "",
         Refusal::Process(name, _, _) => process_sentence(*name),
         Refusal::Cycle { .. } => "processes feed each other without a register between",
+        Refusal::Race { .. } => "a clocked block reads ",
         Refusal::Lane(name, _) => lane_sentence(*name),
         Refusal::Line(name, _, _) => line_sentence(*name),
     }
@@ -237,6 +239,7 @@ pub fn closing(refusal: &Refusal) -> &'static str
         Refusal::Latch { .. } => " unassigned on some path",
         Refusal::Sensitivity { .. } => " and its event list lacks it",
         Refusal::TwoDrivers { .. } => " is driven from two places",
+        Refusal::Race { .. } => ", which depends on what another one writes by = at the same edge",
         _ => "",
     }
 }
@@ -256,6 +259,7 @@ pub fn remedy(refusal: &Refusal) -> &'static str
         Refusal::TwoDrivers { .. } => "drive it from one place",
         Refusal::Process(name, _, _) => process_remedy(*name),
         Refusal::Cycle { .. } => "break the loop by a register",
+        Refusal::Race { .. } => "write it there by <=, or read it in the same block",
         Refusal::Lane(name, _) => lane_remedy(*name),
         Refusal::Line(name, _, _) => line_remedy(*name),
     }

@@ -15,7 +15,7 @@ use Rattle.vs_job.specs.declared.words.Next.{Next}
 use Rattle.vs_job.specs.declared.words.Next.TheVariants.{Any, Value, Path}
 use Rattle.vs_job.specs.declared.words.Verb.{Verb}
 use Rattle.vs_job.specs.declared.words.Verb.TheVariants as verbs
-use Rattle.vs_job.specs.Job.{Text, verb_and_words, Said, only_paths, path_and, share_and, value_and, is_plain, plain_value_and, flag_named, is_equals, attached, option_and, said, once, at_most_once, half_given, mode_given, most_defines, are_defines, head_given, most_stimuli, design_and_stimuli, share_given, called, job}
+use Rattle.vs_job.specs.Job.{Text, verb_and_words, Said, only_paths, path_and, share_and, value_and, is_plain, plain_value_and, flag_named, is_equals, attached, option_and, said, at_most_once, half_given, mode_given, most_defines, are_defines, head_given, most_stimuli, design_and_stimuli, share_given, called, job}
 use Rattle.vs_job.specs.Lines.{Line, start, with_path, is_given, with_share, given, with_value, with_flag, with_any, with_word, is_complete, read, line, values, shares, said_of}
 
 -- what a line and the words behind it say
@@ -47,26 +47,26 @@ no_more (Some a) f h = h a
 called-orders : (verb : Verb) (s : Said) → mode_given verb s.orders ≡ None → called verb s ≡ None
 called-orders verb s e = rw e
 
-called-tops : (verb : Verb) (s : Said) → once s.tops ≡ None → called verb s ≡ None
+called-tops : (verb : Verb) (s : Said) → at_most_once s.tops ≡ None → called verb s ≡ None
 called-tops verb s e = no_more (mode_given verb s.orders) _ (λ mode. rw e)
 
 called-clocks : (verb : Verb) (s : Said) → at_most_once s.clocks ≡ None → called verb s ≡ None
-called-clocks verb s e = no_more (mode_given verb s.orders) _ (λ mode. no_more (once s.tops) _ (λ top. rw e))
+called-clocks verb s e = no_more (mode_given verb s.orders) _ (λ mode. no_more (at_most_once s.tops) _ (λ top. rw e))
 
 called-halves : (verb : Verb) (s : Said) → half_given s.halves ≡ None → called verb s ≡ None
-called-halves verb s e = no_more (mode_given verb s.orders) _ (λ mode. no_more (once s.tops) _ (λ top. no_more (at_most_once s.clocks) _ (λ clock. rw e)))
+called-halves verb s e = no_more (mode_given verb s.orders) _ (λ mode. no_more (at_most_once s.tops) _ (λ top. no_more (at_most_once s.clocks) _ (λ clock. rw e)))
 
 called-defines : (verb : Verb) (s : Said) → head_given s.defines ≡ None → called verb s ≡ None
 called-defines verb s e =
-    no_more (mode_given verb s.orders) _ (λ mode. no_more (once s.tops) _ (λ top. no_more (at_most_once s.clocks) _ (λ clock. no_more (half_given s.halves) _ (λ half. rw e))))
+    no_more (mode_given verb s.orders) _ (λ mode. no_more (at_most_once s.tops) _ (λ top. no_more (at_most_once s.clocks) _ (λ clock. no_more (half_given s.halves) _ (λ half. rw e))))
 
 called-paths : (verb : Verb) (s : Said) → ((mode : Mode) → design_and_stimuli (most_stimuli mode) s.paths ≡ None) → called verb s ≡ None
 called-paths verb s e =
-    no_more (mode_given verb s.orders) _ (λ mode. no_more (once s.tops) _ (λ top. no_more (at_most_once s.clocks) _ (λ clock. no_more (half_given s.halves) _ (λ half. no_more (head_given s.defines) _ (λ head. rw (e mode))))))
+    no_more (mode_given verb s.orders) _ (λ mode. no_more (at_most_once s.tops) _ (λ top. no_more (at_most_once s.clocks) _ (λ clock. no_more (half_given s.halves) _ (λ half. no_more (head_given s.defines) _ (λ head. rw (e mode))))))
 
 called-shares : (verb : Verb) (s : Said) → ((mode : Mode) → share_given mode s.shares ≡ None) → called verb s ≡ None
 called-shares verb s e =
-    no_more (mode_given verb s.orders) _ (λ mode. no_more (once s.tops) _ (λ top. no_more (at_most_once s.clocks) _ (λ clock. no_more (half_given s.halves) _ (λ half. no_more (head_given s.defines) _ (λ head. no_more (design_and_stimuli (most_stimuli mode) s.paths) _ (λ paths. rw (e mode)))))))
+    no_more (mode_given verb s.orders) _ (λ mode. no_more (at_most_once s.tops) _ (λ top. no_more (at_most_once s.clocks) _ (λ clock. no_more (half_given s.halves) _ (λ half. no_more (head_given s.defines) _ (λ head. no_more (design_and_stimuli (most_stimuli mode) s.paths) _ (λ paths. rw (e mode)))))))
 
 -- `--order` stands twice
 twice_ordered : (verb : Verb) (first second : Text) (more : List Text) → mode_given verb (first ∷ second ∷ more) ≡ None

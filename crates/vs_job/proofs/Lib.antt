@@ -6,4 +6,5 @@ pub mod Benches
 pub mod Listed
 pub mod Options
 pub mod Once
+pub mod Called
 pub mod InTurn

@@ -9,7 +9,7 @@ use Rattle.vs_desk.specs.Places.{most_lanes}
 use Rattle.vs_job.specs.declared.job.Job.{Job}
 use Rattle.vs_job.specs.declared.job.Mode.{Mode}
 use Rattle.vs_job.specs.declared.job.Mode.TheVariants.{Run, Check, Queue}
-use Rattle.vs_job.specs.Job.{Text, verb_and_words, said, is_count, count_value, once, at_most_once, half_given, mode_given, most_defines, most_head, are_defines, is_define, head_of, head_given, Paths, most_stimuli, design_and_stimuli, share_given, job, IsJob, most_half}
+use Rattle.vs_job.specs.Job.{Text, verb_and_words, said, is_count, count_value, at_most_once, half_given, mode_given, most_defines, most_head, are_defines, is_define, head_of, head_given, Paths, most_stimuli, design_and_stimuli, share_given, job, IsJob, most_half}
 
 pub record IsCount (most n : ℕ) : Type 0 where
   pub from : 1 ≤ n
@@ -69,7 +69,7 @@ IsJob-job words j e =
     option_and_then_some _ (verb_and_words words) j e (λ command _ e1.
     option_and_then_some _ (said None command.1) j e1 (λ s _ e2.
     option_and_then_some _ (mode_given command.0 s.orders) j e2 (λ mode _ e2'.
-    option_and_then_some _ (once s.tops) j e2' (λ top _ e3.
+    option_and_then_some _ (at_most_once s.tops) j e2' (λ top _ e3.
     option_and_then_some _ (at_most_once s.clocks) j e3 (λ clock _ e4.
     option_and_then_some _ (half_given s.halves) j e4 (λ half is_half e5.
     option_and_then_some _ (head_given s.defines) j e5 (λ head is_head e6.

@@ -1,9 +1,10 @@
 -- What was read of the words, and a job, whose texts are words of the command line.
-use Rattle.std.specs.Prelude.{map, option_map}
+use Rattle.std.specs.Prelude.{ℕ, List, map, option_map}
+use Rattle.std.specs.Borrow.{Bor}
 use Rattle.vs_job.specs.declared.job.Job.{Job}
 use Rattle.vs_job.specs.declared.words.Command.{Command}
 use Rattle.vs_job.specs.declared.words.Line.{Line as Lent}
-use Rattle.vs_job.specs.Job.{head_of}
+use Rattle.vs_job.specs.Job.{Paths, head_of}
 use Rattle.vs_job.specs.Lines.{Line}
 
 abbrev pub line_of : Lent → Line
@@ -22,7 +23,7 @@ line_of l = record {
 abbrev pub job_of : Command → Job
 job_of c = record {
   mode = c.mode;
-  top = c.top.now;
+  top = option_map (λ s. s.now) c.top;
   clock = option_map (λ s. s.now) c.clock;
   half = c.half;
   share = c.share;
@@ -30,3 +31,7 @@ job_of c = record {
   design = c.design.now;
   stimuli = map (λ s. s.now) c.stimuli.now;
 }
+
+-- a design and stimuli that are words
+abbrev pub paths_of : (Bor (List ℕ) × Bor (List (Bor (List ℕ)))) → Paths
+paths_of p = record { design = p.0.now; stimuli = map (λ s. s.now) p.1.now }

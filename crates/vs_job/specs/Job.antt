@@ -130,11 +130,6 @@ mode_given verbs.Check [] = Some Check
 mode_given verbs.Queue (digits ∷ []) = option_map Queue (order_value digits)
 mode_given _ _ = None
 
--- the value of an option that is given once
-abbrev pub once : List Text → Option Text
-once (value ∷ []) = Some value
-once _ = None
-
 -- the value of an option that is given once, or none where it isn't given
 abbrev pub at_most_once : List Text → Option (Option Text)
 at_most_once [] = Some None
@@ -239,7 +234,7 @@ design_and_stimuli most (design ∷ stimuli) = if nat_le 1 (length stimuli) && n
 abbrev pub called : Verb → Said → Option Job
 called verb s = do
   mode ← mode_given verb s.orders
-  top ← once s.tops
+  top ← at_most_once s.tops
   clock ← at_most_once s.clocks
   half ← half_given s.halves
   head ← head_given s.defines

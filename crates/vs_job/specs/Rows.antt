@@ -26,7 +26,7 @@ of_none line = record { line = line; job = None; bench = None }
 
 -- the job of top t, clock c and design d
 abbrev a_job : ℕ → List Text → Job
-a_job half stimuli = record { mode = Run; top = codes "t"; clock = Some (codes "c"); half = half; share = false; head = []; design = codes "d"; stimuli = stimuli }
+a_job half stimuli = record { mode = Run; top = Some (codes "t"); clock = Some (codes "c"); half = half; share = false; head = []; design = codes "d"; stimuli = stimuli }
 
 -- the same with macros, and one stimulus
 abbrev defined : Text → Job
@@ -35,6 +35,10 @@ defined head = record (a_job 5 (codes "s" ∷ [])) { head = head }
 -- the same job without a clock, and one stimulus
 abbrev clockless : Job
 clockless = record (a_job 5 (codes "s" ∷ [])) { clock = None }
+
+-- the same job, whose top isn't named
+abbrev topless : Job → Job
+topless j = record j { top = None }
 
 -- the same job, to be checked
 abbrev checked : Job → Job
@@ -54,8 +58,8 @@ jobs =
     of_job (codes "x run --top t --clock c d s") (a_job 5 (codes "s" ∷ []))
     ∷ of_job (codes "x run d --clock=c s --half 9 --top=t u") (a_job 9 (codes "s" ∷ codes "u" ∷ []))
     ∷ of_job (codes "x run --top=t --half=1000000 --clock c -- d -s -- --top=u") (a_job 1000000 (codes "-s" ∷ codes "--" ∷ codes "--top=u" ∷ []))
-    ∷ of_job (codes "x run --top t=u= --clock= d s") (record { mode = Run; top = codes "t=u="; clock = Some []; half = 5; share = false; head = []; design = codes "d"; stimuli = codes "s" ∷ [] })
-    ∷ of_job (codes "x run --top=t=u --clock  d ") (record { mode = Run; top = codes "t=u"; clock = Some []; half = 5; share = false; head = []; design = codes "d"; stimuli = [] ∷ [] })
+    ∷ of_job (codes "x run --top t=u= --clock= d s") (record { mode = Run; top = Some (codes "t=u="); clock = Some []; half = 5; share = false; head = []; design = codes "d"; stimuli = codes "s" ∷ [] })
+    ∷ of_job (codes "x run --top=t=u --clock  d ") (record { mode = Run; top = Some (codes "t=u"); clock = Some []; half = 5; share = false; head = []; design = codes "d"; stimuli = [] ∷ [] })
     ∷ of_job (codes "x run --define A --top t --clock c d s") (defined (codes "`define A\n"))
     ∷ of_job (codes "x run --top t --clock c d s --define=W=4 --define _w$2=a=b//`A") (defined (codes "`define W 4\n`define _w$2 a=b//`A\n"))
     ∷ of_job (codes "x run --define=W=1 --top t --define Z9= d --clock c --define W s") (defined (codes "`define W 1\n`define Z9 \n`define W\n"))
@@ -65,6 +69,11 @@ jobs =
     ∷ of_job (codes "x check --top t --clock c d s") (checked (a_job 5 (codes "s" ∷ [])))
     ∷ of_job (codes "x run --top t d s") clockless
     ∷ of_job (codes "x check d s --half 5 --top=t") (checked clockless)
+    ∷ of_job (codes "x run --clock c d s") (topless (a_job 5 (codes "s" ∷ [])))
+    ∷ of_job (codes "x run d s") (topless clockless)
+    ∷ of_job (codes "x check d s") (topless (checked clockless))
+    ∷ of_job (codes "x run -- --top=t d s") (record (topless clockless) { design = codes "--top=t"; stimuli = codes "d" ∷ codes "s" ∷ [] })
+    ∷ of_job (codes "x queue --order 7 --clock c d s") (topless (queued 7 (a_job 5 (codes "s" ∷ []))))
     ∷ of_job (codes "x check d --clock=c run --half 9 --define A --top=t check") (checked (record (a_job 9 (codes "run" ∷ codes "check" ∷ [])) { head = codes "`define A\n" }))
     ∷ of_job (codes "x run --top t --clock c d queue") (a_job 5 (codes "queue" ∷ []))
     ∷ of_job (codes "x queue --order 7 --top t --clock c d s") (queued 7 (a_job 5 (codes "s" ∷ [])))
@@ -99,8 +108,6 @@ broken =
     ∷ codes "x --top t run --clock c d s"
     ∷ codes "x run --top t --clock c --clock c d s"
     ∷ codes "x run --top t --clock c --clock= d s"
-    ∷ codes "x check d s"
-    ∷ codes "x run --clock c d s"
     ∷ codes "x run --top t --clock c d"
     ∷ codes "x run --top t --clock c --top t d s"
     ∷ codes "x run --top t --clock c --half 9 --half=9 d s"
@@ -140,7 +147,6 @@ broken =
     ∷ codes "x check --top t --clock c d s --share"
     ∷ codes "x queue"
     ∷ codes "x queue --top t --clock c d s"
-    ∷ codes "x queue --order 7 --clock c d s"
     ∷ codes "x queue --order 7 --top t --clock c"
     ∷ codes "x queue --order 7 --top t --clock c d"
     ∷ codes "x queue --order 7 --top t --clock c d s u"

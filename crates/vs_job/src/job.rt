@@ -30,8 +30,8 @@ pub enum Mode {
 pub struct Job {
     /// Whether waveforms are written, or outputs compared, or the event queue runs the lane.
     pub mode: Mode,
-    /// The name of the top module.
-    pub top: Text,
+    /// The name of the top module. None: the top is the one module of the text that no instance of any module names.
+    pub top: Option<Text>,
     /// The name of the top's clock input. None: no clock is named, and every input of the top is a data input.
     pub clock: Option<Text>,
     /// Half a clock period in units of time, from 1 to 1,000,000.
@@ -50,6 +50,16 @@ pub struct Job {
 }
 
 impl Job {
+    /// The name of the top module, if one is given, as bytes.
+    pub fn top_bytes(&self) -> Option<&[u8]>
+        ensures { option_map (λ t. t.now) result ≡ self.now.top }
+    {
+        match &self.top {
+            Some(top) => Some(top.as_bytes()),
+            None => None,
+        }
+    }
+
     /// The name of the top's clock input, if one is given, as bytes.
     pub fn clock_bytes(&self) -> Option<&[u8]>
         ensures { option_map (λ c. c.now) result ≡ self.now.clock }
@@ -81,15 +91,16 @@ impl From<AllocError> for JobError {
 }
 
 /// Reads the words of the command line, the program's own name first:
-/// `cyclesim run --top T [--clock C] [--half H] [--define NAME[=TEXT]].. [--share] DESIGN STIM..`, the
+/// `cyclesim run [--top T] [--clock C] [--half H] [--define NAME[=TEXT]].. [--share] DESIGN STIM..`, the
 /// same with `check` in the place of `run` and without `--share`, or
-/// `cyclesim queue --order N --top T [--clock C] [--half H] [--define NAME[=TEXT]].. DESIGN STIM`.
+/// `cyclesim queue --order N [--top T] [--clock C] [--half H] [--define NAME[=TEXT]].. DESIGN STIM`.
 ///
 /// The options stand anywhere behind the command, each once but for `--define`, all but `--share` with
 /// the value in the next word or, as in `--top=T`, behind the first `=`. `--` ends them: each word behind it is a path.
 /// Before it no value and no path begins with `-`. H is a decimal number from 1 to 1,000,000 without a
 /// sign or a leading zero, and 5 where it isn't given. N is a decimal number from 0 to
-/// 18,446,744,073,709,551,615 without a sign or a leading zero. Without `--clock` the design has no clock.
+/// 18,446,744,073,709,551,615 without a sign or a leading zero. Without `--top` the text has one module that no instance of any
+/// module names, and that is the top. Without `--clock` the design has no clock.
 /// The first path is the design, and 1 to 256 stimuli follow, with `queue` one alone.
 ///
 /// A value of `--define` is a simple identifier (IEEE 1364-2005, 3.7), or one with `=` and a text of

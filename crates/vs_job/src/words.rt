@@ -5,7 +5,7 @@ ghost use Rattle.std.specs.List.{before_first};
 ghost use Rattle.vs_job.specs.Job as spec;
 ghost use Rattle.vs_job.specs.Lines as lines;
 ghost use Rattle.vs_job.specs.Lines.{said_of, values};
-ghost use Rattle.vs_job.specs.Command.{line_of, job_of};
+ghost use Rattle.vs_job.specs.Command.{line_of, job_of, paths_of};
 
 use crate::defines::{MOST_DEFINES, are_defines, head_of};
 use crate::job::{Job, Mode};
@@ -78,7 +78,7 @@ pub(crate) struct Line<'a> {
 #[derive(Clone, Copy)]
 pub(crate) struct Command<'b, 'a> {
     mode: Mode,
-    top: &'a str,
+    top: Option<&'a str>,
     clock: Option<&'a str>,
     half: u32,
     share: bool,
@@ -281,17 +281,14 @@ impl<'a> Line<'a> {
         ensures { option_map job_of result ≡ spec.called self.now.verb (said_of (line_of self.now)) }
     {
         let mode = mode_given(self.verb, self.order)?;
-        let top = self.top?;
+        let top = self.top;
         let clock = self.clock;
         let half = half_given(self.half)?;
         let defines = self.defines.as_slice();
         if !are_defines(defines) {
             return None;
         }
-        let (design, stimuli) = self.paths.as_slice().split_first()?;
-        if stimuli.is_empty() || most_stimuli(mode) < stimuli.len() {
-            return None;
-        }
+        let (design, stimuli) = design_and_stimuli(most_stimuli(mode), self.paths.as_slice())?;
         let share = share_given(mode, self.share)?;
         Some(Command {
             mode,
@@ -300,7 +297,7 @@ impl<'a> Line<'a> {
             half,
             share,
             defines,
-            design: *design,
+            design,
             stimuli,
         })
     }
@@ -383,6 +380,17 @@ fn most_stimuli(mode: Mode) -> usize
     }
 }
 
+/// The first path, which is the design, and the stimuli behind it, of which there are 1 to so many.
+fn design_and_stimuli<'b, 'a>(most: usize, paths: &'b [&'a str]) -> Option<(&'a str, &'b [&'a str])>
+    ensures { option_map paths_of result ≡ spec.design_and_stimuli most (map (λ s. s.now) paths.now) }
+{
+    let (design, stimuli) = paths.split_first()?;
+    if stimuli.is_empty() || most < stimuli.len() {
+        return None;
+    }
+    Some((*design, stimuli))
+}
+
 /// The half-period, which is 5 where none is given.
 fn half_given(digits: Option<&str>) -> Option<u32>
     ensures { result ≡ spec.half_given (values (option_map (λ s. s.now) digits.entry)) }
@@ -438,7 +446,7 @@ impl Command<'_, '_> {
     {
         Ok(Job {
             mode: self.mode,
-            top: copy(alloc, self.top)?,
+            top: copy_given(alloc, self.top)?,
             clock: copy_given(alloc, self.clock)?,
             half: self.half,
             share: self.share,

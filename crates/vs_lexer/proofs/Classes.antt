@@ -12,7 +12,8 @@ use Rattle.vs_lexer.specs.declared.scan.Fault.TheVariants.{NoToken}
 use Rattle.vs_lexer.specs.declared.scan.Start.{Start}
 use Rattle.vs_lexer.specs.declared.scan.Start.TheVariants as start
 use Rattle.vs_lexer.specs.Classes.{is_in, is_letter}
-use Rattle.vs_lexer.specs.Tokens.{start_of, kind_from, longest, here, here_from, other_here, word_kind, system_kind, some_of, is_name, ends_string}
+use Rattle.vs_lexer.specs.Tokens.{start_of, kind_from, longest, here, here_from, other_here, word_kind, system_kind, some_of, is_name, string_kind}
+use Rattle.vs_lexer.specs.Strings.{ends_string}
 use Rattle.vs_lexer.proofs.Longest.{lexeme, tested, untested}
 use Rattle.vs_lexer.proofs.Runs.{front_passes, front_fails, some_passes, some_fails, none_passes}
 
@@ -109,17 +110,17 @@ no_directive_here (b ∷ c ∷ cs) h e l =
     missing b (c ∷ cs) start.Directive e refl (untested b (c ∷ cs) (λ m. is_name (take m (c ∷ cs))) (λ m. kind.Directive) (λ m. ap (λ s. kind_from s b (take m (c ∷ cs))) e) (λ m k. name_fails c cs m (l (omega arith))))
 
 -- a string: n is the place behind its last quote, after the first one
-pub string_here : (text : List ℕ) (n : ℕ) → 0 < length text → start_of (get_or text 0 0) ≡ start.Text → n ≤ length (drop 1 text) → ends_string (take n (drop 1 text)) ≡ true → ((m : ℕ) → n < m → m ≤ length (drop 1 text) → ends_string (take m (drop 1 text)) ≡ false) → here text ≡ Ok (lexeme kind.Text (1 + n))
+pub string_here : (text : List ℕ) (n : ℕ) → 0 < length text → start_of (get_or text 0 0) ≡ start.Text → n ≤ length (drop 1 text) → ends_string (take n (drop 1 text)) ≡ true → ((m : ℕ) → n < m → m ≤ length (drop 1 text) → ends_string (take m (drop 1 text)) ≡ false) → here text ≡ Ok (lexeme (string_kind (take (1 + n) text)) (1 + n))
 unfolding taken
 string_here [] n h e q t f = absurd (omega arith)
 string_here (b ∷ bs) n h e q t f =
-    rw one-add (found b bs start.Text (lexeme kind.Text (suc n)) e refl (tested b bs (λ m. ends_string (take m bs)) (λ m. kind.Text) n (λ m. ap (λ s. kind_from s b (take m bs)) e) q t (λ k a c. f k a c)))
+    rw one-add (found b bs start.Text (lexeme (string_kind (b ∷ take n bs)) (suc n)) e refl (tested b bs (λ m. ends_string (take m bs)) (λ m. string_kind (b ∷ take m bs)) n (λ m. ap (λ s. kind_from s b (take m bs)) e) q t (λ k a c. f k a c)))
 
 pub no_string_here : (text : List ℕ) → 0 < length text → start_of (get_or text 0 0) ≡ start.Text → ((m : ℕ) → ends_string (take m (drop 1 text)) ≡ false) → here text ≡ Err NoToken
 unfolding taken
 no_string_here [] h e f = absurd (omega arith)
 no_string_here (b ∷ bs) h e f =
-    missing b bs start.Text e refl (untested b bs (λ m. ends_string (take m bs)) (λ m. kind.Text) (λ m. ap (λ s. kind_from s b (take m bs)) e) (λ m k. f m))
+    missing b bs start.Text e refl (untested b bs (λ m. ends_string (take m bs)) (λ m. string_kind (b ∷ take m bs)) (λ m. ap (λ s. kind_from s b (take m bs)) e) (λ m k. f m))
 
 -- the same over a text whose first byte is not taken apart
 pub here_if_found : (text : List ℕ) (l : Lexeme) (s : Start) → 0 < length text → start_of (get_or text 0 0) ≡ s → here_from s text ≡ other_here text → longest text ≡ Some l → here text ≡ Ok l

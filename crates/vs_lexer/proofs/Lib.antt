@@ -3,7 +3,8 @@ pub mod Longest
 pub mod Runs
 pub mod Classes
 pub mod TableFacts
-pub mod Strings
+pub mod Quotes
+pub mod StringFacts
 pub mod Signs
 pub mod Heads
 pub mod Values

@@ -12,7 +12,8 @@ use Rattle.vs_four.specs.Planes.{decode, bits_of_planes}
 use Rattle.vs_four.specs.PlanesBack.{by_bit}
 use Rattle.vs_lexer.specs.declared.bytes.Base.{Base}
 use Rattle.vs_lexer.specs.declared.number.LiteralHead.{LiteralHead}
-use Rattle.vs_lexer.specs.Literals.{number_bits, digit_bits, all_digit_bits, fitted, fill_bit, digits_bits, decimal_value, is_good_size, is_decimal_number, is_in_range, head_of, literal_size, literal_bits, is_signed_literal, has_size}
+use Rattle.vs_lexer.specs.Literals.{number_bits, digit_bits, all_digit_bits, fitted, fill_bit, digits_bits, decimal_value, is_good_size, is_decimal_number, is_in_range, is_plain_in_range, head_of, plain_size, plain_value, literal_size, literal_bits, is_signed_literal, has_size}
+use Rattle.vs_lexer.specs.Strings.{is_quoted, is_short_string, string_size, string_value}
 
 -- ---- lists
 
@@ -131,7 +132,7 @@ fitted_bits size v u bits fill h e =
 
 abbrev in_range_by : List ℕ → Option LiteralHead → Bool
 in_range_by text o = elim o [
-  | None ↦ nat_lt (decimal_value text) (2 ^ 31)
+  | None ↦ is_plain_in_range text
   | Some h ↦ (h.size == 0 || is_good_size (decimal_value (take h.size text))) && (not (is_decimal_number h.base (drop h.digits text)) || nat_lt (decimal_value (drop h.digits text)) (2 ^ 64))
 ]
 
@@ -154,26 +155,37 @@ good_value text h e r d =
       | inr g ↦ ltb-true (decimal_value (drop h.digits text)) (2 ^ 64) g
     ]
 
-pub small_value : (text : List ℕ) → head_of text ≡ None → is_in_range text ≡ true → decimal_value text < 2 ^ 31
+abbrev plain_by : List ℕ → Bool → Bool
+plain_by text q = cond q (is_short_string text) (nat_lt (decimal_value text) (2 ^ 31))
+
+pub small_value : (text : List ℕ) → head_of text ≡ None → is_quoted text ≡ false → is_in_range text ≡ true → decimal_value text < 2 ^ 31
 unfolding is_in_range
-small_value text e r = ltb-true (decimal_value text) (2 ^ 31) (sym (ap (in_range_by text) e) ∙ r)
+small_value text e q r = ltb-true (decimal_value text) (2 ^ 31) (sym (ap (in_range_by text) e ∙ ap (plain_by text) q) ∙ r)
+
+pub short_string : (text : List ℕ) → head_of text ≡ None → is_quoted text ≡ true → is_in_range text ≡ true → is_short_string text ≡ true
+unfolding is_in_range
+short_string text e q r = sym (ap (in_range_by text) e ∙ ap (plain_by text) q) ∙ r
 
 -- ---- the parts of a number
 
 abbrev size_by : List ℕ → Option LiteralHead → ℕ
-size_by text o = elim o [ None ↦ 32 | Some h ↦ cond (h.size == 0) 32 (decimal_value (take h.size text)) ]
+size_by text o = elim o [ None ↦ plain_size text | Some h ↦ cond (h.size == 0) 32 (decimal_value (take h.size text)) ]
 
 pub size_is : (text : List ℕ) (h : LiteralHead) → head_of text ≡ Some h → literal_size text ≡ cond (h.size == 0) 32 (decimal_value (take h.size text))
 unfolding literal_size
 size_is text h e = ap (size_by text) e
 
-pub unsized_is : (text : List ℕ) → head_of text ≡ None → literal_size text ≡ 32
+pub unsized_is : (text : List ℕ) → head_of text ≡ None → is_quoted text ≡ false → literal_size text ≡ 32
 unfolding literal_size
-unsized_is text e = ap (size_by text) e
+unsized_is text e q = ap (size_by text) e ∙ ap (λ b. cond b (string_size text) 32) q
+
+pub string_is : (text : List ℕ) → head_of text ≡ None → is_quoted text ≡ true → literal_size text ≡ string_size text
+unfolding literal_size
+string_is text e q = ap (size_by text) e ∙ ap (λ b. cond b (string_size text) 32) q
 
 abbrev bits_by : List ℕ → Option LiteralHead → List Bit4
 bits_by text o = elim o [
-  | None ↦ number_bits 32 (decimal_value text)
+  | None ↦ number_bits (plain_size text) (plain_value text)
   | Some h ↦ fitted (literal_size text) (fill_bit (get_or (drop h.digits text) 0 0)) (digits_bits h.base (drop h.digits text))
 ]
 
@@ -181,25 +193,32 @@ pub based_bits : (text : List ℕ) (h : LiteralHead) → head_of text ≡ Some h
 unfolding literal_bits
 based_bits text h e = ap (bits_by text) e
 
-pub unsized_bits : (text : List ℕ) → head_of text ≡ None → literal_bits text ≡ number_bits 32 (decimal_value text)
+abbrev plain_bits_by : List ℕ → Bool → List Bit4
+plain_bits_by text q = number_bits (cond q (string_size text) 32) (cond q (string_value text) (decimal_value text))
+
+pub unsized_bits : (text : List ℕ) → head_of text ≡ None → is_quoted text ≡ false → literal_bits text ≡ number_bits 32 (decimal_value text)
 unfolding literal_bits
-unsized_bits text e = ap (bits_by text) e
+unsized_bits text e q = ap (bits_by text) e ∙ ap (plain_bits_by text) q
+
+pub string_bits : (text : List ℕ) → head_of text ≡ None → is_quoted text ≡ true → literal_bits text ≡ number_bits (string_size text) (string_value text)
+unfolding literal_bits
+string_bits text e q = ap (bits_by text) e ∙ ap (plain_bits_by text) q
 
 pub signed_is : (text : List ℕ) (h : LiteralHead) → head_of text ≡ Some h → is_signed_literal text ≡ h.signed
 unfolding is_signed_literal
-signed_is text h e = ap (λ (o : Option LiteralHead). elim o as (λ _. Bool) [ None ↦ true | Some h ↦ h.signed ]) e
+signed_is text h e = ap (λ (o : Option LiteralHead). elim o as (λ _. Bool) [ None ↦ not (is_quoted text) | Some h ↦ h.signed ]) e
 
-pub unsized_signed : (text : List ℕ) → head_of text ≡ None → is_signed_literal text ≡ true
+pub unsized_signed : (text : List ℕ) → head_of text ≡ None → is_signed_literal text ≡ not (is_quoted text)
 unfolding is_signed_literal
-unsized_signed text e = ap (λ (o : Option LiteralHead). elim o as (λ _. Bool) [ None ↦ true | Some h ↦ h.signed ]) e
+unsized_signed text e = ap (λ (o : Option LiteralHead). elim o as (λ _. Bool) [ None ↦ not (is_quoted text) | Some h ↦ h.signed ]) e
 
 pub sized_is : (text : List ℕ) (h : LiteralHead) → head_of text ≡ Some h → has_size text ≡ not (h.size == 0)
 unfolding has_size
-sized_is text h e = ap (λ (o : Option LiteralHead). elim o as (λ _. Bool) [ None ↦ false | Some h ↦ not (h.size == 0) ]) e
+sized_is text h e = ap (λ (o : Option LiteralHead). elim o as (λ _. Bool) [ None ↦ is_quoted text | Some h ↦ not (h.size == 0) ]) e
 
-pub unsized_has : (text : List ℕ) → head_of text ≡ None → has_size text ≡ false
+pub unsized_has : (text : List ℕ) → head_of text ≡ None → has_size text ≡ is_quoted text
 unfolding has_size
-unsized_has text e = ap (λ (o : Option LiteralHead). elim o as (λ _. Bool) [ None ↦ false | Some h ↦ not (h.size == 0) ]) e
+unsized_has text e = ap (λ (o : Option LiteralHead). elim o as (λ _. Bool) [ None ↦ is_quoted text | Some h ↦ not (h.size == 0) ]) e
 
 -- ---- the bits of digits
 

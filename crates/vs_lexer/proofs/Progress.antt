@@ -1,5 +1,5 @@
 -- How far a text has been cut.
-use Rattle.std.proofs.Common.{◌≡◌, ℕ, zero, suc, ◌+◌, ◌-◌, ◌<◌, ◌≤◌, Bool, true, false, ◌&&◌, List, [], ◌∷◌, ◌++◌, refl, sym, ◌∙◌, ap, length, take, drop, get_or, arith, length-append, length-drop, get_or-drop}
+use Rattle.std.proofs.Common.{◌≡◌, ℕ, zero, suc, ◌+◌, ◌-◌, ◌<◌, ◌≤◌, Bool, true, false, ◌&&◌, List, [], ◌∷◌, ◌++◌, refl, sym, ◌∙◌, ap, subst, length, take, drop, get_or, arith, length-append, length-drop, get_or-drop}
 use Rattle.std.specs.Prelude.{Option, Some, None, Result, Ok, Err, ◌==◌}
 use Rattle.std.proofs.lemmas.List.{drop_more, drop_all, drop-drop}
 use Rattle.vs_lexer.specs.declared.token.Token.{Token}
@@ -11,7 +11,7 @@ use Rattle.vs_lexer.specs.declared.scan.Fault.{Fault}
 use Rattle.vs_lexer.specs.Tokens.{token_kind, longest_within, longest, here, start_of, begins_number, checked}
 use Rattle.vs_lexer.specs.declared.scan.Fault.TheVariants.{NoToken, BadLiteral}
 use Rattle.vs_lexer.specs.Literals.{lacks_digits, is_in_range}
-use Rattle.vs_lexer.specs.Cuts.{to_close, skipped, cut, cut_text, token_limit, token_at, fault_at, with_token}
+use Rattle.vs_lexer.specs.Cuts.{to_close, skipped, cut, cut_text, byte_order_mark, token_limit, token_at, fault_at, with_token}
 
 -- ---- comments
 
@@ -145,9 +145,13 @@ pub cut_step : (steps left at : ℕ) (rest : List ℕ) → 0 < length rest → c
 cut_step steps left at [] h = absurd (omega arith)
 cut_step steps left at (b ∷ bs) h = refl
 
-pub begun : (text : List ℕ) → Progress text [] 0
+pub begun : (text : List ℕ) (at : ℕ) → at ≡ byte_order_mark text → Progress text [] at
 unfolding cut_text
-begun text = record { steps = length text; enough = omega arith; same = let e : token_limit - 0 ≡ token_limit = omega arith in ap (λ n. cut (length text) n 0 text) (sym e) }
+begun text at is = subst (Progress text []) (sym is) (record {
+  steps = length text;
+  enough = omega arith;
+  same = let e : token_limit - 0 ≡ token_limit = omega arith in ap (λ n. cut (length text) n (byte_order_mark text) (drop (byte_order_mark text) text)) (sym e);
+})
 
 module _ (text : List ℕ) (ts : List Token) (at : ℕ) (h : at < length text) (p : Progress text ts at) where
   -- one step from here

@@ -1,5 +1,5 @@
 -- Worked rows of the definitions.
-use Rattle.std.specs.Prelude.{◌≡◌, ℕ, suc, true, false, List, [], ◌∷◌, refl, codes, replicate, None, Ok, Err, Result}
+use Rattle.std.specs.Prelude.{◌≡◌, ℕ, suc, true, false, List, [], ◌∷◌, ◌++◌, refl, codes, replicate, None, Ok, Err, Result}
 use Rattle.vs_four.specs.declared.Bit4.TheVariants.{Zero, One, X, Z}
 use Rattle.vs_lexer.specs.declared.token.Token.{Token}
 use Rattle.vs_lexer.specs.declared.token.LexError.{LexError}
@@ -8,6 +8,7 @@ use Rattle.vs_lexer.specs.declared.token.TokenKind.{TokenKind}
 use Rattle.vs_lexer.specs.declared.token.TokenKind.TheVariants as kind
 use Rattle.vs_lexer.specs.Spellings.{signs, keywords, left_out_words, system_names}
 use Rattle.vs_lexer.specs.Tokens.{word_kind, system_kind, sign_kind}
+use Rattle.vs_lexer.specs.Strings.{characters_of}
 use Rattle.vs_lexer.specs.Literals.{is_in_range, number_bits, literal_bits, literal_size}
 use Rattle.vs_lexer.specs.Cuts.{cut, cut_text}
 use Rattle.vs_lexer.specs.LeftOut.{is_left_out}
@@ -108,9 +109,41 @@ large_enough : cut_text (codes "64'd18446744073709551615") ≡ Ok (token kind.Ba
 unfolding is_in_range cut_text word_kind system_kind sign_kind signs keywords left_out_words system_names token left_from left_out_of
 large_enough = refl
 
-string_with_quote : cut_text (34 ∷ 97 ∷ 92 ∷ 34 ∷ 98 ∷ 34 ∷ []) ≡ Ok (token kind.Text 0 6 ∷ [])
-unfolding is_in_range cut_text word_kind system_kind sign_kind signs keywords left_out_words system_names token left_from left_out_of
+string_with_quote : cut_text (34 ∷ 97 ∷ 92 ∷ 34 ∷ 98 ∷ 34 ∷ []) ≡ Ok (token kind.Based 0 6 ∷ [])
+unfolding is_in_range cut_text word_kind system_kind sign_kind signs keywords left_out_words system_names characters_of token left_from left_out_of
 string_with_quote = refl
+
+octal_escape : cut_text (34 ∷ 92 ∷ 51 ∷ 55 ∷ 55 ∷ 34 ∷ []) ≡ Ok (token kind.Based 0 6 ∷ [])
+unfolding is_in_range cut_text word_kind system_kind sign_kind signs keywords left_out_words system_names characters_of token left_from left_out_of
+octal_escape = refl
+
+octal_too_large : cut_text (34 ∷ 92 ∷ 52 ∷ 48 ∷ 48 ∷ 34 ∷ []) ≡ Ok (token kind.Text 0 6 ∷ [])
+unfolding is_in_range cut_text word_kind system_kind sign_kind signs keywords left_out_words system_names characters_of token left_from left_out_of
+octal_too_large = refl
+
+octal_too_short : cut_text (34 ∷ 92 ∷ 49 ∷ 50 ∷ 34 ∷ []) ≡ Ok (token kind.Text 0 5 ∷ [])
+unfolding is_in_range cut_text word_kind system_kind sign_kind signs keywords left_out_words system_names characters_of token left_from left_out_of
+octal_too_short = refl
+
+other_escape : cut_text (34 ∷ 92 ∷ 113 ∷ 34 ∷ []) ≡ Ok (token kind.Text 0 4 ∷ [])
+unfolding is_in_range cut_text word_kind system_kind sign_kind signs keywords left_out_words system_names characters_of token left_from left_out_of
+other_escape = refl
+
+longest_string : cut_text (34 ∷ codes "12345678" ++ 34 ∷ []) ≡ Ok (token kind.Based 0 10 ∷ [])
+unfolding is_in_range cut_text word_kind system_kind sign_kind signs keywords left_out_words system_names characters_of token left_from left_out_of
+longest_string = refl
+
+longer_string : cut_text (34 ∷ codes "123456789" ++ 34 ∷ []) ≡ Ok (token kind.Text 0 11 ∷ [])
+unfolding is_in_range cut_text word_kind system_kind sign_kind signs keywords left_out_words system_names characters_of token left_from left_out_of
+longer_string = refl
+
+byte_order_mark_first : cut_text (239 ∷ 187 ∷ 191 ∷ codes "a") ≡ Ok (token kind.Identifier 3 4 ∷ [])
+unfolding is_in_range cut_text word_kind system_kind sign_kind signs keywords left_out_words system_names characters_of token left_from left_out_of
+byte_order_mark_first = refl
+
+byte_order_mark_later : cut_text (32 ∷ 239 ∷ 187 ∷ 191 ∷ codes "a") ≡ Err (NoToken 1)
+unfolding is_in_range cut_text word_kind system_kind sign_kind signs keywords left_out_words system_names characters_of token left_from left_out_of
+byte_order_mark_later = refl
 
 open_string : cut_text (34 ∷ 97 ∷ []) ≡ Err (NoToken 0)
 unfolding is_in_range cut_text word_kind system_kind sign_kind signs keywords left_out_words system_names token left_from left_out_of
@@ -231,3 +264,19 @@ plain_bits = refl
 plain_size : literal_size (codes "5") ≡ 32
 unfolding literal_size
 plain_size = refl
+
+string_bits : literal_bits (34 ∷ codes "A" ++ 34 ∷ []) ≡ One ∷ Zero ∷ Zero ∷ Zero ∷ Zero ∷ Zero ∷ One ∷ Zero ∷ []
+unfolding literal_bits literal_size number_bits characters_of
+string_bits = refl
+
+string_bits_of_two : literal_bits (34 ∷ 48 ∷ 92 ∷ 110 ∷ 34 ∷ []) ≡ Zero ∷ One ∷ Zero ∷ One ∷ Zero ∷ Zero ∷ Zero ∷ Zero ∷ Zero ∷ Zero ∷ Zero ∷ Zero ∷ One ∷ One ∷ Zero ∷ Zero ∷ []
+unfolding literal_bits literal_size number_bits characters_of
+string_bits_of_two = refl
+
+empty_string_bits : literal_bits (34 ∷ 34 ∷ []) ≡ replicate 8 Zero
+unfolding literal_bits literal_size number_bits characters_of
+empty_string_bits = refl
+
+empty_string_size : literal_size (34 ∷ 34 ∷ []) ≡ 8
+unfolding literal_size characters_of
+empty_string_size = refl

@@ -1,5 +1,5 @@
 -- A number whose size stands in front of it in another piece.
-use Rattle.std.proofs.Common.{◌≡◌, ℕ, zero, suc, ◌+◌, ◌^◌, ◌<◌, ◌≤◌, Bool, not, true, false, ◌&&◌, ◌||◌, cond, List, [], ◌∷◌, ◌++◌, ◌⊎◌, inl, inr, refl, sym, ◌∙◌, ap, subst, length, take, drop, get_or, arith}
+use Rattle.std.proofs.Common.{◌≡◌, ℕ, ◌+◌, ◌^◌, ◌<◌, ◌≤◌, Bool, not, true, false, ◌&&◌, ◌||◌, cond, List, [], ◌∷◌, ◌++◌, ◌⊎◌, inl, inr, refl, sym, ◌∙◌, ap, subst, length, take, drop, get_or, arith}
 use Rattle.std.specs.Prelude.{Option, Some, None, Ok, ◌==◌}
 use Rattle.std.specs.List.{prefix_len, list_all}
 use Rattle.std.proofs.lemmas.Bool.{and_parts, ne_eqb}
@@ -45,10 +45,13 @@ not_based false e = cc
 not_number : true ≡ false → ⊥
 not_number e = cc
 
+other_kind : kind.Decimal ≡ kind.Based → ⊥
+other_kind e = cc
+
 pub size_of : (s : List ℕ) → token_kind s ≡ Some kind.Decimal → IsSize s
 size_of [] e = cc
 size_of (a ∷ xs) e = elim (either (begins_number (start_of a))) [
-  | inr n ↦ absurd (not_number (from_no_number (start_of a) a xs kind.Decimal n e))
+  | inr n ↦ elim (from_no_number (start_of a) a xs kind.Decimal n e) [ inl f ↦ absurd (not_number f) | inr s ↦ absurd (other_kind s.based) ]
   | inl y ↦ elim (either (is_digit a)) [
     | inr d ↦ absurd (not_based (is_based (a ∷ xs)) (ap (λ s. kind_from s a xs) (sym (quote_start a y d)) ∙ e))
     | inl d ↦

@@ -1,9 +1,9 @@
 -- What each token of a text is.
-use Rattle.std.proofs.Common.{◌≡◌, ℕ, zero, suc, ◌+◌, ◌-◌, ◌<◌, ◌≤◌, Bool, true, false, cond, List, [], ◌∷◌, refl, sym, ◌∙◌, ap, subst, length, take, drop, get_or, arith, length-drop}
-use Rattle.std.specs.Prelude.{Option, Some, None, Result, Ok, Err, IfSome, not, slice_get, unwrap_or}
+use Rattle.std.proofs.Common.{◌≡◌, ℕ, zero, suc, ◌+◌, ◌-◌, ◌<◌, ◌≤◌, Bool, true, false, cond, List, [], ◌∷◌, refl, sym, ◌∙◌, ap, subst, length, take, drop, get_or, arith, length-drop, ◌⊎◌, inl, inr}
+use Rattle.std.specs.Prelude.{Option, Some, None, Result, Ok, Err, IfSome, not, slice_get, unwrap_or, ◌==◌}
 use Rattle.std.specs.List.{list_all}
 use Rattle.std.specs.Str.{bytes_eq}
-use Rattle.std.proofs.lemmas.Bool.{and_parts, not-true}
+use Rattle.std.proofs.lemmas.Bool.{and_parts, not-true, eqb-true}
 use Rattle.std.proofs.lemmas.List.{drop-drop}
 use Rattle.std.proofs.lemmas.Option.{slice_get-get_or, get_or_from_slice_get, slice_get_within}
 use Rattle.vs_lexer.specs.declared.token.Token.{Token}
@@ -15,9 +15,11 @@ use Rattle.vs_lexer.specs.declared.scan.Fault.{Fault}
 use Rattle.vs_lexer.specs.declared.scan.Start.{Start}
 use Rattle.vs_lexer.specs.declared.scan.Start.TheVariants as start
 use Rattle.vs_lexer.specs.Spellings.{Spelling, signs, keywords, left_out_words, system_names, find_spelling, is_among}
+use Rattle.vs_lexer.specs.Classes.{is_letter, is_digit}
+use Rattle.vs_lexer.specs.Strings.{ends_string, is_short_string}
 use Rattle.vs_lexer.specs.Literals.{lacks_digits, is_in_range}
 use Rattle.vs_lexer.specs.Tokens.{token_kind, kind_from, start_of, longest, longest_within, here, begins_number, checked, if_so, is_number_kind, word_kind, system_kind, sign_kind}
-use Rattle.vs_lexer.specs.Cuts.{skipped, cut, cut_text, own_bytes, token_limit, token_at, with_token}
+use Rattle.vs_lexer.specs.Cuts.{skipped, cut, cut_text, byte_order_mark, own_bytes, token_limit, token_at, with_token}
 use Rattle.vs_lexer.specs.Laws.{IsSizeOf, StandsIn, AreTokens as AreAll, TokensStand}
 use Rattle.vs_lexer.proofs.Longest.{lexeme}
 use Rattle.vs_lexer.proofs.Progress.{cut_by, here_by, here_longest, here_some, here_inside}
@@ -82,7 +84,10 @@ tokens_of (suc steps) left at (b ∷ bs) ts e = cut_tokens steps left at (b ∷ 
 
 pub token_of : (text : List ℕ) (ts : List Token) (n : ℕ) (t : Token) → cut_text text ≡ Ok ts → slice_get ts n ≡ Some t → IsToken 0 text t
 unfolding cut_text
-token_of text ts n t e g = tokens_of (length text) token_limit 0 text ts e n t g
+token_of text ts n t e g = further 0 (byte_order_mark text) text t (tokens_of (length text) token_limit (0 + byte_order_mark text) (drop (byte_order_mark text) text) ts (subst (λ (m : ℕ). cut (length text) token_limit m (drop (byte_order_mark text) text) ≡ Ok ts) (zero_plus (byte_order_mark text)) e) n t g)
+  where
+    zero_plus : (m : ℕ) → m ≡ 0 + m
+    zero_plus m = omega arith
 
 -- a token stands in the text
 pub token_inside : (text : List ℕ) (t : Token) → IsToken 0 text t → t.end ≤ length text
@@ -141,17 +146,32 @@ so_no_number : (b : Bool) (k j : TokenKind) → is_number_kind k ≡ false → i
 so_no_number true k j p e = let q : k ≡ j = cc in ap is_number_kind (sym q) ∙ p
 so_no_number false k j p e = cc
 
-pub from_no_number : (s : Start) (b : ℕ) (bs : List ℕ) (k : TokenKind) → begins_number s ≡ false → kind_from s b bs ≡ Some k → is_number_kind k ≡ false
-from_no_number start.Word b bs k n e = so_no_number _ (word_kind (b ∷ bs)) k (word_no_number (b ∷ bs)) e
+-- a string that is a number
+pub record IsShort (s : Start) (text : List ℕ) (k : TokenKind) : Type 0 where
+  pub string : s ≡ start.Text
+  pub short : is_short_string text ≡ true
+  pub based : k ≡ kind.Based
+
+string_by : (short : Bool) (k : TokenKind) → cond short kind.Based kind.Text ≡ k → (is_number_kind k ≡ false) ⊎ ((short ≡ true) × (k ≡ kind.Based))
+string_by true k e = inr (refl, sym e)
+string_by false k e = inl (ap is_number_kind (sym e))
+
+so_string : (b short : Bool) (k : TokenKind) → if_so b (cond short kind.Based kind.Text) ≡ Some k → (is_number_kind k ≡ false) ⊎ ((short ≡ true) × (k ≡ kind.Based))
+so_string true short k e = let q : cond short kind.Based kind.Text ≡ k = cc in string_by short k q
+so_string false short k e = cc
+
+-- what begins as no number is none, or a short string
+pub from_no_number : (s : Start) (b : ℕ) (bs : List ℕ) (k : TokenKind) → begins_number s ≡ false → kind_from s b bs ≡ Some k → (is_number_kind k ≡ false) ⊎ IsShort s (b ∷ bs) k
+from_no_number start.Word b bs k n e = inl (so_no_number _ (word_kind (b ∷ bs)) k (word_no_number (b ∷ bs)) e)
 from_no_number start.Number b bs k n e = cc
 from_no_number start.Quote b bs k n e = cc
-from_no_number start.Text b bs k n e = so_no_number _ kind.Text k refl e
-from_no_number start.Escaped b bs k n e = so_no_number _ kind.EscapedIdentifier k refl e
-from_no_number start.System b bs k n e = so_no_number _ (system_kind (b ∷ bs)) k (system_no_number (b ∷ bs)) e
-from_no_number start.Directive b bs k n e = so_no_number _ kind.Directive k refl e
-from_no_number start.Sign b bs k n e = sign_no_number (b ∷ bs) k e
+from_no_number start.Text b bs k n e = elim (so_string (ends_string bs) (is_short_string (b ∷ bs)) k e) [ inl f ↦ inl f | inr p ↦ inr (record { string = refl; short = p.0; based = p.1 }) ]
+from_no_number start.Escaped b bs k n e = inl (so_no_number _ kind.EscapedIdentifier k refl e)
+from_no_number start.System b bs k n e = inl (so_no_number _ (system_kind (b ∷ bs)) k (system_no_number (b ∷ bs)) e)
+from_no_number start.Directive b bs k n e = inl (so_no_number _ kind.Directive k refl e)
+from_no_number start.Sign b bs k n e = inl (sign_no_number (b ∷ bs) k e)
 
-token_no_number : (b : ℕ) (bs : List ℕ) (n : ℕ) (k : TokenKind) → begins_number (start_of b) ≡ false → token_kind (take n (b ∷ bs)) ≡ Some k → is_number_kind k ≡ false
+token_no_number : (b : ℕ) (bs : List ℕ) (n : ℕ) (k : TokenKind) → begins_number (start_of b) ≡ false → token_kind (take n (b ∷ bs)) ≡ Some k → (is_number_kind k ≡ false) ⊎ IsShort (start_of b) (take n (b ∷ bs)) k
 token_no_number b bs zero k s e = cc
 token_no_number b bs (suc n) k s e = from_no_number (start_of b) b (take n bs) k s e
 
@@ -159,18 +179,48 @@ checked_range : (b : Bool) (k l : Lexeme) → checked b k ≡ Ok l → (b ≡ tr
 checked_range true k l e = (refl, cc)
 checked_range false k l e = cc
 
-range_by : (number lacks : Bool) (o : Option Lexeme) (in_range : Lexeme → Bool) (l : Lexeme) → here_by number lacks o in_range ≡ Ok l → (number ≡ false → ⊥) → in_range l ≡ true
-range_by false lacks o r l e f = absurd (f refl)
+range_by : (number lacks : Bool) (o : Option Lexeme) (in_range : Lexeme → Bool) (l : Lexeme) → here_by number lacks o in_range ≡ Ok l → (number ≡ false → in_range l ≡ true) → in_range l ≡ true
+range_by false lacks o r l e f = f refl
 range_by true true o r l e f = cc
 range_by true false None r l e f = cc
 range_by true false (Some k) r l e f = let p = checked_range (r k) k l e in ap r (sym p.1) ∙ p.0
+
+-- a string begins with `"`
+text_by : (l d q t e s x : Bool) → cond l start.Word (cond d start.Number (cond q start.Quote (cond t start.Text (cond e start.Escaped (cond s start.System (cond x start.Directive start.Sign)))))) ≡ start.Text → t ≡ true
+text_by true d q t e s x h = cc
+text_by false true q t e s x h = cc
+text_by false false true t e s x h = cc
+text_by false false false true e s x h = refl
+text_by false false false false true s x h = cc
+text_by false false false false false true x h = cc
+text_by false false false false false false true h = cc
+text_by false false false false false false false h = cc
+
+quote_of : (b : ℕ) → start_of b ≡ start.Text → b ≡ 34
+quote_of b h = eqb-true b 34 (text_by (is_letter b) (is_digit b) (b == 39) (b == 34) (b == 92) (b == 36) (b == 96) h)
+
+-- a short string is in range
+pub short_in_range : (text : List ℕ) → get_or text 0 0 ≡ 34 → is_short_string text ≡ true → is_in_range text ≡ true
+unfolding is_in_range
+short_in_range [] q s = cc
+short_in_range (b ∷ bs) q s = subst (λ (c : ℕ). is_short_string (c ∷ bs) ≡ true → is_in_range (c ∷ bs) ≡ true) (sym q) (λ t. t) s
 
 -- a number that is taken is in range
 pub number_in_range : (text : List ℕ) (l : Lexeme) → here text ≡ Ok l → is_number_kind l.kind ≡ true → is_in_range (take l.length text) ≡ true
 number_in_range [] l e k = cc
 number_in_range (b ∷ bs) l e k =
     range_by (begins_number (start_of b)) (lacks_digits (b ∷ bs)) (longest (b ∷ bs)) (λ m. is_in_range (take m.length (b ∷ bs))) l e
-    (λ n. let f = token_no_number b bs l.length l.kind n (longest_kind (b ∷ bs) (length (b ∷ bs)) l (here_longest (b ∷ bs) l e)) in cc)
+    (λ n. elim (token_no_number b bs l.length l.kind n (longest_kind (b ∷ bs) (length (b ∷ bs)) l (here_longest (b ∷ bs) l e))) [
+      | inl f ↦ absurd (not_both k f)
+      | inr s ↦ short_at l.length s.short (quote_of b s.string) (here_some (b ∷ bs) l e)
+    ])
+  where
+    not_both : is_number_kind l.kind ≡ true → is_number_kind l.kind ≡ false → ⊥
+    not_both y n = cc
+
+    short_at : (n : ℕ) → is_short_string (take n (b ∷ bs)) ≡ true → b ≡ 34 → 0 < n → is_in_range (take n (b ∷ bs)) ≡ true
+    short_at zero s q o = absurd (omega arith)
+    short_at (suc n) s q o = short_in_range (b ∷ take n bs) q s
 
 -- ---- the law of the tokens
 
@@ -205,7 +255,7 @@ stands text t i = record {
 
 pub tokens_stand : TokensStand
 unfolding cut_text
-tokens_stand text tokens e = record { few = few_of (length text) token_limit 0 text tokens e; each = λ n d h. stands text (get_or tokens n d) (token_of text tokens n (get_or tokens n d) e (slice_get-get_or tokens n d h)) }
+tokens_stand text tokens e = record { few = few_of (length text) token_limit (byte_order_mark text) (drop (byte_order_mark text) text) tokens e; each = λ n d h. stands text (get_or tokens n d) (token_of text tokens n (get_or tokens n d) e (slice_get-get_or tokens n d h)) }
 
 -- token n of a text
 pub stands_at : (text : List ℕ) (tokens : List Token) (n : ℕ) (t : Token) → AreAll text tokens → slice_get tokens n ≡ Some t → StandsIn text t

@@ -101,9 +101,13 @@ cut (suc steps) left at (b ∷ bs) = elim (skipped (b ∷ bs)) [
   ]
 ]
 
+-- The bytes of a byte-order mark at the start of a text, EF BB BF, which are skipped as a blank is: 0 where there is none. Elsewhere they begin no token.
+abbrev pub byte_order_mark : List ℕ → ℕ
+byte_order_mark text = if slice_index text 0 == 239 && slice_index text 1 == 187 && slice_index text 2 == 191 then 3 else 0
+
 -- the tokens of a text, or its first fault
 unfoldable pub cut_text : List ℕ → Result (List Token) LexError
-cut_text text = cut (length text) token_limit 0 text
+cut_text text = let mark = byte_order_mark text in cut (length text) token_limit mark (drop mark text)
 
 -- the bytes of a span
 abbrev pub bytes_in : List ℕ → Span → List ℕ

@@ -1,5 +1,6 @@
 pub mod Spellings
 pub mod Classes
+pub mod Strings
 pub mod Literals
 pub mod Tokens
 pub mod Cuts

@@ -1,4 +1,4 @@
--- Numbers (IEEE 1364-2005, 3.5.1). A byte past the end of a text reads as 0.
+-- Numbers (IEEE 1364-2005, 3.5.1), and the strings that are numbers (3.6). A byte past the end of a text reads as 0.
 use Rattle.std.specs.Prelude.{ℕ, zero, suc, ◌+◌, ◌-◌, ◌*◌, ◌/◌, ◌%◌, ◌^◌, Bool, true, false, not, ◌&&◌, ◌||◌, if◌then◌else◌, ◌==◌, nat_le, nat_lt, List, [], ◌∷◌, ◌++◌, take, drop, replicate, slice_index, Option, Some, None}
 use Rattle.std.specs.List.{fold, prefix_len, list_all}
 use Rattle.vs_four.specs.declared.Bit4.{Bit4}
@@ -8,6 +8,7 @@ use Rattle.vs_lexer.specs.declared.bytes.Base.TheVariants.{Binary, Octal, Decima
 use Rattle.vs_lexer.specs.declared.bytes.ByteClass.{ByteClass}
 use Rattle.vs_lexer.specs.declared.bytes.ByteClass.TheVariants as class
 use Rattle.vs_lexer.specs.declared.number.LiteralHead.{LiteralHead}
+use Rattle.vs_lexer.specs.Strings.{is_quoted, is_short_string, string_size, string_value}
 use Rattle.vs_lexer.specs.Classes.{is_digit, is_x, is_z, base_of, digit_value, begins_digits, is_in}
 
 -- ---- the head of a number with a base: perhaps a size and blanks, a quote, perhaps `s`, a base, blanks
@@ -79,10 +80,14 @@ abbrev pub is_decimal_number : Base → List ℕ → Bool
 is_decimal_number Decimal digits = is_digit (slice_index digits 0)
 is_decimal_number base digits = false
 
--- The size and the value of a number are in range: an unsized decimal number is below 2^31, and digits of base d below 2^64.
+-- of what has no base: a string has eight characters at most, and an unsized decimal number is below 2^31
+abbrev pub is_plain_in_range : List ℕ → Bool
+is_plain_in_range text = if is_quoted text then is_short_string text else nat_lt (decimal_value text) (2 ^ 31)
+
+-- The size and the value of a number are in range: besides, a size is 1 to 64, and digits of base d are below 2^64.
 unfoldable pub is_in_range : List ℕ → Bool
 is_in_range text = elim (head_of text) [
-  | None ↦ nat_lt (decimal_value text) (2 ^ 31)
+  | None ↦ is_plain_in_range text
   | Some h ↦ (h.size == 0 || is_good_size (decimal_value (take h.size text))) && (not (is_decimal_number h.base (drop h.digits text)) || nat_lt (decimal_value (drop h.digits text)) (2 ^ 64))
 ]
 
@@ -122,20 +127,27 @@ fill_bit b = if is_x b then X else (if is_z b then Z else Zero)
 abbrev pub fitted : ℕ → Bit4 → List Bit4 → List Bit4
 fitted size fill bits = take size (bits ++ replicate size fill)
 
--- the length in bits of a number: its size, or else 32
+-- the length in bits and the value of what has no base, a string or an unsized decimal number
+abbrev pub plain_size : List ℕ → ℕ
+plain_size text = if is_quoted text then string_size text else 32
+
+abbrev pub plain_value : List ℕ → ℕ
+plain_value text = if is_quoted text then string_value text else decimal_value text
+
+-- the length in bits of a number: its size, that of a string, or else 32
 unfoldable pub literal_size : List ℕ → ℕ
-literal_size text = elim (head_of text) [ None ↦ 32 | Some h ↦ if h.size == 0 then 32 else decimal_value (take h.size text) ]
+literal_size text = elim (head_of text) [ None ↦ plain_size text | Some h ↦ if h.size == 0 then 32 else decimal_value (take h.size text) ]
 
 unfoldable pub literal_bits : List ℕ → List Bit4
 literal_bits text = elim (head_of text) [
-  | None ↦ number_bits 32 (decimal_value text)
+  | None ↦ number_bits (plain_size text) (plain_value text)
   | Some h ↦ let digits = drop h.digits text in fitted (literal_size text) (fill_bit (slice_index digits 0)) (digits_bits h.base digits)
 ]
 
 -- an unsized decimal number is signed, and a number with a base where it has an `s`
 unfoldable pub is_signed_literal : List ℕ → Bool
-is_signed_literal text = elim (head_of text) [ None ↦ true | Some h ↦ h.signed ]
+is_signed_literal text = elim (head_of text) [ None ↦ not (is_quoted text) | Some h ↦ h.signed ]
 
--- a size was written
+-- a size was written, or is that of a string
 unfoldable pub has_size : List ℕ → Bool
-has_size text = elim (head_of text) [ None ↦ false | Some h ↦ not (h.size == 0) ]
+has_size text = elim (head_of text) [ None ↦ is_quoted text | Some h ↦ not (h.size == 0) ]

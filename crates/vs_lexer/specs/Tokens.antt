@@ -10,6 +10,7 @@ use Rattle.vs_lexer.specs.declared.scan.Fault.TheVariants.{NoToken, BadLiteral}
 use Rattle.vs_lexer.specs.declared.scan.Start.{Start}
 use Rattle.vs_lexer.specs.declared.scan.Start.TheVariants as start
 use Rattle.vs_lexer.specs.Classes.{is_letter, is_digit, is_in}
+use Rattle.vs_lexer.specs.Strings.{ends_string, is_short_string}
 use Rattle.vs_lexer.specs.Literals.{is_based, lacks_digits, is_in_range}
 use Rattle.vs_lexer.specs.Spellings.{signs, keywords, left_out_words, system_names, find_spelling, is_among}
 
@@ -27,12 +28,9 @@ system_kind name = unwrap_or (find_spelling system_names name) kind.SystemName
 unfoldable pub sign_kind : List ℕ → Option TokenKind
 sign_kind = find_spelling signs
 
--- these bytes, after the first `"`, end a string at their last one; `\` takes the byte after it along, but no line end (3.6); `"` is 34,
--- `\` is 92, LF is 10
-abbrev pub ends_string : List ℕ → Bool
-ends_string [] = false
-ends_string (b ∷ []) = b == 34
-ends_string (b ∷ c ∷ bs) = elim (b == 92) [ true ↦ not (c == 10) && ends_string bs | false ↦ not (b == 34) && not (b == 10) && ends_string (c ∷ bs) ]
+-- a string: a number where it is short, or else left out (3.6)
+abbrev pub string_kind : List ℕ → TokenKind
+string_kind text = if is_short_string text then kind.Based else kind.Text
 
 -- these bytes are an identifier or a word (3.7)
 abbrev pub is_name : List ℕ → Bool
@@ -69,7 +67,7 @@ abbrev pub kind_from : Start → ℕ → List ℕ → Option TokenKind
 kind_from start.Word b bs = if_so (list_all (is_in class.Name) bs) (word_kind (b ∷ bs))
 kind_from start.Number b bs = if list_all (is_in class.Decimal) bs then Some kind.Decimal else if_so (is_based (b ∷ bs)) kind.Based
 kind_from start.Quote b bs = if_so (is_based (b ∷ bs)) kind.Based
-kind_from start.Text b bs = if_so (ends_string bs) kind.Text
+kind_from start.Text b bs = if_so (ends_string bs) (string_kind (b ∷ bs))
 kind_from start.Escaped b bs = if_so (some_of (is_in class.Visible) bs) kind.EscapedIdentifier
 kind_from start.System b bs = if_so (some_of (is_in class.Name) bs) (system_kind (b ∷ bs))
 kind_from start.Directive b bs = if_so (is_name bs) kind.Directive

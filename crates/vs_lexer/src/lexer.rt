@@ -75,6 +75,18 @@ fn skipped(text: &[u8]) -> Option<usize>
     }
 }
 
+/// How many bytes a byte-order mark at the start of a text has; 0 where there is none.
+fn byte_order_mark(text: &[u8]) -> usize
+    ensures value { result ≡ spec.byte_order_mark text.now }
+    ensures within { result ≤ length text.now }
+{
+    if byte_at(text, 0) == 0xEF && byte_at(text, 1) == 0xBB && byte_at(text, 2) == 0xBF {
+        3
+    } else {
+        0
+    }
+}
+
 /// A fault, at its place.
 fn fault_at(fault: Fault, at: u32) -> LexError
     ensures { result ≡ spec.fault_at fault at }
@@ -86,7 +98,8 @@ fn fault_at(fault: Fault, at: u32) -> LexError
 }
 
 /// Cuts a text of at most `MAX_BYTES` bytes into tokens. At each place a blank, a comment or a skipped directive is passed
-/// over, or else the longest token is taken (IEEE 1364-2005, clause 3). The first fault of the text is the error: a comment that
+/// over, or else the longest token is taken (IEEE 1364-2005, clause 3); a byte-order mark at the start of the text is passed
+/// over as a blank is. The first fault of the text is the error: a comment that
 /// stays open, a place where no token begins, a number out of range or without digits, or a token after number `MAX_TOKENS`;
 /// or there was not enough memory.
 pub fn lex(alloc: Global, text: &[u8]) -> Result<Vec<Token>, LexError>
@@ -95,7 +108,7 @@ pub fn lex(alloc: Global, text: &[u8]) -> Result<Vec<Token>, LexError>
     ensures fault { IfErr result (λ e. (spec.cut_text text.now ≡ Err e) ⊎ (e ≡ LexError.Memory)) }
 {
     let mut tokens = Vec::new(alloc);
-    let mut at = 0;
+    let mut at = byte_order_mark(text);
     while at < text.len() {
         let place = at as u32;
         let rest = &text[at..];

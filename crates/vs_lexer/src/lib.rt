@@ -7,6 +7,7 @@ mod left_out;
 mod lexer;
 mod number;
 mod scan;
+mod strings;
 mod tables;
 mod token;
 mod value;

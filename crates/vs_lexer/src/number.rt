@@ -4,6 +4,7 @@ ghost use Rattle.std.specs.Prelude.{◌≡◌, ◌≢◌, ◌<◌, ◌≤◌, �
 ghost use Rattle.vs_lexer.specs.Literals as spec;
 
 use crate::bytes::{Base, ByteClass, base_of, begins_digits, byte_at, is_digit, run_length};
+use crate::strings::{is_quoted, string_number};
 
 /// What stands before the digits of a number with a base.
 #[derive(Clone, Copy, Debug)]
@@ -163,12 +164,15 @@ pub(crate) fn is_in_range(text: &[u8], head: &LiteralHead) -> bool
     good_size && (!is_decimal_number(head.base, digits) || decimal_value(digits).is_some())
 }
 
-/// Whether the value of an unsized decimal number is in range.
+/// Whether the number without a base, which may be a string, is in range.
 #[tactic(auto, unfolding(crate::specs::Literals::is_in_range))]
 pub(crate) fn is_in_range_unsized(text: &[u8]) -> bool
     requires { spec.head_of text.now ≡ None }
     ensures { result ≡ spec.is_in_range text.now }
 {
+    if is_quoted(text) {
+        return string_number(text).is_some();
+    }
     match decimal_value(text) {
         Some(n) => n < 0x8000_0000,
         None => false,
@@ -176,7 +180,7 @@ pub(crate) fn is_in_range_unsized(text: &[u8]) -> bool
 }
 
 /// Whether the size and the value of the number that these bytes are, are in range: a size is 1 to 64, an unsized decimal number is below 2^31, and
-/// digits of base d are below 2^64.
+/// digits of base d are below 2^64, and a string has at most eight characters and no escape that stands for none.
 pub fn is_literal_in_range(text: &[u8]) -> bool
     ensures { result ≡ spec.is_in_range text.now }
 {

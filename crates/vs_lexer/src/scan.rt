@@ -7,6 +7,7 @@ ghost use Rattle.vs_lexer.specs.Tokens as spec;
 
 use crate::bytes::{ByteClass, is_digit, is_letter, run_length};
 use crate::number::{LiteralHead, digits_length, head_of, is_in_range, is_in_range_unsized};
+use crate::strings::{closing_quote, string_number};
 use crate::tables::{KEYWORDS, LEFT_OUT_WORDS, SIGNS, SYSTEM_NAMES};
 use crate::token::TokenKind;
 
@@ -176,31 +177,14 @@ fn directive(text: &[u8]) -> Result<Lexeme, Fault>
     })
 }
 
-/// How many bytes of a string follow its first quote, if it is closed on its line.
-fn closing_quote(text: &[u8]) -> Option<usize>
-    ensures within { IfSome result (λ n. n ≤ length text.now) }
-    ensures found { IfSome result (λ n. spec.ends_string (take n text.now) ≡ true) }
-    ensures last { IfSome result (λ n. (m : ℕ) → n < m → m ≤ length text.now → spec.ends_string (take m text.now) ≡ false) }
-    ensures missing { IfNone result ((m : ℕ) → spec.ends_string (take m text.now) ≡ false) }
+/// What a string is: a number where it has at most eight characters and no other escape, or else left out.
+fn string_kind(text: &[u8]) -> TokenKind
+    ensures { result ≡ spec.string_kind text.now }
 {
-    let mut at = 0;
-    while at < text.len() {
-        let byte = text[at];
-        if byte == b'"' {
-            return Some(at + 1);
-        }
-        if byte == b'\n' {
-            return None;
-        }
-        if byte != b'\\' {
-            at += 1;
-        } else if at + 1 < text.len() && text[at + 1] != b'\n' {
-            at += 2;
-        } else {
-            return None;
-        }
+    match string_number(text) {
+        Some(_) => TokenKind::Based,
+        None => TokenKind::Text,
     }
-    None
 }
 
 fn string(text: &[u8]) -> Result<Lexeme, Fault>
@@ -210,7 +194,7 @@ fn string(text: &[u8]) -> Result<Lexeme, Fault>
 {
     match closing_quote(&text[1..]) {
         Some(n) => Ok(Lexeme {
-            kind: TokenKind::Text,
+            kind: string_kind(&text[..1 + n]),
             length: 1 + n,
         }),
         None => Err(Fault::NoToken),

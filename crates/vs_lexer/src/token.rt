@@ -10,9 +10,9 @@ pub enum TokenKind {
     Identifier,
     /// An unsized decimal number, 32 bits and signed (3.5.1).
     Decimal,
-    /// A number with a base, with or without a size (3.5.1).
+    /// A number with a base, with or without a size (3.5.1), or a string of at most eight characters (3.6).
     Based,
-    /// A string (3.6), left out.
+    /// A string (3.6) that is longer or has another escape, left out.
     Text,
     /// An escaped identifier (3.7.1), left out.
     EscapedIdentifier,

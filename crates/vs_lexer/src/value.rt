@@ -1,8 +1,9 @@
-//! What a number stands for (IEEE 1364-2005, 3.5.1).
+//! What a number stands for (IEEE 1364-2005, 3.5.1 and 3.6).
 
 ghost use Rattle.std.specs.Prelude.{◌≡◌, ◌≢◌, ◌<◌, ◌≤◌, ◌+◌, ◌*◌, ◌%◌, ◌^◌, ◌++◌, Some, length, take, drop, replicate, slice_index, true, false};
 ghost use Rattle.vs_four.specs.Planes.{bits_of_planes};
 ghost use Rattle.vs_lexer.specs.Literals as spec;
+ghost use Rattle.vs_lexer.specs.Strings.{is_short_string, string_size, string_value};
 ghost use Rattle.vs_lexer.specs.declared.token.TokenKind.TheVariants as TokenKind;
 ghost use Rattle.vs_lexer.specs.Tokens.{token_kind};
 ghost use Rattle.vs_lexer.specs.Cuts.{own_bytes, spelling_of, is_number};
@@ -10,6 +11,7 @@ ghost use Rattle.vs_lexer.specs.Laws.{AreTokens, StandsIn};
 
 use crate::bytes::{Base, byte_at, digit_value, is_x, is_z};
 use crate::number::{LiteralHead, decimal_value, head_of, is_decimal_number};
+use crate::strings::{is_quoted, string_number};
 use crate::token::{Token, TokenKind};
 
 /// A number of the text: its bits in two planes, where 0 is (0, 0), 1 is (1, 0), z is (0, 1) and x is (1, 1), as value and
@@ -21,7 +23,7 @@ pub struct Literal {
     /// The length in bits, 1 to 64.
     pub size: u32,
     pub signed: bool,
-    /// Whether a size was written. Without one the length is 32, and a leading x or z goes on in a wider context.
+    /// Whether a size was written, or is that of a string. Without one the length is 32, and a leading x or z goes on in a wider context.
     pub sized: bool,
 }
 
@@ -193,6 +195,29 @@ fn based_literal(text: &[u8], head: &LiteralHead) -> Literal
     }
 }
 
+/// What a string stands for that is a number: eight bits a character, the last one lowest, and eight bits where it has none.
+fn string_literal(text: &[u8]) -> Literal
+    requires { is_short_string text.now ≡ true }
+    ensures bits { bits_of_planes result.size result.value result.unknown ≡ spec.number_bits (string_size text.now) (string_value text.now) }
+    ensures value { result.value < 2 ^ result.size }
+    ensures unknown { result.unknown < 2 ^ result.size }
+    ensures size { result.size ≡ string_size text.now }
+    ensures range { (1 ≤ result.size) × (result.size ≤ 64) }
+    ensures signed { result.signed ≡ false }
+    ensures sized { result.sized ≡ true }
+{
+    let Some(number) = string_number(text) else {
+        unreachable!()
+    };
+    Literal {
+        value: number.value,
+        unknown: 0,
+        size: 8 * number.characters.max(1),
+        signed: false,
+        sized: true,
+    }
+}
+
 /// What the number that a text is stands for.
 fn literal_of(text: &[u8]) -> Literal
     requires { spec.is_in_range text.now ≡ true }
@@ -206,6 +231,9 @@ fn literal_of(text: &[u8]) -> Literal
 {
     if let Some(head) = head_of(text) {
         return based_literal(text, &head);
+    }
+    if is_quoted(text) {
+        return string_literal(text);
     }
     match decimal_value(text) {
         Some(value) => Literal {

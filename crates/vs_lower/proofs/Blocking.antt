@@ -1,29 +1,27 @@
 -- Blocks lowered.
-use Rattle.std.proofs.Common.{◌≡◌, ℕ, ◌+◌, ◌<◌, ◌≤◌, ◌^◌, Bool, true, false, ◌||◌, ◌==◌, if◌then◌else◌, List, [], ◌∷◌, ◌++◌, map, length, slice_index, sym, ap, ap₂, ◌∙◌, subst, refl, arith, append_assoc, eq-eqb, ◌⊎◌, inl, inr}
+use Rattle.std.proofs.Common.{◌≡◌, ℕ, ◌+◌, ◌<◌, ◌≤◌, ◌^◌, Bool, true, false, ◌||◌, ◌==◌, List, [], ◌∷◌, ◌++◌, map, length, slice_index, sym, ap, ◌∙◌, subst, refl, arith, append_assoc, eq-eqb, ◌⊎◌, inl, inr}
 use Rattle.std.specs.List.{All}
 use Rattle.std.specs.List.Sorted.{IsStrictlyIncreasing}
 use Rattle.std.proofs.lemmas.List.{length-map}
 use Rattle.std.proofs.lemmas.List.Elements.{All-nil, All-cons, All-map, All-weaker}
 use Rattle.std.proofs.lemmas.List.FromFn.{length-range_with_len}
 use Rattle.std.proofs.lemmas.List.Sums.{sum_by-append}
-use Rattle.vs_four.specs.Logic.{BitList}
-use Rattle.vs_net.specs.Network as N
-use Rattle.vs_design.specs.Bodies.{body, arms_body}
 use Rattle.vs_design.specs.Designs.{Always, Event, is_clocked}
 use Rattle.vs_design.specs.Footprints.{contains, statement_bits}
-use Rattle.vs_design.specs.Rules.{mixed_in, mixed_in_arms}
-use Rattle.vs_design.specs.Sizes.{distinct}
-use Rattle.vs_design.specs.Statements.{CaseKind, Statement, Empty, Assignment, Then, If, Case, Arms, Arm, Default}
+use Rattle.vs_design.specs.Races.{blocking_bits}
+use Rattle.vs_design.specs.Sizes.{distinct, statement_weight}
+use Rattle.vs_design.specs.Statements.{Statement}
 use Rattle.vs_code.specs.Calls.{Call, IsCall, call_cost, length_of}
 use Rattle.vs_program.specs.Lowered.{IsLayout, Layout, home}
 use Rattle.vs_values.specs.Coded.{Coding}
 use Rattle.vs_lower.specs.Copies.{copies, home_copies, moved}
 use Rattle.vs_values.specs.Environments.{homes}
-use Rattle.vs_values.specs.Added.{IsNew}
+use Rattle.vs_values.specs.Added.{AreAdded, IsNew}
 use Rattle.vs_lower.specs.Done.{IsStatementDone}
 use Rattle.vs_lower.specs.Processed.{AddsProcess, HasShadows, IsBlockReady}
 use Rattle.vs_lower.specs.Stated.{IsStatementReady, AddsStatement}
 use Rattle.vs_values.specs.Valued.{IsSource}
+use Rattle.vs_lower.proofs.Apart.{blocking_among, outside}
 use Rattle.vs_lower.proofs.Branching.{differing_in, still_once}
 use Rattle.vs_lower.proofs.Copying.{copies_are}
 use Rattle.vs_values.proofs.Lists.{map_at, map_agree}
@@ -33,19 +31,19 @@ use Rattle.vs_lower.proofs.Homeward.{CanGoHome, all_in, from_homes, rising_once}
 use Rattle.vs_lower.proofs.Homing.{home_at, home_calls, member_at, once_places, picked_homes}
 use Rattle.vs_lower.proofs.Joining.{picked, picked_below}
 use Rattle.vs_lower.proofs.Placing.{by_test}
-use Rattle.vs_lower.proofs.Processes.{clocked_lowered, comb_lowered, copies_cost, homes_env}
+use Rattle.vs_lower.proofs.Processes.{IsNext, clocked_lowered, comb_lowered, copies_cost, homes_env}
 
 -- ---- what its parts need
 
-pub block_ready : (count : ℕ) (code : Coding) (clocked : Bool) (st : Statement) → IsBlockReady count code clocked st → IsStatementReady count (homes count) (homes count) code clocked st
-block_ready count code clocked st r = record {
+pub block_ready : (count : ℕ) (code : Coding) (st : Statement) → IsBlockReady count code st → IsStatementReady count (homes count) (homes count) code st
+block_ready count code st r = record {
   now_env = homes_env count code.next r.temps;
   later_env = homes_env count code.next r.temps;
   now_bits = length-range_with_len 4 count;
   later_bits = length-range_with_len 4 count;
   names = r.names;
   fit = r.fit;
-  unmixed = r.unmixed;
+  apart = r.apart;
   light = r.light;
   slots = omega (arith, r.slots);
   few = omega (arith, r.few);
@@ -67,7 +65,7 @@ from_now count mark b slot (inl e) = inl e
 from_now count mark b slot (inr (inl h)) = inr (inl h)
 from_now count mark b slot (inr (inr h)) = inr (inr (inl h))
 
-pub block_goes_home : (count : ℕ) (c0 c1 : Coding) (st : Statement) (now1 later1 bits : List ℕ) → IsBlockReady count c0 false st → AddsBlock count c0 c1 st now1 later1
+pub block_goes_home : (count : ℕ) (c0 c1 : Coding) (st : Statement) (now1 later1 bits : List ℕ) → IsBlockReady count c0 st → AddsBlock count c0 c1 st now1 later1
     → IsStrictlyIncreasing bits → ((b : ℕ) → contains bits b ≡ contains (statement_bits st) b) → CanGoHome count bits now1 c1
 block_goes_home count c0 c1 st now1 later1 bits r d rising same =
     let once = rising_once bits rising in
@@ -89,7 +87,7 @@ block_goes_home count c0 c1 st now1 later1 bits r d rising same =
     }
 
 pub adds_combinational : (l : Layout) (place : ℕ) (star : Bool) (events : List Event) (c0 c1 c2 : Coding) (st : Statement) (now1 later1 bits : List ℕ)
-    → l.first_temp ≡ c0.next → is_clocked (Always place star events st) ≡ false → IsBlockReady l.bits c0 false st → AddsBlock l.bits c0 c1 st now1 later1
+    → l.first_temp ≡ c0.next → is_clocked (Always place star events st) ≡ false → IsBlockReady l.bits c0 st → AddsBlock l.bits c0 c1 st now1 later1
     → IsStrictlyIncreasing bits → ((b : ℕ) → contains bits b ≡ contains (statement_bits st) b)
     → All IsCall (home_copies l.bits bits now1) → c2.calls ≡ (c1.calls ++ home_copies l.bits bits now1)
     → AddsProcess l (Always place star events st) c0.calls c2.calls
@@ -106,41 +104,12 @@ adds_combinational l place star events c0 c1 c2 st now1 later1 bits first comb r
       lowered = comb_lowered l place star events st d.calls now1 later1 c1.next js comb (omega (arith, r.temps, first)) done inside_js
           (λ b k out. by_test (contains bits b)
           (λ h. sym (bits_alike (homes l.bits) bits now1 b h out) ∙ home_at l.bits b k)
-          (λ h. d.done.now_kept b (sym (same b) ∙ h) ∙ home_at l.bits b k))
+          (λ h. d.done.now_kept b (outside (blocking_bits st) (statement_bits st) b (blocking_among st) (sym (same b) ∙ h)) ∙ home_at l.bits b k))
           (moved_few l.bits (statement_bits st) bits now1 once same)
           (subst (All IsCall) homes_are calls);
     }
 
 -- ---- a clocked block
-
-either_none : (q : Bool) (x y : N.Effect) → x.writes ≡ [] → y.writes ≡ [] → (if q then x else y).writes ≡ []
-either_none true x y h k = h
-either_none false x y h k = k
-
-first_none : (xs ys : List ℕ) → (xs ++ ys) ≡ [] → xs ≡ []
-first_none [] ys h = refl
-first_none (x ∷ xs) ys h = cc
-
-rest_none : (xs ys : List ℕ) → (xs ++ ys) ≡ [] → ys ≡ []
-rest_none [] ys h = h
-rest_none (x ∷ xs) ys h = cc
-
--- without blocking assignments nothing is written at once
-mutual
-  pub no_writes : (st : Statement) → mixed_in true st ≡ [] → (s : N.State) → (body st s).writes ≡ []
-  no_writes Empty h s = refl
-  no_writes (Assignment place target e true) h s = cc
-  no_writes (Assignment place target e false) h s = refl
-  no_writes (Then first rest) h s =
-      ap₂ (λ (xs ys : List N.Write). xs ++ ys) (no_writes first (first_none (mixed_in true first) (mixed_in true rest) h) s)
-      (no_writes rest (rest_none (mixed_in true first) (mixed_in true rest) h) (N.write_all s (body first s).writes))
-  no_writes (If c taken other) h s = either_none _ (body taken s) (body other s) (no_writes taken (first_none (mixed_in true taken) (mixed_in true other) h) s) (no_writes other (rest_none (mixed_in true taken) (mixed_in true other) h) s)
-  no_writes (Case kind subject arms) h s = no_writes_in arms h kind _ _ _ s
-
-  no_writes_in : (arms : Arms) → mixed_in_arms true arms ≡ [] → (kind : CaseKind) (w : ℕ) (signed : Bool) (v : BitList) (s : N.State) → (arms_body arms kind w signed v s).writes ≡ []
-  no_writes_in (Arm items st rest) h kind w signed v s =
-      either_none _ (body st s) (arms_body rest kind w signed v s) (no_writes st (first_none (mixed_in true st) (mixed_in_arms true rest) h) s) (no_writes_in rest (rest_none (mixed_in true st) (mixed_in_arms true rest) h) kind w signed v s)
-  no_writes_in (Default st) h kind w signed v s = no_writes st h s
 
 members : (P : ℕ → Type 0) (xs : List ℕ) → ((b : ℕ) → contains xs b ≡ true → P b) → All P xs
 members P [] f = All-nil P
@@ -167,25 +136,25 @@ not_shadow count mark shadow slot b l above below (inr (inr (c, k, e))) h =
 abbrev pub shadow_layout : ℕ → List ℕ → ℕ → Layout
 shadow_layout count shadows first = record { bits = count; shadow = slice_index shadows; first_temp = first }
 
-pub block_copies : (count : ℕ) (c0 c1 : Coding) (st : Statement) (now1 later1 bits shadows : List ℕ) → IsBlockReady count c0 true st → length shadows ≡ count → IsLayout (shadow_layout count shadows c0.next) (statement_bits st)
-    → AddsBlock count c0 c1 st now1 later1 → IsStrictlyIncreasing bits → ((b : ℕ) → contains bits b ≡ contains (statement_bits st) b) → CanCopy count bits later1 shadows c1
-block_copies count c0 c1 st now1 later1 bits shadows r wide layout d rising same =
+pub block_copies : (count : ℕ) (c0 c1 : Coding) (st : Statement) (now1 later1 env bits shadows : List ℕ) → IsBlockReady count c0 st → length shadows ≡ count → IsLayout (shadow_layout count shadows c0.next) (statement_bits st)
+    → (d : AddsBlock count c0 c1 st now1 later1) → IsNext count c0.next st d.calls env c1.next → IsStrictlyIncreasing bits → ((b : ℕ) → contains bits b ≡ contains (statement_bits st) b) → CanCopy count bits env shadows c1
+block_copies count c0 c1 st now1 later1 env bits shadows r wide layout d next rising same =
     let once = rising_once bits rising in
     let inside = all_in count bits (λ b h. r.inside b (sym (same b) ∙ h)) in
-    let long : length later1 ≡ count = d.done.later_length ∙ length-range_with_len 4 count in
-    let inside_env : All (λ b. b < length later1) bits = All-weaker (λ b. b < count) (λ b. b < length later1) (λ b l. omega (arith, l, long)) bits inside in
+    let long = next.long in
+    let inside_env : All (λ b. b < length env) bits = All-weaker (λ b. b < count) (λ b. b < length env) (λ b l. omega (arith, l, long)) bits inside in
     let most = distinct_most (statement_bits st) bits once (λ b h. sym (same b) ∙ h) in
     let total = total_of c0 c1 d.calls d.is in
     let n = length bits in
-    let from_long : length (picked later1 bits) ≡ n = length-map bits (slice_index later1) in
+    let from_long : length (picked env bits) ≡ n = length-map bits (slice_index env) in
     let to_long : length (picked shadows bits) ≡ n = length-map bits (slice_index shadows) in
-    let cost : length_of (copies (picked later1 bits) (picked shadows bits)) ≡ n = copies_cost (picked later1 bits) (picked shadows bits) (from_long ∙ sym to_long) ∙ to_long in
+    let cost : length_of (copies (picked env bits) (picked shadows bits)) ≡ n = copies_cost (picked env bits) (picked shadows bits) (from_long ∙ sym to_long) ∙ to_long in
     let member = λ (k : ℕ) (l : k < n). sym (same (slice_index bits k)) ∙ member_at bits k l in
     record {
       inside = inside_env;
       places = All-weaker (λ b. b < count) (λ b. b < length shadows) (λ b l. omega (arith, l, wide)) bits inside;
-      calls = copies_are (picked later1 bits) (picked shadows bits) (from_long ∙ sym to_long) (omega (arith, to_long, most, r.slots))
-          (All-weaker (λ slot. slot < c1.next) (λ slot. slot < 2 ^ 32) (λ slot l. omega (arith, l, r.slots, d.done.added.paid, d.done.added.stores)) (picked later1 bits) (picked_below later1 c1.next bits inside_env d.done.later_env.below))
+      calls = copies_are (picked env bits) (picked shadows bits) (from_long ∙ sym to_long) (omega (arith, to_long, most, r.slots))
+          (All-weaker (λ slot. slot < c1.next) (λ slot. slot < 2 ^ 32) (λ slot l. omega (arith, l, r.slots, d.done.added.paid, d.done.added.stores)) (picked env bits) (picked_below env c1.next bits inside_env next.below))
           (All-map (λ slot. slot < 2 ^ 32) (slice_index shadows) bits (members (λ b. slice_index shadows b < 2 ^ 32) bits (λ b h. omega (arith, layout.shadow_below b (sym (same b) ∙ h), r.slots))))
           (record {
             place = λ j k l m e.
@@ -200,43 +169,43 @@ block_copies count c0 c1 st now1 later1 bits shadows r wide layout d rising same
                 let b = slice_index bits j in
                 let c = slice_index bits k in
                 let lb : b < count = inside j 0 lj in
-                not_shadow count c0.next (slice_index shadows c) (slice_index later1 b) b lb (layout.shadow_above c (member k lk)) (layout.shadow_below c (member k lk))
-                (d.done.later_from b (omega (arith, lb, length-range_with_len 4 count)))
-                (sym (map_at (slice_index later1) bits j lj) ∙ e ∙ map_at (slice_index shadows) bits k lk);
+                not_shadow count c0.next (slice_index shadows c) (slice_index env b) b lb (layout.shadow_above c (member k lk)) (layout.shadow_below c (member k lk))
+                (next.from b lb)
+                (sym (map_at (slice_index env) bits j lj) ∙ e ∙ map_at (slice_index shadows) bits k lk);
           });
       few = omega (arith, r.few, total, cost, most, d.done.added.stores);
     }
 
-pub adds_clocked : (l : Layout) (place : ℕ) (star : Bool) (events : List Event) (c0 c1 c2 : Coding) (st : Statement) (now1 later1 bits shadows : List ℕ)
-    → HasShadows l.bits c0.next shadows (statement_bits st) l → is_clocked (Always place star events st) ≡ true → IsBlockReady l.bits c0 true st → AddsBlock l.bits c0 c1 st now1 later1
+pub adds_clocked : (l : Layout) (place : ℕ) (star : Bool) (events : List Event) (c0 c1 c2 : Coding) (st : Statement) (now1 later1 env bits shadows : List ℕ)
+    → HasShadows l.bits c0.next shadows (statement_bits st) l → is_clocked (Always place star events st) ≡ true → IsBlockReady l.bits c0 st → (d : AddsBlock l.bits c0 c1 st now1 later1) → IsNext l.bits c0.next st d.calls env c1.next
     → IsStrictlyIncreasing bits → ((b : ℕ) → contains bits b ≡ contains (statement_bits st) b)
-    → All IsCall (copies (picked later1 bits) (picked shadows bits)) → c2.calls ≡ (c1.calls ++ copies (picked later1 bits) (picked shadows bits))
+    → All IsCall (copies (picked env bits) (picked shadows bits)) → c2.calls ≡ (c1.calls ++ copies (picked env bits) (picked shadows bits))
     → AddsProcess l (Always place star events st) c0.calls c2.calls
-adds_clocked l place star events c0 c1 c2 st now1 later1 bits shadows h clocked r d rising same calls added =
+adds_clocked l place star events c0 c1 c2 st now1 later1 env bits shadows h clocked r d next rising same calls added =
     let once = rising_once bits rising in
     let inside = all_in l.bits bits (λ b k. r.inside b (sym (same b) ∙ k)) in
-    let shadows_are : copies (picked later1 bits) (picked shadows bits) ≡ copies (picked later1 bits) (map l.shadow bits) =
-    ap (copies (picked later1 bits)) (map_agree (slice_index shadows) l.shadow bits (members (λ b. slice_index shadows b ≡ l.shadow b) bits (λ b k. sym (h.are b (sym (same b) ∙ k))))) in
-    let done = subst (λ (m : ℕ). IsStatementDone (homes l.bits) (homes l.bits) m st d.calls now1 later1 c1.next) (sym h.temps_are) d.done in
+    let shadows_are : copies (picked env bits) (picked shadows bits) ≡ copies (picked env bits) (map l.shadow bits) =
+    ap (copies (picked env bits)) (map_agree (slice_index shadows) l.shadow bits (members (λ b. slice_index shadows b ≡ l.shadow b) bits (λ b k. sym (h.are b (sym (same b) ∙ k))))) in
+    let added1 = subst (λ (m : ℕ). AreAdded m d.calls c1.next (statement_weight st)) (sym h.temps_are) d.done.added in
+    let next1 = subst (λ (m : ℕ). IsNext l.bits m st d.calls env c1.next) (sym h.temps_are) next in
     record {
-      calls = d.calls ++ copies (picked later1 bits) (map l.shadow bits);
-      is = added ∙ ap (λ (cs : List Call). c1.calls ++ cs) shadows_are ∙ ap (λ (cs : List Call). cs ++ copies (picked later1 bits) (map l.shadow bits)) d.is ∙ append_assoc c0.calls d.calls (copies (picked later1 bits) (map l.shadow bits));
-      lowered = clocked_lowered l place star events st d.calls now1 later1 c1.next bits clocked h.layout (no_writes st r.unmixed) done inside (λ b. sym (same b))
+      calls = d.calls ++ copies (picked env bits) (map l.shadow bits);
+      is = added ∙ ap (λ (cs : List Call). c1.calls ++ cs) shadows_are ∙ ap (λ (cs : List Call). cs ++ copies (picked env bits) (map l.shadow bits)) d.is ∙ append_assoc c0.calls d.calls (copies (picked env bits) (map l.shadow bits));
+      lowered = clocked_lowered l place star events st d.calls env c1.next bits clocked h.layout added1 next1 inside (λ b. sym (same b))
           (distinct_most (statement_bits st) bits once (λ b k. sym (same b) ∙ k))
           (subst (All IsCall) shadows_are calls);
     }
 
 -- ---- in the words of the steps
 
-pub block_home_at : (n count : ℕ) (values ahead bits slice now1 later1 : List ℕ) (c0 c1 : Coding) (st : Statement) → count ≡ n → values ≡ homes count → ahead ≡ homes count → IsBlockReady n c0 false st
+pub block_home_at : (n count : ℕ) (values ahead bits slice now1 later1 : List ℕ) (c0 c1 : Coding) (st : Statement) → count ≡ n → values ≡ homes count → ahead ≡ homes count → IsBlockReady n c0 st
     → AddsStatement values ahead c0 c1 st now1 later1 → IsStrictlyIncreasing bits → ((b : ℕ) → contains bits b ≡ contains (statement_bits st) b) → slice ≡ bits → CanGoHome count slice now1 c1
 block_home_at n count values ahead bits slice now1 later1 c0 c1 st k a b r d rising same is =
     subst (λ (xs : List ℕ). CanGoHome count xs now1 c1) (sym is) (subst (λ (m : ℕ). CanGoHome m bits now1 c1) (sym k)
     (block_goes_home n c0 c1 st now1 later1 bits r (from_homes n count values ahead (λ (x y : List ℕ). AddsStatement x y c0 c1 st now1 later1) k a b d) rising same))
 
-pub block_copies_at : (n count : ℕ) (values ahead bits slice now1 later1 shadows : List ℕ) (c0 c1 : Coding) (st : Statement) → count ≡ n → values ≡ homes count → ahead ≡ homes count → IsBlockReady n c0 true st
+pub block_copies_at : (n count : ℕ) (bits slice now1 later1 env shadows : List ℕ) (c0 c1 : Coding) (st : Statement) → count ≡ n → IsBlockReady n c0 st
     → length shadows ≡ count → IsLayout (shadow_layout n shadows c0.next) (statement_bits st)
-    → AddsStatement values ahead c0 c1 st now1 later1 → IsStrictlyIncreasing bits → ((b : ℕ) → contains bits b ≡ contains (statement_bits st) b) → slice ≡ bits → CanCopy n slice later1 shadows c1
-block_copies_at n count values ahead bits slice now1 later1 shadows c0 c1 st k a b r wide layout d rising same is =
-    subst (λ (xs : List ℕ). CanCopy n xs later1 shadows c1) (sym is)
-    (block_copies n c0 c1 st now1 later1 bits shadows r (wide ∙ k) layout (from_homes n count values ahead (λ (x y : List ℕ). AddsStatement x y c0 c1 st now1 later1) k a b d) rising same)
+    → (d : AddsBlock n c0 c1 st now1 later1) → IsNext n c0.next st d.calls env c1.next → IsStrictlyIncreasing bits → ((b : ℕ) → contains bits b ≡ contains (statement_bits st) b) → slice ≡ bits → CanCopy n slice env shadows c1
+block_copies_at n count bits slice now1 later1 env shadows c0 c1 st k r wide layout d next rising same is =
+    subst (λ (xs : List ℕ). CanCopy n xs env shadows c1) (sym is) (block_copies n c0 c1 st now1 later1 env bits shadows r (wide ∙ k) layout d next rising same)

@@ -1,11 +1,10 @@
 -- Branches: the slots of their bits, the environment put back, and the join.
-use Rattle.std.proofs.Common.{◌≡◌, ◌≢◌, ℕ, ◌+◌, ◌<◌, ◌≤◌, ◌^◌, Bool, true, false, ◌||◌, ◌&&◌, ◌==◌, nat_le, if◌then◌else◌, List, [], ◌∷◌, ◌++◌, map, length, set, slice_index, Some, sym, ap, ◌∙◌, subst, refl, arith, eqb-true, eq-eqb, true≢false, get_or-set_same, get_or-set_other, length-set}
+use Rattle.std.proofs.Common.{◌≡◌, ◌≢◌, ◌⊎◌, inl, inr, ℕ, suc, ◌+◌, ◌<◌, ◌≤◌, ◌^◌, Bool, true, false, ◌||◌, ◌&&◌, ◌==◌, nat_le, if◌then◌else◌, List, [], ◌∷◌, map, length, set, slice_index, Some, sym, ap, ◌∙◌, subst, refl, arith, eqb-true, eq-eqb, true≢false, get_or-set_same, get_or-set_other, length-set}
 use Rattle.std.specs.List.{All}
 use Rattle.std.proofs.lemmas.List.{ext_get_or, length-map}
 use Rattle.std.proofs.lemmas.List.Elements.{All-nil, All-cons, All-head, All-tail, All-weaker}
 use Rattle.std.proofs.lemmas.List.FromFn.{length-range_with_len}
 use Rattle.vs_design.specs.Footprints.{contains}
-use Rattle.vs_design.specs.Sizes.{distinct}
 use Rattle.vs_kern_select.specs.declared.costs.Kernel.TheVariants as S
 use Rattle.vs_code.specs.declared.kernels.AnyKernel.TheVariants.{Select}
 use Rattle.vs_code.specs.Kernels.{takes}
@@ -16,7 +15,7 @@ use Rattle.vs_lower.specs.Joined.{differing_bits}
 use Rattle.vs_values.specs.Made.{IsCallable}
 use Rattle.vs_values.proofs.Adding.{is_fresh_call}
 use Rattle.vs_lower.proofs.Differing.{bits_within, bits_alike}
-use Rattle.vs_lower.proofs.Distinct.{Once, distinct_most}
+use Rattle.vs_lower.proofs.Distinct.{Once}
 use Rattle.vs_lower.proofs.Joining.{picked, picked_below, IsJoin, join_call}
 use Rattle.vs_lower.proofs.Placing.{by_test}
 use Rattle.vs_values.proofs.Environments.{placed_length}
@@ -96,45 +95,76 @@ some_length [] f = absurd (f refl)
 some_length (x ∷ xs) f = omega arith
 
 -- what the call of a join needs, and what a join of those that differ is
-pub record CanJoin (env1 env2 bits others all js tc : List ℕ) (code : Coding) : Type 0 where
+pub record CanJoin (env1 env2 js tc : List ℕ) (code : Coding) : Type 0 where
   pub call : IsCallable code (Select S.Branch) (tc ∷ picked env1 js ∷ picked env2 js ∷ []) (length js)
-  pub join : IsJoin env1 env2 bits others js (join_call tc env1 env2 js code.next) (distinct all)
+  pub join : IsJoin env1 env2 js (join_call tc env1 env2 js code.next)
 
-pub can_join : (env1 env2 bits taken others all tc : List ℕ) (code : Coding) → length env1 ≡ length env2 → All (λ b. b < length env2) bits → Once bits
-    → ((b : ℕ) → contains bits b ≡ true → contains all b ≡ true) → ((b : ℕ) → contains (taken ++ others) b ≡ true → contains bits b ≡ true)
-    → ((b : ℕ) → contains (taken ++ others) b ≡ false → slice_index env1 b ≡ slice_index env2 b)
-    → All (λ slot. slot < code.next) tc → 1 ≤ length tc → length tc < 2 ^ 32 → All (λ slot. slot < code.next) env1 → All (λ slot. slot < code.next) env2
-    → code.next + distinct all < 2 ^ 32 → length_of code.calls + distinct all ≤ 2 ^ 32
-    → (differing_bits bits (picked env1 bits) env2 ≡ [] → ⊥) → CanJoin env1 env2 taken others all (differing_bits bits (picked env1 bits) env2) tc code
-can_join env1 env2 bits taken others all tc code long inside once sub sup same below_c some_c short_c below1 below2 slots few differ =
+-- two environments that differ at these bits alone
+pub record IsFork (env1 env2 bits : List ℕ) (next : ℕ) : Type 0 where
+  pub long : length env1 ≡ length env2
+  pub same : (b : ℕ) → contains bits b ≡ false → slice_index env1 b ≡ slice_index env2 b
+  pub below1 : All (λ slot. slot < next) env1
+  pub below2 : All (λ slot. slot < next) env2
+
+pub can_join : (env1 env2 bits tc : List ℕ) (code : Coding) → IsFork env1 env2 bits code.next → All (λ b. b < length env2) bits
+    → All (λ slot. slot < code.next) tc → 1 ≤ length tc → length tc < 2 ^ 32
+    → code.next + length (differing_bits bits (picked env1 bits) env2) < 2 ^ 32 → length_of code.calls + length (differing_bits bits (picked env1 bits) env2) ≤ 2 ^ 32
+    → (differing_bits bits (picked env1 bits) env2 ≡ [] → ⊥) → CanJoin env1 env2 (differing_bits bits (picked env1 bits) env2) tc code
+can_join env1 env2 bits tc code f inside below_c some_c short_c slots few differ =
     let js = differing_bits bits (picked env1 bits) env2 in
     let n = length js in
     let inside2 : All (λ b. b < length env2) js = bits_within (λ b. b < length env2) bits (picked env1 bits) env2 inside in
-    let inside1 : All (λ b. b < length env1) js = All-weaker (λ b. b < length env2) (λ b. b < length env1) (λ b l. omega (arith, long)) js inside2 in
-    let most : n ≤ distinct all = distinct_most all js (still_once env1 env2 bits once) (λ b h. sub b (differing_in env1 env2 bits b h)) in
+    let inside1 : All (λ b. b < length env1) js = All-weaker (λ b. b < length env2) (λ b. b < length env1) (λ b l. omega (arith, l, f.long)) js inside2 in
     let some : 1 ≤ n = some_length js differ in
     let P : List ℕ → Type 0 = λ to. All (λ slot. slot < code.next) to in
-    let one : P (picked env1 js) = picked_below env1 code.next js inside1 below1 in
-    let two : P (picked env2 js) = picked_below env2 code.next js inside2 below2 in
+    let one : P (picked env1 js) = picked_below env1 code.next js inside1 f.below1 in
+    let two : P (picked env2 js) = picked_below env2 code.next js inside2 f.below2 in
     let args = tc ∷ picked env1 js ∷ picked env2 js ∷ [] in
     let Q : ℕ → Type 0 = λ k. k < 2 ^ 32 in
     let k = length tc in
     let same_lengths : (k ∷ n ∷ n ∷ n ∷ []) ≡ (k ∷ length (picked env1 js) ∷ length (picked env2 js) ∷ n ∷ []) =
     ap (λ (x : ℕ). k ∷ x ∷ n ∷ n ∷ []) (sym (length-map js (slice_index env1))) ∙ ap (λ (x : ℕ). k ∷ length (picked env1 js) ∷ x ∷ n ∷ []) (sym (length-map js (slice_index env2))) in
-    let shorts : All Q (k ∷ n ∷ n ∷ n ∷ []) = All-cons Q k (n ∷ n ∷ n ∷ []) short_c (All-cons Q n (n ∷ n ∷ []) (omega (arith, slots, most)) (All-cons Q n (n ∷ []) (omega (arith, slots, most)) (All-cons Q n [] (omega (arith, slots, most)) (All-nil Q)))) in
+    let short : n < 2 ^ 32 = omega (arith, slots) in
+    let shorts : All Q (k ∷ n ∷ n ∷ n ∷ []) = All-cons Q k (n ∷ n ∷ n ∷ []) short_c (All-cons Q n (n ∷ n ∷ []) short (All-cons Q n (n ∷ []) short (All-cons Q n [] short (All-nil Q)))) in
     let is : IsCall (join_call tc env1 env2 js code.next) = is_fresh_call (Select S.Branch) args code.next n (subst (λ ls. takes (Select S.Branch) ls ≡ true) same_lengths (choice_takes k n some_c some)) (subst (All Q) same_lengths shorts)
-    (omega arith) (omega (arith, slots, most)) (All-cons P tc (picked env1 js ∷ picked env2 js ∷ []) below_c (All-cons P (picked env1 js) (picked env2 js ∷ []) one (All-cons P (picked env2 js) [] two (All-nil P)))) in
+    (omega arith) (omega (arith, slots)) (All-cons P tc (picked env1 js ∷ picked env2 js ∷ []) below_c (All-cons P (picked env1 js) (picked env2 js ∷ []) one (All-cons P (picked env2 js) [] two (All-nil P)))) in
     let cost : call_cost (join_call tc env1 env2 js code.next) ≡ n = length-range_with_len code.next n in
     record {
-      call = record { is = is; slots = omega (arith, slots, most); few = omega (arith, few, most, cost) };
+      call = record { is = is; slots = slots; few = omega (arith, few, cost) };
       join = record {
         inside = inside2;
-        same = λ b l out. by_test (contains bits b)
-            (λ h. bits_alike env1 bits env2 b h out)
-            (λ h. same b (not_true (contains (taken ++ others) b) (λ q. true≢false (sym (sup b q) ∙ h))));
-        within = λ b h. differs env1 env2 bits b (same b h);
+        same = λ b l out. by_test (contains bits b) (λ h. bits_alike env1 bits env2 b h out) (f.same b);
+        others = λ b h. differs env1 env2 bits b h;
         is = is;
-        paid = omega (arith, cost);
-        stores = omega (arith, cost, most);
+        cost = cost;
       };
     }
+
+-- ---- both environments
+
+longer : (q : Bool) (b : ℕ) (xs : List ℕ) → length (if q then xs else (b ∷ xs)) ≤ suc (length xs)
+longer true b xs = omega arith
+longer false b xs = omega arith
+
+one_more : (e1 e2 : List ℕ) (b : ℕ) (bs : List ℕ) → length (differing_bits (b ∷ bs) (picked e1 (b ∷ bs)) e2) ≤ suc (length (differing_bits bs (picked e1 bs) e2))
+one_more e1 e2 b bs = longer (slice_index e1 b == slice_index e2 b) b (differing_bits bs (picked e1 bs) e2)
+
+no_more : (e1 e2 : List ℕ) (b : ℕ) (bs : List ℕ) → slice_index e1 b ≡ slice_index e2 b → length (differing_bits (b ∷ bs) (picked e1 (b ∷ bs)) e2) ≡ length (differing_bits bs (picked e1 bs) e2)
+no_more e1 e2 b bs e =
+    ap (λ (q : Bool). length (if q then differing_bits bs (picked e1 bs) e2 else (b ∷ differing_bits bs (picked e1 bs) e2))) (eq-eqb (slice_index e1 b) (slice_index e2 b) e)
+
+-- in one of both environments a bit keeps its slot
+abbrev pub HaveSides : List ℕ → List ℕ → List ℕ → List ℕ → Type 0
+HaveSides now1 later1 now2 later2 = (b : ℕ) → (slice_index now1 b ≡ slice_index now2 b) ⊎ (slice_index later1 b ≡ slice_index later2 b)
+
+-- so both joins make no more stores than there are bits
+pub both_few : (bits now1 later1 now2 later2 : List ℕ) → HaveSides now1 later1 now2 later2
+    → length (differing_bits bits (picked now1 bits) now2) + length (differing_bits bits (picked later1 bits) later2) ≤ length bits
+both_few [] now1 later1 now2 later2 h = omega arith
+both_few (b ∷ bs) now1 later1 now2 later2 h = step (h b) (both_few bs now1 later1 now2 later2 h)
+  where
+    step : (slice_index now1 b ≡ slice_index now2 b) ⊎ (slice_index later1 b ≡ slice_index later2 b)
+        → length (differing_bits bs (picked now1 bs) now2) + length (differing_bits bs (picked later1 bs) later2) ≤ length bs
+        → length (differing_bits (b ∷ bs) (picked now1 (b ∷ bs)) now2) + length (differing_bits (b ∷ bs) (picked later1 (b ∷ bs)) later2) ≤ suc (length bs)
+    step (inl e) few = omega (arith, few, no_more now1 now2 b bs e, one_more later1 later2 b bs)
+    step (inr e) few = omega (arith, few, one_more now1 now2 b bs, no_more later1 later2 b bs e)

@@ -21,7 +21,7 @@ use Rattle.vs_values.proofs.Environments.{placed_length}
 
 -- ---- no statement
 
-pub done_none : (now later : List ℕ) (mark : ℕ) → IsEnv now mark → IsEnv later mark → IsDone now later [] (λ state. []) mark (λ state. no_effect) [] 0 [] now later mark
+pub done_none : (now later : List ℕ) (mark : ℕ) → IsEnv now mark → IsEnv later mark → IsDone now later [] (λ state. []) mark (λ state. no_effect) [] [] 0 [] now later mark
 unfolding N.write_all N.flatten
 done_none now later mark e f = record {
   added = added_none mark;
@@ -78,19 +78,19 @@ later_both now now1 m n x y z l long from (inr (inr h)) g =
     let inside : h.0 < length now = omega (arith, h.1) in
     now_moved now m x z h.0 (slice_index now1 h.0) inside h.2 (from h.0 inside)
 
-pub done_then : (now later : List ℕ) (m : ℕ) (run : N.State → N.Effect) (bits : List ℕ) (most : ℕ) (c : List Call) (now1 later1 : List ℕ) (n : ℕ)
-    → (next_run : N.State → N.Effect) (next_bits : List ℕ) (more : ℕ) (d : List Call) (now2 later2 : List ℕ) (p : ℕ)
-    → IsDone now later [] (λ state. []) m run bits most c now1 later1 n
-    → IsDone now1 later1 [] (λ state. []) n next_run next_bits more d now2 later2 p
-    → IsDone now later [] (λ state. []) m (λ state. let done = run state in both_effects done (next_run (N.write_all state done.writes))) (bits ++ next_bits) (most + more) (c ++ d) now2 later2 p
-done_then now later m run bits most c now1 later1 n next_run next_bits more d now2 later2 p a b = record {
+pub done_then : (now later : List ℕ) (m : ℕ) (run : N.State → N.Effect) (at_once updated : List ℕ) (most : ℕ) (c : List Call) (now1 later1 : List ℕ) (n : ℕ)
+    → (next_run : N.State → N.Effect) (next_once next_updated : List ℕ) (more : ℕ) (d : List Call) (now2 later2 : List ℕ) (p : ℕ)
+    → IsDone now later [] (λ state. []) m run at_once updated most c now1 later1 n
+    → IsDone now1 later1 [] (λ state. []) n next_run next_once next_updated more d now2 later2 p
+    → IsDone now later [] (λ state. []) m (λ state. let done = run state in both_effects done (next_run (N.write_all state done.writes))) (at_once ++ next_once) (updated ++ next_updated) (most + more) (c ++ d) now2 later2 p
+done_then now later m run at_once updated most c now1 later1 n next_run next_once next_updated more d now2 later2 p a b = record {
   added = added_more m c n most d p more a.added b.added;
   now_env = b.now_env;
   later_env = b.later_env;
   now_length = b.now_length ∙ a.now_length;
   later_length = b.later_length ∙ a.later_length;
-  now_kept = λ bit h. let q = neither bits next_bits bit h in b.now_kept bit q.1 ∙ a.now_kept bit q.0;
-  later_kept = λ bit h. let q = neither bits next_bits bit h in b.later_kept bit q.1 ∙ a.later_kept bit q.0;
+  now_kept = λ bit h. let q = neither at_once next_once bit h in b.now_kept bit q.1 ∙ a.now_kept bit q.0;
+  later_kept = λ bit h. let q = neither updated next_updated bit h in b.later_kept bit q.1 ∙ a.later_kept bit q.0;
   now_from = λ bit l. from_both m n (slice_index now2 bit) (slice_index now1 bit) (slice_index now bit) a.added.grown (b.now_from bit (omega (arith, a.now_length))) (a.now_from bit l);
   later_from = λ bit l. later_both now now1 m n (slice_index later2 bit) (slice_index later1 bit) (slice_index later bit) a.added.grown a.now_length a.now_from (b.later_from bit (omega (arith, a.later_length))) (a.later_from bit l);
   now_values = λ before after state ahead h k g called.
@@ -143,16 +143,16 @@ pub record IsBranched (now later : List ℕ) (cond : N.State → BitList) (tc : 
   pub later_at : Holds later last ahead
 
 branched : (now later tv : List ℕ) (sv : N.State → BitList) (m : ℕ) (cond : N.State → BitList) (cc : List Call) (tc : List ℕ) (n cost : ℕ)
-    → (taken : N.State → N.Effect) (bits : List ℕ) (most : ℕ) (ct : List Call) (now1 later1 : List ℕ) (n1 : ℕ)
-    → (other : N.State → N.Effect) (others : List ℕ) (more : ℕ) (co : List Call) (now2 later2 : List ℕ) (n2 : ℕ)
+    → (taken : N.State → N.Effect) (once1 updated1 : List ℕ) (most : ℕ) (ct : List Call) (now1 later1 : List ℕ) (n1 : ℕ)
+    → (other : N.State → N.Effect) (once2 updated2 : List ℕ) (more : ℕ) (co : List Call) (now2 later2 : List ℕ) (n2 : ℕ)
     → IsEnv now m → IsEnv later m
     → All (λ slot. slot < m) tv
     → IsCondition now tv sv m cc tc n cost cond
-    → IsDone now later [] (λ state. []) n taken bits most ct now1 later1 n1
-    → IsDone now later tv sv n1 other others more co now2 later2 n2
+    → IsDone now later [] (λ state. []) n taken once1 updated1 most ct now1 later1 n1
+    → IsDone now later tv sv n1 other once2 updated2 more co now2 later2 n2
     → (before last : State) (state ahead : N.State) → Holds now before state → Holds later before ahead → map before tv ≡ sv state → AreCalled ((cc ++ ct) ++ co) before last
     → IsBranched now later cond tc taken now1 later1 other now2 later2 last state ahead
-branched now later tv sv m cond cc tc n cost taken bits most ct now1 later1 n1 other others more co now2 later2 n2 e f low c t o before last state ahead h k g called =
+branched now later tv sv m cond cc tc n cost taken once1 updated1 most ct now1 later1 n1 other once2 updated2 more co now2 later2 n2 e f low c t o before last state ahead h k g called =
     let parts = called_parts (cc ++ ct) co before last called in
     let firsts = called_parts cc ct before parts.0 parts.1 in
     let s0 = firsts.0 in
@@ -230,24 +230,22 @@ joined_value tc env1 env2 js n last after h = h.value
 pub picked_below : (env : List ℕ) (m : ℕ) (js : List ℕ) → All (λ b. b < length env) js → All (λ slot. slot < m) env → All (λ slot. slot < m) (picked env js)
 picked_below env m js i h = All-map (λ slot. slot < m) (slice_index env) js (All-weaker (λ b. b < length env) (λ b. slice_index env b < m) (λ b l. h b 0 l) js i)
 
--- what the branches of an `if` share: the bits `js` are among those that either branch writes, and among them are all that have different
--- slots after both
-pub record IsJoin (env1 env2 bits others js : List ℕ) (call : Call) (extra : ℕ) : Type 0 where
+-- the bits `js` are those whose slots differ after both branches
+pub record IsJoin (env1 env2 js : List ℕ) (call : Call) : Type 0 where
   pub inside : All (λ b. b < length env2) js
   pub same : (b : ℕ) → b < length env2 → contains js b ≡ false → slice_index env1 b ≡ slice_index env2 b
-  pub within : (b : ℕ) → contains (bits ++ others) b ≡ false → contains js b ≡ false
+  pub others : (b : ℕ) → slice_index env1 b ≡ slice_index env2 b → contains js b ≡ false
   pub is : IsCall call
-  pub paid : length js ≤ call_cost call
-  pub stores : call_cost call ≤ extra
+  pub cost : call_cost call ≡ length js
 
-pub join_added : (tc env1 env2 js : List ℕ) (n extra : ℕ) → IsCall (join_call tc env1 env2 js n) → length js ≤ call_cost (join_call tc env1 env2 js n) → call_cost (join_call tc env1 env2 js n) ≤ extra
+join_added : (tc env1 env2 js : List ℕ) (n : ℕ) → IsCall (join_call tc env1 env2 js n) → call_cost (join_call tc env1 env2 js n) ≡ length js
     → All (λ slot. slot < n) tc → All (λ slot. slot < n) (picked env1 js) → All (λ slot. slot < n) (picked env2 js)
-    → AreAdded n (join_call tc env1 env2 js n ∷ []) (n + length js) extra
-join_added tc env1 env2 js n extra is paid stores a b c =
+    → AreAdded n (join_call tc env1 env2 js n ∷ []) (n + length js) (length js)
+join_added tc env1 env2 js n is cost a b c =
     let P : List ℕ → Type 0 = λ to. All (λ slot. slot < n) to in
-    added_call (Select S.Branch) (tc ∷ picked env1 js ∷ picked env2 js ∷ []) n (length js) extra is
+    added_call (Select S.Branch) (tc ∷ picked env1 js ∷ picked env2 js ∷ []) n (length js) (length js) is
     (All-cons P tc (picked env1 js ∷ picked env2 js ∷ []) a (All-cons P (picked env1 js) (picked env2 js ∷ []) b (All-cons P (picked env2 js) [] c (All-nil P))))
-    (omega arith) stores
+    (omega (arith, cost)) (omega (arith, cost))
 
 pub join_from : (env js to : List ℕ) (m b n2 : ℕ) → m ≤ n2 → All (λ slot. n2 ≤ slot) to → (slice_index (placed env (map Some js) to) b ≡ slice_index env b) ⊎ Contains to (slice_index (placed env (map Some js) to) b)
     → (slice_index (placed env (map Some js) to) b ≡ slice_index env b) ⊎ IsNew m (slice_index (placed env (map Some js) to) b)
@@ -267,124 +265,136 @@ pub joined_later : (now : List ℕ) (m n x y z : ℕ) → m ≤ n → (x ≡ y) 
 joined_later now m n x y z l (inl e) g = later_moved now m x y z e (later_more now m n y z l g)
 joined_later now m n x y z l (inr h) g = inr (inl (new_more m n x l h))
 
--- blocking assignments in both branches: the bits' slots are joined
-pub done_if_now : (now later tv : List ℕ) (sv : N.State → BitList) (m : ℕ) (cond : N.State → BitList) (cc : List Call) (tc : List ℕ) (n cost : ℕ)
-    → (taken : N.State → N.Effect) (bits : List ℕ) (most : ℕ) (ct : List Call) (now1 : List ℕ) (n1 : ℕ)
-    → (other : N.State → N.Effect) (others : List ℕ) (more : ℕ) (co : List Call) (now2 : List ℕ) (n2 : ℕ)
-    → (js : List ℕ) (extra : ℕ)
-    → IsEnv now m → IsEnv later m
-    → All (λ slot. slot < m) tv
-    → IsCondition now tv sv m cc tc n cost cond
-    → IsDone now later [] (λ state. []) n taken bits most ct now1 later n1
-    → IsDone now later tv sv n1 other others more co now2 later n2
-    → IsJoin now1 now2 bits others js (join_call tc now1 now2 js n2) extra
-    → IsDone now later tv sv m (either_run cond taken other) (bits ++ others) (cost + most + more + extra) (((cc ++ ct) ++ co) ++ join_call tc now1 now2 js n2 ∷ [])
-    (placed now2 (map Some js) (range_with_len n2 (length js))) later (n2 + length js)
-done_if_now now later tv sv m cond cc tc n cost taken bits most ct now1 n1 other others more co now2 n2 js extra e f low c t o j =
-    let call = join_call tc now1 now2 js n2 in
-    let to = range_with_len n2 (length js) in
-    let top = n2 + length js in
-    let up1 : m ≤ n1 = omega (arith, c.added.grown, t.added.grown) in
-    let grown : m ≤ n2 = omega (arith, c.added.grown, t.added.grown, o.added.grown) in
-    let tc_below : All (λ slot. slot < n2) tc = All-weaker (λ slot. slot < n) (λ slot. slot < n2) (λ slot l. omega (arith, t.added.grown, o.added.grown)) tc c.below in
-    let below1 : All (λ slot. slot < n2) now1 = All-weaker (λ slot. slot < n1) (λ slot. slot < n2) (λ slot l. omega (arith, o.added.grown)) now1 t.now_env.below in
-    let inside1 : All (λ b. b < length now1) js = All-weaker (λ b. b < length now2) (λ b. b < length now1) (λ b l. omega (arith, t.now_length, o.now_length)) js j.inside in
-    let inside2 = j.inside in
-    let one = join_added tc now1 now2 js n2 extra j.is j.paid j.stores tc_below (picked_below now1 n2 js inside1 below1) (picked_below now2 n2 js inside2 o.now_env.below) in
-    let e2 = env_more now m n2 grown e in
-    let f2 = env_more later m n2 grown f in
-    let way = λ (before last : State) (state ahead : N.State) (h : Holds now before state) (k : Holds later before ahead) (g : map before tv ≡ sv state) (called : AreCalled ((cc ++ ct) ++ co) before last).
-    branched now later tv sv m cond cc tc n cost taken bits most ct now1 later n1 other others more co now2 later n2 e f low c t o before last state ahead h k g called in
+-- ---- an environment joined
+
+-- what these calls give after both branches: in the slots `env` the bits have what they have after the branch that is taken
+pub record IsMerged (env1 env2 tc : List ℕ) (mark : ℕ) (calls : List Call) (env : List ℕ) (next most : ℕ) : Type 0 where
+  pub added : AreAdded mark calls next most
+  pub below : All (λ slot. slot < next) env
+  pub long : length env ≡ length env2
+  pub kept : (b : ℕ) → slice_index env1 b ≡ slice_index env2 b → slice_index env b ≡ slice_index env2 b
+  pub from : (b : ℕ) → b < length env2 → (slice_index env b ≡ slice_index env2 b) ⊎ IsNew mark (slice_index env b)
+  pub values : (last after : State) (c : BitList) (t1 t2 : N.State) → Holds env1 last t1 → Holds env2 last t2 → map last tc ≡ c → AreCalled calls last after
+      → Holds env after (if is_one (truth c) then t1 else t2)
+
+-- where they have the same slots after both there is no call
+pub merged_same : (env1 env2 tc : List ℕ) (n : ℕ) → env1 ≡ env2 → All (λ slot. slot < n) env2 → IsMerged env1 env2 tc n [] env2 n 0
+merged_same env1 env2 tc n same below = record {
+  added = added_none n;
+  below = below;
+  long = refl;
+  kept = λ b h. refl;
+  from = λ b l. inl refl;
+  values = λ last after c t1 t2 h1 h2 e called.
+      subst (λ (s : State). Holds env2 s (if is_one (truth c) then t1 else t2)) (sym (fun_ext called))
+      (by_bool (λ (t : N.State). Holds env2 last t) (is_one (truth c)) t1 t2 (λ q. subst (λ (env : List ℕ). Holds env last t1) same h1) (λ q. h2));
+}
+
+pub merged_call : (env1 env2 tc js : List ℕ) (n : ℕ) → length env1 ≡ length env2 → All (λ slot. slot < n) tc → All (λ slot. slot < n) env1 → IsEnv env2 n
+    → IsJoin env1 env2 js (join_call tc env1 env2 js n)
+    → IsMerged env1 env2 tc n (join_call tc env1 env2 js n ∷ []) (placed env2 (map Some js) (range_with_len n (length js))) (n + length js) (length js)
+merged_call env1 env2 tc js n long below_c below1 e j =
+    let call = join_call tc env1 env2 js n in
+    let to = range_with_len n (length js) in
+    let top = n + length js in
+    let inside1 : All (λ b. b < length env1) js = All-weaker (λ b. b < length env2) (λ b. b < length env1) (λ b l. omega (arith, l, long)) js j.inside in
+    let one = join_added tc env1 env2 js n j.is j.cost below_c (picked_below env1 n js inside1 below1) (picked_below env2 n js j.inside e.below) in
     record {
-      added = added_more m ((cc ++ ct) ++ co) n2 (cost + most + more) (call ∷ []) top extra
-          (added_more m (cc ++ ct) n1 (cost + most) co n2 more (added_more m cc n cost ct n1 most c.added t.added) o.added) one;
-      now_env = record {
-        constants = omega (arith, e.constants, grown);
-        below = placed_all (λ slot. slot < top) now2 (map Some js) to (range_below n2 (length js) top (omega arith)) (All-weaker (λ slot. slot < n2) (λ slot. slot < top) (λ slot l. omega arith) now2 o.now_env.below);
-      };
-      later_env = env_more later m top (omega (arith, grown)) f;
-      now_length = placed_length now2 (map Some js) to ∙ o.now_length;
-      later_length = refl;
-      now_kept = λ b h. placed_other now2 js to b (j.within b h) ∙ o.now_kept b (neither bits others b h).1;
-      later_kept = λ b h. refl;
-      now_from = λ b l. from_both m n1 (slice_index (placed now2 (map Some js) to) b) (slice_index now2 b) (slice_index now b) up1 (join_from now2 js to n1 b n2 o.added.grown (range_from n2 (length js) n2 (omega arith)) (placed_from now2 (map Some js) to b (omega (arith, o.now_length)))) (from_more m n1 (slice_index now2 b) (slice_index now b) up1 (o.now_from b l));
-      later_from = λ b l. inl refl;
-      now_values = λ before after state ahead h k g called.
-          let parts = called_parts ((cc ++ ct) ++ co) (call ∷ []) before after called in
-          let w = way before parts.0 state ahead h k g parts.1 in
-          subst (λ (s : N.State). Holds (placed now2 (map Some js) to) after s) (sym (taken_writes (is_one (truth (cond state))) (taken state) (other state) state))
-          (join_values now1 now2 tc js to parts.0 after (cond state) (N.write_all state (taken state).writes) (N.write_all state (other state).writes)
-          j.inside (t.now_length ∙ sym o.now_length) j.same
-          w.now_t w.now_o w.cond_is
-          (joined_value tc now1 now2 js n2 parts.0 after (one_called call parts.0 after parts.2))
-          (holds_after now2 (call ∷ []) n2 parts.0 after (N.write_all state (other state).writes) o.now_env one.fresh parts.2 w.now_o));
-      later_values = λ before after state ahead h k g called.
-          let parts = called_parts ((cc ++ ct) ++ co) (call ∷ []) before after called in
-          let w = way before parts.0 state ahead h k g parts.1 in
-          subst (λ (s : N.State). Holds later after s) (sym (taken_updates (is_one (truth (cond state))) (taken state) (other state) ahead))
-          (by_bool (λ (s : N.State). Holds later after s) (is_one (truth (cond state))) (N.write_all ahead (N.flatten (taken state).updates)) (N.write_all ahead (N.flatten (other state).updates))
-          (λ q. holds_after later (call ∷ []) n2 parts.0 after (N.write_all ahead (N.flatten (taken state).updates)) f2 one.fresh parts.2 w.later_t)
-          (λ q. holds_after later (call ∷ []) n2 parts.0 after (N.write_all ahead (N.flatten (other state).updates)) f2 one.fresh parts.2 w.later_o));
+      added = one;
+      below = placed_all (λ slot. slot < top) env2 (map Some js) to (range_below n (length js) top (omega arith)) (All-weaker (λ slot. slot < n) (λ slot. slot < top) (λ slot l. omega (arith, l)) env2 e.below);
+      long = placed_length env2 (map Some js) to;
+      kept = λ b h. placed_other env2 js to b (j.others b h);
+      from = λ b l. join_from env2 js to n b n (omega arith) (range_from n (length js) n (omega arith)) (placed_from env2 (map Some js) to b l);
+      values = λ last after c t1 t2 h1 h2 is called.
+          join_values env1 env2 tc js to last after c t1 t2 j.inside long j.same h1 h2 is
+          (joined_value tc env1 env2 js n last after (one_called call last after called))
+          (holds_after env2 (call ∷ []) n last after t2 e one.fresh called h2);
     }
 
--- and nonblocking ones
-pub done_if_later : (now later tv : List ℕ) (sv : N.State → BitList) (m : ℕ) (cond : N.State → BitList) (cc : List Call) (tc : List ℕ) (n cost : ℕ)
-    → (taken : N.State → N.Effect) (bits : List ℕ) (most : ℕ) (ct : List Call) (later1 : List ℕ) (n1 : ℕ)
-    → (other : N.State → N.Effect) (others : List ℕ) (more : ℕ) (co : List Call) (later2 : List ℕ) (n2 : ℕ)
-    → (js : List ℕ) (extra : ℕ)
+-- ---- both environments joined
+
+-- what stands before the joins: the condition and both branches
+pub record IsForked (now later tv : List ℕ) (sv : N.State → BitList) (mark : ℕ) (cond : N.State → BitList) (tc : List ℕ) (taken : N.State → N.Effect) (now1 later1 : List ℕ) (other : N.State → N.Effect) (now2 later2 at_once updated : List ℕ) (calls : List Call) (next most : ℕ) : Type 0 where
+  pub added : AreAdded mark calls next most
+  pub below : All (λ slot. slot < next) tc
+  pub later1_env : IsEnv later1 next
+  pub later2_env : IsEnv later2 next
+  pub now_length : length now2 ≡ length now
+  pub later_length : length later2 ≡ length later
+  pub now_kept : (b : ℕ) → contains at_once b ≡ false → (slice_index now1 b ≡ slice_index now b) × (slice_index now2 b ≡ slice_index now b)
+  pub later_kept : (b : ℕ) → contains updated b ≡ false → (slice_index later1 b ≡ slice_index later b) × (slice_index later2 b ≡ slice_index later b)
+  pub now_from : (b : ℕ) → b < length now → (slice_index now2 b ≡ slice_index now b) ⊎ IsNew mark (slice_index now2 b)
+  pub later_from : (b : ℕ) → b < length later → IsLaterSlot now mark (slice_index later2 b) (slice_index later b)
+  pub branched : (before last : State) (state ahead : N.State) → Holds now before state → Holds later before ahead → map before tv ≡ sv state → AreCalled calls before last
+      → IsBranched now later cond tc taken now1 later1 other now2 later2 last state ahead
+
+pub done_forked : (now later tv : List ℕ) (sv : N.State → BitList) (m : ℕ) (cond : N.State → BitList) (tc : List ℕ) (taken : N.State → N.Effect) (now1 later1 : List ℕ) (other : N.State → N.Effect) (now2 later2 at_once updated : List ℕ) (calls : List Call) (n most : ℕ)
+    → (now_calls : List Call) (now3 : List ℕ) (p more : ℕ) (later_calls : List Call) (later3 : List ℕ) (q extra : ℕ)
+    → IsEnv now m
+    → IsForked now later tv sv m cond tc taken now1 later1 other now2 later2 at_once updated calls n most
+    → IsMerged now1 now2 tc n now_calls now3 p more → IsMerged later1 later2 tc p later_calls later3 q extra
+    → IsDone now later tv sv m (either_run cond taken other) at_once updated (most + more + extra) ((calls ++ now_calls) ++ later_calls) now3 later3 q
+done_forked now later tv sv m cond tc taken now1 later1 other now2 later2 at_once updated calls n most now_calls now3 p more later_calls later3 q extra e f a b =
+    let up : m ≤ n = f.added.grown in
+    let now3_env : IsEnv now3 p = record { constants = omega (arith, e.constants, up, a.added.grown); below = a.below } in
+    record {
+      added = added_more m (calls ++ now_calls) p (most + more) later_calls q extra (added_more m calls n most now_calls p more f.added a.added) b.added;
+      now_env = env_more now3 p q b.added.grown now3_env;
+      later_env = record { constants = omega (arith, e.constants, up, a.added.grown, b.added.grown); below = b.below };
+      now_length = a.long ∙ f.now_length;
+      later_length = b.long ∙ f.later_length;
+      now_kept = λ c h. let k = f.now_kept c h in a.kept c (k.0 ∙ sym k.1) ∙ k.1;
+      later_kept = λ c h. let k = f.later_kept c h in b.kept c (k.0 ∙ sym k.1) ∙ k.1;
+      now_from = λ c l. from_both m n (slice_index now3 c) (slice_index now2 c) (slice_index now c) up (a.from c (omega (arith, l, f.now_length))) (f.now_from c l);
+      later_from = λ c l. joined_later now m m (slice_index later3 c) (slice_index later2 c) (slice_index later c) (omega arith)
+          (from_more m p (slice_index later3 c) (slice_index later2 c) (omega (arith, up, a.added.grown)) (b.from c (omega (arith, l, f.later_length)))) (f.later_from c l);
+      now_values = λ before after state ahead h k g called.
+          let parts = called_parts (calls ++ now_calls) later_calls before after called in
+          let firsts = called_parts calls now_calls before parts.0 parts.1 in
+          let w = f.branched before firsts.0 state ahead h k g firsts.1 in
+          let t1 = N.write_all state (taken state).writes in
+          let t2 = N.write_all state (other state).writes in
+          let target : N.State = if is_one (truth (cond state)) then t1 else t2 in
+          subst (λ (s : N.State). Holds now3 after s) (sym (taken_writes (is_one (truth (cond state))) (taken state) (other state) state))
+          (holds_after now3 later_calls p parts.0 after target now3_env b.added.fresh parts.2 (a.values firsts.0 parts.0 (cond state) t1 t2 w.now_t w.now_o w.cond_is firsts.2));
+      later_values = λ before after state ahead h k g called.
+          let parts = called_parts (calls ++ now_calls) later_calls before after called in
+          let firsts = called_parts calls now_calls before parts.0 parts.1 in
+          let w = f.branched before firsts.0 state ahead h k g firsts.1 in
+          let t1 = N.write_all ahead (N.flatten (taken state).updates) in
+          let t2 = N.write_all ahead (N.flatten (other state).updates) in
+          subst (λ (s : N.State). Holds later3 after s) (sym (taken_updates (is_one (truth (cond state))) (taken state) (other state) ahead))
+          (b.values parts.0 after (cond state) t1 t2
+          (holds_after later1 now_calls n firsts.0 parts.0 t1 f.later1_env a.added.fresh firsts.2 w.later_t)
+          (holds_after later2 now_calls n firsts.0 parts.0 t2 f.later2_env a.added.fresh firsts.2 w.later_o)
+          (vector_stays now_calls n firsts.0 parts.0 tc a.added.fresh firsts.2 f.below ∙ w.cond_is) parts.2);
+    }
+
+-- the condition first, and then both branches
+pub forked_if : (now later tv : List ℕ) (sv : N.State → BitList) (m : ℕ) (cond : N.State → BitList) (cc : List Call) (tc : List ℕ) (n cost : ℕ)
+    → (taken : N.State → N.Effect) (once1 updated1 : List ℕ) (most : ℕ) (ct : List Call) (now1 later1 : List ℕ) (n1 : ℕ)
+    → (other : N.State → N.Effect) (once2 updated2 : List ℕ) (more : ℕ) (co : List Call) (now2 later2 : List ℕ) (n2 : ℕ)
     → IsEnv now m → IsEnv later m
     → All (λ slot. slot < m) tv
     → IsCondition now tv sv m cc tc n cost cond
-    → IsDone now later [] (λ state. []) n taken bits most ct now later1 n1
-    → IsDone now later tv sv n1 other others more co now later2 n2
-    → IsJoin later1 later2 bits others js (join_call tc later1 later2 js n2) extra
-    → IsDone now later tv sv m (either_run cond taken other) (bits ++ others) (cost + most + more + extra) (((cc ++ ct) ++ co) ++ join_call tc later1 later2 js n2 ∷ [])
-    now (placed later2 (map Some js) (range_with_len n2 (length js))) (n2 + length js)
-done_if_later now later tv sv m cond cc tc n cost taken bits most ct later1 n1 other others more co later2 n2 js extra e f low c t o j =
-    let call = join_call tc later1 later2 js n2 in
-    let to = range_with_len n2 (length js) in
-    let top = n2 + length js in
-    let up1 : m ≤ n1 = omega (arith, c.added.grown, t.added.grown) in
-    let grown : m ≤ n2 = omega (arith, c.added.grown, t.added.grown, o.added.grown) in
-    let tc_below : All (λ slot. slot < n2) tc = All-weaker (λ slot. slot < n) (λ slot. slot < n2) (λ slot l. omega (arith, t.added.grown, o.added.grown)) tc c.below in
-    let below1 : All (λ slot. slot < n2) later1 = All-weaker (λ slot. slot < n1) (λ slot. slot < n2) (λ slot l. omega (arith, o.added.grown)) later1 t.later_env.below in
-    let inside1 : All (λ b. b < length later1) js = All-weaker (λ b. b < length later2) (λ b. b < length later1) (λ b l. omega (arith, t.later_length, o.later_length)) js j.inside in
-    let inside2 = j.inside in
-    let one = join_added tc later1 later2 js n2 extra j.is j.paid j.stores tc_below (picked_below later1 n2 js inside1 below1) (picked_below later2 n2 js inside2 o.later_env.below) in
-    let e2 = env_more now m n2 grown e in
-    let f2 = env_more later m n2 grown f in
-    let way = λ (before last : State) (state ahead : N.State) (h : Holds now before state) (k : Holds later before ahead) (g : map before tv ≡ sv state) (called : AreCalled ((cc ++ ct) ++ co) before last).
-    branched now later tv sv m cond cc tc n cost taken bits most ct now later1 n1 other others more co now later2 n2 e f low c t o before last state ahead h k g called in
+    → IsDone now later [] (λ state. []) n taken once1 updated1 most ct now1 later1 n1
+    → IsDone now later tv sv n1 other once2 updated2 more co now2 later2 n2
+    → IsForked now later tv sv m cond tc taken now1 later1 other now2 later2 (once1 ++ once2) (updated1 ++ updated2) ((cc ++ ct) ++ co) n2 (cost + most + more)
+forked_if now later tv sv m cond cc tc n cost taken once1 updated1 most ct now1 later1 n1 other once2 updated2 more co now2 later2 n2 e f low c t o =
+    let up : m ≤ n1 = omega (arith, c.added.grown, t.added.grown) in
     record {
-      added = added_more m ((cc ++ ct) ++ co) n2 (cost + most + more) (call ∷ []) top extra
-          (added_more m (cc ++ ct) n1 (cost + most) co n2 more (added_more m cc n cost ct n1 most c.added t.added) o.added) one;
-      now_env = env_more now m top (omega (arith, grown)) e;
-      later_env = record {
-        constants = omega (arith, f.constants, grown);
-        below = placed_all (λ slot. slot < top) later2 (map Some js) to (range_below n2 (length js) top (omega arith)) (All-weaker (λ slot. slot < n2) (λ slot. slot < top) (λ slot l. omega arith) later2 o.later_env.below);
-      };
-      now_length = refl;
-      later_length = placed_length later2 (map Some js) to ∙ o.later_length;
-      now_kept = λ b h. refl;
-      later_kept = λ b h. placed_other later2 js to b (j.within b h) ∙ o.later_kept b (neither bits others b h).1;
-      now_from = λ b l. inl refl;
-      later_from = λ b l. joined_later now m n1 (slice_index (placed later2 (map Some js) to) b) (slice_index later2 b) (slice_index later b) up1 (join_from later2 js to n1 b n2 o.added.grown (range_from n2 (length js) n2 (omega arith)) (placed_from later2 (map Some js) to b (omega (arith, o.later_length)))) (o.later_from b l);
-      later_values = λ before after state ahead h k g called.
-          let parts = called_parts ((cc ++ ct) ++ co) (call ∷ []) before after called in
-          let w = way before parts.0 state ahead h k g parts.1 in
-          subst (λ (s : N.State). Holds (placed later2 (map Some js) to) after s) (sym (taken_updates (is_one (truth (cond state))) (taken state) (other state) ahead))
-          (join_values later1 later2 tc js to parts.0 after (cond state) (N.write_all ahead (N.flatten (taken state).updates)) (N.write_all ahead (N.flatten (other state).updates))
-          j.inside (t.later_length ∙ sym o.later_length) j.same
-          w.later_t w.later_o w.cond_is
-          (joined_value tc later1 later2 js n2 parts.0 after (one_called call parts.0 after parts.2))
-          (holds_after later2 (call ∷ []) n2 parts.0 after (N.write_all ahead (N.flatten (other state).updates)) o.later_env one.fresh parts.2 w.later_o));
-      now_values = λ before after state ahead h k g called.
-          let parts = called_parts ((cc ++ ct) ++ co) (call ∷ []) before after called in
-          let w = way before parts.0 state ahead h k g parts.1 in
-          subst (λ (s : N.State). Holds now after s) (sym (taken_writes (is_one (truth (cond state))) (taken state) (other state) state))
-          (by_bool (λ (s : N.State). Holds now after s) (is_one (truth (cond state))) (N.write_all state (taken state).writes) (N.write_all state (other state).writes)
-          (λ q. holds_after now (call ∷ []) n2 parts.0 after (N.write_all state (taken state).writes) e2 one.fresh parts.2 w.now_t)
-          (λ q. holds_after now (call ∷ []) n2 parts.0 after (N.write_all state (other state).writes) e2 one.fresh parts.2 w.now_o));
+      added = added_more m (cc ++ ct) n1 (cost + most) co n2 more (added_more m cc n cost ct n1 most c.added t.added) o.added;
+      below = All-weaker (λ slot. slot < n) (λ slot. slot < n2) (λ slot l. omega (arith, l, t.added.grown, o.added.grown)) tc c.below;
+      later1_env = env_more later1 n1 n2 o.added.grown t.later_env;
+      later2_env = o.later_env;
+      now_length = o.now_length;
+      later_length = o.later_length;
+      now_kept = λ b h. let q = neither once1 once2 b h in (t.now_kept b q.0, o.now_kept b q.1);
+      later_kept = λ b h. let q = neither updated1 updated2 b h in (t.later_kept b q.0, o.later_kept b q.1);
+      now_from = λ b l. from_more m n1 (slice_index now2 b) (slice_index now b) up (o.now_from b l);
+      later_from = λ b l. later_more now m n1 (slice_index later2 b) (slice_index later b) up (o.later_from b l);
+      branched = λ before last state ahead h k g called.
+          branched now later tv sv m cond cc tc n cost taken once1 updated1 most ct now1 later1 n1 other once2 updated2 more co now2 later2 n2 e f low c t o before last state ahead h k g called;
     }
 
 -- a value as a condition
@@ -394,37 +404,3 @@ condition_is now m c tc n most v a = record {
   below = All-head (λ to. All (λ slot. slot < n) to) tc [] a.below;
   values = λ before after state h g called. one_list (map after tc) (v state) (a.values before after state h called);
 }
-
--- branches after which the bits have the same slots need no join
-pub done_if_same : (now later tv : List ℕ) (sv : N.State → BitList) (m : ℕ) (cond : N.State → BitList) (cc : List Call) (tc : List ℕ) (n cost : ℕ)
-    → (taken : N.State → N.Effect) (bits : List ℕ) (most : ℕ) (ct : List Call) (now1 later1 : List ℕ) (n1 : ℕ)
-    → (other : N.State → N.Effect) (others : List ℕ) (more : ℕ) (co : List Call) (n2 : ℕ)
-    → IsEnv now m → IsEnv later m
-    → All (λ slot. slot < m) tv
-    → IsCondition now tv sv m cc tc n cost cond
-    → IsDone now later [] (λ state. []) n taken bits most ct now1 later1 n1
-    → IsDone now later tv sv n1 other others more co now1 later1 n2
-    → IsDone now later tv sv m (either_run cond taken other) (bits ++ others) (cost + most + more) ((cc ++ ct) ++ co) now1 later1 n2
-done_if_same now later tv sv m cond cc tc n cost taken bits most ct now1 later1 n1 other others more co n2 e f low c t o =
-    let up1 : m ≤ n1 = omega (arith, c.added.grown, t.added.grown) in
-    let way = λ (before last : State) (state ahead : N.State) (h : Holds now before state) (k : Holds later before ahead) (g : map before tv ≡ sv state) (called : AreCalled ((cc ++ ct) ++ co) before last).
-    branched now later tv sv m cond cc tc n cost taken bits most ct now1 later1 n1 other others more co now1 later1 n2 e f low c t o before last state ahead h k g called in
-    record {
-      added = added_more m (cc ++ ct) n1 (cost + most) co n2 more (added_more m cc n cost ct n1 most c.added t.added) o.added;
-      now_env = o.now_env;
-      later_env = o.later_env;
-      now_length = o.now_length;
-      later_length = o.later_length;
-      now_kept = λ b h. o.now_kept b (neither bits others b h).1;
-      later_kept = λ b h. o.later_kept b (neither bits others b h).1;
-      now_from = λ b l. from_more m n1 (slice_index now1 b) (slice_index now b) up1 (o.now_from b l);
-      later_from = λ b l. later_more now m n1 (slice_index later1 b) (slice_index later b) up1 (o.later_from b l);
-      now_values = λ before after state ahead h k g called.
-          let w = way before after state ahead h k g called in
-          subst (λ (s : N.State). Holds now1 after s) (sym (taken_writes (is_one (truth (cond state))) (taken state) (other state) state))
-          (by_bool (λ (s : N.State). Holds now1 after s) (is_one (truth (cond state))) (N.write_all state (taken state).writes) (N.write_all state (other state).writes) (λ q. w.now_t) (λ q. w.now_o));
-      later_values = λ before after state ahead h k g called.
-          let w = way before after state ahead h k g called in
-          subst (λ (s : N.State). Holds later1 after s) (sym (taken_updates (is_one (truth (cond state))) (taken state) (other state) ahead))
-          (by_bool (λ (s : N.State). Holds later1 after s) (is_one (truth (cond state))) (N.write_all ahead (N.flatten (taken state).updates)) (N.write_all ahead (N.flatten (other state).updates)) (λ q. w.later_t) (λ q. w.later_o));
-    }

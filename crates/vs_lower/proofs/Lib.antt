@@ -20,6 +20,7 @@ mod Rejoined
 mod Settling
 mod Storing
 mod Testing
+pub mod Apart
 pub mod Branching
 pub mod Sequencing
 pub mod Conditional
@@ -32,7 +33,10 @@ pub mod Armed
 pub mod Ordered
 pub mod Naming
 pub mod Stating
+pub mod Effecting
+pub mod Ruled
 pub mod Blocking
+pub mod Nexting
 pub mod Accepting
 pub mod Resetting
 pub mod Sleeping

@@ -156,12 +156,12 @@ new_later now m n x y l (inr (inl (inr h))) = inr (inl (inr (omega arith)))
 new_later now m n x y l (inr (inr h)) = inr (inr h)
 
 -- ---- the whole case: its subject, and then its arms
-pub done_case : (now later : List ℕ) (m : ℕ) (sv : N.State → BitList) (c : List Call) (tv : List ℕ) (n most : ℕ) (run : N.State → N.Effect) (bits : List ℕ) (more : ℕ) (d : List Call) (now1 later1 : List ℕ) (p : ℕ)
+pub done_case : (now later : List ℕ) (m : ℕ) (sv : N.State → BitList) (c : List Call) (tv : List ℕ) (n most : ℕ) (run : N.State → N.Effect) (at_once updated : List ℕ) (more : ℕ) (d : List Call) (now1 later1 : List ℕ) (p : ℕ)
     → IsEnv now m → IsEnv later m
     → AreValues now m c (tv ∷ []) n most (λ state. sv state ∷ [])
-    → IsDone now later tv sv n run bits more d now1 later1 p
-    → IsDone now later [] (λ state. []) m run bits (most + more) (c ++ d) now1 later1 p
-done_case now later m sv c tv n most run bits more d now1 later1 p en el a o = record {
+    → IsDone now later tv sv n run at_once updated more d now1 later1 p
+    → IsDone now later [] (λ state. []) m run at_once updated (most + more) (c ++ d) now1 later1 p
+done_case now later m sv c tv n most run at_once updated more d now1 later1 p en el a o = record {
   added = added_more m c n most d p more a.added o.added;
   now_env = o.now_env;
   later_env = o.later_env;
@@ -180,9 +180,9 @@ done_case now later m sv c tv n most run bits more d now1 later1 p en el a o = r
 }
 
 -- a statement is one within a case too
-pub done_within : (now later tv : List ℕ) (sv : N.State → BitList) (m : ℕ) (run : N.State → N.Effect) (bits : List ℕ) (most : ℕ) (c : List Call) (now1 later1 : List ℕ) (n : ℕ)
-    → IsDone now later [] (λ state. []) m run bits most c now1 later1 n → IsDone now later tv sv m run bits most c now1 later1 n
-done_within now later tv sv m run bits most c now1 later1 n o = record {
+pub done_within : (now later tv : List ℕ) (sv : N.State → BitList) (m : ℕ) (run : N.State → N.Effect) (at_once updated : List ℕ) (most : ℕ) (c : List Call) (now1 later1 : List ℕ) (n : ℕ)
+    → IsDone now later [] (λ state. []) m run at_once updated most c now1 later1 n → IsDone now later tv sv m run at_once updated most c now1 later1 n
+done_within now later tv sv m run at_once updated most c now1 later1 n o = record {
   added = o.added;
   now_env = o.now_env;
   later_env = o.later_env;
@@ -197,10 +197,10 @@ done_within now later tv sv m run bits most c now1 later1 n o = record {
 }
 
 -- the same run and the same bits, and more stores allowed
-pub done_as : (now later tv : List ℕ) (sv : N.State → BitList) (m : ℕ) (run same : N.State → N.Effect) (bits : List ℕ) (most more : ℕ) (c : List Call) (now1 later1 : List ℕ) (n : ℕ)
+pub done_as : (now later tv : List ℕ) (sv : N.State → BitList) (m : ℕ) (run same : N.State → N.Effect) (at_once updated : List ℕ) (most more : ℕ) (c : List Call) (now1 later1 : List ℕ) (n : ℕ)
     → ((state : N.State) → run state ≡ same state) → most ≤ more
-    → IsDone now later tv sv m run bits most c now1 later1 n → IsDone now later tv sv m same bits more c now1 later1 n
-done_as now later tv sv m run same bits most more c now1 later1 n is l o = record {
+    → IsDone now later tv sv m run at_once updated most c now1 later1 n → IsDone now later tv sv m same at_once updated more c now1 later1 n
+done_as now later tv sv m run same at_once updated most more c now1 later1 n is l o = record {
   added = added_within m c n most more l o.added;
   now_env = o.now_env;
   later_env = o.later_env;

@@ -15,14 +15,14 @@ use Rattle.vs_design.specs.Footprints.{contains, statement_bits, target_bits, wr
 use Rattle.vs_design.specs.Sizes.{distinct, statement_weight, assignment_weight, process_weight}
 use Rattle.vs_code.specs.Calls.{Call, State, IsCall, AreCalled, call_cost, call_slots, length_of, slots_of, targets_of}
 use Rattle.vs_program.specs.Lowered.{Layout, IsLayout, home, bits_of, HasConstants, process_stores, IsLoweredProcess}
-use Rattle.vs_values.specs.Added.{IsEnv, Holds, copy_call}
+use Rattle.vs_values.specs.Added.{AreAdded, IsEnv, Holds, copy_call}
 use Rattle.vs_lower.specs.Done.{IsDone, IsStatementDone}
 use Rattle.vs_lower.specs.Copies.{copies}
 use Rattle.vs_values.specs.Environments.{homes}
 use Rattle.vs_values.proofs.Lists.{range_at, range_below}
 use Rattle.vs_values.proofs.Adding.{called_parts, one_called, stays}
 use Rattle.vs_lower.proofs.Placing.{by_test}
-use Rattle.vs_lower.proofs.Joining.{picked}
+use Rattle.vs_lower.proofs.Joining.{IsLaterSlot, picked}
 
 -- ---- before a process
 
@@ -160,7 +160,7 @@ comb_lowered l place star events st c now later n js comb room done inside rest 
       run = λ before after constants called.
           let h = is before after constants called in
           record {
-            bits = λ b k. h.values b k;
+            bits = λ b k. h.values b k ∙ ap (λ (q : Bool). if q then before (home b) else N.write_all (bits_of before) (body st (bits_of before)).writes b) (sym comb);
             shadows = λ e. absurd (true≢false (sym e ∙ comb));
             constants = h.constants;
             others = λ slot low high f. h.others slot low high;
@@ -171,7 +171,7 @@ comb_lowered l place star events st c now later n js comb room done inside rest 
 
 pub assign_lowered : (l : Layout) (place : ℕ) (port : Port) (target_place : ℕ) (target : Target) (e : Expression) (c : List Call) (now later : List ℕ) (n most : ℕ) (js : List ℕ)
     → home l.bits ≤ l.first_temp
-    → IsDone (homes l.bits) (homes l.bits) [] (λ state. []) l.first_temp (λ state. effect_of false (assignment_writes target e state)) (target_bits target) most c now later n
+    → IsDone (homes l.bits) (homes l.bits) [] (λ state. []) l.first_temp (λ state. effect_of false (assignment_writes target e state)) [] (target_bits target) most c now later n
     → All (λ j. j < l.bits) js
     → ((b : ℕ) → b < l.bits → contains js b ≡ false → slice_index later b ≡ home b)
     → most + length js ≤ assignment_weight target e
@@ -210,53 +210,59 @@ assign_lowered l place port target_place target e c now later n most js room don
 
 -- ---- a clocked block
 
-pub clocked_lowered : (l : Layout) (place : ℕ) (star : Bool) (events : List Event) (st : Statement) (c : List Call) (now later : List ℕ) (n : ℕ) (js : List ℕ)
+-- in these slots the bits have what they have after all that a statement gives
+pub record IsNext (count mark : ℕ) (st : Statement) (calls : List Call) (env : List ℕ) (top : ℕ) : Type 0 where
+  pub long : length env ≡ count
+  pub below : All (λ slot. slot < top) env
+  pub kept : (b : ℕ) → contains (statement_bits st) b ≡ false → slice_index env b ≡ slice_index (homes count) b
+  pub from : (b : ℕ) → b < count → IsLaterSlot (homes count) mark (slice_index env b) (slice_index (homes count) b)
+  pub values : (before after : State) (state : N.State) → Holds (homes count) before state → AreCalled calls before after → Holds env after (N.write_all state (N.flatten ((body st state).writes ∷ (body st state).updates)))
+
+pub clocked_lowered : (l : Layout) (place : ℕ) (star : Bool) (events : List Event) (st : Statement) (c : List Call) (env : List ℕ) (n : ℕ) (js : List ℕ)
     → is_clocked (Always place star events st) ≡ true → IsLayout l (statement_bits st)
-    → ((s : N.State) → (body st s).writes ≡ [])
-    → IsStatementDone (homes l.bits) (homes l.bits) l.first_temp st c now later n
+    → AreAdded l.first_temp c n (statement_weight st) → IsNext l.bits l.first_temp st c env n
     → All (λ j. j < l.bits) js
     → ((b : ℕ) → contains (statement_bits st) b ≡ contains js b)
     → length js ≤ distinct (statement_bits st)
-    → All IsCall (copies (picked later js) (map l.shadow js))
-    → IsLoweredProcess l (Always place star events st) (c ++ copies (picked later js) (map l.shadow js))
+    → All IsCall (copies (picked env js) (map l.shadow js))
+    → IsLoweredProcess l (Always place star events st) (c ++ copies (picked env js) (map l.shadow js))
 unfolding N.write_all N.flatten
-clocked_lowered l place star events st c now later n js clocked layout no_writes done inside exactly few calls =
+clocked_lowered l place star events st c env n js clocked layout added next inside exactly few calls =
     let p = Always place star events st in
-    let cp = copies (picked later js) (map l.shadow js) in
-    let long : length later ≡ l.bits = done.later_length ∙ length-range_with_len 4 l.bits in
-    let same_length : length (picked later js) ≡ length (map l.shadow js) = length-map js (slice_index later) ∙ sym (length-map js l.shadow) in
-    let cost : length_of cp ≡ length js = copies_cost (picked later js) (map l.shadow js) same_length ∙ length-map js l.shadow in
+    let cp = copies (picked env js) (map l.shadow js) in
+    let long = next.long in
+    let same_length : length (picked env js) ≡ length (map l.shadow js) = length-map js (slice_index env) ∙ sym (length-map js l.shadow) in
+    let cost : length_of cp ≡ length js = copies_cost (picked env js) (map l.shadow js) same_length ∙ length-map js l.shadow in
     let total : length_of (c ++ cp) ≡ length_of c + length_of cp = sum_by-append call_cost c cp in
     let weighs : process_weight p ≡ 0 + statement_weight st = ap (λ (k : Bool). (if not k then distinct (statement_bits st) else 0) + statement_weight st) clocked in
     let stored : process_stores p ≡ process_weight p + distinct (statement_bits st) = ap (λ (k : Bool). process_weight p + (if k then distinct (statement_bits st) else 0)) clocked in
-    let inside_env : All (λ j. j < length later) js = All-weaker (λ j. j < l.bits) (λ j. j < length later) (λ j h. omega (arith, long)) js inside in
+    let inside_env : All (λ j. j < length env) js = All-weaker (λ j. j < l.bits) (λ j. j < length env) (λ j h. omega (arith, long)) js inside in
     let top = l.first_temp + process_weight p in
-    let under : n ≤ top = omega (arith, done.added.paid, done.added.stores, weighs) in
+    let under : n ≤ top = omega (arith, added.paid, added.stores, weighs) in
     record {
-      are_calls = All-append IsCall c cp done.added.are_calls calls;
-      stores = omega (arith, total, cost, few, done.added.stores, weighs, stored);
-      slots = all_slots c cp n top under done.added.named
-          (copies_slots (λ slot. slot < top) (picked later js) (map l.shadow js)
-          (All-weaker (λ slot. slot < n) (λ slot. slot < top) (λ slot h. omega arith) (picked later js) (picked_below later n js inside_env done.later_env.below))
+      are_calls = All-append IsCall c cp added.are_calls calls;
+      stores = omega (arith, total, cost, few, added.stores, weighs, stored);
+      slots = all_slots c cp n top under added.named
+          (copies_slots (λ slot. slot < top) (picked env js) (map l.shadow js)
+          (All-weaker (λ slot. slot < n) (λ slot. slot < top) (λ slot h. omega arith) (picked env js) (picked_below env n js inside_env next.below))
           (shadows_below js (λ b h. exactly b ∙ h)));
       run = λ before after constants called.
           let parts = called_parts c cp before after called in
           let last = parts.0 in
-          let copied = copies_do (picked later js) (map l.shadow js) last after same_length parts.2 in
+          let copied = copies_do (picked env js) (map l.shadow js) last after same_length parts.2 in
           let state = bits_of before in
           let hold = homes_hold l.bits before constants in
-          let holds = done.later_values before last state state hold hold refl parts.1 in
-          let keeps : (slot : ℕ) → slot < l.first_temp → last slot ≡ before slot = λ slot h. stays c l.first_temp before last done.added.fresh parts.1 slot h in
+          let holds = next.values before last state hold parts.1 in
+          let keeps : (slot : ℕ) → slot < l.first_temp → last slot ≡ before slot = λ slot h. stays c l.first_temp before last added.fresh parts.1 slot h in
           record {
             bits = λ b k.
                 copied.1 (home b) (not_target js l.shadow (home b) (λ j h same. let q = layout.shadow_above j (exactly j ∙ h) in absurd (omega (arith, q, same))))
                 ∙ keeps (home b) (omega (arith, layout.temps_above))
-                ∙ ap (λ (ws : List N.Write). N.write_all state ws b) (sym (no_writes state));
+                ∙ ap (λ (k : Bool). if k then before (home b) else N.write_all state (body st state).writes b) (sym clocked);
             shadows = λ e b h.
                 let member : contains js b ≡ true = sym (exactly b) ∙ h in
-                copied_at js l.shadow (slice_index later) last after b copied.0 member
-                ∙ holds.bits b (omega (arith, long, member_below js l.bits b inside member))
-                ∙ ap (λ (ws : List N.Write). N.write_all state (N.flatten (ws ∷ (body st state).updates)) b) (sym (no_writes state));
+                copied_at js l.shadow (slice_index env) last after b copied.0 member
+                ∙ holds.bits b (omega (arith, long, member_below js l.bits b inside member));
             constants = λ slot k.
                 copied.1 slot (not_target js l.shadow slot (λ j h same. let q = layout.shadow_above j (exactly j ∙ h) in absurd (omega (arith, q, same))))
                 ∙ keeps slot (omega (arith, layout.temps_above));

@@ -14,12 +14,12 @@ pub within_is : (n : ℕ) (s : Signal) → signal_within n s ≡ true → s.firs
 within_is n s h = le_is (s.first + signal_length s) n h
 
 -- ready where there are as many bits as the environment has
-pub own_bits : (n : ℕ) (now later : List ℕ) (code : Coding) (clocked : Bool) (st : Statement) → IsStatementReady n now later code clocked st → IsStatementReady (length now) now later code clocked st
-own_bits n now later code clocked st r = subst (λ (k : ℕ). IsStatementReady k now later code clocked st) (sym r.now_bits) r
+pub own_bits : (n : ℕ) (now later : List ℕ) (code : Coding) (st : Statement) → IsStatementReady n now later code st → IsStatementReady (length now) now later code st
+own_bits n now later code st r = subst (λ (k : ℕ). IsStatementReady k now later code st) (sym r.now_bits) r
 
 pub own_assign : (n : ℕ) (now later : List ℕ) (code : Coding) (ahead : Bool) (t : Target) (e : Expression) → IsAssignReady n now later code ahead t e → IsAssignReady (length now) now later code ahead t e
 own_assign n now later code ahead t e r = subst (λ (k : ℕ). IsAssignReady k now later code ahead t e) (sym r.now_bits) r
 
-pub own_arm : (n : ℕ) (now later subject : List ℕ) (code : Coding) (clocked : Bool) (w : ℕ) (items : List Expression) (st : Statement) (bits behind : List ℕ) → IsArmReady n now later subject code clocked w items st bits behind
-    → IsArmReady (length now) now later subject code clocked w items st bits behind
-own_arm n now later subject code clocked w items st bits behind r = subst (λ (k : ℕ). IsArmReady k now later subject code clocked w items st bits behind) (sym r.now_bits) r
+pub own_arm : (n : ℕ) (now later subject : List ℕ) (code : Coding) (w : ℕ) (items : List Expression) (st : Statement) (bits behind_now behind_later : List ℕ) → IsArmReady n now later subject code w items st bits behind_now behind_later
+    → IsArmReady (length now) now later subject code w items st bits behind_now behind_later
+own_arm n now later subject code w items st bits behind_now behind_later r = subst (λ (k : ℕ). IsArmReady k now later subject code w items st bits behind_now behind_later) (sym r.now_bits) r

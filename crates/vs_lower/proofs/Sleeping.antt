@@ -180,7 +180,7 @@ pub record HasFewBits (count : ℕ) (c0 : Coding) (st : Statement) (bits : List 
   pub some : 1 ≤ length bits
   pub most : length bits ≤ distinct (statement_bits st)
 
-pub few_bits : (count : ℕ) (c0 : Coding) (st : Statement) (bits : List ℕ) → IsBlockReady count c0 false st → 1 ≤ length bits → length bits ≤ distinct (statement_bits st) → HasFewBits count c0 st bits
+pub few_bits : (count : ℕ) (c0 : Coding) (st : Statement) (bits : List ℕ) → IsBlockReady count c0 st → 1 ≤ length bits → length bits ≤ distinct (statement_bits st) → HasFewBits count c0 st bits
 few_bits count c0 st bits r some most = record { slots = r.slots; few = r.few; some = some; most = most }
 
 pub can_copy : (count : ℕ) (c0 c1 : Coding) (st : Statement) (bits slots : List ℕ) → HasFewBits count c0 st bits → AddsPicked count c0 c1 st bits slots → IsCallable c1 (Logic L.Copy) (slots ∷ []) (length bits)
@@ -243,12 +243,12 @@ module _ (n count : ℕ) (values ahead : List ℕ) (c0 c1 : Coding) (st : Statem
       let done = from_homes n count values ahead (λ (x y : List ℕ). AddsStatement x y c0 c1 st now1 later1) k a b d in
       All-weaker (λ x. x < n) (λ x. x < length now1) (λ x l. omega (arith, l, done.done.now_length, length-range_with_len 4 n)) bits inside
 
-  pub can_own : (slots : List ℕ) (w : ℕ) → IsBlockReady n c0 false st → 1 ≤ length bits → length bits ≤ distinct (statement_bits st) → slots ≡ picked now1 bits → w ≡ length bits → IsCallable c1 (Logic L.Copy) (slots ∷ []) w
+  pub can_own : (slots : List ℕ) (w : ℕ) → IsBlockReady n c0 st → 1 ≤ length bits → length bits ≤ distinct (statement_bits st) → slots ≡ picked now1 bits → w ≡ length bits → IsCallable c1 (Logic L.Copy) (slots ∷ []) w
   can_own slots w r some few is long =
       subst (λ (ss : List ℕ). IsCallable c1 (Logic L.Copy) (ss ∷ []) w) (sym is)
       (subst (IsCallable c1 (Logic L.Copy) (picked now1 bits ∷ [])) (sym long) (can_copy n c0 c1 st bits (picked now1 bits) (few_bits n c0 st bits r some few) picked_at_homes))
 
-  pub settled_adds : (c2 : Coding) (slots now : List ℕ) (first w : ℕ) → IsBlockReady n c0 false st → 1 ≤ length bits → length bits ≤ distinct (statement_bits st) → slots ≡ picked now1 bits → first ≡ c0.next → w ≡ length bits
+  pub settled_adds : (c2 : Coding) (slots now : List ℕ) (first w : ℕ) → IsBlockReady n c0 st → 1 ≤ length bits → length bits ≤ distinct (statement_bits st) → slots ≡ picked now1 bits → first ≡ c0.next → w ≡ length bits
       → IsOwned first w slots c1 c2 now → AddsBody n c0 c2 st bits now
   settled_adds c2 slots now first w r some few is start long own =
       adds_body n c0 c1 c2 st bits (picked now1 bits) now (few_bits n c0 st bits r some few) picked_at_homes
@@ -258,7 +258,7 @@ module _ (n count : ℕ) (values ahead : List ℕ) (c0 c1 : Coding) (st : Statem
 
 -- what its parts need
 pub record HasParts (count : ℕ) (c0 c1 : Coding) (mask : ℕ) (waits bits : List ℕ) (st : Statement) : Type 0 where
-  pub ready : IsBlockReady count c1 false st
+  pub ready : IsBlockReady count c1 st
   pub inside : All (λ b. b < count) bits
   pub some : 1 ≤ length bits
   pub few : length bits ≤ distinct (statement_bits st)
@@ -305,7 +305,7 @@ has_parts count c0 c1 mask waits bits st r woken next rising same =
         inside = R.inside;
         names = R.names;
         fit = R.fit;
-        unmixed = R.unmixed;
+        apart = R.apart;
         light = R.light;
         slots = omega (arith, R.slots, next);
         few = omega (arith, r.few, total, cost);
@@ -429,7 +429,7 @@ sleeper_ready d law within light writes fit lawful count counted unmixed code p 
     let above = is.above in
     let below = is.below in
     record {
-      block = block_is_ready d law within light fit lawful count counted unmixed code false p place star events st at (asleep_combinational d place star events st asleep) (omega (arith, above, below)) slots (λ y h. let q = few y h in omega (arith, q));
+      block = block_is_ready d law within light fit lawful count counted unmixed code p place star events st at (omega (arith, above, below)) slots (λ y h. let q = few y h in omega (arith, q));
       mask_is = is;
       waits_are = bits;
       bit = one.0;

@@ -1,5 +1,5 @@
 -- Assignments as statements, and what the parts of a statement need.
-use Rattle.std.proofs.Common.{◌≡◌, ℕ, ◌<◌, ◌≤◌, max, Bool, true, false, not, ◌&&◌, List, [], ◌++◌, map, refl, sym, ap, ◌∙◌, subst, arith, Some}
+use Rattle.std.proofs.Common.{◌≡◌, ℕ, ◌<◌, ◌≤◌, max, Bool, true, false, not, ◌&&◌, if◌then◌else◌, List, [], ◌++◌, map, refl, sym, ◌∙◌, subst, arith, Some}
 use Rattle.std.specs.List.{All}
 use Rattle.std.specs.List.Sorted.{IsStrictlyIncreasing}
 use Rattle.std.proofs.lemmas.List.Elements.{All-nil, All-cons, All-head}
@@ -13,7 +13,6 @@ use Rattle.vs_design.specs.Sizes.{distinct, statement_weight}
 use Rattle.vs_design.specs.Statements.{CaseKind, Target, Assignment, Case, Arms, Arm, Default, arms_width, case_width, case_sign, widest}
 use Rattle.vs_design.specs.Values.{value}
 use Rattle.vs_lower.specs.Assigned.{AddsRun, assign_most}
-use Rattle.vs_lower.specs.Branched.{unwritten, written}
 use Rattle.vs_values.specs.Coded.{Coding}
 use Rattle.vs_values.specs.Environments.{placed}
 use Rattle.vs_values.specs.Ready.{IsReady}
@@ -25,7 +24,6 @@ use Rattle.vs_lower.proofs.Bodies.{case_done}
 use Rattle.vs_lower.proofs.Homeward.{all_in}
 use Rattle.vs_lower.proofs.Matching.{done_as}
 use Rattle.vs_values.proofs.Readying.{fits_length, stores_of, two_added}
-use Rattle.vs_lower.proofs.Restoring.{both_same}
 use Rattle.vs_values.proofs.Values.{both_true}
 use Rattle.vs_design.specs.Within.{names_within, arms_within}
 
@@ -35,23 +33,21 @@ most_within : (blocking : Bool) (target : Target) (e : Expression) (place : ℕ)
 most_within true target e place = omega arith
 most_within false target e place = omega arith
 
-effect_twice : (blocking : Bool) (ws : List N.Write) → effect_of (not (not blocking)) ws ≡ effect_of blocking ws
-effect_twice true ws = refl
-effect_twice false ws = refl
-
 pub adds_assign : (now ahead : List ℕ) (old new : Coding) (place : ℕ) (target : Target) (e : Expression) (blocking : Bool) (now1 ahead1 : List ℕ)
-    → AddsRun now ahead old new (λ state. effect_of (not (not blocking)) (assignment_writes target e state)) (target_bits target) (assign_most (not blocking) target e) now1 ahead1
+    → AddsRun now ahead old new (λ state. effect_of (not (not blocking)) (assignment_writes target e state)) (if not blocking then [] else target_bits target) (if not blocking then target_bits target else []) (assign_most (not blocking) target e) now1 ahead1
     → AddsStatement now ahead old new (Assignment place target e blocking) now1 ahead1
-adds_assign now ahead old new place target e blocking now1 ahead1 d = record {
+adds_assign now ahead old new place target e true now1 ahead1 d = record {
   calls = d.calls;
   is = d.is;
-  done = done_as now ahead [] (λ state. []) old.next (λ state. effect_of (not (not blocking)) (assignment_writes target e state)) (body (Assignment place target e blocking)) (target_bits target) (assign_most (not blocking) target e) (statement_weight (Assignment place target e blocking)) d.calls now1 ahead1 new.next
-      (λ state. effect_twice blocking (assignment_writes target e state)) (most_within blocking target e place) d.done;
+  done = done_as now ahead [] (λ state. []) old.next (λ state. effect_of true (assignment_writes target e state)) (body (Assignment place target e true)) (target_bits target) [] (assign_most false target e) (statement_weight (Assignment place target e true)) d.calls now1 ahead1 new.next
+      (λ state. refl) (most_within true target e place) d.done;
 }
-
-pub assign_other : (clocked blocking : Bool) (v a v1 a1 : List ℕ) → blocking ≡ not clocked → (not blocking ≡ true → v1 ≡ v) → (not blocking ≡ false → a1 ≡ a) → unwritten clocked v1 a1 ≡ unwritten clocked v a
-assign_other true blocking v a v1 a1 e h k = h (ap not e)
-assign_other false blocking v a v1 a1 e h k = k (ap not e)
+adds_assign now ahead old new place target e false now1 ahead1 d = record {
+  calls = d.calls;
+  is = d.is;
+  done = done_as now ahead [] (λ state. []) old.next (λ state. effect_of false (assignment_writes target e state)) (body (Assignment place target e false)) [] (target_bits target) (assign_most true target e) (statement_weight (Assignment place target e false)) d.calls now1 ahead1 new.next
+      (λ state. refl) (most_within false target e place) d.done;
+}
 
 -- ---- the bits that a statement writes
 
@@ -109,9 +105,9 @@ case_lengths kind subject arms h =
     let l = fits_length subject (both_true (fits subject) (divides_constants subject) p.0).0 in
     record { fit = p.0; wide = arms_wider arms (width subject); some = omega (arith, l.0, arms_wider arms (width subject)); at_most_64 = arms_64 arms (width subject) p.1 l.1 }
 
-pub ready_subject : (bits : ℕ) (now ahead : List ℕ) (code : Coding) (clocked : Bool) (kind : CaseKind) (subject : Expression) (arms : Arms)
-    → IsStatementReady bits now ahead code clocked (Case kind subject arms) → IsReady now code subject (case_width subject arms)
-ready_subject bits now ahead code clocked kind subject arms r =
+pub ready_subject : (bits : ℕ) (now ahead : List ℕ) (code : Coding) (kind : CaseKind) (subject : Expression) (arms : Arms)
+    → IsStatementReady bits now ahead code (Case kind subject arms) → IsReady now code subject (case_width subject arms)
+ready_subject bits now ahead code kind subject arms r =
     let l = case_lengths kind subject arms r.fit in
     record {
       is_env = r.now_env;
@@ -124,10 +120,10 @@ ready_subject bits now ahead code clocked kind subject arms r =
       few = omega (arith, r.few);
     }
 
-pub ready_arms : (bits : ℕ) (now ahead : List ℕ) (c0 c1 : Coding) (clocked : Bool) (kind : CaseKind) (subject : Expression) (arms : Arms) (tv : List ℕ)
-    → IsStatementReady bits now ahead c0 clocked (Case kind subject arms) → AddsValue now c0.calls c0.next c1.calls c1.next subject (case_width subject arms) (case_sign subject arms) tv
-    → AreArmsReady bits now ahead tv c1 clocked (case_width subject arms) (distinct (arms_bits arms)) arms
-ready_arms bits now ahead c0 c1 clocked kind subject arms tv r v =
+pub ready_arms : (bits : ℕ) (now ahead : List ℕ) (c0 c1 : Coding) (kind : CaseKind) (subject : Expression) (arms : Arms) (tv : List ℕ)
+    → IsStatementReady bits now ahead c0 (Case kind subject arms) → AddsValue now c0.calls c0.next c1.calls c1.next subject (case_width subject arms) (case_sign subject arms) tv
+    → AreArmsReady bits now ahead tv c1 (case_width subject arms) (distinct (arms_bits arms)) arms
+ready_arms bits now ahead c0 c1 kind subject arms tv r v =
     let l = case_lengths kind subject arms r.fit in
     let a = v.value.values.added in
     let total = stores_of c0.calls v.calls c1.calls v.is in
@@ -143,31 +139,30 @@ ready_arms bits now ahead c0 c1 clocked kind subject arms tv r v =
       wide = within arms (width subject) (case_width subject arms) (omega arith);
       names = (both_true (names_within bits subject) (arms_within bits arms) r.names).1;
       fit = (both_true (is_fit subject) (fits_arms arms) r.fit).1;
-      unmixed = r.unmixed;
+      apart = r.apart;
       light = omega (arith, r.light);
       slots = omega (arith, r.slots, a.paid, a.stores);
       few = omega (arith, r.few, total, a.stores);
     }
 
 -- the whole, once the slots behind its arms are placed
-pub adds_case : (clocked : Bool) (count : ℕ) (now later : List ℕ) (c0 c1 c2 : Coding) (kind : CaseKind) (subject : Expression) (arms : Arms) (tv bits slots now1 later1 : List ℕ)
-    → IsStatementReady count now later c0 clocked (Case kind subject arms)
+pub adds_case : (count : ℕ) (now later : List ℕ) (c0 c1 c2 : Coding) (kind : CaseKind) (subject : Expression) (arms : Arms) (tv bits now_slots later_slots now1 later1 : List ℕ)
+    → IsStatementReady count now later c0 (Case kind subject arms)
     → AddsValue now c0.calls c0.next c1.calls c1.next subject (case_width subject arms) (case_sign subject arms) tv
     → AreInOrder count bits (arms_bits arms)
-    → AddsCases clocked now later tv c1 c2 kind (case_width subject arms) (case_sign subject arms) (distinct (arms_bits arms)) arms bits slots
-    → written clocked now1 later1 ≡ placed (written clocked now later) (map Some bits) slots → unwritten clocked now1 later1 ≡ unwritten clocked now later
+    → AddsCases now later tv c1 c2 kind (case_width subject arms) (case_sign subject arms) (distinct (arms_bits arms)) arms bits now_slots later_slots
+    → now1 ≡ placed now (map Some bits) now_slots → later1 ≡ placed later (map Some bits) later_slots
     → AddsStatement now later c0 c2 (Case kind subject arms) now1 later1
-adds_case clocked count now later c0 c1 c2 kind subject arms tv bits slots now1 later1 r v i o put other =
+adds_case count now later c0 c1 c2 kind subject arms tv bits now_slots later_slots now1 later1 r v i o put_now put_later =
     let w = case_width subject arms in
     let s = case_sign subject arms in
     let sv : N.State → BitList = λ state. value subject w s state in
     let d = o.adds sv in
-    let placed_is = behind_placed clocked count now later tv c1 c2 kind w s (distinct (arms_bits arms)) arms bits slots r.now_bits r.later_bits i.inside i.all o in
-    let same = both_same clocked now1 later1 o.now_after o.later_after (put ∙ placed_is) (other ∙ sym o.other) in
+    let is = behind_placed count now later tv c1 c2 kind w s (distinct (arms_bits arms)) arms bits now_slots later_slots r.now_bits r.later_bits i.inside i.all o in
     let all : AddsStatement now later c0 c2 (Case kind subject arms) o.now_after o.later_after = record {
       calls = v.calls ++ d.calls;
       is = two_added c0.calls v.calls d.calls c1.calls c2.calls v.is d.is;
       done = case_done now later c0.next kind subject arms v.calls tv c1.next d.calls o.now_after o.later_after c2.next r.now_env r.later_env v.value d.done;
     } in
-    subst (λ (x : List ℕ). AddsStatement now later c0 c2 (Case kind subject arms) x later1) (sym same.0)
-    (subst (λ (x : List ℕ). AddsStatement now later c0 c2 (Case kind subject arms) o.now_after x) (sym same.1) all)
+    subst (λ (x : List ℕ). AddsStatement now later c0 c2 (Case kind subject arms) x later1) (sym (put_now ∙ is.0))
+    (subst (λ (x : List ℕ). AddsStatement now later c0 c2 (Case kind subject arms) o.now_after x) (sym (put_later ∙ is.1)) all)

@@ -35,6 +35,7 @@ use Rattle.vs_values.specs.declared.templates.Template.{Template}
 use Rattle.vs_values.proofs.Lists.{range_below}
 use Rattle.vs_values.proofs.Named.{all_run, length_count}
 use Rattle.vs_values.proofs.Values.{both_true}
+use Rattle.vs_lower.proofs.Apart.{unmixed_apart}
 use Rattle.vs_lower.specs.Stated.{AddsStatement, AreInside, IsStatementReady}
 use Rattle.vs_lower.proofs.Joining.{picked, picked_are, picked_below}
 use Rattle.vs_lower.proofs.Partwise.{fit_part, part_selecting, somes_within, word_selecting}
@@ -125,7 +126,7 @@ none_of (x ∷ xs) h = cc
 
 pub body_ready : FunctionIsWithin → (d : Design) (f : Function) (code : Coding) → is_formed_function d f ≡ true → fits_statement f.statement ≡ true → statement_weight f.statement ≤ 16777216
     → code.calls ≡ [] → code.next ≡ home (input_bits f.header) → input_bits f.header ≤ 67108864
-    → IsStatementReady (length (slots_at_call f.header)) (slots_at_call f.header) (slots_at_call f.header) code false f.statement
+    → IsStatementReady (length (slots_at_call f.header)) (slots_at_call f.header) (slots_at_call f.header) code f.statement
 body_ready within d f code formed fit light none first few =
     let x = both_true (is_formed_header d f.header && is_nil (mixed_in false f.statement)) (is_formed_statement (inside d f.header) f.statement) formed in
     let y = both_true (is_formed_header d f.header) (is_nil (mixed_in false f.statement)) x.0 in
@@ -138,7 +139,7 @@ body_ready within d f code formed fit light none first few =
       later_bits = refl;
       names = subst (λ (n : ℕ). statement_within n f.statement ≡ true) (sym (call_length f.header)) (within d f formed);
       fit = fit;
-      unmixed = none_of (mixed_in false f.statement) y.1;
+      apart = unmixed_apart f.statement (none_of (mixed_in false f.statement) y.1);
       light = light;
       slots = omega (arith, light, first, few);
       few = omega (arith, light, free);

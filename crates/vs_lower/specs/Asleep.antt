@@ -1,5 +1,5 @@
 -- What the lowering of a sleeping block needs and gives (9.7.5).
-use Rattle.std.specs.Prelude.{◌≡◌, ℕ, ◌+◌, ◌*◌, ◌<◌, ◌≤◌, ◌^◌, true, false, List, ◌++◌, map, length, All}
+use Rattle.std.specs.Prelude.{◌≡◌, ℕ, ◌+◌, ◌*◌, ◌<◌, ◌≤◌, ◌^◌, true, List, ◌++◌, map, length, All}
 use Rattle.vs_net.specs.Network as N
 use Rattle.vs_design.specs.Bodies.{body}
 use Rattle.vs_design.specs.Designs.{Process}
@@ -28,7 +28,7 @@ pub record AddsBody (count : ℕ) (old new : Coding) (st : Statement) (bits now 
 
 -- what the lowering of a sleeping block needs, which waits on these bits: what a combinational block needs, a mask, a bit that it writes, and room for what it stores besides
 pub record IsSleeperReady (count : ℕ) (code : Coding) (waits : List ℕ) (mask : ℕ) (st : Statement) : Type 0 where
-  pub block : IsBlockReady count code false st
+  pub block : IsBlockReady count code st
   pub mask_is : IsMask count code.next mask
   pub waits_are : AreBits count waits
   pub bit : ℕ

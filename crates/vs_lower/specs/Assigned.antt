@@ -71,7 +71,7 @@ pub record IsAssignReady (bits : ℕ) (now ahead : List ℕ) (code : Coding) (la
   pub few : length_of code.calls + assign_most later target e ≤ 2 ^ 32
 
 -- what is added for a run with these effects
-pub record AddsRun (now ahead : List ℕ) (old new : Coding) (run : N.State → N.Effect) (bits : List ℕ) (most : ℕ) (now_after ahead_after : List ℕ) : Type 0 where
+pub record AddsRun (now ahead : List ℕ) (old new : Coding) (run : N.State → N.Effect) (at_once updated : List ℕ) (most : ℕ) (now_after ahead_after : List ℕ) : Type 0 where
   pub calls : List Call
   pub is : new.calls ≡ old.calls ++ calls
-  pub done : IsDone now ahead [] (λ state. []) old.next run bits most calls now_after ahead_after new.next
+  pub done : IsDone now ahead [] (λ state. []) old.next run at_once updated most calls now_after ahead_after new.next

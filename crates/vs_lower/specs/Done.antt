@@ -6,21 +6,22 @@ use Rattle.vs_four.specs.Logic.{BitList}
 use Rattle.vs_design.specs.Values.{own_value}
 use Rattle.vs_design.specs.Statements.{Target, Whole, PartOf, WordOf, Both, Statement}
 use Rattle.vs_design.specs.Bodies.{target_writes, body}
-use Rattle.vs_design.specs.Footprints.{contains, target_bits, statement_bits}
+use Rattle.vs_design.specs.Footprints.{contains, target_bits}
+use Rattle.vs_design.specs.Races.{blocking_bits, nonblocking_bits}
 use Rattle.vs_design.specs.Sizes.{statement_weight}
 use Rattle.vs_values.specs.Added.{AreAdded, IsEnv, Holds, IsNew, vectors}
 
 -- What calls do whose run gives these effects. `now` says which slots hold the bits' values, and `later` which hold the values that the bits have
 -- once the updates so far are made (9.2.2); a run writes to the first by its blocking writes and to the second by its updates. Bits that are none
--- of `bits` keep their slots in both. `tv` are slots that hold this value before the calls: the subject's of a case within whose arms they are, and none elsewhere.
-pub record IsDone (now later tv : List ℕ) (sv : N.State → BitList) (mark : ℕ) (run : N.State → N.Effect) (bits : List ℕ) (most : ℕ) (calls : List Call) (now_after later_after : List ℕ) (next : ℕ) : Type 0 where
+-- of `at_once` keep their slots in the first, and those that are none of `updated` in the second. `tv` are slots that hold this value before the calls: the subject's of a case within whose arms they are, and none elsewhere.
+pub record IsDone (now later tv : List ℕ) (sv : N.State → BitList) (mark : ℕ) (run : N.State → N.Effect) (at_once updated : List ℕ) (most : ℕ) (calls : List Call) (now_after later_after : List ℕ) (next : ℕ) : Type 0 where
   pub added : AreAdded mark calls next most
   pub now_env : IsEnv now_after next
   pub later_env : IsEnv later_after next
   pub now_length : length now_after ≡ length now
   pub later_length : length later_after ≡ length later
-  pub now_kept : (b : ℕ) → contains bits b ≡ false → slice_index now_after b ≡ slice_index now b
-  pub later_kept : (b : ℕ) → contains bits b ≡ false → slice_index later_after b ≡ slice_index later b
+  pub now_kept : (b : ℕ) → contains at_once b ≡ false → slice_index now_after b ≡ slice_index now b
+  pub later_kept : (b : ℕ) → contains updated b ≡ false → slice_index later_after b ≡ slice_index later b
   -- what is new in `now` is a constant's slot or a new one, and in `later` also one of `now`
   pub now_from : (b : ℕ) → b < length now → (slice_index now_after b ≡ slice_index now b) ⊎ IsNew mark (slice_index now_after b)
   pub later_from : (b : ℕ) → b < length later → (slice_index later_after b ≡ slice_index later b) ⊎ (IsNew mark (slice_index later_after b) ⊎ ((c : ℕ) × (c < length now) × (slice_index later_after b ≡ slice_index now c)))
@@ -37,7 +38,7 @@ pub record IsCondition (now tv : List ℕ) (sv : N.State → BitList) (mark : �
 
 -- a statement lowered
 abbrev pub IsStatementDone : (now later : List ℕ) (mark : ℕ) (st : Statement) (calls : List Call) (now_after later_after : List ℕ) (next : ℕ) → Type 0
-IsStatementDone now later mark st calls now_after later_after next = IsDone now later [] (λ state. []) mark (body st) (statement_bits st) (statement_weight st) calls now_after later_after next
+IsStatementDone now later mark st calls now_after later_after next = IsDone now later [] (λ state. []) mark (body st) (blocking_bits st) (nonblocking_bits st) (statement_weight st) calls now_after later_after next
 
 -- the values of the indices of a target's parts, in the order of the text; a whole signal has an empty one
 abbrev pub index_values : Target → N.State → List BitList

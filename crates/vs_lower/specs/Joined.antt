@@ -5,6 +5,7 @@ use Rattle.vs_kern_select.specs.declared.costs.Kernel.TheVariants as S
 use Rattle.vs_code.specs.declared.kernels.AnyKernel.TheVariants.{Select}
 use Rattle.vs_values.specs.Coded.{Coding, with_call}
 use Rattle.vs_values.specs.Environments.{placed}
+use Rattle.vs_values.specs.Made.{IsCallable}
 
 -- those of these bits whose slots in the first list aren't those of the environment
 abbrev pub differing_bits : List ℕ → List ℕ → List ℕ → List ℕ
@@ -34,3 +35,18 @@ pub record IsNotJoined (bits first env after : List ℕ) (old new : Coding) : Ty
 
 abbrev pub IsJoined : List ℕ → List ℕ → List ℕ → List ℕ → List ℕ → Coding → Coding → Type 0
 IsJoined condition bits first env after old new = IsNotJoined bits first env after old new ⊎ IsJoinCalled condition bits first env after old new
+
+-- where some differ, the join may be called
+abbrev pub IsJoinable : List ℕ → List ℕ → List ℕ → List ℕ → Coding → Type 0
+IsJoinable condition bits first env code = (differing_bits bits first env ≡ [] → ⊥) → IsCallable code (Select S.Branch) (join_args condition bits first env) (length (differing_bits bits first env))
+
+-- ---- in both environments: first in that of the values now, and then in that of the values ahead
+
+pub record AreJoinable (condition bits first_now first_later now later : List ℕ) (code : Coding) : Type 0 where
+  pub now_call : IsJoinable condition bits first_now now code
+  pub later_call : (now_after : List ℕ) (mid : Coding) → IsJoined condition bits first_now now now_after code mid → IsJoinable condition bits first_later later mid
+
+pub record AreJoined (condition bits first_now first_later now later now_after later_after : List ℕ) (old new : Coding) : Type 0 where
+  pub mid : Coding
+  pub now_joined : IsJoined condition bits first_now now now_after old mid
+  pub later_joined : IsJoined condition bits first_later later later_after mid new

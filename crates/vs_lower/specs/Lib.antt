@@ -6,7 +6,6 @@ pub mod Leaves
 pub mod Written
 pub mod Assigned
 pub mod Tested
-pub mod Branched
 pub mod Stated
 pub mod Processed
 pub mod Resetting

@@ -1,11 +1,11 @@
 -- What the lowering of a process needs and gives.
-use Rattle.std.specs.Prelude.{◌≡◌, ℕ, ◌+◌, ◌<◌, ◌≤◌, ◌^◌, Bool, true, false, List, [], ◌++◌, length, slice_index, is_some}
+use Rattle.std.specs.Prelude.{◌≡◌, ℕ, ◌+◌, ◌<◌, ◌≤◌, ◌^◌, true, false, List, [], ◌++◌, length, slice_index, is_some}
 use Rattle.vs_design.specs.Designs.{Process}
 use Rattle.vs_design.specs.Elaborated.{has_constant_selects}
 use Rattle.vs_design.specs.Expressions.{Expression}
 use Rattle.vs_design.specs.Fits.{fits_target, fits_statement, is_fit}
 use Rattle.vs_design.specs.Footprints.{contains, read_bits, statement_bits, target_bits}
-use Rattle.vs_design.specs.Rules.{mixed_in}
+use Rattle.vs_design.specs.Races.{blocking_bits, nonblocking_bits}
 use Rattle.vs_design.specs.Sizes.{assignment_weight, distinct, statement_weight}
 use Rattle.vs_design.specs.Statements.{Statement, Target}
 use Rattle.vs_design.specs.Within.{names_within, statement_within, target_within}
@@ -18,7 +18,7 @@ use Rattle.vs_flat.specs.Trees.{tree_at}
 use Rattle.vs_program.specs.Lowered.{IsLayout, IsLoweredProcess, Layout, home}
 use Rattle.vs_code.specs.Calls.{Call, length_of}
 use Rattle.vs_values.specs.Coded.{Coding}
-use Rattle.vs_lower.specs.Stated.{AreInside}
+use Rattle.vs_lower.specs.Stated.{AreApart, AreInside}
 
 -- these calls, and no others, are added for the process
 pub record AddsProcess (l : Layout) (p : Process) (old new : List Call) : Type 0 where
@@ -42,13 +42,13 @@ pub record IsContinuousReady (bits : ℕ) (code : Coding) (target : Target) (e :
 
 -- ---- blocks
 
--- What the lowering of a block needs, in a design of as many bits: what it names are bits of the design, its assignments are of its kind (9.2.2), all of it fits, and there is room
-pub record IsBlockReady (count : ℕ) (code : Coding) (clocked : Bool) (st : Statement) : Type 0 where
+-- What the lowering of a block needs, in a design of as many bits: what it names are bits of the design, it writes none of them both by a blocking and by a nonblocking assignment (9.2), all of it fits, and there is room
+pub record IsBlockReady (count : ℕ) (code : Coding) (st : Statement) : Type 0 where
   pub temps : home count ≤ code.next
   pub inside : AreInside count (statement_bits st)
   pub names : statement_within count st ≡ true
   pub fit : fits_statement st ≡ true
-  pub unmixed : mixed_in clocked st ≡ []
+  pub apart : AreApart (blocking_bits st) (nonblocking_bits st)
   pub light : statement_weight st ≤ 16777216
   pub slots : code.next + (statement_weight st + distinct (statement_bits st)) < 2 ^ 32
   pub few : length_of code.calls + (statement_weight st + distinct (statement_bits st)) ≤ 2 ^ 32

@@ -1,5 +1,5 @@
 -- What the lowering of statements needs and gives.
-use Rattle.std.specs.Prelude.{◌≡◌, ℕ, ◌+◌, ◌<◌, ◌≤◌, ◌^◌, Bool, true, List, [], ◌∷◌, map, ◌++◌, length, slice_index, All, Some}
+use Rattle.std.specs.Prelude.{◌≡◌, ◌⊎◌, ℕ, ◌+◌, ◌<◌, ◌≤◌, ◌^◌, Bool, true, false, List, [], ◌∷◌, map, ◌++◌, length, slice_index, All, Some}
 use Rattle.std.specs.List.Sorted.{IsStrictlyIncreasing}
 use Rattle.vs_four.specs.Logic.{BitList}
 use Rattle.vs_net.specs.Network as N
@@ -7,8 +7,8 @@ use Rattle.vs_design.specs.Expressions.{Expression, Items, NoItem, Item, items_o
 use Rattle.vs_design.specs.Statements.{CaseKind, Statement, Arms, Arm, Default}
 use Rattle.vs_design.specs.Bodies.{body, arms_body}
 use Rattle.vs_design.specs.Fits.{is_fit, fits_statement, fits_arms}
-use Rattle.vs_design.specs.Footprints.{contains, statement_bits, arms_bits}
-use Rattle.vs_design.specs.Rules.{mixed_in, mixed_in_arms}
+use Rattle.vs_design.specs.Footprints.{contains}
+use Rattle.vs_design.specs.Races.{blocking_bits, arms_blocking, nonblocking_bits, arms_nonblocking}
 use Rattle.vs_design.specs.Within.{names_within, statement_within, arms_within}
 use Rattle.vs_design.specs.Sizes.{statement_weight, arms_weight, items_weight}
 use Rattle.vs_flat.specs.declared.statements.Arm as F
@@ -17,30 +17,33 @@ use Rattle.vs_flat.specs.declared.statements.Statement.TheVariants as V
 use Rattle.vs_code.specs.Calls.{Call, length_of}
 use Rattle.vs_values.specs.Added.{IsEnv}
 use Rattle.vs_lower.specs.Assigned.{AddsRun}
-use Rattle.vs_lower.specs.Branched.{unwritten, written}
 use Rattle.vs_values.specs.Coded.{Coding}
 use Rattle.vs_lower.specs.Done.{IsDone}
 use Rattle.vs_values.specs.Environments.{placed}
-use Rattle.vs_lower.specs.Joined.{IsJoined}
+use Rattle.vs_lower.specs.Joined.{AreJoined}
 use Rattle.vs_lower.specs.Tested.{AddsTests}
 
+-- no bit is written both at once and by an update
+abbrev pub AreApart : (at_once updated : List ℕ) → Type 0
+AreApart at_once updated = (b : ℕ) → contains updated b ≡ true → contains at_once b ≡ false
+
 -- what a call of the lowering of a statement needs, where there are so many bits: those of the design, or a function's local ones. The slots of the bits, now and after the updates so far, are known,
--- the statement names these bits alone and fits, a clocked block has no blocking assignment and any other no nonblocking one (9.2.2), and there is room
-pub record IsStatementReady (bits : ℕ) (now later : List ℕ) (code : Coding) (clocked : Bool) (st : Statement) : Type 0 where
+-- the statement names these bits alone and fits, it writes no bit both by a blocking and by a nonblocking assignment (9.2), and there is room
+pub record IsStatementReady (bits : ℕ) (now later : List ℕ) (code : Coding) (st : Statement) : Type 0 where
   pub now_env : IsEnv now code.next
   pub later_env : IsEnv later code.next
   pub now_bits : length now ≡ bits
   pub later_bits : length later ≡ bits
   pub names : statement_within bits st ≡ true
   pub fit : fits_statement st ≡ true
-  pub unmixed : mixed_in clocked st ≡ []
+  pub apart : AreApart (blocking_bits st) (nonblocking_bits st)
   pub light : statement_weight st ≤ 16777216
   pub slots : code.next + statement_weight st < 2 ^ 32
   pub few : length_of code.calls + statement_weight st ≤ 2 ^ 32
 
 -- what is added for a statement
 abbrev pub AddsStatement : (now later : List ℕ) (old new : Coding) (st : Statement) (now_after later_after : List ℕ) → Type 0
-AddsStatement now later old new st now_after later_after = AddsRun now later old new (body st) (statement_bits st) (statement_weight st) now_after later_after
+AddsStatement now later old new st now_after later_after = AddsRun now later old new (body st) (blocking_bits st) (nonblocking_bits st) (statement_weight st) now_after later_after
 
 -- each arm has an item (9.5)
 abbrev pub HasItems : S.Statement → Type 0
@@ -64,21 +67,29 @@ pub record AreInOrder (count : ℕ) (bits these : List ℕ) : Type 0 where
   pub all : AreAmong these bits
   pub alone : AreAmong bits these
 
+-- the bits that are written at once have ahead the slots that they have now, and any other has its own
+pub record AreSettled (at_once now later after : List ℕ) : Type 0 where
+  pub bits : List ℕ
+  pub same : (b : ℕ) → contains bits b ≡ contains at_once b
+  pub are : after ≡ placed later (map Some bits) (map (slice_index now) bits)
+
 -- ---- a branch, after which the environments are put back
 
--- what is added for a statement, after which these bits have these slots
-pub record AddsBranch (clocked : Bool) (now later : List ℕ) (old new : Coding) (st : Statement) (bits slots : List ℕ) : Type 0 where
+-- what is added for a statement, after which these bits have these slots, now and ahead
+pub record AddsBranch (now later : List ℕ) (old new : Coding) (st : Statement) (bits now_slots later_slots : List ℕ) : Type 0 where
   pub now_after : List ℕ
   pub later_after : List ℕ
   pub adds : AddsStatement now later old new st now_after later_after
-  pub other : unwritten clocked now_after later_after ≡ unwritten clocked now later
-  pub are : slots ≡ map (slice_index (written clocked now_after later_after)) bits
+  pub now_are : now_slots ≡ map (slice_index now_after) bits
+  pub later_are : later_slots ≡ map (slice_index later_after) bits
 
 -- after the join these bits have these slots
-pub record AddsJoin (condition bits first env : List ℕ) (old new : Coding) (slots : List ℕ) : Type 0 where
-  pub after : List ℕ
-  pub joined : IsJoined condition bits first env after old new
-  pub are : slots ≡ map (slice_index after) bits
+pub record AddsJoin (condition bits first_now first_later now later : List ℕ) (old new : Coding) (now_slots later_slots : List ℕ) : Type 0 where
+  pub now_after : List ℕ
+  pub later_after : List ℕ
+  pub joined : AreJoined condition bits first_now first_later now later now_after later_after old new
+  pub now_are : now_slots ≡ map (slice_index now_after) bits
+  pub later_are : later_slots ≡ map (slice_index later_after) bits
 
 -- ---- the arms of a case
 
@@ -86,15 +97,15 @@ pub record AddsJoin (condition bits first env : List ℕ) (old new : Coding) (sl
 pub record AddsArms (now ahead subject : List ℕ) (sv : N.State → BitList) (old new : Coding) (kind : CaseKind) (w : ℕ) (s : Bool) (written : ℕ) (arms : Arms) (now_after ahead_after : List ℕ) : Type 0 where
   pub calls : List Call
   pub is : new.calls ≡ old.calls ++ calls
-  pub done : IsDone now ahead subject sv old.next (λ state. arms_body arms kind w s (sv state) state) (arms_bits arms) (arms_weight arms w written) calls now_after ahead_after new.next
+  pub done : IsDone now ahead subject sv old.next (λ state. arms_body arms kind w s (sv state) state) (arms_blocking arms) (arms_nonblocking arms) (arms_weight arms w written) calls now_after ahead_after new.next
 
 -- whatever value the expression has, after which these bits have these slots
-pub record AddsCases (clocked : Bool) (now later subject : List ℕ) (old new : Coding) (kind : CaseKind) (w : ℕ) (s : Bool) (many : ℕ) (arms : Arms) (bits slots : List ℕ) : Type 0 where
+pub record AddsCases (now later subject : List ℕ) (old new : Coding) (kind : CaseKind) (w : ℕ) (s : Bool) (many : ℕ) (arms : Arms) (bits now_slots later_slots : List ℕ) : Type 0 where
   pub now_after : List ℕ
   pub later_after : List ℕ
   pub adds : (sv : N.State → BitList) → AddsArms now later subject sv old new kind w s many arms now_after later_after
-  pub other : unwritten clocked now_after later_after ≡ unwritten clocked now later
-  pub are : slots ≡ map (slice_index (written clocked now_after later_after)) bits
+  pub now_are : now_slots ≡ map (slice_index now_after) bits
+  pub later_are : later_slots ≡ map (slice_index later_after) bits
 
 -- the items as a list
 abbrev pub listed : Items → List Expression
@@ -107,7 +118,7 @@ ItemsWithin w (Arm items st rest) = All (λ e. width e ≤ w) (listed items) × 
 ItemsWithin w (Default st) = Unit {0}
 
 -- The arms fit into the context that they share with the case's expression, whose slots these are, and there is room.
-pub record AreArmsReady (count : ℕ) (now later subject : List ℕ) (code : Coding) (clocked : Bool) (w many : ℕ) (arms : Arms) : Type 0 where
+pub record AreArmsReady (count : ℕ) (now later subject : List ℕ) (code : Coding) (w many : ℕ) (arms : Arms) : Type 0 where
   pub now_env : IsEnv now code.next
   pub later_env : IsEnv later code.next
   pub now_bits : length now ≡ count
@@ -119,13 +130,19 @@ pub record AreArmsReady (count : ℕ) (now later subject : List ℕ) (code : Cod
   pub wide : ItemsWithin w arms
   pub names : arms_within count arms ≡ true
   pub fit : fits_arms arms ≡ true
-  pub unmixed : mixed_in_arms clocked arms ≡ []
+  pub apart : AreApart (arms_blocking arms) (arms_nonblocking arms)
   pub light : arms_weight arms w many ≤ 16777216
   pub slots : code.next + arms_weight arms w many < 2 ^ 32
   pub few : length_of code.calls + arms_weight arms w many ≤ 2 ^ 32
 
--- one arm: `bits` have the slots `behind` after what stands behind it
-pub record IsArmReady (count : ℕ) (now later subject : List ℕ) (code : Coding) (clocked : Bool) (w : ℕ) (items : List Expression) (st : Statement) (bits behind : List ℕ) : Type 0 where
+-- each bit keeps its slot among the values now after the statement, and after what stands behind it, or its slot among those ahead
+abbrev pub HasKeptSides : (now later : List ℕ) (st : Statement) (bits behind_now behind_later : List ℕ) → Type 0
+HasKeptSides now later st bits behind_now behind_later = (b : ℕ) →
+    ((contains (blocking_bits st) b ≡ false) × (slice_index (placed now (map Some bits) behind_now) b ≡ slice_index now b))
+    ⊎ ((contains (nonblocking_bits st) b ≡ false) × (slice_index (placed later (map Some bits) behind_later) b ≡ slice_index later b))
+
+-- one arm: `bits` have these slots after what stands behind it
+pub record IsArmReady (count : ℕ) (now later subject : List ℕ) (code : Coding) (w : ℕ) (items : List Expression) (st : Statement) (bits behind_now behind_later : List ℕ) : Type 0 where
   pub now_env : IsEnv now code.next
   pub later_env : IsEnv later code.next
   pub now_bits : length now ≡ count
@@ -140,20 +157,24 @@ pub record IsArmReady (count : ℕ) (now later subject : List ℕ) (code : Codin
   pub items_names : All (λ e. names_within count e ≡ true) items
   pub names : statement_within count st ≡ true
   pub fit : fits_statement st ≡ true
-  pub unmixed : mixed_in clocked st ≡ []
-  pub behind_long : length bits ≡ length behind
-  pub behind_below : All (λ slot. slot < code.next) behind
+  pub apart : AreApart (blocking_bits st) (nonblocking_bits st)
+  pub sides : HasKeptSides now later st bits behind_now behind_later
+  pub now_long : length bits ≡ length behind_now
+  pub later_long : length bits ≡ length behind_later
+  pub now_below : All (λ slot. slot < code.next) behind_now
+  pub later_below : All (λ slot. slot < code.next) behind_later
   pub light : items_weight (items_of items) w + statement_weight st + length bits ≤ 16777216
   pub slots : code.next + (items_weight (items_of items) w + statement_weight st + length bits) < 2 ^ 32
   pub few : length_of code.calls + (items_weight (items_of items) w + statement_weight st + length bits) ≤ 2 ^ 32
 
 -- what is added for its tests, its statement, and the join with what stands behind it
-pub record AddsArm (clocked : Bool) (now later subject : List ℕ) (old new : Coding) (kind : CaseKind) (w : ℕ) (s : Bool) (items : List Expression) (st : Statement) (bits behind slots : List ℕ) : Type 0 where
+pub record AddsArm (now later subject : List ℕ) (old new : Coding) (kind : CaseKind) (w : ℕ) (s : Bool) (items : List Expression) (st : Statement) (bits behind_now behind_later now_slots later_slots : List ℕ) : Type 0 where
   pub tested : Coding
   pub branched : Coding
   pub matches : List ℕ
-  pub first : List ℕ
+  pub first_now : List ℕ
+  pub first_later : List ℕ
   pub tests : AddsTests now subject old tested kind w s items matches
   pub alike : length matches ≡ length items
-  pub branch : AddsBranch clocked now later tested branched st bits first
-  pub join : AddsJoin matches bits first (placed (written clocked now later) (map Some bits) behind) branched new slots
+  pub branch : AddsBranch now later tested branched st bits first_now first_later
+  pub join : AddsJoin matches bits first_now first_later (placed now (map Some bits) behind_now) (placed later (map Some bits) behind_later) branched new now_slots later_slots

@@ -1,6 +1,6 @@
 //! Assignments.
 
-ghost use Rattle.std.specs.Prelude.{◌≡◌, ◌↔◌, IsTrue, ◌≤◌, ◌<◌, ◌⊎◌, ◌+◌, ◌^◌, not, max, map, length, [], ◌∷◌, Bool, All, sum_by, slice_index, ℕ, IsSome, IfOk, OnOk, true, false};
+ghost use Rattle.std.specs.Prelude.{◌≡◌, ◌↔◌, IsTrue, ◌≤◌, ◌<◌, ◌⊎◌, ◌+◌, ◌^◌, not, max, map, length, [], ◌∷◌, Bool, All, sum_by, slice_index, ℕ, IsSome, IfOk, OnOk, true, false, if◌then◌else◌};
 ghost use Rattle.std.specs.List.{range_with_len};
 ghost use Rattle.vs_design.specs.Expressions as E;
 ghost use Rattle.vs_design.specs.Bodies.{assignment_writes, effect_of};
@@ -176,7 +176,7 @@ pub(crate) fn assign(
     requires e { e < node_bound templates.now }
     requires is_target { IsSome (target_of (tree_at (arena_trees templates.now.arena) target)) }
     requires ready { IsAssignReady (length env.old.values) env.old.values env.old.ahead code.old later (target_tree (tree_at (arena_trees templates.now.arena) target)) (tree_at (arena_trees templates.now.arena) e) }
-    ensures adds { OnOk result (AddsRun env.old.values env.old.ahead code.old code.new (λ state. effect_of (not later) (assignment_writes (target_tree (tree_at (arena_trees templates.now.arena) target)) (tree_at (arena_trees templates.now.arena) e) state)) (target_bits (target_tree (tree_at (arena_trees templates.now.arena) target))) (assign_most later (target_tree (tree_at (arena_trees templates.now.arena) target)) (tree_at (arena_trees templates.now.arena) e)) env.new.values env.new.ahead) }
+    ensures adds { OnOk result (AddsRun env.old.values env.old.ahead code.old code.new (λ state. effect_of (not later) (assignment_writes (target_tree (tree_at (arena_trees templates.now.arena) target)) (tree_at (arena_trees templates.now.arena) e) state)) (if later then [] else target_bits (target_tree (tree_at (arena_trees templates.now.arena) target))) (if later then target_bits (target_tree (tree_at (arena_trees templates.now.arena) target)) else []) (assign_most later (target_tree (tree_at (arena_trees templates.now.arena) target)) (tree_at (arena_trees templates.now.arena) e)) env.new.values env.new.ahead) }
     ensures values { OnOk result (later ≡ true → env.new.values ≡ env.old.values) }
     ensures ahead { OnOk result (later ≡ false → env.new.ahead ≡ env.old.ahead) }
     ensures sources { OnOk result (later ≡ true → (b : ℕ) → b < length env.old.ahead → (slice_index env.new.ahead b ≡ slice_index env.old.ahead b) ⊎ IsSource env.old.values code.old.next (read_bits (tree_at (arena_trees templates.now.arena) e)) (slice_index env.new.ahead b)) }

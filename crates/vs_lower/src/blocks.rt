@@ -12,8 +12,9 @@ ghost use Rattle.vs_lower.specs.Processed.{AddsProcess, HasShadows, IsBlockReady
 use crate::copies::{copy_all, copy_home};
 use crate::environments::Environments;
 use crate::reach::reach;
-use crate::statements::{statement, written_bits};
+use crate::statements::{settle, statement, written_bits};
 use std::alloc::{AllocError, Global};
+use vs_design::write_law;
 use vs_values::{Code, Environment, Templates};
 
 /// Adds the calls of a combinational block with this statement, in a design of `count` bits: its bits have their values at home once it is done.
@@ -26,7 +27,7 @@ pub(crate) fn combinational(
 ) -> Result<(), AllocError>
     requires count { count ≡ bit_count templates.now.arena.signals }
     requires there { s < statement_bound templates.now }
-    requires ready { IsBlockReady (bit_count templates.now.arena.signals) code.old false (body_of templates.now.arena s) }
+    requires ready { IsBlockReady (bit_count templates.now.arena.signals) code.old (body_of templates.now.arena s) }
     ensures { OnOk result ((l : Layout) (place : ℕ) (star : Bool) (events : List Event) → l.bits ≡ bit_count templates.now.arena.signals → l.first_temp ≡ code.old.next → is_clocked (Always place star events (body_of templates.now.arena s)) ≡ false → AddsProcess l (Always place star events (body_of templates.now.arena s)) code.old.calls code.new.calls) }
 {
     reach(templates);
@@ -34,7 +35,7 @@ pub(crate) fn combinational(
         values: Environment::at_home(alloc, count),
         ahead: Environment::at_home(alloc, count),
     };
-    statement(alloc, templates, s, false, &mut env, code)?;
+    statement(alloc, templates, s, &mut env, code)?;
     let bits = written_bits(alloc, templates, s)?;
     copy_home(alloc, &env.values, count, bits.as_slice(), code)?;
     Ok(())
@@ -51,17 +52,19 @@ pub(crate) fn clocked(
 ) -> Result<(), AllocError>
     requires count { count ≡ bit_count templates.now.arena.signals }
     requires there { s < statement_bound templates.now }
-    requires ready { IsBlockReady (bit_count templates.now.arena.signals) code.old true (body_of templates.now.arena s) }
+    requires ready { IsBlockReady (bit_count templates.now.arena.signals) code.old (body_of templates.now.arena s) }
     requires long { length shadows.now ≡ count }
     requires layout { IsLayout (record { bits = bit_count templates.now.arena.signals; shadow = slice_index shadows.now; first_temp = code.old.next }) (statement_bits (body_of templates.now.arena s)) }
     ensures { OnOk result ((l : Layout) (place : ℕ) (star : Bool) (events : List Event) → HasShadows (bit_count templates.now.arena.signals) code.old.next shadows.now (statement_bits (body_of templates.now.arena s)) l → is_clocked (Always place star events (body_of templates.now.arena s)) ≡ true → AddsProcess l (Always place star events (body_of templates.now.arena s)) code.old.calls code.new.calls) }
 {
+    write_law();
     reach(templates);
     let mut env = Environments {
         values: Environment::at_home(alloc, count),
         ahead: Environment::at_home(alloc, count),
     };
-    statement(alloc, templates, s, true, &mut env, code)?;
+    statement(alloc, templates, s, &mut env, code)?;
+    settle(alloc, templates, s, &mut env)?;
     let bits = written_bits(alloc, templates, s)?;
     copy_all(alloc, &env.ahead, bits.as_slice(), shadows, code)?;
     Ok(())

@@ -4,14 +4,13 @@ ghost use Rattle.std.specs.Prelude.{◌≡◌, ◌<◌, ◌^◌, [], ◌∷◌, 
 ghost use Rattle.std.specs.List.{range_with_len};
 ghost use Rattle.vs_kern_select.specs.declared.costs.Kernel.TheVariants as S;
 ghost use Rattle.vs_code.specs.declared.kernels.AnyKernel.TheVariants as K;
-ghost use Rattle.vs_lower.specs.Branched.{unwritten, written};
 ghost use Rattle.vs_values.specs.Coded.{with_call};
 ghost use Rattle.vs_values.specs.Environments.{placed};
 ghost use Rattle.vs_values.specs.Made.{IsCallable};
-ghost use Rattle.vs_lower.specs.Joined.{IsJoined, differing_bits, differing_slots, join_args};
+ghost use Rattle.vs_lower.specs.Joined.{AreJoinable, AreJoined, IsJoinable, IsJoined, differing_bits, differing_slots};
 ghost use Rattle.vs_lower.specs.Stated.{AddsJoin};
 
-use crate::environments::Environments;
+use crate::environments::{Environments, Slots};
 use std::alloc::{AllocError, Global};
 use vs_code::AnyKernel;
 use vs_values::{Code, Environment, picked, place, triple};
@@ -95,7 +94,7 @@ pub(crate) fn join(
     requires inside { All (λ b. b < length env.old) bits.now }
     requires alike { length bits.now ≡ length first.now }
     requires few { length bits.now < 2 ^ 32 }
-    requires call { (differing_bits bits.now first.now env.old ≡ [] → ⊥) → IsCallable code.old (K.Select S.Branch) (join_args condition.items bits.now first.now env.old) (length (differing_bits bits.now first.now env.old)) }
+    requires call { IsJoinable condition.items bits.now first.now env.old code.old }
     ensures { OnOk result (IsJoined condition.items bits.now first.now env.old env.new code.old code.new) }
 {
     let those = differing(alloc, bits, first, env)?;
@@ -106,28 +105,41 @@ pub(crate) fn join(
     joined(alloc, condition, taken, those.as_slice(), env, code)
 }
 
-/// The join of these bits in the environment that a block's assignments change.
-pub(crate) fn join_written(
+/// The join of these bits in both environments: after its first branch they have the slots `first`.
+pub(crate) fn join_both(
     alloc: Global,
     condition: Vec<u32>,
     bits: &[u32],
-    first: &[u32],
-    clocked: bool,
+    first: &Slots,
     env: &mut Environments,
     code: &mut Code,
 ) -> Result<(), AllocError>
-    requires inside { All (λ b. b < length (written clocked env.old.values env.old.ahead)) bits.now }
-    requires alike { length bits.now ≡ length first.now }
+    requires values { All (λ b. b < length env.old.values) bits.now }
+    requires ahead { All (λ b. b < length env.old.ahead) bits.now }
+    requires values_alike { length bits.now ≡ length first.now.values.items }
+    requires ahead_alike { length bits.now ≡ length first.now.ahead.items }
     requires few { length bits.now < 2 ^ 32 }
-    requires call { (differing_bits bits.now first.now (written clocked env.old.values env.old.ahead) ≡ [] → ⊥) → IsCallable code.old (K.Select S.Branch) (join_args condition.items bits.now first.now (written clocked env.old.values env.old.ahead)) (length (differing_bits bits.now first.now (written clocked env.old.values env.old.ahead))) }
-    ensures joined { OnOk result (IsJoined condition.items bits.now first.now (written clocked env.old.values env.old.ahead) (written clocked env.new.values env.new.ahead) code.old code.new) }
-    ensures other { OnOk result (unwritten clocked env.new.values env.new.ahead ≡ unwritten clocked env.old.values env.old.ahead) }
+    requires calls { AreJoinable condition.items bits.now first.now.values.items first.now.ahead.items env.old.values env.old.ahead code.old }
+    ensures { OnOk result (AreJoined condition.items bits.now first.now.values.items first.now.ahead.items env.old.values env.old.ahead env.new.values env.new.ahead code.old code.new) }
 {
-    if clocked {
-        join(alloc, condition, bits, first, &mut env.ahead, code)
-    } else {
-        join(alloc, condition, bits, first, &mut env.values, code)
-    }
+    let again = Vec::from_slice(alloc, condition.as_slice())?;
+    join(
+        alloc,
+        condition,
+        bits,
+        first.values.as_slice(),
+        &mut env.values,
+        code,
+    )?;
+    join(
+        alloc,
+        again,
+        bits,
+        first.ahead.as_slice(),
+        &mut env.ahead,
+        code,
+    )?;
+    Ok(())
 }
 
 /// The join where the bits have the slots `behind` after the other branch: it answers the slots that they have after it, and leaves the environments as they were.
@@ -135,23 +147,25 @@ pub(crate) fn join_apart(
     alloc: Global,
     condition: Vec<u32>,
     bits: &[u32],
-    first: &[u32],
-    behind: &[u32],
-    clocked: bool,
+    first: &Slots,
+    behind: &Slots,
     env: &mut Environments,
     code: &mut Code,
-) -> Result<Vec<u32>, AllocError>
-    requires inside { All (λ b. b < length (written clocked env.old.values env.old.ahead)) bits.now }
-    requires alike { length bits.now ≡ length first.now }
-    requires behind { length bits.now ≡ length behind.now }
+) -> Result<Slots, AllocError>
+    requires values { All (λ b. b < length env.old.values) bits.now }
+    requires ahead { All (λ b. b < length env.old.ahead) bits.now }
+    requires values_alike { length bits.now ≡ length first.now.values.items }
+    requires ahead_alike { length bits.now ≡ length first.now.ahead.items }
+    requires behind_values { length bits.now ≡ length behind.now.values.items }
+    requires behind_ahead { length bits.now ≡ length behind.now.ahead.items }
     requires few { length bits.now < 2 ^ 32 }
-    requires call { (differing_bits bits.now first.now (placed (written clocked env.old.values env.old.ahead) (map Some bits.now) behind.now) ≡ [] → ⊥) → IsCallable code.old (K.Select S.Branch) (join_args condition.items bits.now first.now (placed (written clocked env.old.values env.old.ahead) (map Some bits.now) behind.now)) (length (differing_bits bits.now first.now (placed (written clocked env.old.values env.old.ahead) (map Some bits.now) behind.now))) }
-    ensures adds { IfOk result (λ slots. AddsJoin condition.items bits.now first.now (placed (written clocked env.old.values env.old.ahead) (map Some bits.now) behind.now) code.old code.new slots.items) }
+    requires calls { AreJoinable condition.items bits.now first.now.values.items first.now.ahead.items (placed env.old.values (map Some bits.now) behind.now.values.items) (placed env.old.ahead (map Some bits.now) behind.now.ahead.items) code.old }
+    ensures adds { IfOk result (λ slots. AddsJoin condition.items bits.now first.now.values.items first.now.ahead.items (placed env.old.values (map Some bits.now) behind.now.values.items) (placed env.old.ahead (map Some bits.now) behind.now.ahead.items) code.old code.new slots.values.items slots.ahead.items) }
     ensures values { OnOk result (env.new.values ≡ env.old.values) }
     ensures ahead { OnOk result (env.new.ahead ≡ env.old.ahead) }
 {
-    let before = env.exchange(alloc, clocked, bits, behind)?;
-    join_written(alloc, condition, bits, first, clocked, env, code)?;
-    let slots = env.exchange(alloc, clocked, bits, before.as_slice())?;
+    let before = env.exchange(alloc, bits, behind)?;
+    join_both(alloc, condition, bits, first, env, code)?;
+    let slots = env.exchange(alloc, bits, &before)?;
     Ok(slots)
 }

@@ -50,7 +50,7 @@ fn template(alloc: Global, templates: &Templates, f: u32) -> Result<Template, Al
         ahead: environment_at_call(alloc, templates, f),
     };
     let body = templates.flat().body(f);
-    statement(alloc, templates, body.statement, false, &mut env, &mut code)?;
+    statement(alloc, templates, body.statement, &mut env, &mut code)?;
     let result = result_slots(alloc, templates, &env.values, f)?;
     let next = code.next();
     Ok(Template {

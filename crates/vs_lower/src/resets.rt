@@ -12,16 +12,16 @@ ghost use Rattle.vs_values.specs.Templates.{statement_bound};
 ghost use Rattle.vs_lower.specs.Resetting.{AddsReset, HasResetRoom, IsResetOf, IsResetReady, reset_condition};
 ghost use Rattle.vs_values.specs.Valued.{AddsValue};
 
-use crate::branches::join_written;
+use crate::branches::join;
 use crate::copies::copy_home;
 use crate::environments::Environments;
 use crate::reach::reach;
-use crate::statements::{statement, written_bits};
+use crate::statements::{settle, statement, written_bits};
 use std::alloc::{AllocError, Global};
 use vs_base::{Context, UnaryOp};
-use vs_design::value_law;
+use vs_design::{value_law, write_law};
 use vs_program::home;
-use vs_values::{Code, Environment, Templates, applied};
+use vs_values::{Code, Environment, Templates, applied, picked};
 
 /// The slot of a reset's condition: that of its input, or of its `!` where the reset is active at 0.
 fn active(
@@ -66,28 +66,26 @@ pub fn reset(
     requires ready { IsResetReady (bit_count templates.now.arena.signals) code.old falls input (body_of templates.now.arena s) }
     ensures { OnOk result ((l : Layout) (r : N.Reset) (p : D.Process) → l.bits ≡ bit_count templates.now.arena.signals → l.first_temp ≡ code.old.next → IsResetOf r falls input (body_of templates.now.arena s) → HasResetRoom p falls input (body_of templates.now.arena s) → AddsReset l (Some r) p code.old.calls code.new.calls) }
 {
+    write_law();
     let condition = active(alloc, input, falls, count, code)?;
     reach(templates);
     let mut env = Environments {
         values: Environment::at_home(alloc, count),
         ahead: Environment::at_home(alloc, count),
     };
-    statement(alloc, templates, s, true, &mut env, code)?;
+    statement(alloc, templates, s, &mut env, code)?;
+    settle(alloc, templates, s, &mut env)?;
     let bits = written_bits(alloc, templates, s)?;
-    let first = env.picked(alloc, true, bits.as_slice())?;
-    let mut after = Environments {
-        values: Environment::at_home(alloc, count),
-        ahead: Environment::at_home(alloc, count),
-    };
-    join_written(
+    let first = picked(alloc, &env.ahead, bits.as_slice())?;
+    let mut after = Environment::at_home(alloc, count);
+    join(
         alloc,
         condition,
         bits.as_slice(),
         first.as_slice(),
-        true,
         &mut after,
         code,
     )?;
-    copy_home(alloc, &after.ahead, count, bits.as_slice(), code)?;
+    copy_home(alloc, &after, count, bits.as_slice(), code)?;
     Ok(())
 }

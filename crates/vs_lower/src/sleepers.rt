@@ -120,7 +120,7 @@ fn settled(
 ) -> Result<Vec<u32>, AllocError>
     requires count { count ≡ bit_count templates.now.arena.signals }
     requires there { s < statement_bound templates.now }
-    requires ready { IsBlockReady (bit_count templates.now.arena.signals) code.old false (body_of templates.now.arena s) }
+    requires ready { IsBlockReady (bit_count templates.now.arena.signals) code.old (body_of templates.now.arena s) }
     requires inside { All (λ b. b < bit_count templates.now.arena.signals) bits.now }
     requires some { 1 ≤ length bits.now }
     requires few { length bits.now ≤ distinct (statement_bits (body_of templates.now.arena s)) }
@@ -132,7 +132,7 @@ fn settled(
         values: Environment::at_home(alloc, count),
         ahead: Environment::at_home(alloc, count),
     };
-    statement(alloc, templates, s, false, &mut env, code)?;
+    statement(alloc, templates, s, &mut env, code)?;
     let slots = picked(alloc, &env.values, bits)?;
     owned(alloc, slots, bits.len() as u32, first, code)
 }

@@ -5,26 +5,26 @@ ghost use Rattle.std.specs.List.Sorted.{IsStrictlyIncreasing};
 ghost use Rattle.vs_design.specs.Statements as T;
 ghost use Rattle.vs_design.specs.Fits.{fits_statement};
 ghost use Rattle.vs_design.specs.Footprints.{contains, arms_bits, statement_bits};
+ghost use Rattle.vs_design.specs.Races.{blocking_bits};
 ghost use Rattle.vs_design.specs.Sizes.{distinct};
 ghost use Rattle.vs_flat.specs.DesignOf.{arena_trees};
 ghost use Rattle.vs_flat.specs.Trees.{arms_tree, branch, sequence, tree_at};
 ghost use Rattle.vs_shape.specs.Bodies.{EachArmNames, HasBodyNames, HasTarget, OtherBelow, body_of, body_of_statement, body_place};
 ghost use Rattle.vs_shape.specs.Nodes.{EachBelow};
 ghost use Rattle.vs_values.specs.Templates.{node_bound, statement_bound};
-ghost use Rattle.vs_lower.specs.Branched.{unwritten};
-ghost use Rattle.vs_lower.specs.Stated.{IsStatementReady, AddsArm, AddsBranch, AddsCases, AddsStatement, AreAmong, AreArmsReady, AreInOrder, AreInside, HasItems, IsArmReady};
+ghost use Rattle.vs_lower.specs.Stated.{IsStatementReady, AddsArm, AddsBranch, AddsCases, AddsStatement, AreAmong, AreArmsReady, AreInOrder, AreInside, AreSettled, HasItems, IsArmReady};
 
 use crate::assigns::assign;
-use crate::branches::{join_apart, join_written};
+use crate::branches::{join_apart, join_both};
 use crate::cases::tests;
 use crate::contexts::case_context;
-use crate::environments::Environments;
+use crate::environments::{Environments, Slots};
 use crate::reach::reach;
 use std::alloc::{AllocError, Global};
 use vs_base::{CaseKind, Context};
 use vs_flat::{Arm, Statement, lawful_law};
 use vs_shape::{Walk, ascend};
-use vs_values::{Code, Templates, bounds_law, lower, own};
+use vs_values::{Code, Templates, bounds_law, lower, own, picked, place};
 
 /// The bits that a statement may write, in ascending order and each once.
 pub(crate) fn written_bits(
@@ -45,6 +45,28 @@ pub(crate) fn written_bits(
     Ok(bits)
 }
 
+/// Gives the bits that a statement writes at once their slots of the values now among those ahead: these are then the slots of the bits' next values. On an error some may have theirs.
+pub(crate) fn settle(
+    alloc: Global,
+    templates: &Templates,
+    s: u32,
+    env: &mut Environments,
+) -> Result<(), AllocError>
+    requires there { s < length templates.now.arena.statements }
+    requires fits { fits_statement (body_of templates.now.arena s) ≡ true }
+    requires values { AreInside (length env.old.values) (blocking_bits (body_of templates.now.arena s)) }
+    requires ahead { AreInside (length env.old.ahead) (blocking_bits (body_of templates.now.arena s)) }
+    ensures { OnOk result (AreSettled (blocking_bits (body_of templates.now.arena s)) env.old.values env.old.ahead env.new.ahead) }
+{
+    let mut bits = Vec::new(alloc);
+    templates
+        .shapes()
+        .push_statement(s, Walk::Blocking, &mut bits)?;
+    let slots = picked(alloc, &env.values, bits.as_slice())?;
+    place(&mut env.ahead, bits.as_slice(), slots.as_slice())?;
+    Ok(())
+}
+
 /// Statement s of a lawful design: it names expressions and earlier statements, its tree is made of theirs, and each arm of a case has an item.
 fn statement_of<'a>(templates: &'a Templates, s: u32) -> &'a Statement
     requires there { s < statement_bound templates.now }
@@ -59,21 +81,19 @@ fn statement_of<'a>(templates: &'a Templates, s: u32) -> &'a Statement
     templates.shapes().statement(s)
 }
 
-/// Adds the calls of statement s, in a block of which it is told whether it is clocked.
+/// Adds the calls of statement s.
 #[cycle(statements)]
 pub(crate) fn statement(
     alloc: Global,
     templates: &Templates,
     s: u32,
-    clocked: bool,
     env: &mut Environments,
     code: &mut Code,
 ) -> Result<(), AllocError>
     requires there { s < statement_bound templates.now }
-    requires ready { IsStatementReady (length env.old.values) env.old.values env.old.ahead code.old clocked (body_of templates.now.arena s) }
+    requires ready { IsStatementReady (length env.old.values) env.old.values env.old.ahead code.old (body_of templates.now.arena s) }
     requires inside { AreInside (length env.old.values) (statement_bits (body_of templates.now.arena s)) }
-    ensures adds { OnOk result (AddsStatement env.old.values env.old.ahead code.old code.new (body_of templates.now.arena s) env.new.values env.new.ahead) }
-    ensures other { OnOk result (unwritten clocked env.new.values env.new.ahead ≡ unwritten clocked env.old.values env.old.ahead) }
+    ensures { OnOk result (AddsStatement env.old.values env.old.ahead code.old code.new (body_of templates.now.arena s) env.new.values env.new.ahead) }
 {
     reach(templates);
     match statement_of(templates, s) {
@@ -96,7 +116,6 @@ pub(crate) fn statement(
                 *yes,
                 *no,
                 bits.as_slice(),
-                clocked,
                 env,
                 code,
             )?;
@@ -118,14 +137,13 @@ pub(crate) fn statement(
                 arms.as_slice(),
                 *other,
                 bits.as_slice(),
-                clocked,
                 env,
                 code,
             )?;
             Ok(())
         }
         Statement::Seq { parts } => {
-            in_order(alloc, templates, s, parts.as_slice(), clocked, env, code)?;
+            in_order(alloc, templates, s, parts.as_slice(), env, code)?;
             Ok(())
         }
     }
@@ -138,19 +156,17 @@ fn in_order(
     templates: &Templates,
     s: u32,
     parts: &[u32],
-    clocked: bool,
     env: &mut Environments,
     code: &mut Code,
 ) -> Result<(), AllocError>
     requires there { s ≤ statement_bound templates.now }
     requires parts { EachBelow s parts.now }
-    requires ready { IsStatementReady (length env.old.values) env.old.values env.old.ahead code.old clocked (sequence (map (body_of templates.now.arena) parts.now)) }
+    requires ready { IsStatementReady (length env.old.values) env.old.values env.old.ahead code.old (sequence (map (body_of templates.now.arena) parts.now)) }
     requires inside { AreInside (length env.old.values) (statement_bits (sequence (map (body_of templates.now.arena) parts.now))) }
-    ensures adds { OnOk result (AddsStatement env.old.values env.old.ahead code.old code.new (sequence (map (body_of templates.now.arena) parts.now)) env.new.values env.new.ahead) }
-    ensures other { OnOk result (unwritten clocked env.new.values env.new.ahead ≡ unwritten clocked env.old.values env.old.ahead) }
+    ensures { OnOk result (AddsStatement env.old.values env.old.ahead code.old code.new (sequence (map (body_of templates.now.arena) parts.now)) env.new.values env.new.ahead) }
 {
     for n in 0..parts.len() {
-        statement(alloc, templates, parts[n], clocked, env, code)?;
+        statement(alloc, templates, parts[n], env, code)?;
     }
     Ok(())
 }
@@ -162,20 +178,18 @@ fn optional(
     templates: &Templates,
     s: u32,
     part: Option<u32>,
-    clocked: bool,
     env: &mut Environments,
     code: &mut Code,
 ) -> Result<(), AllocError>
     requires there { s ≤ statement_bound templates.now }
     requires part { OtherBelow s part }
-    requires ready { IsStatementReady (length env.old.values) env.old.values env.old.ahead code.old clocked (branch (body_of templates.now.arena) part) }
+    requires ready { IsStatementReady (length env.old.values) env.old.values env.old.ahead code.old (branch (body_of templates.now.arena) part) }
     requires inside { AreInside (length env.old.values) (statement_bits (branch (body_of templates.now.arena) part)) }
-    ensures adds { OnOk result (AddsStatement env.old.values env.old.ahead code.old code.new (branch (body_of templates.now.arena) part) env.new.values env.new.ahead) }
-    ensures other { OnOk result (unwritten clocked env.new.values env.new.ahead ≡ unwritten clocked env.old.values env.old.ahead) }
+    ensures { OnOk result (AddsStatement env.old.values env.old.ahead code.old code.new (branch (body_of templates.now.arena) part) env.new.values env.new.ahead) }
 {
     match part {
         Some(n) => {
-            statement(alloc, templates, n, clocked, env, code)?;
+            statement(alloc, templates, n, env, code)?;
             Ok(())
         }
         None => Ok(()),
@@ -190,22 +204,21 @@ fn apart(
     s: u32,
     part: Option<u32>,
     bits: &[u32],
-    clocked: bool,
     env: &mut Environments,
     code: &mut Code,
-) -> Result<Vec<u32>, AllocError>
+) -> Result<Slots, AllocError>
     requires there { s ≤ statement_bound templates.now }
     requires part { OtherBelow s part }
-    requires ready { IsStatementReady (length env.old.values) env.old.values env.old.ahead code.old clocked (branch (body_of templates.now.arena) part) }
+    requires ready { IsStatementReady (length env.old.values) env.old.values env.old.ahead code.old (branch (body_of templates.now.arena) part) }
     requires inside { All (λ b. b < length env.old.values) bits.now }
     requires among { AreAmong (statement_bits (branch (body_of templates.now.arena) part)) bits.now }
-    ensures adds { IfOk result (λ slots. AddsBranch clocked env.old.values env.old.ahead code.old code.new (branch (body_of templates.now.arena) part) bits.now slots.items) }
+    ensures adds { IfOk result (λ slots. AddsBranch env.old.values env.old.ahead code.old code.new (branch (body_of templates.now.arena) part) bits.now slots.values.items slots.ahead.items) }
     ensures values { OnOk result (env.new.values ≡ env.old.values) }
     ensures ahead { OnOk result (env.new.ahead ≡ env.old.ahead) }
 {
-    let before = env.picked(alloc, clocked, bits)?;
-    optional(alloc, templates, s, part, clocked, env, code)?;
-    let slots = env.exchange(alloc, clocked, bits, before.as_slice())?;
+    let before = env.picked(alloc, bits)?;
+    optional(alloc, templates, s, part, env, code)?;
+    let slots = env.exchange(alloc, bits, &before)?;
     Ok(slots)
 }
 
@@ -219,7 +232,6 @@ fn conditional(
     yes: u32,
     no: Option<u32>,
     bits: &[u32],
-    clocked: bool,
     env: &mut Environments,
     code: &mut Code,
 ) -> Result<(), AllocError>
@@ -227,16 +239,15 @@ fn conditional(
     requires c { c < node_bound templates.now }
     requires yes { yes < s }
     requires no { OtherBelow s no }
-    requires ready { IsStatementReady (length env.old.values) env.old.values env.old.ahead code.old clocked (T.If (tree_at (arena_trees templates.now.arena) c) (body_of templates.now.arena yes) (branch (body_of templates.now.arena) no)) }
+    requires ready { IsStatementReady (length env.old.values) env.old.values env.old.ahead code.old (T.If (tree_at (arena_trees templates.now.arena) c) (body_of templates.now.arena yes) (branch (body_of templates.now.arena) no)) }
     requires bits { AreInOrder (length env.old.values) bits.now (statement_bits (T.If (tree_at (arena_trees templates.now.arena) c) (body_of templates.now.arena yes) (branch (body_of templates.now.arena) no))) }
-    ensures adds { OnOk result (AddsStatement env.old.values env.old.ahead code.old code.new (T.If (tree_at (arena_trees templates.now.arena) c) (body_of templates.now.arena yes) (branch (body_of templates.now.arena) no)) env.new.values env.new.ahead) }
-    ensures other { OnOk result (unwritten clocked env.new.values env.new.ahead ≡ unwritten clocked env.old.values env.old.ahead) }
+    ensures { OnOk result (AddsStatement env.old.values env.old.ahead code.old code.new (T.If (tree_at (arena_trees templates.now.arena) c) (body_of templates.now.arena yes) (branch (body_of templates.now.arena) no)) env.new.values env.new.ahead) }
 {
     reach(templates);
     let condition = lower(alloc, templates, &env.values, c, own(templates, c), code)?;
-    let first = apart(alloc, templates, s, Some(yes), bits, clocked, env, code)?;
-    optional(alloc, templates, s, no, clocked, env, code)?;
-    join_written(alloc, condition, bits, first.as_slice(), clocked, env, code)?;
+    let first = apart(alloc, templates, s, Some(yes), bits, env, code)?;
+    optional(alloc, templates, s, no, env, code)?;
+    join_both(alloc, condition, bits, &first, env, code)?;
     Ok(())
 }
 
@@ -251,7 +262,6 @@ fn case(
     arms: &[Arm],
     other: Option<u32>,
     bits: &[u32],
-    clocked: bool,
     env: &mut Environments,
     code: &mut Code,
 ) -> Result<(), AllocError>
@@ -260,10 +270,9 @@ fn case(
     requires arms { EachArmNames (node_bound templates.now) s arms.now }
     requires items { All (λ arm. 1 ≤ length arm.items) arms.now }
     requires other { OtherBelow s other }
-    requires ready { IsStatementReady (length env.old.values) env.old.values env.old.ahead code.old clocked (T.Case kind (tree_at (arena_trees templates.now.arena) of) (arms_tree (tree_at (arena_trees templates.now.arena)) (body_of templates.now.arena) other arms.now)) }
+    requires ready { IsStatementReady (length env.old.values) env.old.values env.old.ahead code.old (T.Case kind (tree_at (arena_trees templates.now.arena) of) (arms_tree (tree_at (arena_trees templates.now.arena)) (body_of templates.now.arena) other arms.now)) }
     requires bits { AreInOrder (length env.old.values) bits.now (arms_bits (arms_tree (tree_at (arena_trees templates.now.arena)) (body_of templates.now.arena) other arms.now)) }
-    ensures adds { OnOk result (AddsStatement env.old.values env.old.ahead code.old code.new (T.Case kind (tree_at (arena_trees templates.now.arena) of) (arms_tree (tree_at (arena_trees templates.now.arena)) (body_of templates.now.arena) other arms.now)) env.new.values env.new.ahead) }
-    ensures unchanged { OnOk result (unwritten clocked env.new.values env.new.ahead ≡ unwritten clocked env.old.values env.old.ahead) }
+    ensures { OnOk result (AddsStatement env.old.values env.old.ahead code.old code.new (T.Case kind (tree_at (arena_trees templates.now.arena) of) (arms_tree (tree_at (arena_trees templates.now.arena)) (body_of templates.now.arena) other arms.now)) env.new.values env.new.ahead) }
 {
     reach(templates);
     let context = case_context(templates, of, arms);
@@ -278,11 +287,10 @@ fn case(
         arms,
         other,
         bits,
-        clocked,
         env,
         code,
     )?;
-    env.place(clocked, bits, slots.as_slice())?;
+    env.place(bits, &slots)?;
     Ok(())
 }
 
@@ -298,28 +306,26 @@ fn branches(
     arms: &[Arm],
     other: Option<u32>,
     bits: &[u32],
-    clocked: bool,
     env: &mut Environments,
     code: &mut Code,
-) -> Result<Vec<u32>, AllocError>
+) -> Result<Slots, AllocError>
     requires there { s ≤ statement_bound templates.now }
     requires arms { EachArmNames (node_bound templates.now) s arms.now }
     requires items { All (λ arm. 1 ≤ length arm.items) arms.now }
     requires other { OtherBelow s other }
-    requires ready { AreArmsReady (length env.old.values) env.old.values env.old.ahead subject.now code.old clocked context.width (distinct (arms_bits (arms_tree (tree_at (arena_trees templates.now.arena)) (body_of templates.now.arena) other arms.now))) (arms_tree (tree_at (arena_trees templates.now.arena)) (body_of templates.now.arena) other arms.now) }
+    requires ready { AreArmsReady (length env.old.values) env.old.values env.old.ahead subject.now code.old context.width (distinct (arms_bits (arms_tree (tree_at (arena_trees templates.now.arena)) (body_of templates.now.arena) other arms.now))) (arms_tree (tree_at (arena_trees templates.now.arena)) (body_of templates.now.arena) other arms.now) }
     requires bits { AreInOrder (length env.old.values) bits.now (arms_bits (arms_tree (tree_at (arena_trees templates.now.arena)) (body_of templates.now.arena) other arms.now)) }
-    ensures adds { IfOk result (λ slots. AddsCases clocked env.old.values env.old.ahead subject.now code.old code.new kind context.width context.signed (distinct (arms_bits (arms_tree (tree_at (arena_trees templates.now.arena)) (body_of templates.now.arena) other arms.now))) (arms_tree (tree_at (arena_trees templates.now.arena)) (body_of templates.now.arena) other arms.now) bits.now slots.items) }
+    ensures adds { IfOk result (λ slots. AddsCases env.old.values env.old.ahead subject.now code.old code.new kind context.width context.signed (distinct (arms_bits (arms_tree (tree_at (arena_trees templates.now.arena)) (body_of templates.now.arena) other arms.now))) (arms_tree (tree_at (arena_trees templates.now.arena)) (body_of templates.now.arena) other arms.now) bits.now slots.values.items slots.ahead.items) }
     ensures values { OnOk result (env.new.values ≡ env.old.values) }
     ensures ahead { OnOk result (env.new.ahead ≡ env.old.ahead) }
 {
-    let mut behind = apart(alloc, templates, s, other, bits, clocked, env, code)?;
+    let mut behind = apart(alloc, templates, s, other, bits, env, code)?;
     for k in 0..arms.len() {
         let n = arms.len() - 1 - k;
         let items = arms[n].items.as_slice();
         let part = arms[n].statement;
         behind = arm(
-            alloc, templates, s, kind, subject, context, items, part, bits, behind, clocked, env,
-            code,
+            alloc, templates, s, kind, subject, context, items, part, bits, behind, env, code,
         )?;
     }
     Ok(behind)
@@ -337,19 +343,18 @@ fn arm(
     items: &[u32],
     part: u32,
     bits: &[u32],
-    behind: Vec<u32>,
-    clocked: bool,
+    behind: Slots,
     env: &mut Environments,
     code: &mut Code,
-) -> Result<Vec<u32>, AllocError>
+) -> Result<Slots, AllocError>
     requires there { s ≤ statement_bound templates.now }
     requires items { All (λ e. e < node_bound templates.now) items.now }
     requires part { part < s }
-    requires ready { IsArmReady (length env.old.values) env.old.values env.old.ahead subject.now code.old clocked context.width (map (tree_at (arena_trees templates.now.arena)) items.now) (body_of templates.now.arena part) bits.now behind.items }
+    requires ready { IsArmReady (length env.old.values) env.old.values env.old.ahead subject.now code.old context.width (map (tree_at (arena_trees templates.now.arena)) items.now) (body_of templates.now.arena part) bits.now behind.values.items behind.ahead.items }
     requires rising { IsStrictlyIncreasing bits.now }
     requires inside { All (λ b. b < length env.old.values) bits.now }
     requires among { AreAmong (statement_bits (body_of templates.now.arena part)) bits.now }
-    ensures adds { IfOk result (λ slots. AddsArm clocked env.old.values env.old.ahead subject.now code.old code.new kind context.width context.signed (map (tree_at (arena_trees templates.now.arena)) items.now) (body_of templates.now.arena part) bits.now behind.items slots.items) }
+    ensures adds { IfOk result (λ slots. AddsArm env.old.values env.old.ahead subject.now code.old code.new kind context.width context.signed (map (tree_at (arena_trees templates.now.arena)) items.now) (body_of templates.now.arena part) bits.now behind.values.items behind.ahead.items slots.values.items slots.ahead.items) }
     ensures values { OnOk result (env.new.values ≡ env.old.values) }
     ensures ahead { OnOk result (env.new.ahead ≡ env.old.ahead) }
 {
@@ -363,16 +368,7 @@ fn arm(
         &env.values,
         code,
     )?;
-    let first = apart(alloc, templates, s, Some(part), bits, clocked, env, code)?;
-    let slots = join_apart(
-        alloc,
-        matches,
-        bits,
-        first.as_slice(),
-        behind.as_slice(),
-        clocked,
-        env,
-        code,
-    )?;
+    let first = apart(alloc, templates, s, Some(part), bits, env, code)?;
+    let slots = join_apart(alloc, matches, bits, &first, &behind, env, code)?;
     Ok(slots)
 }

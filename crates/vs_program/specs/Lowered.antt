@@ -58,8 +58,8 @@ effects_of p s = made_of p s ∷ updates_of p s
 
 -- what one execution of a process's calls does to a lane, from any values of the bits
 pub record IsRun (l : Layout) (p : D.Process) (before after : State) : Type 0 where
-  -- the bits have what they have after its writes at once; a bit that it doesn't write has what it had
-  pub bits : (b : ℕ) → b < l.bits → after (home b) ≡ N.write_all (bits_of before) (made_of p (bits_of before)) b
+  -- the bits have what they have after its writes at once; a bit that it doesn't write has what it had. A clocked block leaves all bits as they are: no other clocked block reads what it writes at once
+  pub bits : (b : ℕ) → b < l.bits → after (home b) ≡ (if D.is_clocked p then before (home b) else N.write_all (bits_of before) (made_of p (bits_of before)) b)
   -- of a clocked block the shadow of each bit that it writes has what the bit has after all that it gives
   pub shadows : D.is_clocked p ≡ true → (b : ℕ) → contains (writes_of p) b ≡ true
       → after (l.shadow b) ≡ N.write_all (bits_of before) (N.flatten (effects_of p (bits_of before))) b

@@ -3,7 +3,7 @@ use Rattle.std.specs.Prelude.{ℕ, ◌≤◌, List, [], ◌∷◌, ◌++◌, len
 use Rattle.std.proofs.Common.{lit≤}
 use Rattle.std.specs.List.{flat_map}
 use Rattle.vs_refusal.specs.declared.refusal.Refusal.{Refusal}
-use Rattle.vs_refusal.specs.declared.refusal.Refusal.TheVariants.{Bare, SamePath, At, TooLarge, Latch, Sensitivity, TwoDrivers, Process, Cycle, Lane, Line}
+use Rattle.vs_refusal.specs.declared.refusal.Refusal.TheVariants.{Bare, SamePath, At, TooLarge, Latch, Sensitivity, TwoDrivers, Process, Cycle, Race, Lane, Line}
 use Rattle.vs_refusal.specs.declared.refusal.Field.{Field}
 use Rattle.vs_refusal.specs.declared.refusal.Label.{Label}
 use Rattle.vs_refusal.specs.declared.refusal.Label.TheVariants as label
@@ -19,6 +19,7 @@ number (Sensitivity process signal at) = 55
 number (TwoDrivers bit first second at) = 60
 number (Process kind process at) = process_number kind
 number (Cycle processes at) = 64
+number (Race process bit at) = 67
 number (Lane kind lane) = lane_number kind
 number (Line kind lane row) = line_number kind
 
@@ -32,6 +33,7 @@ name (Sensitivity process signal at) = codes "Sensitivity"
 name (TwoDrivers bit first second at) = codes "TwoDrivers"
 name (Process kind process at) = process_text kind
 name (Cycle processes at) = codes "Cycle"
+name (Race process bit at) = codes "Race"
 name (Lane kind lane) = lane_text kind
 name (Line kind lane row) = line_text kind
 
@@ -68,6 +70,7 @@ fields (Sensitivity process signal at) = field label.Process process ∷ field l
 fields (TwoDrivers bit first second at) = field label.Bit bit ∷ field label.First first ∷ field label.Second second ∷ field label.At at ∷ []
 fields (Process kind process at) = field label.Process process ∷ field label.At at ∷ []
 fields (Cycle processes at) = field label.At at ∷ []
+fields (Race process bit at) = field label.Process process ∷ field label.Bit bit ∷ field label.At at ∷ []
 fields (Lane kind lane) = field label.Lane lane ∷ []
 fields (Line kind lane row) = field label.Lane lane ∷ field label.Line row ∷ []
 
@@ -82,6 +85,7 @@ few_fields (Sensitivity process signal at) = lit≤ tt
 few_fields (TwoDrivers bit first second at) = lit≤ tt
 few_fields (Process kind process at) = lit≤ tt
 few_fields (Cycle processes at) = lit≤ tt
+few_fields (Race process bit at) = lit≤ tt
 few_fields (Lane kind lane) = lit≤ tt
 few_fields (Line kind lane row) = lit≤ tt
 

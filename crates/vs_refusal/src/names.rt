@@ -84,7 +84,7 @@ pub enum AtName {
     TooWide,
     /// A `/` or `%` has an operand that names a signal.
     Division,
-    /// A `<=` in a combinational block, or a `=` in a clocked one (9.2).
+    /// A `<=` in a combinational block, or a `=` in a clocked one to a bit that it may write by `<=` too (9.2).
     MixedAssign,
     /// A function leaves a variable that it writes unassigned on some path to a read of it or to its end (10.4).
     FunctionLatch,

@@ -50,6 +50,12 @@ pub enum Refusal {
         processes: Processes,
         at: u32,
     },
+    /// A clocked block reads the bit, and it depends on what another one writes by a blocking assignment at the same edge (11.5).
+    Race {
+        process: u32,
+        bit: u32,
+        at: u32,
+    },
     /// A refusal of a lane's stimulus.
     Lane(LaneName, u32),
     /// A refusal of a line of a lane's stimulus.
@@ -127,6 +133,7 @@ impl Refusal {
             Refusal::TwoDrivers { .. } => 60,
             Refusal::Process(name, _, _) => name.number(),
             Refusal::Cycle { .. } => 64,
+            Refusal::Race { .. } => 67,
             Refusal::Lane(name, _) => name.number(),
             Refusal::Line(name, _, _) => name.number(),
         }
@@ -146,6 +153,7 @@ impl Refusal {
             Refusal::TwoDrivers { .. } => "TwoDrivers",
             Refusal::Process(name, _, _) => name.text(),
             Refusal::Cycle { .. } => "Cycle",
+            Refusal::Race { .. } => "Race",
             Refusal::Lane(name, _) => name.text(),
             Refusal::Line(name, _, _) => name.text(),
         }
@@ -202,6 +210,11 @@ impl Refusal {
                 processes,
                 at: place_behind(n, at),
             },
+            Refusal::Race { process, bit, at } => Refusal::Race {
+                process,
+                bit,
+                at: place_behind(n, at),
+            },
             Refusal::Lane(name, lane) => Refusal::Lane(name, lane),
             Refusal::Line(name, lane, line) => Refusal::Line(name, lane, line),
         }
@@ -243,6 +256,9 @@ impl Fields for Refusal {
             (Refusal::Process(_, process, _), 0) => (Label::Process, *process as u64),
             (Refusal::Process(_, _, at), 1) => (Label::At, *at as u64),
             (Refusal::Cycle { at, .. }, 0) => (Label::At, *at as u64),
+            (Refusal::Race { process, .. }, 0) => (Label::Process, *process as u64),
+            (Refusal::Race { bit, .. }, 1) => (Label::Bit, *bit as u64),
+            (Refusal::Race { at, .. }, 2) => (Label::At, *at as u64),
             (Refusal::Lane(_, lane), 0) => (Label::Lane, *lane as u64),
             (Refusal::Line(_, lane, _), 0) => (Label::Lane, *lane as u64),
             (Refusal::Line(_, _, line), 1) => (Label::Line, *line),

@@ -187,25 +187,24 @@ shaped_own f h =
 
 -- ---- all local signals: the inputs, the result, its own variables
 
-pub three_signed : (env : Env) (scope : ℕ) (f : tree.Function) (a b c d : Signalling) (inputs : List Local) (r : Local) (own : List Local) → local_start a.next ≡ record { scope = scope; signal = 0; bit = 0 }
-    → map local inputs ≡ flat_map statements.locals_of f.inputs → local r ≡ spec.result_local f → map local own ≡ spec.own_locals f
-    → IsSigned a b (spec.signals_of env (local_start a.next) InFunction true (map local inputs))
+pub three_signed : (env : Env) (scope : ℕ) (f : tree.Function) (a b c d : Signalling) (r : Local) → local_start a.next ≡ record { scope = scope; signal = 0; bit = 0 } → local r ≡ spec.result_local f
+    → IsSigned a b (spec.signals_of env (local_start a.next) InFunction true (flat_map statements.locals_of f.inputs))
     → IsSigned b c (spec.signals_of env (local_start b.next) AsResult false (local r ∷ []))
-    → IsSigned c d (spec.signals_of env (local_start c.next) InFunction false (map local own))
+    → IsSigned c d (spec.signals_of env (local_start c.next) InFunction false (spec.own_locals f))
     → IsSigned a d (spec.all_locals (spec.function_locals scope env f)) × ((spec.local_signal env (local_start b.next) AsResult false (local r)).meaning ≡ (spec.function_locals scope env f).result.meaning)
-three_signed env scope f a b c d inputs r own start is rs os h k m =
+three_signed env scope f a b c d r start rs h k m =
     let zero_start : spec.Start = record { scope = scope; signal = 0; bit = 0 } in
     let ins = spec.signals_of env zero_start InFunction true (flat_map statements.locals_of f.inputs) in
     let next = spec.behind_all zero_start ins in
     let result = spec.local_signal env next AsResult false (spec.result_local f) in
-    let first : spec.signals_of env (local_start a.next) InFunction true (map local inputs) ≡ ins =
-    ap (λ (s : spec.Start). spec.signals_of env s InFunction true (map local inputs)) start ∙ ap (spec.signals_of env zero_start InFunction true) is in
+    let first : spec.signals_of env (local_start a.next) InFunction true (flat_map statements.locals_of f.inputs) ≡ ins =
+    ap (λ (s : spec.Start). spec.signals_of env s InFunction true (flat_map statements.locals_of f.inputs)) start in
     let at : local_start b.next ≡ next = h.next ∙ ap (spec.behind_all (local_start a.next)) first ∙ ap (λ (s : spec.Start). spec.behind_all s ins) start in
     let second : spec.signals_of env (local_start b.next) AsResult false (local r ∷ []) ≡ result ∷ [] =
     ap (λ (s : spec.Start). spec.signals_of env s AsResult false (local r ∷ [])) at ∙ ap (λ (v : statements.Local). spec.signals_of env next AsResult false (v ∷ [])) rs in
     let behind : local_start c.next ≡ spec.behind next result = k.next ∙ ap (spec.behind_all (local_start b.next)) second ∙ ap (λ (s : spec.Start). spec.behind_all s (result ∷ [])) at in
-    let third : spec.signals_of env (local_start c.next) InFunction false (map local own) ≡ spec.signals_of env (spec.behind next result) InFunction false (spec.own_locals f) =
-    ap (λ (s : spec.Start). spec.signals_of env s InFunction false (map local own)) behind ∙ ap (spec.signals_of env (spec.behind next result) InFunction false) os in (
+    let third : spec.signals_of env (local_start c.next) InFunction false (spec.own_locals f) ≡ spec.signals_of env (spec.behind next result) InFunction false (spec.own_locals f) =
+    ap (λ (s : spec.Start). spec.signals_of env s InFunction false (spec.own_locals f)) behind in (
       signed_then a b d ins (result ∷ spec.signals_of env (spec.behind next result) InFunction false (spec.own_locals f)) (subst (IsSigned a b) first h)
           (signed_then b c d (result ∷ []) (spec.signals_of env (spec.behind next result) InFunction false (spec.own_locals f)) (subst (IsSigned b c) second k) (subst (IsSigned c d) third m)),
       ap (λ (s : spec.Start). (spec.local_signal env s AsResult false (local r)).meaning) at ∙ ap (λ (v : statements.Local). (spec.local_signal env next AsResult false v).meaning) rs,

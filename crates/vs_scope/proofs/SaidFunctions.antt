@@ -15,10 +15,11 @@ use Rattle.vs_elaborated.specs.Statements as statements
 use Rattle.vs_bodies.specs.declared.said.StatementSaid.{StatementSaid}
 use Rattle.vs_bodies.specs.Said.{IsSaid}
 use Rattle.vs_scope.specs.declared.functions.SaidFunction.{SaidFunction}
+use Rattle.vs_scope.specs.declared.functions.SaidHeader.{SaidHeader}
 use Rattle.vs_scope.specs.declared.inside.Inside.{Inside}
 use Rattle.vs_scope.specs.declared.inside.SaidLocals.{SaidLocals}
 use Rattle.vs_scope.specs.Frames.{view_env}
-use Rattle.vs_scope.specs.Functions.{IsSaidFunction}
+use Rattle.vs_scope.specs.Functions.{IsOfParts, IsSaidFunction}
 use Rattle.vs_scope.specs.Inside.{IsSaidLocals}
 use Rattle.vs_scope.specs.LocalLists.{local_faults}
 use Rattle.vs_scope.specs.Locals.{inside_names, inside_declared, AreLocals}
@@ -65,13 +66,16 @@ statement_said outer most scope f i c e a h =
     subst (λ find. IsSaid c (statements.unrolled_within most f.statement (spec.function_body l) find)) (names_inside i scope outer f e a)
     (subst (λ declared. IsSaid c (statements.unrolled_within most f.statement (record { declared = declared; in_function = true; clocked = false; unrolls = true }) (inside_names i))) (declared_inside i l (spec.declared_locals f) a) h)
 
-pub function_said : (outer : Env) (number most scope : ℕ) (f : tree.Function) (i : Inside) (s : SaidLocals) (c : StatementSaid) (r : SaidFunction) (size inner fault : Option Fault) → view_env i.here ≡ inside_function outer [] → i.locals ≡ s.locals
+-- what its local signals say, in short
+abbrev pub header_said : SaidLocals → SaidHeader
+header_said s = record { inputs = s.locals.inputs; range = s.result_range; signed = s.result_signed; fault = s.fault; known = s.known; bits = s.bits }
+
+pub function_said : (outer : Env) (number most scope : ℕ) (f : tree.Function) (i : Inside) (s : SaidLocals) (c : StatementSaid) (r : SaidFunction) → view_env i.here ≡ inside_function outer [] → i.locals ≡ s.locals
     → IsSaidLocals s (spec.function_locals scope (inside_function outer []) f) (spec.declared_locals f)
     → IsSaid c (statements.unrolled_within most f.statement (record { declared = inside_declared i; in_function = true; clocked = false; unrolls = true }) (inside_names i))
-    → size ≡ least (fault_if ((s.locals.inputs == 0) || (nat_le 64 c.depth || nat_lt spec.most_bits s.bits)) FunctionRule f.place) → inner ≡ better c.fault size → fault ≡ better s.fault inner → r.fault ≡ fault
-    → r.shape.number ≡ number → r.shape.inputs ≡ s.locals.inputs → r.shape.depth ≡ c.depth → r.shape.range ≡ s.result_range → r.shape.signed ≡ s.result_signed → r.shape.known ≡ (s.known && is_none fault) → r.copies ≡ c.copies
+    → IsOfParts r f.place number (header_said s) c
     → IsSaidFunction r (spec.said_function number most scope outer f)
-function_said outer number most scope f i s c r size inner fault e same locals h z n o fs is_number inputs depth range signed known copies =
+function_said outer number most scope f i s c r e same locals h is =
     let l = spec.function_locals scope (inside_function outer []) f in
     let t = statements.unrolled_within most f.statement (spec.function_body l) (spec.function_names scope outer f) in
     let says = statement_said outer most scope f i c e (subst (λ x. AreLocals x l (spec.declared_locals f)) (sym same) locals.locals) h in
@@ -79,26 +83,27 @@ function_said outer number most scope f i s c r size inner fault e same locals h
     let repeated = statements.repeated_locals [] (spec.declared_locals f) in
     let ranges = local_faults (spec.all_locals l) in
     let sizes = spec.size_faults f.place header (suc (calls_in t.statement)) in
+    let size = least (fault_if ((s.locals.inputs == 0) || (nat_le 64 c.depth || nat_lt spec.most_bits s.bits)) FunctionRule f.place) in
     let sized : size ≡ least sizes =
-    z ∙ ap (λ (k : ℕ). least (fault_if ((s.locals.inputs == 0) || (nat_le 64 k || nat_lt spec.most_bits s.bits)) FunctionRule f.place)) says.depth
+    ap (λ (k : ℕ). least (fault_if ((s.locals.inputs == 0) || (nat_le 64 k || nat_lt spec.most_bits s.bits)) FunctionRule f.place)) says.depth
     ∙ ap least (size_is f l s.locals.inputs (calls_in t.statement) s.bits locals.locals.inputs locals.bits) in
-    let whole : fault ≡ least (repeated ++ (ranges ++ (t.faults ++ sizes))) =
-    o ∙ ap (λ (x : Option Fault). better x inner) locals.fault
-    ∙ ap (better (least (repeated ++ ranges))) (n ∙ ap (λ (x : Option Fault). better x size) says.fault ∙ ap (better (least t.faults)) sized ∙ sym (least_append t.faults sizes))
+    let whole : r.fault ≡ least (repeated ++ (ranges ++ (t.faults ++ sizes))) =
+    is.fault ∙ ap (λ (x : Option Fault). better x (better c.fault size)) locals.fault
+    ∙ ap (better (least (repeated ++ ranges))) (ap (λ (x : Option Fault). better x size) says.fault ∙ ap (better (least t.faults)) sized ∙ sym (least_append t.faults sizes))
     ∙ sym (least_append (repeated ++ ranges) (t.faults ++ sizes)) ∙ ap least (append_assoc repeated ranges (t.faults ++ sizes)) in
     record {
       shape = record {
-        number = is_number;
-        inputs = inputs ∙ locals.locals.inputs ∙ sym (count l.inputs);
-        range = range ∙ locals.range;
-        signed = signed ∙ locals.signed;
-        known = known ∙ ap (λ (b : Bool). b && is_none fault) locals.known ∙ ap (λ (x : Option Fault). spec.are_known (spec.all_locals l) && is_none x) whole
+        number = is.number_is;
+        inputs = is.inputs ∙ locals.locals.inputs ∙ sym (count l.inputs);
+        range = is.range ∙ locals.range;
+        signed = is.signed ∙ locals.signed;
+        known = is.known ∙ ap (λ (b : Bool). b && is_none r.fault) locals.known ∙ ap (λ (x : Option Fault). spec.are_known (spec.all_locals l) && is_none x) whole
             ∙ ap (λ (b : Bool). spec.are_known (spec.all_locals l) && b) (clean_is (repeated ++ (ranges ++ (t.faults ++ sizes))));
         words = refl;
-        depth = depth ∙ says.depth;
+        depth = is.depth ∙ says.depth;
       };
-      fault = fs ∙ whole;
-      copies = copies ∙ says.copies;
+      fault = whole;
+      copies = is.copies ∙ says.copies;
     }
   where
     count : (ss : List spec.LocalSignal) → length (map (λ (x : spec.LocalSignal). x.meaning.signal) ss) ≡ length ss

@@ -1,6 +1,7 @@
 -- What the code finds of functions.
-use Rattle.std.specs.Prelude.{◌≡◌, Bool, true, false, List, [], ◌∷◌, ◌++◌, length, map, Option, None}
-use Rattle.vs_const.specs.Faults.{least, better}
+use Rattle.std.specs.Prelude.{◌≡◌, ◌==◌, ◌||◌, ◌&&◌, ℕ, nat_le, nat_lt, is_none, Bool, true, false, List, [], ◌∷◌, ◌++◌, length, map, Option, None}
+use Rattle.vs_const.specs.Faults.{least, better, fault_if}
+use Rattle.vs_const.specs.declared.rules.Rule.TheVariants.{FunctionRule}
 use Rattle.vs_const.specs.Meanings.{FunctionMeaning}
 use Rattle.vs_elaborated.specs.Limits.{the_limits}
 use Rattle.vs_elaborated.specs.Environments.{Declared, OfFunction, Entry, Env}
@@ -13,6 +14,8 @@ use Rattle.vs_scope.specs.declared.names.Declared.TheVariants as states
 use Rattle.vs_scope.specs.declared.names.Names.{Names}
 use Rattle.vs_scope.specs.declared.functions.SaidFunction.{SaidFunction}
 use Rattle.vs_scope.specs.declared.functions.SaidFunctions.{SaidFunctions}
+use Rattle.vs_scope.specs.declared.functions.SaidHeader.{SaidHeader}
+use Rattle.vs_bodies.specs.declared.said.StatementSaid.{StatementSaid}
 use Rattle.vs_scope.specs.Counts.{counted}
 use Rattle.vs_scope.specs.Complete.{KeepsShapes, complete, completed, function_declaration}
 use Rattle.vs_scope.specs.Seen.{HasShape}
@@ -27,6 +30,17 @@ functions_in (d ∷ ds) = elim d.sort [ FunctionOf f ↦ d ∷ functions_in ds |
 pub record IsSaidFunction (c : SaidFunction) (s : spec.SaidFunction) : Type 0 where
   pub shape : HasShape c.shape s.meaning
   pub fault : c.fault ≡ least s.faults
+  pub copies : c.copies ≡ s.copies
+
+-- one function, by what its local signals and its statement say
+pub record IsOfParts (c : SaidFunction) (place number : ℕ) (h : SaidHeader) (s : StatementSaid) : Type 0 where
+  pub number_is : c.shape.number ≡ number
+  pub inputs : c.shape.inputs ≡ h.inputs
+  pub range : c.shape.range ≡ h.range
+  pub signed : c.shape.signed ≡ h.signed
+  pub known : c.shape.known ≡ (h.known && is_none c.fault)
+  pub depth : c.shape.depth ≡ s.depth
+  pub fault : c.fault ≡ better h.fault (better s.fault (least (fault_if ((h.inputs == 0) || (nat_le 64 s.depth || nat_lt spec.most_bits h.bits)) FunctionRule place)))
   pub copies : c.copies ≡ s.copies
 
 -- one declaration, where perhaps a function is complete now

@@ -1,5 +1,5 @@
 -- What the code finds of a function's local signals.
-use Rattle.std.specs.Prelude.{◌≡◌, ◌==◌, ℕ, List, [], ◌∷◌, ◌++◌, sum_by, Option, Some, None, if◌then◌else◌}
+use Rattle.std.specs.Prelude.{◌≡◌, ◌==◌, ℕ, List, [], ◌∷◌, ◌++◌, length, map, sum_by, Option, Some, None, if◌then◌else◌}
 use Rattle.vs_design.specs.Expressions.{signal_length}
 use Rattle.vs_const.specs.Faults.{least}
 use Rattle.vs_elaborated.specs.Statements as statements
@@ -9,7 +9,8 @@ use Rattle.vs_maps.specs.PlaceViews.{placed as by_place}
 use Rattle.vs_maps.specs.declared.places.PlaceMap.{PlaceMap}
 use Rattle.vs_scope.specs.declared.names.LocalSignal.{LocalSignal}
 use Rattle.vs_scope.specs.declared.inside.SaidLocals.{SaidLocals}
-use Rattle.vs_scope.specs.Locals.{AreLocals, numbered}
+use Rattle.vs_scope.specs.declared.inside.SignalledLocals.{SignalledLocals}
+use Rattle.vs_scope.specs.Locals.{AreLocals, local_meaning, numbered, placed_local, placed_local_of}
 use Rattle.vs_scope.specs.LocalLists.{local_faults}
 
 -- the first that is declared at this place
@@ -20,6 +21,15 @@ first_at (s ∷ ss) place = if s.place == place then Some s else first_at ss pla
 -- of each place the number of the first
 pub record AreNumbered (places : PlaceMap ℕ) (ss : List LocalSignal) : Type 0 where
   pub each : (place : ℕ) → numbered ss (found_at place (by_place places)) ≡ first_at ss place
+
+-- the local signals, with their ranges
+pub record AreSignalled (c : SignalledLocals) (l : spec.Locals) : Type 0 where
+  pub signals : map placed_local c.all.signals.items ≡ map placed_local_of (spec.all_locals l)
+  pub inputs : c.inputs ≡ length l.inputs
+  pub result : local_meaning c.result ≡ l.result.meaning
+  pub fault : c.all.fault ≡ least (local_faults (spec.all_locals l))
+  pub known : c.all.known ≡ spec.are_known (spec.all_locals l)
+  pub bits : c.all.next.bit ≡ sum_by (λ (s : spec.LocalSignal). signal_length s.meaning.signal) (spec.all_locals l)
 
 pub record IsSaidLocals (c : SaidLocals) (l : spec.Locals) (vs : List statements.Local) : Type 0 where
   pub locals : AreLocals c.locals l vs

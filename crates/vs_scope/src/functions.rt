@@ -15,7 +15,7 @@ ghost use Rattle.vs_maps.specs.MapViews.{pairs};
 ghost use Rattle.vs_scope.specs.Complete.{IsIncomplete, KeepsShapes, function_declaration, shapes_in, shapes_of};
 ghost use Rattle.vs_scope.specs.Counts.{counted};
 ghost use Rattle.vs_scope.specs.Frames.{around_env, view_env};
-ghost use Rattle.vs_scope.specs.Functions.{AreCompleted, IsCalled, IsSaidFunction, IsSameScope, IsSaying, functions_in, is_incomplete};
+ghost use Rattle.vs_scope.specs.Functions.{AreCompleted, IsCalled, IsOfParts, IsSaidFunction, IsSameScope, IsSaying, functions_in, is_incomplete};
 ghost use Rattle.vs_scope.specs.Seen.{HasShape};
 ghost use Rattle.vs_scope.specs.Shaped.{AreShaped, IsShaped};
 ghost use Rattle.vs_scope.specs.Views.{declaration, entries};
@@ -26,7 +26,7 @@ use crate::names::{Declaration, Declared, Entry, Names, Sort};
 use crate::places::{Around, View};
 use std::alloc::{AllocError, Global};
 use vs_ast::Function;
-use vs_bodies::{BodyKind, check_statement};
+use vs_bodies::{BodyKind, StatementSaid, check_statement};
 use vs_const::{Fault, FunctionShape, Rule, fault_if, first_of};
 
 /// How many statements loops copy at most, those of all blocks and functions together.
@@ -51,6 +51,18 @@ pub(crate) struct SaidFunction {
 pub(crate) struct SaidFunctions {
     pub(crate) fault: Option<Fault>,
     pub(crate) counts: Counts,
+}
+
+/// What a function's local signals say: how many of them are inputs, the range and the sign of its result, the first fault of their names and ranges,
+/// whether all ranges are known, and how many bits they have.
+#[derive(Clone, Copy)]
+pub(crate) struct SaidHeader {
+    pub(crate) inputs: usize,
+    pub(crate) range: Option<vs_four::Range>,
+    pub(crate) signed: bool,
+    pub(crate) fault: Option<Fault>,
+    pub(crate) known: bool,
+    pub(crate) bits: u64,
 }
 
 /// The fault of a function without inputs, of one in which calls nest too deep, and of one of too many bits.
@@ -88,6 +100,33 @@ fn call_depth(depth: u32) -> Result<u8, AllocError>
     }
 }
 
+/// A function at this place and of this number, by what its local signals and its statement say.
+fn function_of(
+    place: u32,
+    number: u32,
+    header: SaidHeader,
+    said: StatementSaid,
+) -> Result<SaidFunction, AllocError>
+    ensures { IfOk result (λ r. IsOfParts r place number header said) }
+{
+    let size = size_fault(place, header.inputs, said.depth, header.bits);
+    let fault = first_of(header.fault, first_of(said.fault, size));
+    let inputs = input_count(header.inputs)?;
+    let depth = call_depth(said.depth)?;
+    Ok(SaidFunction {
+        shape: FunctionShape {
+            number,
+            inputs,
+            range: header.range,
+            signed: header.signed,
+            known: is_known(header.known, fault),
+            depth,
+        },
+        fault,
+        copies: said.copies,
+    })
+}
+
 /// What a function says, by what is seen in it of its scope. `number` is its number in the design, and `most` says how many statements its loops may copy.
 ///
 /// Its faults are those of its local signals (`said_locals`), those of its statement (`vs_bodies::check_statement`), and `FunctionRule`, at its `function`: it
@@ -107,33 +146,25 @@ pub(crate) fn said_function<'a>(
         locals,
         result_range,
         result_signed,
-        fault: declared,
+        fault,
         known,
         bits,
     } = said_locals(alloc, &here, scope, f)?;
-    let inputs = locals.inputs;
+    let header = SaidHeader {
+        inputs: locals.inputs,
+        range: result_range,
+        signed: result_signed,
+        fault,
+        known,
+        bits,
+    };
     let inside = Inside { here, locals };
     let kind = BodyKind {
         in_function: true,
         clocked: false,
     };
     let said = check_statement(alloc, &f.statement, kind, &inside, most)?;
-    let size = size_fault(f.place, inputs, said.depth, bits);
-    let fault = first_of(declared, first_of(said.fault, size));
-    let inputs = input_count(inputs)?;
-    let depth = call_depth(said.depth)?;
-    Ok(SaidFunction {
-        shape: FunctionShape {
-            number,
-            inputs,
-            range: result_range,
-            signed: result_signed,
-            known: is_known(known, fault),
-            depth,
-        },
-        fault,
-        copies: said.copies,
-    })
+    function_of(f.place, number, header, said)
 }
 
 /// Whether it is a function that isn't complete yet.

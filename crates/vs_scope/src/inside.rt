@@ -9,11 +9,11 @@ ghost use Rattle.vs_elaborated.specs.Functions as spec;
 ghost use Rattle.vs_elaborated.specs.Environments.{inside_function, within};
 ghost use Rattle.vs_scope.specs.Complete.{KeepsShapes, complete};
 ghost use Rattle.vs_scope.specs.Frames.{around_env, view_env};
-ghost use Rattle.vs_scope.specs.Inside.{AreNumbered, IsSaidLocals};
+ghost use Rattle.vs_scope.specs.Inside.{AreNumbered, AreSignalled, IsSaidLocals};
 ghost use Rattle.vs_scope.specs.Locals.{AreLocals, block_meaning, inside_names, local_at, own_meaning};
 
 use crate::local_signals::{LocalStart, Signalling};
-use crate::locals::{OwnNames, declared_locals, input_locals, own_locals, own_names, result_local};
+use crate::locals::{OwnNames, names_of, result_local};
 use crate::names::{LocalSignal, Names};
 use crate::places::{Around, View};
 use std::alloc::{AllocError, Global};
@@ -132,6 +132,44 @@ fn numbered(alloc: Global, signals: &[LocalSignal<'_>]) -> Result<PlaceMap<usize
     Ok(places)
 }
 
+/// The local signals of a function with their ranges, of which the first `inputs` are its inputs, and its result.
+#[derive(Drop)]
+pub(crate) struct SignalledLocals<'a> {
+    pub(crate) all: Signalling<'a>,
+    pub(crate) inputs: usize,
+    pub(crate) result: LocalSignal<'a>,
+}
+
+/// The local signals of a function, with their ranges.
+fn signalled_locals<'a>(
+    alloc: Global,
+    here: &View<'_, '_>,
+    scope: u32,
+    f: &'a Function,
+) -> Result<SignalledLocals<'a>, AllocError>
+    requires { IsFunction (view.function f.now) }
+    ensures { IfOk result (λ r. AreSignalled r (spec.function_locals scope (view_env here.now) (view.function f.now))) }
+{
+    let mut all = Signalling {
+        signals: Vec::new(alloc),
+        next: LocalStart {
+            scope,
+            signal: 0,
+            bit: 0,
+        },
+        fault: None,
+        known: true,
+    };
+    let inputs = all.signal_inputs(alloc, here, f)?;
+    let result = all.signal(alloc, here, Role::AsResult, false, result_local(f))?;
+    all.signal_own(alloc, here, f)?;
+    Ok(SignalledLocals {
+        all,
+        inputs,
+        result,
+    })
+}
+
 /// The local signals of a function, where it is seen from within. A fault is of a name that is declared twice, at the second one (`DuplicateName`), and of
 /// a range: that of a constant, or `BadRange`.
 ///
@@ -145,43 +183,31 @@ pub fn said_locals<'a>(
     requires { IsFunction (view.function f.now) }
     ensures { IfOk result (λ r. IsSaidLocals r (spec.function_locals scope (view_env here.now) (view.function f.now)) (spec.declared_locals (view.function f.now))) }
 {
-    let inputs = input_locals(alloc, f)?;
-    let own = own_locals(alloc, f)?;
-    let result_of = result_local(f);
-    let mut signalling = Signalling {
-        signals: Vec::new(alloc),
-        next: LocalStart {
-            scope,
-            signal: 0,
-            bit: 0,
-        },
-        fault: None,
-        known: true,
-    };
-    signalling.signal_all(alloc, here, Role::InFunction, true, inputs.as_slice())?;
-    let value = signalling.signal(alloc, here, Role::AsResult, false, result_of)?;
-    signalling.signal_all(alloc, here, Role::InFunction, false, own.as_slice())?;
+    let SignalledLocals {
+        all,
+        inputs,
+        result,
+    } = signalled_locals(alloc, here, scope, f)?;
     let Signalling {
         signals,
         next,
         fault: ranges,
         known,
-    } = signalling;
-    let all = declared_locals(alloc, f)?;
+    } = all;
     let OwnNames {
         places: names,
         fault: repeated,
-    } = own_names(alloc, all.as_slice())?;
+    } = names_of(alloc, f)?;
     let places = numbered(alloc, signals.as_slice())?;
     Ok(SaidLocals {
         locals: Locals {
             signals,
-            inputs: inputs.len(),
+            inputs,
             names,
             places,
         },
-        result_range: value.range,
-        result_signed: value.signed,
+        result_range: result.range,
+        result_signed: result.signed,
         fault: first_of(repeated, ranges),
         known,
         bits: next.bit,

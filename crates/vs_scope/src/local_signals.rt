@@ -1,21 +1,24 @@
 //! The local signals of a function, with their ranges and numbers (IEEE 1364-2005, 10.4.1).
 
-ghost use Rattle.std.specs.Prelude.{◌≡◌, ◌∷◌, [], IfOk, OnOk, map};
+ghost use Rattle.std.specs.Prelude.{◌≡◌, ◌∷◌, [], IfOk, OnOk, false, flat_map, length, map, true};
 ghost use Rattle.vs_design.specs.Expressions.{signal_length};
-ghost use Rattle.vs_grammar.specs.Shapes.{IsValueType};
+ghost use Rattle.vs_grammar.specs.Shapes.{IsFunction, IsValueType};
 ghost use Rattle.vs_ast.specs.Views as view;
+ghost use Rattle.vs_const.specs.declared.names.Role.TheVariants.{InFunction};
+ghost use Rattle.vs_elaborated.specs.Statements as statements;
 ghost use Rattle.vs_elaborated.specs.Functions as spec;
 ghost use Rattle.vs_scope.specs.Frames.{view_env};
 ghost use Rattle.vs_scope.specs.Locals.{IsSaidLocal, local, local_meaning, local_start};
 ghost use Rattle.vs_scope.specs.LocalLists.{AreShapedLocals, IsSigned};
 
 use crate::counts::one_more;
-use crate::locals::Local;
+use crate::locals::{Local, input_locals, own_locals};
 use crate::names::LocalSignal;
 use crate::numbers::{is_signed, said_type};
 use crate::places::View;
 use crate::signals::length_or_one;
 use std::alloc::{AllocError, Global};
+use vs_ast::Function;
 use vs_const::{Fault, Role, first_of};
 
 /// Where a function's local signals begin: the number of its scope, and the numbers of the next signal and of its first bit.
@@ -131,5 +134,34 @@ impl<'a> Signalling<'a> {
             self.signal(alloc, here, role, input, *v)?;
         }
         Ok(())
+    }
+    /// The inputs of a function more, of which there are so many.
+    pub(crate) fn signal_inputs(
+        &mut self,
+        alloc: Global,
+        here: &View<'_, '_>,
+        f: &'a Function,
+    ) -> Result<usize, AllocError>
+        requires { IsFunction (view.function f.now) }
+        ensures signed { OnOk result (IsSigned self.old self.new (spec.signals_of (view_env here.now) (local_start self.old.next) InFunction true (flat_map statements.locals_of (view.function f.now).inputs))) }
+        ensures count { IfOk result (λ n. n ≡ length (flat_map statements.locals_of (view.function f.now).inputs)) }
+    {
+        let inputs = input_locals(alloc, f)?;
+        self.signal_all(alloc, here, Role::InFunction, true, inputs.as_slice())?;
+        Ok(inputs.len())
+    }
+
+    /// A function's own variables more.
+    pub(crate) fn signal_own(
+        &mut self,
+        alloc: Global,
+        here: &View<'_, '_>,
+        f: &'a Function,
+    ) -> Result<(), AllocError>
+        requires { IsFunction (view.function f.now) }
+        ensures { OnOk result (IsSigned self.old self.new (spec.signals_of (view_env here.now) (local_start self.old.next) InFunction false (spec.own_locals (view.function f.now)))) }
+    {
+        let own = own_locals(alloc, f)?;
+        self.signal_all(alloc, here, Role::InFunction, false, own.as_slice())
     }
 }

@@ -131,10 +131,7 @@ pub(crate) fn input_locals<'a>(alloc: Global, f: &'a Function) -> Result<Vec<Loc
 }
 
 /// What a function declares in its own name space: its result, its inputs, its variables and its integers.
-pub(crate) fn declared_locals<'a>(
-    alloc: Global,
-    f: &'a Function,
-) -> Result<Vec<Local<'a>>, AllocError>
+fn declared_locals<'a>(alloc: Global, f: &'a Function) -> Result<Vec<Local<'a>>, AllocError>
     ensures { IfOk result (λ list. map local list.items ≡ spec.declared_locals (view.function f.now)) }
 {
     let mut list = Vec::new(alloc);
@@ -203,8 +200,8 @@ fn add_name<'a>(places: &mut NameMap<'a, u32>, v: &Local<'a>) -> Result<Option<F
     Ok(None)
 }
 
-/// The name space of a function.
-pub(crate) fn own_names<'a>(alloc: Global, all: &[Local<'a>]) -> Result<OwnNames<'a>, AllocError>
+/// The name space of a function that declares these.
+fn own_names<'a>(alloc: Global, all: &[Local<'a>]) -> Result<OwnNames<'a>, AllocError>
     ensures places { IfOk result (λ r. (name : List ℕ) → value_at name (pairs r.places) ≡ place_of (map local all.now) name) }
     ensures fault { IfOk result (λ r. r.fault ≡ least (statements.repeated_locals [] (map local all.now))) }
 {
@@ -215,4 +212,13 @@ pub(crate) fn own_names<'a>(alloc: Global, all: &[Local<'a>]) -> Result<OwnNames
         fault = first_of(fault, found);
     }
     Ok(OwnNames { places, fault })
+}
+
+/// The name space of this function.
+pub(crate) fn names_of<'a>(alloc: Global, f: &'a Function) -> Result<OwnNames<'a>, AllocError>
+    ensures places { IfOk result (λ r. (name : List ℕ) → value_at name (pairs r.places) ≡ place_of (spec.declared_locals (view.function f.now)) name) }
+    ensures fault { IfOk result (λ r. r.fault ≡ least (statements.repeated_locals [] (spec.declared_locals (view.function f.now)))) }
+{
+    let all = declared_locals(alloc, f)?;
+    own_names(alloc, all.as_slice())
 }

@@ -23,12 +23,12 @@ pub clock_first : (d : Design) (name : Option (List ℕ)) (c : Clocked) (a : IsA
 clock_first d name c a h = ap (λ (s : Signal). s.first) (some_is a.clock h.signal (sym a.clock_found ∙ h.is)) ∙ sym h.bit_is
 
 -- the outputs of a text that was read are those of its tree
-outputs_named : OneReading → {text top : List ℕ} {clock : Option (List ℕ)} {d : Design} (accepted : IsAcceptedText text top clock d) (a : Acceptance) → HaveOutputs text top a → a.outputs ≡ top_outputs accepted.source top
+outputs_named : OneReading → {text : List ℕ} {top clock : Option (List ℕ)} {d : Design} (accepted : IsAcceptedText text top clock d) (a : Acceptance) → HaveOutputs text top a → a.outputs ≡ top_outputs accepted.source top
 outputs_named one {text = text} {top = top} accepted a h =
     h.outputs_are ∙ ap (λ (s : Source). top_outputs s top) (one text h.tokens accepted.tokens h.source accepted.source h.read accepted.read)
 
 -- the ports of an accepted text
-pub ports_named : (demanded : Bool) (text top : List ℕ) (clock : Option (List ℕ)) (a : Acceptance) (ports : PortLists) → OneReading → (accepted : IsAcceptedText text top clock (design_of a.flat))
+pub ports_named : (demanded : Bool) (text : List ℕ) (top clock : Option (List ℕ)) (a : Acceptance) (ports : PortLists) → OneReading → (accepted : IsAcceptedText text top clock (design_of a.flat))
     → HaveOutputs text top a → IsAcceptance clock a → ports.inputs ≡ inputs_among a.clocks.reset_inputs a.clocks.bit (design_of a.flat).signals
     → ports.outputs ≡ outputs_among a.outputs (design_of a.flat).signals → ports.demanded ≡ demanded → ports ≡ ports_with demanded accepted
 ports_named demanded text top clock a ports one accepted have lent inputs_are outputs_are demanded_is = λ i. record { inputs = named i; outputs = outputs_is i; demanded = demanded_is i }
@@ -48,7 +48,7 @@ ports_named demanded text top clock a ports one accepted have lent inputs_are ou
     outputs_is : ports.outputs ≡ outputs d (top_outputs accepted.source top)
     outputs_is = outputs_are ∙ ap (λ (names : List (List ℕ)). outputs_among names d.signals) (outputs_named one accepted a have)
 
-pub loaded : (demanded : Bool) (text top : List ℕ) (clock : Option (List ℕ)) (a : Acceptance) (ports : PortLists)
+pub loaded : (demanded : Bool) (text : List ℕ) (top clock : Option (List ℕ)) (a : Acceptance) (ports : PortLists)
     → InputBitsFit → OneReading → IsAcceptedText text top clock (design_of a.flat) → HaveOutputs text top a → IsAcceptance clock a
     → ports.inputs ≡ inputs_among a.clocks.reset_inputs a.clocks.bit (design_of a.flat).signals → ports.outputs ≡ outputs_among a.outputs (design_of a.flat).signals
     → ports.demanded ≡ demanded → IsLoaded demanded text top clock a ports

@@ -99,7 +99,7 @@ err_is Q (Ok a) e is h = tt
 err_is {A = A} Q (Err d) e is h = subst Q (err_same {A = A} d e is) h
 
 -- the error of a text that isn't accepted
-pub unaccepted : (bytes : ℕ) (text top : List ℕ) (clock : Option (List ℕ)) (e : AcceptError) → IsRefusalOf text top clock e → IsLoadError bytes text top clock (accept_error bytes e)
+pub unaccepted : (bytes : ℕ) (text : List ℕ) (top clock : Option (List ℕ)) (e : AcceptError) → IsRefusalOf text top clock e → IsLoadError bytes text top clock (accept_error bytes e)
 unaccepted bytes text top clock (A.Refused r) h = record { refusal = r; refused = h; told = refl }
 unaccepted bytes text top clock A.Memory h = h
 
@@ -150,7 +150,7 @@ undesigned job old new path D.Memory is long attached fails =
     inr (0, none_below, attached (λ e. cc) ∙ ap (with_design old.register) is)
 
 -- an equal text is accepted as the same design
-with_text : (top : List ℕ) (clock : Option (List ℕ)) (d : Design) (text other : List ℕ) → text ≡ other → IsAcceptedText text top clock d → IsAcceptedText other top clock d
+with_text : (top clock : Option (List ℕ)) (d : Design) (text other : List ℕ) → text ≡ other → IsAcceptedText text top clock d → IsAcceptedText other top clock d
 with_text top clock d text other e a = record {
   short = subst (λ (t : List ℕ). length t ≤ most_bytes) e a.short;
   tokens = a.tokens;
@@ -207,7 +207,7 @@ unprepared {tells} job old mid new a ports l same e u = by_error e u
     by_error Memory u = inr u
 
 -- want of memory is told by its error alone
-pub memory_is : {V : Type 0} (text top : List ℕ) (clock : Option (List ℕ)) (r : Result V AcceptError) (e : AcceptError) → ◌≡◌ {A = Result V AcceptError} r (Err e) → e ≡ A.Memory → IfErr r (IsRefusalOf text top clock)
+pub memory_is : {V : Type 0} (text : List ℕ) (top clock : Option (List ℕ)) (r : Result V AcceptError) (e : AcceptError) → ◌≡◌ {A = Result V AcceptError} r (Err e) → e ≡ A.Memory → IfErr r (IsRefusalOf text top clock)
 memory_is text top clock r e is memory = err_is (IsRefusalOf text top clock) r A.Memory (is ∙ ap Err memory) tt
 
 -- the stimuli's places stay free where the design's is attached

@@ -24,14 +24,14 @@ use Rattle.vs_setup.proofs.Lanes.{HasLanes, HasEngine, program_is, bits_are, rea
 use Rattle.vs_setup.proofs.Signals.{are_inside}
 
 -- the outputs that are watched are those that stimuli name
-pub watches : OutputsHaveSpans → (text top : List ℕ) (clock : Option (List ℕ)) (a : Acceptance) (accepted : IsAcceptedText text top clock (design_of a.flat)) → a.outputs ≡ top_outputs accepted.source top
+pub watches : OutputsHaveSpans → (text : List ℕ) (top clock : Option (List ℕ)) (a : Acceptance) (accepted : IsAcceptedText text top clock (design_of a.flat)) → a.outputs ≡ top_outputs accepted.source top
     → watched a ≡ output_spans (design_of a.flat) (outputs (design_of a.flat) (top_outputs accepted.source top))
 watches law text top clock a accepted names_are =
     let d = design_of a.flat in
     ap (λ (names : List (List ℕ)). map span_of (filter (is_output names) d.signals)) names_are ∙ sym (law d (top_outputs accepted.source top))
 
 -- they have the lengths of the ports' outputs
-watched_lengths : OutputsHaveSpans → SpansHaveLengths → (text top : List ℕ) (clock : Option (List ℕ)) (a : Acceptance) (accepted : IsAcceptedText text top clock (design_of a.flat)) → a.outputs ≡ top_outputs accepted.source top
+watched_lengths : OutputsHaveSpans → SpansHaveLengths → (text : List ℕ) (top clock : Option (List ℕ)) (a : Acceptance) (accepted : IsAcceptedText text top clock (design_of a.flat)) → a.outputs ≡ top_outputs accepted.source top
     → (os : List Output) → os ≡ outputs (design_of a.flat) (top_outputs accepted.source top) → span_lengths (watched a) ≡ output_lengths os
 watched_lengths law lengths text top clock a accepted names_are os is =
     ap span_lengths (watches law text top clock a accepted names_are) ∙ lengths (design_of a.flat) (top_outputs accepted.source top) ∙ sym (ap output_lengths is)

@@ -17,7 +17,7 @@ abbrev pub watched : Acceptance → List Span
 watched a = map span_of (filter (is_output a.outputs) (design_of a.flat).signals)
 
 -- The text is accepted as this design, and all that is lent belongs to it. Stimuli name its ports, and a header has to name outputs where this is demanded.
-pub record IsLoaded (demanded : Bool) (text top : List ℕ) (clock : Option (List ℕ)) (a : Acceptance) (ports : PortLists) : Type 0 where
+pub record IsLoaded (demanded : Bool) (text : List ℕ) (top clock : Option (List ℕ)) (a : Acceptance) (ports : PortLists) : Type 0 where
   pub accepted : IsAcceptedText text top clock (design_of a.flat)
   pub lent : IsAcceptance clock a
   -- what is told of the clock is told of the input by which the text is accepted

@@ -29,7 +29,7 @@ abbrev pub IsDesignOf : Job → Contents → Design → Type 0
 IsDesignOf job c d = IsAcceptedText (design_text job c) job.top job.clock d
 
 -- The text is refused so, its places told behind this many bytes.
-pub record IsRefusedBehind (bytes : ℕ) (text top : List ℕ) (clock : Option (List ℕ)) (r : Refusal) : Type 0 where
+pub record IsRefusedBehind (bytes : ℕ) (text : List ℕ) (top clock : Option (List ℕ)) (r : Refusal) : Type 0 where
   pub refusal : Refusal
   pub refused : IsRefusedText text top clock refusal
   pub told : r ≡ behind bytes refusal
@@ -130,7 +130,7 @@ accept_error bytes (A.Refused r) = Refused (behind bytes r)
 accept_error bytes A.Memory = Memory
 
 -- a design's text can't be loaded, its places told behind this many bytes
-abbrev pub IsLoadError : (bytes : ℕ) (text top : List ℕ) (clock : Option (List ℕ)) → SetupError → Type 0
+abbrev pub IsLoadError : (bytes : ℕ) (text : List ℕ) (top clock : Option (List ℕ)) → SetupError → Type 0
 IsLoadError bytes text top clock (Refused r) = IsRefusedBehind bytes text top clock r
 IsLoadError bytes text top clock Memory = Unit {0}
 IsLoadError bytes text top clock _ = ⊥

@@ -33,19 +33,20 @@ pub struct Loaded {
     pub ports: Ports,
 }
 
-/// Loads the design of a text of at most 4,194,304 bytes whose top module and whose clock input have these names, or that has no clock where none is named.
+/// Loads the design of a text of at most 4,194,304 bytes whose top module and whose clock input have these names; where no top is named it is the one module that no instance names,
+/// and where no clock is named there is none.
 /// Where outputs are demanded, the header of a stimulus has to name one at least.
 /// Otherwise the text is refused, by the first rule that it breaks, or there is no memory.
 pub fn load(
     alloc: Global,
     text: &[u8],
-    top: &[u8],
+    top: Option<&[u8]>,
     clock: Option<&[u8]>,
     demanded: bool,
 ) -> Result<Loaded, AcceptError>
     requires { length text.now ≤ most_bytes }
-    ensures loaded { IfOk result (λ l. IsLoaded demanded text.now top.now (option_map (λ c. c.now) clock.entry) l.accepted l.ports) }
-    ensures refused { IfErr result (IsRefusalOf text.now top.now (option_map (λ c. c.now) clock.entry)) }
+    ensures loaded { IfOk result (λ l. IsLoaded demanded text.now (option_map (λ t. t.now) top.entry) (option_map (λ c. c.now) clock.entry) l.accepted l.ports) }
+    ensures refused { IfErr result (IsRefusalOf text.now (option_map (λ t. t.now) top.entry) (option_map (λ c. c.now) clock.entry)) }
 {
     inputs_law();
     answer_law();
@@ -88,18 +89,18 @@ fn ports_of(alloc: Global, accepted: &Accepted, demanded: bool) -> Result<Ports,
     Ok(Ports::of(inputs, outputs, demanded))
 }
 
-/// The data inputs and the outputs of the design of a text of at most 4,194,304 bytes whose top module and whose clock input have these names, or that has no clock where
-/// none is named, as stimuli name them: with the text accepted, and nothing compiled. Where outputs are demanded, the header of a stimulus has to name one at least. None where the text is refused. The only
-/// error is that memory ran out.
+/// The data inputs and the outputs of the design of a text of at most 4,194,304 bytes whose top module and whose clock input have these names, as stimuli name them: with the text
+/// accepted, and nothing compiled. Where no top is named it is the one module that no instance names, and where no clock is named there is none. Where outputs are demanded, the
+/// header of a stimulus has to name one at least. None where the text is refused. The only error is that memory ran out.
 pub fn read_ports(
     alloc: Global,
     text: &[u8],
-    top: &[u8],
+    top: Option<&[u8]>,
     clock: Option<&[u8]>,
     demanded: bool,
 ) -> Result<Option<Ports>, AllocError>
     requires { length text.now ≤ most_bytes }
-    ensures { IfOk result (TellsPorts demanded text.now top.now (option_map (λ c. c.now) clock.entry)) }
+    ensures { IfOk result (TellsPorts demanded text.now (option_map (λ t. t.now) top.entry) (option_map (λ c. c.now) clock.entry)) }
 {
     answer_law();
     match accept(alloc, text, top, clock) {

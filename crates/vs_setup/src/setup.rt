@@ -118,7 +118,7 @@ fn load_text(alloc: Global, job: &Job, text: &[u8]) -> Result<Loaded, SetupError
     ensures refused { IfErr result (IsLoadError (length job.now.head) text.now job.now.top job.now.clock) }
 {
     let demanded = demands(job.mode);
-    match load(alloc, text, job.top.as_bytes(), job.clock_bytes(), demanded) {
+    match load(alloc, text, job.top_bytes(), job.clock_bytes(), demanded) {
         Ok(loaded) => Ok(loaded),
         Err(error) => Err(SetupError::unaccepted(error, job.head.as_bytes().len() as u32)),
     }

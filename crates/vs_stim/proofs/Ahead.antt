@@ -1,8 +1,10 @@
 -- Runs of digits: as planes, in a field, and in a line.
-use Rattle.std.proofs.Common.{◌≡◌, ℕ, zero, suc, ◌+◌, ◌*◌, ◌/◌, ◌%◌, ◌^◌, ◌<◌, ◌≤◌, Bool, true, false, not, ◌&&◌, ◌||◌, nat_eq, List, [], ◌∷◌, ◌++◌, length, get_or, take, refl, sym, ap, ◌∙◌, subst, inl, inr, arith, lit≤, add-one, add-zero, take-suc, append_assoc, length-append}
-use Rattle.std.proofs.lemmas.List.{append-nil, map-append}
+use Rattle.std.proofs.Common.{◌≡◌, ℕ, zero, suc, ◌+◌, ◌-◌, ◌*◌, ◌/◌, ◌%◌, ◌^◌, ◌<◌, ◌≤◌, Bool, true, false, not, ◌&&◌, ◌||◌, nat_eq, List, [], ◌∷◌, ◌++◌, length, get_or, take, drop, refl, sym, ap, ◌∙◌, subst, inl, inr, arith, lit≤, add-one, add-zero, zero-add, take-suc, append_assoc, length-append, length-drop}
+use Rattle.std.proofs.lemmas.List.{append-nil, map-append, length-take, take_all}
+use Rattle.std.proofs.lemmas.Nat.{pow-add}
 use Rattle.std.proofs.lemmas.Bool.Decides.{eqb_tells}
 use Rattle.std.proofs.Math.Nat.{pow-suc, pow-le-pow_right}
+use Rattle.std.proofs.Math.Seq.{take-add}
 use Rattle.std.specs.Prelude.{Option, Some, None, IsTrue, slice_set}
 use Rattle.vs_four.specs.declared.Bit4.{Bit4}
 use Rattle.vs_four.specs.declared.Bit4.TheVariants.{Zero, One, X, Z}
@@ -23,7 +25,7 @@ use Rattle.vs_stim.specs.Reading.Said.{Malformed}
 use Rattle.vs_stim.specs.Vectors.{digit, with_top, digits_by, bits_of, wanted_digit, wanted_of}
 use Rattle.vs_stim.specs.Wanted.{Wanteds, exactly}
 use Rattle.vs_stim.specs.Wants.{wanted_to_come, in_wanted, wants_with}
-use Rattle.vs_stim.specs.Row.{Values, Tail, to_come, in_field, row_with}
+use Rattle.vs_stim.specs.Row.{Values, Tail, to_come, in_field, row_with, ReadsOn}
 use Rattle.vs_stim.proofs.Counted.{both}
 use Rattle.vs_stim.specs.Source.{Open, says, open_before, open_at, in_block, SameLine, GoesOn, GivesByte, WentOn, ReadsDigits, ReadsAhead, ReadsWantedDigits, ReadsBehind, is_told}
 
@@ -48,6 +50,27 @@ planes_more n v u d = ap (λ k. bits_of_planes k (2 * v + value_digit d) (2 * u 
     of X = at X 1 1 (omega arith) (omega arith) refl
     of Z = at Z 0 1 (omega arith) (omega arith) refl
 
+-- digits whose unknown plane is 0, below the others
+pub planes_above : (k n v u low : ℕ) → low < 2 ^ k → bits_of_planes (k + n) (2 ^ k * v + low) (2 ^ k * u) ≡ bits_of_planes k low 0 ++ bits_of_planes n v u
+unfolding bits_of_planes
+planes_above zero n v u low h =
+    let none : 2 ^ 0 * v + low ≡ v = omega arith in
+    let none_two : 2 ^ 0 * u ≡ u = omega arith in
+    (λ i. bits_of_planes (zero-add n i) (none i) (none_two i))
+planes_above (suc k) n v u low h =
+    let p = pow-suc 2 k in
+    let twice : 2 ^ suc k * v ≡ 2 * (2 ^ k * v) = ap (λ m. m * v) p ∙ omega arith in
+    let twice_two : 2 ^ suc k * u ≡ 2 * (2 ^ k * u) = ap (λ m. m * u) p ∙ omega arith in
+    let half : low / 2 < 2 ^ k = omega (arith, p, h) in
+    let below : (2 ^ suc k * v + low) % 2 ≡ low % 2 = omega (arith, twice) in
+    let above : (2 ^ suc k * v + low) / 2 ≡ 2 ^ k * v + low / 2 = omega (arith, twice) in
+    let below_two : (2 ^ suc k * u) % 2 ≡ 0 = omega (arith, twice_two) in
+    let above_two : (2 ^ suc k * u) / 2 ≡ 2 ^ k * u = omega (arith, twice_two) in
+    let more : suc k + n ≡ suc (k + n) = omega arith in
+    ap (λ m. bits_of_planes m (2 ^ suc k * v + low) (2 ^ suc k * u)) more
+    ∙ (λ i. decode (below i) (below_two i) ∷ bits_of_planes (k + n) (above i) (above_two i))
+    ∙ ap (λ bits. decode (low % 2) 0 ∷ bits) (planes_above k n v u (low / 2) half)
+
 pub below_more : (n v d : ℕ) → v < 2 ^ n → d < 2 → 2 * v + d < 2 ^ (n + 1)
 below_more n v d h k = subst (λ m. 2 * v + d < 2 ^ m) (sym (add-one n)) (omega (arith, pow-suc 2 n))
 
@@ -60,6 +83,12 @@ digit_fits n v d m h k =
 pub half_fits : (n v : ℕ) → n < 64 → v < 2 ^ n → 2 * v < 2 ^ 64
 half_fits n v m h = omega (arith, digit_fits n v 0 m h (omega arith))
 
+pub eight_fits : (n v d : ℕ) → n + 8 ≤ 64 → v < 2 ^ n → d < 2 ^ 8 → 256 * v + d < 2 ^ 64
+eight_fits n v d m h k =
+    let few : 8 + n ≤ 64 = omega (arith, m) in
+    let some : 2 ^ (8 + n) ≤ 2 ^ 64 = pow-le-pow_right (lit≤ tt) few in
+    omega (arith, pow-add 2 8 n, some, h, k)
+
 -- how many there are
 pub planes_count : (n v u : ℕ) (bits : List Bit4) → bits_of_planes n v u ≡ bits → n ≡ length bits
 planes_count n v u bits e = sym (length-planes n v u) ∙ ap length e
@@ -67,6 +96,10 @@ planes_count n v u bits e = sym (length-planes n v u) ∙ ap length e
 -- there is room for one more
 pub room_more : (n v u count most : ℕ) (bits : List Bit4) → bits_of_planes n v u ≡ bits → length bits + most ≤ 64 → count < most → n + count < 64
 room_more n v u count most bits e h k = omega (arith, planes_count n v u bits e, h, k)
+
+-- and for eight more
+pub room_eight : (n v u count most : ℕ) (bits : List Bit4) → bits_of_planes n v u ≡ bits → length bits + most ≤ 64 → count + 8 ≤ most → n + count + 8 ≤ 64
+room_eight n v u count most bits e h k = omega (arith, planes_count n v u bits e, h, k)
 
 pub value_below : (d : Bit4) → value_digit d < 2
 value_below Zero = omega arith
@@ -212,6 +245,47 @@ pub read_plain : (bytes : List ℕ) (count n v u value unknown b m : ℕ) → Ha
 read_plain bytes count n v u value unknown b zero h k e few p q = of_plain bytes count n v u value unknown 0 Zero h k (e ∙ p refl) refl refl refl
 read_plain bytes count n v u value unknown b (suc zero) h k e few p q = of_plain bytes count n v u value unknown 1 One h k (e ∙ q refl) refl refl refl
 read_plain bytes count n v u value unknown b (suc (suc m)) h k e few p q = absurd (let f : ⊥ = omega arith in f)
+
+-- the bytes from a place on, as a slice gives them
+pub behind_place : (bytes : List ℕ) (at : ℕ) → take (length bytes - at) (drop at bytes) ≡ drop at bytes
+behind_place bytes at = take_all (length bytes - at) (drop at bytes) (let e = length-drop at bytes in omega (arith, e))
+
+-- eight more behind them
+pub read_eight : (bytes : List ℕ) (count n v u value unknown eight : ℕ) → HasRead bytes count n v u value unknown → bits_of (take 8 (take (length bytes - count) (drop count bytes))) ≡ Some (bits_of_planes 8 eight 0) → eight < 2 ^ 8
+    → HasRead bytes (count + 8) n v u (256 * value + eight) (unknown * 256)
+unfolding above
+read_eight bytes count n v u value unknown eight h in_slice few = record {
+  within = omega (arith, h.within, many, length-take 8 (drop count bytes), length-drop count bytes);
+  bits = bits_of_planes 8 eight 0 ++ h.bits;
+  are = ap bits_of (take-add count 8 bytes) ∙ digits_front digit (take count bytes) (take 8 (drop count bytes)) h.bits h.are ∙ ap (above h.bits) are;
+  planes = (λ i. bits_of_planes (next i) (256 * value + eight) (turned i)) ∙ planes_above 8 (n + count) value unknown eight few ∙ ap (λ xs. bits_of_planes 8 eight 0 ++ xs) h.planes ∙ sym (append_assoc (bits_of_planes 8 eight 0) h.bits (bits_of_planes n v u));
+  value_fits = subst (λ m. 256 * value + eight < 2 ^ m) (sym next) (omega (arith, wider, h.value_fits, few));
+  unknown_fits = subst (λ m. unknown * 256 < 2 ^ m) (sym next) (omega (arith, wider, h.unknown_fits));
+}
+  where
+    are : bits_of (take 8 (drop count bytes)) ≡ Some (bits_of_planes 8 eight 0)
+    are = ap (λ bs. bits_of (take 8 bs)) (sym (behind_place bytes count)) ∙ in_slice
+
+    next : n + (count + 8) ≡ 8 + (n + count)
+    next = omega arith
+
+    turned : unknown * 256 ≡ 256 * unknown
+    turned = omega arith
+
+    many : 8 ≡ length (take 8 (drop count bytes))
+    many = sym (length-planes 8 eight 0) ∙ digits_length digit (take 8 (drop count bytes)) (bits_of_planes 8 eight 0) are
+
+    wider : 2 ^ (8 + (n + count)) ≡ 256 * 2 ^ (n + count)
+    wider = pow-add 2 8 (n + count)
+
+-- one run behind another
+pub reads_both : (bytes : List ℕ) (count more : ℕ) (high middle all : List Bit4) → ReadsOn bytes count high middle → ReadsOn (take (length bytes - count) (drop count bytes)) more middle all → ReadsOn bytes (count + more) high all
+unfolding above
+reads_both bytes count more high middle all r q = record {
+  bits = q.bits ++ r.bits;
+  are = ap bits_of (take-add count more bytes) ∙ digits_front digit (take count bytes) (take more (drop count bytes)) r.bits r.are ∙ ap (above r.bits) (ap (λ bs. bits_of (take more bs)) (sym (behind_place bytes count)) ∙ q.are);
+  below = q.below ∙ ap (λ xs. q.bits ++ xs) r.below ∙ sym (append_assoc q.bits r.bits high);
+}
 
 -- ---- in a field
 

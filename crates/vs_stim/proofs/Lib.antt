@@ -22,3 +22,4 @@ pub mod Demanded
 pub mod Numbers
 pub mod Once
 pub mod LineRead
+pub mod Eights

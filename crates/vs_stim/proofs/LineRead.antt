@@ -1,6 +1,6 @@
 -- Lines of plain digits, field by field.
 use Rattle.std.proofs.Common.{All, ◌≡◌, ℕ, zero, suc, ◌+◌, ◌<◌, ◌≤◌, Bool, true, false, ◌||◌, ◌&&◌, ◌-◌, nat_eq, nat_le, nat_lt, ◌≢◌, List, [], ◌∷◌, ◌++◌, length, drop, get_or, refl, sym, ap, ◌∙◌, subst, arith, add-one, append_assoc, length-append}
-use Rattle.std.proofs.lemmas.List.{append-nil, drop-drop, take-append-drop, take_all, length-drop, length-map}
+use Rattle.std.proofs.lemmas.List.{append-nil, drop-drop, length-map}
 use Rattle.std.proofs.lemmas.List.Elements.{All-get_or}
 use Rattle.std.proofs.lemmas.Bool.{eq-eqb, le-ltb}
 use Rattle.std.proofs.Math.Seq.{drop-cons}
@@ -19,18 +19,18 @@ use Rattle.vs_stim.specs.declared.row.Spot.TheVariants.{Start}
 use Rattle.vs_stim.specs.declared.source.Source.{Source}
 use Rattle.vs_stim.specs.declared.error.StimError.{StimError}
 use Rattle.vs_stim.specs.declared.error.StimError.TheVariants.{StimulusTooLong, LineTooLong}
-use Rattle.vs_stim.specs.Fields.{Fields, is_blank, is_skipped, words, all_fields, fields}
+use Rattle.vs_stim.specs.Fields.{Fields, is_skipped, words, all_fields, fields}
 use Rattle.vs_stim.specs.Header.{each_once}
 use Rattle.vs_stim.specs.Lines.{Lines, Line, lines, all_lines, content, without_cr, is_inner}
 use Rattle.vs_stim.specs.Reading.{Said, Place, limits, too_long, behind}
 use Rattle.vs_stim.specs.Reading.Said.{Skipped, Malformed, Given}
-use Rattle.vs_stim.specs.Vectors.{Entry, digit, digits_by, bits_of, wanted_digit, wanted_of}
+use Rattle.vs_stim.specs.Vectors.{Entry, digit, bits_of, wanted_of}
 use Rattle.vs_stim.specs.Wanted.{Wanteds, exactly, wanted_sizes}
 use Rattle.vs_stim.specs.Wants.{wanted_to_come, wants_to_come, wants_said, expected_lengths, IsExpected}
 use Rattle.vs_stim.specs.Row.{Values, Tail, with_values, to_come, from_start, row_with, entry_in, sizes, each_input, IsColumn}
-use Rattle.vs_stim.specs.Source.{Open, open_before, open_at, line_length, line_refusal, says, Passes, PassesLf}
+use Rattle.vs_stim.specs.Source.{Open, open_before, open_at, line_length, says, Passes, PassesLf}
 use Rattle.vs_stim.specs.Plain.{IsField, Begins, BeginsLine, ReadsInputs, EndsInputs, ReadsExpected, EndsExpected, IsArrow, IsLine, PassedLine, HasLine}
-use Rattle.vs_stim.proofs.Ahead.{NoBlanks, NoEnds, other, first_digit, words_ahead, inner_digits, inner-append, no_lf_ahead, without_cr_ahead, exactly_read}
+use Rattle.vs_stim.proofs.Ahead.{behind_place, NoBlanks, NoEnds, other, first_digit, words_ahead, inner_digits, inner-append, no_lf_ahead, without_cr_ahead, exactly_read}
 use Rattle.vs_stim.proofs.Sized.{sizes-set}
 use Rattle.vs_stim.proofs.Untold.{lines_closed}
 use Rattle.vs_stim.proofs.Wanting.{length_at, wanted_sizes-set}
@@ -116,10 +116,6 @@ begins_line bytes text at size bits b f = record {
   long = omega (arith, length-append text f.digits, b.long, f.many);
   inner = inner-append text f.digits b.inner (inner_digits digit no_ends f.digits bits f.are);
 }
-
--- the bytes from a place on, as a slice gives them
-behind_place : (bytes : List ℕ) (at : ℕ) → take (length bytes - at) (drop at bytes) ≡ drop at bytes
-behind_place bytes at = take_all (length bytes - at) (drop at bytes) (let e = length-drop at bytes in omega (arith, e))
 
 field_here : (bytes : List ℕ) (at size end : ℕ) (bits : List Bit4) → IsField (take (length bytes - at) (drop at bytes)) size end bits → IsField (drop at bytes) size end bits
 field_here bytes at size end bits f = subst (λ xs. IsField xs size end bits) (behind_place bytes at) f

@@ -1,9 +1,9 @@
 //! The digits of one field.
 
-ghost use Rattle.std.specs.Prelude.{◌≡◌, ◌+◌, ◌<◌, ◌≤◌, [], ◌∷◌, length};
+ghost use Rattle.std.specs.Prelude.{◌≡◌, ◌+◌, ◌<◌, ◌≤◌, ◌^◌, [], ◌∷◌, length, take, IfSome};
 ghost use Rattle.vs_stim.specs.Fields.{is_blank};
-ghost use Rattle.vs_four.specs.Planes.{value_digit, unknown_digit};
-ghost use Rattle.vs_stim.specs.Vectors.{digit};
+ghost use Rattle.vs_four.specs.Planes.{value_digit, unknown_digit, bits_of_planes};
+ghost use Rattle.vs_stim.specs.Vectors.{digit, bits_of};
 
 use std::marker::Model;
 use vs_four::{Bit4, Bits};
@@ -70,8 +70,48 @@ impl Digits {
     }
 
     /// Reads the digits `0` and `1` that these bytes begin with, below those before them, at most so
-    /// many, and answers how many. No branch depends on which of the two a digit is.
+    /// many, and answers how many: eight at a time while there are eight, then one by one.
     pub(crate) fn read(&mut self, bytes: &[u8], most: usize) -> usize
+        requires { length self.old + most ≤ 64 }
+        ensures few { result ≤ most }
+        ensures within { result ≤ length bytes.now }
+        ensures count { length self.new ≡ length self.old + result }
+        ensures reads { ReadsOn bytes.now result self.old self.new }
+    {
+        let count = self.read_eights(bytes, most);
+        let more = self.read_singly(&bytes[count..], most - count);
+        count + more
+    }
+
+    /// The same of as many whole eights of digits as the bytes begin with, at most so many digits.
+    #[inline]
+    fn read_eights(&mut self, bytes: &[u8], most: usize) -> usize
+        requires { length self.old + most ≤ 64 }
+        ensures few { result ≤ most }
+        ensures within { result ≤ length bytes.now }
+        ensures count { length self.new ≡ length self.old + result }
+        ensures reads { ReadsOn bytes.now result self.old self.new }
+    {
+        let mut value = self.value;
+        let mut unknown = self.unknown;
+        let mut count = 0;
+        while count + 8 <= most {
+            let Some(eight) = eight_digits(&bytes[count..]) else {
+                break;
+            };
+            value = 256 * value + eight;
+            unknown *= 256;
+            count += 8;
+        }
+        self.value = value;
+        self.unknown = unknown;
+        self.len += count as u32;
+        count
+    }
+
+    /// And the same one by one. No branch depends on which of the two a digit is.
+    #[inline]
+    fn read_singly(&mut self, bytes: &[u8], most: usize) -> usize
         requires { length self.old + most ≤ 64 }
         ensures few { result ≤ most }
         ensures within { result ≤ length bytes.now }
@@ -137,6 +177,29 @@ pub(crate) fn plain_digit(byte: u8) -> u64
     ensures one { result ≡ 1 → byte ≡ 49 }
 {
     byte.wrapping_sub(b'0') as u64
+}
+
+/// The upper seven bits of each byte of a word.
+const UPPER_BITS: u64 = 0xFEFE_FEFE_FEFE_FEFE;
+
+/// Eight bytes `0`.
+const ZERO_DIGITS: u64 = 0x3030_3030_3030_3030;
+
+/// The number by which the lowest bit of each byte of a word is moved into its highest byte, that of the lowest byte highest.
+const GATHER: u64 = 0x8040_2010_0804_0201;
+
+/// The value of the eight digits `0` and `1` that these bytes begin with, most significant first, where they do. They are read as one word.
+#[inline]
+fn eight_digits(bytes: &[u8]) -> Option<u64>
+    ensures digits { IfSome result (λ value. bits_of (take 8 bytes.now) ≡ Some (bits_of_planes 8 value 0)) }
+    ensures below { IfSome result (λ value. value < 2 ^ 8) }
+{
+    let word = u64::from_le_bytes(*bytes.first_chunk()?);
+    if word & UPPER_BITS != ZERO_DIGITS {
+        return None;
+    }
+    let digits = word - ZERO_DIGITS;
+    Some(digits.wrapping_mul(GATHER) >> 56)
 }
 
 /// Whether the byte is a space or a tab.

@@ -46,7 +46,7 @@ fn field(bytes: &[u8], size: u32, end: u8) -> Option<Bits>
     }
 }
 
-/// And the same of a field of any number of digits, read one by one.
+/// And the same of a field of any number of digits.
 fn run_field(bytes: &[u8], size: u32, end: u8) -> Option<Bits>
     requires some { 1 ≤ size }
     requires at_most_64 { size ≤ 64 }

@@ -1,10 +1,9 @@
 //! The lines behind the header.
 
 ghost use Rattle.std.specs.Prelude.{All, Some, None, Ok, Err, ◌≡◌, ◌≢◌, ◌≤◌, ◌<◌, ◌+◌, [], length, true, false, IsTrue, IsSome, IfSome, IfOk, IfErr, OnOk};
-ghost use Rattle.vs_desk.specs.Desk.{IsAttached, Fails};
+ghost use Rattle.vs_desk.specs.Desk.{IsAttached};
 ghost use Rattle.vs_desk.specs.declared.desk.Way.TheVariants.{Read};
-ghost use Rattle.vs_desk.specs.Taking.{OnlyTaken, TakesAt};
-ghost use Rattle.vs_four.specs.Tables.{is_known};
+ghost use Rattle.vs_desk.specs.Taking.{TakesAt};
 ghost use Rattle.vs_stim.specs.Vectors.{all_known, vector_known, resets_known};
 ghost use Rattle.vs_stim.specs.Reading.{vector_line, limits, not_taken, at_end, refused, whole, with_vector};
 ghost use Rattle.vs_stim.specs.Row.{row_with, as_said, entry_in, columns_in, sizes, each_input, IsColumn, IsRow, SameForm};
@@ -15,7 +14,7 @@ use crate::row::{LineKind, Row};
 use crate::source::{Piece, Source};
 use crate::{Column, StimError};
 use vs_desk::Desk;
-use vs_four::{Bit4, Bits};
+use vs_four::Bits;
 
 /// The greatest number of vectors in a text.
 const VECTORS: u32 = 16_777_216;
@@ -133,26 +132,12 @@ fn read_row<D: Desk>(
     feed_line(source, row, desk)
 }
 
-/// Whether a bit is 0 or 1.
-fn is_known_bit(bit: Bit4) -> bool
-    ensures { result ≡ is_known bit }
-{
-    match bit {
-        Bit4::Zero | Bit4::One => true,
-        Bit4::X | Bit4::Z => false,
-    }
-}
-
 /// Whether no bit is x or z.
 fn are_bits_known(bits: Bits) -> bool
     ensures { result ≡ all_known bits }
 {
-    for n in 0..bits.len() {
-        if !is_known_bit(bits.get(n)) {
-            return false;
-        }
-    }
-    true
+    let (_, unknown) = bits.planes();
+    unknown == 0
 }
 
 /// Whether no value has an x or z bit.

@@ -1,7 +1,7 @@
 -- Refusals of a text that stands behind another one.
 use Rattle.std.proofs.Common.{◌≡◌, ℕ, true, List, inl, inr, refl, sym, ap, subst, Option}
 use Rattle.vs_refusal.specs.declared.refusal.Refusal.{Refusal}
-use Rattle.vs_refusal.specs.declared.refusal.Refusal.TheVariants.{Bare, SamePath, At, TooLarge, Latch, Sensitivity, TwoDrivers, Process, Cycle, Lane, Line}
+use Rattle.vs_refusal.specs.declared.refusal.Refusal.TheVariants.{Bare, SamePath, At, TooLarge, Latch, Sensitivity, TwoDrivers, Process, Cycle, Race, Lane, Line}
 use Rattle.vs_refusal.specs.declared.names.BareName.{BareName}
 use Rattle.vs_refusal.specs.Behind.{behind}
 use Rattle.vs_accept.specs.Accepted.{AreAlike, is_open}
@@ -17,7 +17,7 @@ alike_behind : (n : ℕ) (r q : Refusal) → AreAlike r q → AreAlike (behind n
 alike_behind n r q (inl e) = inl (ap (behind n) e)
 alike_behind n r q (inr o) = inr (open_behind n r q o)
 
-pub told_alike : (n : ℕ) (text top : List ℕ) (clock : Option (List ℕ)) (r q : Refusal) (t : IsRefusedBehind n text top clock r) (u : IsRefusedBehind n text top clock q) → AreAlike t.refusal u.refusal → AreAlike r q
+pub told_alike : (n : ℕ) (text : List ℕ) (top clock : Option (List ℕ)) (r q : Refusal) (t : IsRefusedBehind n text top clock r) (u : IsRefusedBehind n text top clock q) → AreAlike t.refusal u.refusal → AreAlike r q
 told_alike n text top clock r q t u h =
     subst (λ (x : Refusal). AreAlike x q) (sym t.told) (subst (λ (x : Refusal). AreAlike (behind n t.refusal) x) (sym u.told) (alike_behind n t.refusal u.refusal h))
 
@@ -32,5 +32,6 @@ bare_behind n (Sensitivity process signal at) name e = absurd (cc)
 bare_behind n (TwoDrivers bit first second at) name e = absurd (cc)
 bare_behind n (Process kind process at) name e = absurd (cc)
 bare_behind n (Cycle processes at) name e = absurd (cc)
+bare_behind n (Race process bit at) name e = absurd (cc)
 bare_behind n (Lane kind lane) name e = absurd (cc)
 bare_behind n (Line kind lane row) name e = absurd (cc)

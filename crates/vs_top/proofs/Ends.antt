@@ -16,7 +16,7 @@ use Rattle.vs_lexer.specs.declared.token.LexError.{LexError}
 use Rattle.vs_lexer.specs.declared.token.LexError.TheVariants as lexer
 use Rattle.vs_pre.specs.declared.error.PreError.{PreError}
 use Rattle.vs_pre.specs.declared.error.PreError.TheVariants as macro
-use Rattle.vs_design.specs.Answers.{DesignRefusal, OfWidth, OfBlock, OfDriver, OfClock, Cycle, OfZero}
+use Rattle.vs_design.specs.Answers.{DesignRefusal, OfWidth, OfBlock, OfDriver, OfClock, Cycle, OfRace, OfZero}
 use Rattle.vs_design.specs.Refusals as rule
 use Rattle.vs_refusal.specs.declared.refusal.Refusal.{Refusal}
 use Rattle.vs_refusal.specs.declared.refusal.Refusal.TheVariants.{Bare, SamePath}
@@ -114,9 +114,10 @@ design_usage byte (OfClock (rule.ClockRead p at)) h = cc
 design_usage byte (OfClock (rule.NotTheClock p at)) h = cc
 design_usage byte (OfClock (rule.ResetForm p at)) h = cc
 design_usage byte (Cycle processes at) h = cc
+design_usage byte (OfRace (rule.Race p bit at)) h = cc
 design_usage byte (OfZero (rule.TimeZero p at)) h = cc
 
-text_usage : (text top : List ℕ) (clock : Option (List ℕ)) (r : Refusal) → IsRefusedText text top clock r → r ≡ Bare Usage → ⊥
+text_usage : (text : List ℕ) (top clock : Option (List ℕ)) (r : Refusal) → IsRefusedText text top clock r → r ≡ Bare Usage → ⊥
 text_usage text top clock r (ByTokens e cut told) h = token_usage e (told ∙ ap (λ (q : Refusal). Some q) h)
 text_usage text top clock r (ByMacros written e cut faulty told) h = macro_usage e (told ∙ ap (λ (q : Refusal). Some q) h)
 text_usage text top clock r (ByTree tokens x reads fault told) h = tree_usage _ x (told ∙ h)

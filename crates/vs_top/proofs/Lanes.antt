@@ -107,7 +107,7 @@ lane_checked every_run some_run has_vector d name a ports driven text found whol
     }
 
 -- an equal text is accepted as the same design
-abbrev pub accepted_as : (top : List ℕ) (clock : Option (List ℕ)) (d : Design) (text other : List ℕ) → text ≡ other → IsAcceptedText text top clock d → IsAcceptedText other top clock d
+abbrev pub accepted_as : (top clock : Option (List ℕ)) (d : Design) (text other : List ℕ) → text ≡ other → IsAcceptedText text top clock d → IsAcceptedText other top clock d
 accepted_as top clock d text other e a = record {
   short = subst (λ (t : List ℕ). length t ≤ most_bytes) e a.short;
   tokens = a.tokens;

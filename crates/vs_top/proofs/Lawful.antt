@@ -134,7 +134,7 @@ no_refusal not_both job c l r (ByLine d run k i e lt m h is) = lawful_line job c
 -- ---- what is done is lawful
 
 -- the ports of a run have to name no output
-pub run_free : (mode : Mode) {text top : List ℕ} {clock : Option (List ℕ)} {d : Design} (a : IsAcceptedText text top clock d) → mode ≡ modes.Run → (ports_of mode a).demanded ≡ false
+pub run_free : (mode : Mode) {text : List ℕ} {top clock : Option (List ℕ)} {d : Design} (a : IsAcceptedText text top clock d) → mode ≡ modes.Run → (ports_of mode a).demanded ≡ false
 run_free mode a e = subst (λ (m : Mode). (ports_of m a).demanded ≡ false) (sym e) refl
 
 -- a valid stimulus by ports that aren't demanded is one by these
@@ -168,7 +168,7 @@ checked_lawful one job old new found s paths w = record {
 }
 
 -- the header of a run of the queue has to name no output either
-pub queue_free : (mode : Mode) (order : ℕ) {text top : List ℕ} {clock : Option (List ℕ)} {d : Design} (a : IsAcceptedText text top clock d) → mode ≡ modes.Queue order → (ports_of mode a).demanded ≡ false
+pub queue_free : (mode : Mode) (order : ℕ) {text : List ℕ} {top clock : Option (List ℕ)} {d : Design} (a : IsAcceptedText text top clock d) → mode ≡ modes.Queue order → (ports_of mode a).demanded ≡ false
 queue_free mode order a e = subst (λ (m : Mode). (ports_of m a).demanded ≡ false) (sym e) refl
 
 -- the stimulus of a run of the queue is valid

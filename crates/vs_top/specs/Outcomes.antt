@@ -46,7 +46,7 @@ outcome_line Memory = memory_line
 
 -- 2 for the words and the paths, 3 for the design, 4 for the stimuli
 abbrev pub refused_status : ℕ → ℕ
-refused_status n = if nat_le n 2 then 2 else (if nat_le n 66 then 3 else 4)
+refused_status n = if nat_le n 2 then 2 else (if nat_le n 69 then 3 else 4)
 
 -- 1 where a lane of a check missed something
 abbrev pub done_status : Option ℕ → ℕ

@@ -6,7 +6,7 @@ ghost use Rattle.vs_top.specs.Outcomes as spec;
 use crate::outcome::Outcome;
 
 /// The status for an outcome: 0 where it is done, but 1 for a check in which a lane missed something, 2
-/// for the refusals 1 and 2, 3 for those from 3 to 66, 4 for those from 70 to 79, 5 for a fault while
+/// for the refusals 1 and 2, 3 for those from 3 to 69, 4 for those from 70 to 79, 5 for a fault while
 /// reading, 6 for one while writing, and 7 where there was no memory.
 pub fn status(outcome: &Outcome) -> u8
     ensures { result ≡ spec.status outcome.now }
@@ -19,7 +19,7 @@ pub fn status(outcome: &Outcome) -> u8
         Outcome::Ordered(_) => 0,
         Outcome::Refused(refusal) => match refusal.number() {
             0..=2 => 2,
-            3..=66 => 3,
+            3..=69 => 3,
             _ => 4,
         },
         Outcome::ReadFault { .. } => 5,

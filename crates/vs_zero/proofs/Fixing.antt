@@ -1,26 +1,26 @@
 -- Statements that read no signal, and what they do.
-use Rattle.std.proofs.Common.{◌≡◌, ℕ, zero, suc, ◌+◌, ◌<◌, Bool, true, false, List, [], ◌∷◌, ◌++◌, length, map, drop, get_or, Option, Some, refl, sym, ap, ◌∙◌, arith}
+use Rattle.std.proofs.Common.{◌≡◌, ℕ, zero, suc, ◌+◌, ◌<◌, Bool, true, false, List, [], ◌∷◌, ◌++◌, length, map, drop, get_or, Option, Some, refl, sym, ap, ◌∙◌, subst, arith}
 use Rattle.std.specs.Prelude.{not, ◌||◌, ◌&&◌, slice_index, if◌then◌else◌}
+use mathlib.Core.Bool.{beq}
 use Rattle.std.proofs.lemmas.List.{drop_more}
 use Rattle.vs_four.specs.Logic.{BitList}
-use Rattle.vs_net.specs.Network.{State, Write, Update, write_all, flatten}
+use Rattle.vs_net.specs.Network.{State, Write, Update, Effect, write_all, flatten}
 use Rattle.vs_design.specs.Expressions.{Signal, OfSignal, OfConstant, Expression, Literal, Name, Select, Word, Unary, Binary, Choice, Join, Repeat, At, Call, Items, NoItem, Item, items_of, is_constant}
-use Rattle.vs_design.specs.Statements.{Target, CaseKind, Statement, Empty, Assignment, Then, If, Case, Arms, Arm, Default}
+use Rattle.vs_design.specs.Statements.{Target, Whole, PartOf, WordOf, Both, CaseKind, Statement, Empty, Assignment, Then, If, Case, Arms, Arm, Default}
 use Rattle.vs_design.specs.Bodies.{assignment_writes, body, arms_body, is_taken}
 use Rattle.vs_design.specs.Calls.{calls, items_call, target_calls, statement_calls, arms_call}
 use Rattle.vs_design.specs.Elaborated.{has_constant_selects}
 use Rattle.vs_design.specs.Fits.{is_fit, fit_items, fits_target, fits_statement, fits_arms}
-use Rattle.vs_design.specs.Footprints.{read_signals, target_signals, items_signals, statement_signals, arms_signals}
-use Rattle.vs_design.specs.Resets.{has_none, are_constant, arms_constant, is_fixed, branch_updates}
-use Rattle.vs_design.specs.Rules.{mixed_in, mixed_in_arms}
-use Rattle.vs_design.specs.TreeLaws.{NoWrites}
+use Rattle.vs_design.specs.Footprints.{contains, read_bits, target_reads, items_reads, statement_reads, arms_reads, read_signals, target_signals, items_signals, statement_signals, arms_signals}
+use Rattle.vs_design.specs.Resets.{has_none, are_constant, arms_constant, is_fixed, branch_writes, branch_updates}
+use Rattle.vs_design.specs.TreeLaws.{BodyReads}
 use Rattle.vs_flat.specs.declared.statements.Arm as F
 use Rattle.vs_flat.specs.Arena.{Arena}
 use Rattle.vs_flat.specs.Trees as R
 use Rattle.vs_sets.specs.Nodes.{tree_of}
 use Rattle.vs_sets.specs.StatementParts.{BranchBelow, ArmsBelow, arms_of, statement_of}
 use Rattle.vs_clock.specs.Still.{items_still}
-use Rattle.vs_zero.specs.Constants.{arms_are_constants, taken_arm, IsFixed, updated, branch_effects, IsFixedBranch, EachIsFixed}
+use Rattle.vs_zero.specs.Constants.{arms_are_constants, taken_arm, IsFixed, part_of, given, branch_effects, IsFixedBranch, EachIsFixed}
 use Rattle.vs_zero.specs.States.{unknown}
 use Rattle.vs_sets.proofs.Fit.{and_left, and_right, and_both}
 use Rattle.vs_zero.proofs.Writing.{write_all-append}
@@ -101,26 +101,15 @@ fixed_of : (s : Statement) → has_none (statement_signals s) ≡ true → state
 fixed_of s signals no_calls selects =
     and_both (has_none (statement_signals s) && not (statement_calls s)) (are_constant s) (and_both (has_none (statement_signals s)) (not (statement_calls s)) signals (ap not no_calls)) selects
 
--- ---- no list
-
-left_empty : (xs ys : List ℕ) → xs ++ ys ≡ [] → xs ≡ []
-left_empty [] ys h = refl
-left_empty (x ∷ xs) ys h = absurd (let z : ⊥ = cc in z)
-
-right_empty : (xs ys : List ℕ) → xs ++ ys ≡ [] → ys ≡ []
-right_empty [] ys h = h
-right_empty (x ∷ xs) ys h = absurd (let z : ⊥ = cc in z)
-
 -- ---- parts of a fixed statement
 
-pub record FixedAssign (target : Target) (e : Expression) (blocking : Bool) : Type 0 where
+pub record FixedAssign (target : Target) (e : Expression) : Type 0 where
   pub selects : has_constant_selects target ≡ true
   pub constant : is_constant e ≡ true
   pub fits : fits_target target ≡ true
   pub fit : is_fit e ≡ true
-  pub later : blocking ≡ false
 
-pub fixed_assign : (place : ℕ) (target : Target) (e : Expression) (blocking : Bool) → IsFixed (Assignment place target e blocking) → FixedAssign target e blocking
+pub fixed_assign : (place : ℕ) (target : Target) (e : Expression) (blocking : Bool) → IsFixed (Assignment place target e blocking) → FixedAssign target e
 fixed_assign place target e blocking h =
     let parts = parts_of (Assignment place target e blocking) h.fixed in
     record {
@@ -128,12 +117,7 @@ fixed_assign place target e blocking h =
       constant = constant_by e (not_right (target_calls target) (calls e) parts.no_calls) (none_right (target_signals target) (read_signals e) parts.signals);
       fits = and_left _ _ h.fits;
       fit = and_right (fits_target target) _ h.fits;
-      later = by_mix blocking h.unmixed;
     }
-  where
-    by_mix : (blocking : Bool) → mixed_in true (Assignment place target e blocking) ≡ [] → blocking ≡ false
-    by_mix true k = absurd (let z : ⊥ = cc in z)
-    by_mix false k = refl
 
 pub record FixedIf (c : Expression) (taken other : Statement) : Type 0 where
   pub constant : is_constant c ≡ true
@@ -153,12 +137,10 @@ fixed_if c taken other h =
       taken_fixed = record {
         fixed = fixed_of taken (none_left (statement_signals taken) (statement_signals other) rest) (not_right (calls c) (statement_calls taken) front) (and_left (are_constant taken) (are_constant other) parts.selects);
         fits = and_right (is_fit c) _ first;
-        unmixed = left_empty (mixed_in true taken) (mixed_in true other) h.unmixed;
       };
       other_fixed = record {
         fixed = fixed_of other (none_right (statement_signals taken) (statement_signals other) rest) (not_right (calls c || statement_calls taken) (statement_calls other) parts.no_calls) (and_right (are_constant taken) (are_constant other) parts.selects);
         fits = and_right (is_fit c && fits_statement taken) _ h.fits;
-        unmixed = right_empty (mixed_in true taken) (mixed_in true other) h.unmixed;
       };
     }
 
@@ -173,12 +155,10 @@ fixed_then first rest h =
       first_fixed = record {
         fixed = fixed_of first (none_left (statement_signals first) (statement_signals rest) parts.signals) (not_left (statement_calls first) (statement_calls rest) parts.no_calls) (and_left (are_constant first) (are_constant rest) parts.selects);
         fits = and_left _ _ h.fits;
-        unmixed = left_empty (mixed_in true first) (mixed_in true rest) h.unmixed;
       };
       rest_fixed = record {
         fixed = fixed_of rest (none_right (statement_signals first) (statement_signals rest) parts.signals) (not_right (statement_calls first) (statement_calls rest) parts.no_calls) (and_right (are_constant first) (are_constant rest) parts.selects);
         fits = and_right (fits_statement first) _ h.fits;
-        unmixed = right_empty (mixed_in true first) (mixed_in true rest) h.unmixed;
       };
     }
 
@@ -190,7 +170,6 @@ pub record FixedCase (subject : Expression) (arms : Arms) : Type 0 where
   pub signals : has_none (arms_signals arms) ≡ true
   pub no_calls : arms_call arms ≡ false
   pub selects : arms_constant arms ≡ true
-  pub unmixed : mixed_in_arms true arms ≡ []
 
 pub fixed_case : (kind : CaseKind) (subject : Expression) (arms : Arms) → IsFixed (Case kind subject arms) → FixedCase subject arms
 fixed_case kind subject arms h =
@@ -205,21 +184,20 @@ fixed_case kind subject arms h =
       signals = rest;
       no_calls = none;
       selects = parts.selects;
-      unmixed = h.unmixed;
     }
 
 -- the arm that is taken
 abbrev FixedArms : Arms → Type 0
-FixedArms arms = ((has_none (arms_signals arms) ≡ true) × (arms_call arms ≡ false)) × (arms_constant arms ≡ true) × (fits_arms arms ≡ true) × (mixed_in_arms true arms ≡ [])
+FixedArms arms = ((has_none (arms_signals arms) ≡ true) × (arms_call arms ≡ false)) × (arms_constant arms ≡ true) × (fits_arms arms ≡ true)
 
 pub taken_fixed : (a : Arena) (nodes n : ℕ) (kind : CaseKind) (w : ℕ) (s : Bool) (v : BitList) (other : Option ℕ) (arms : List F.Arm) → FixedArms (arms_of a other arms) → ArmsBelow nodes n arms → BranchBelow n other
     → IsFixedBranch a n (taken_arm (tree_of a) kind w s v other arms)
 taken_fixed a nodes n kind w s v other [] h below otherwise =
-    record { earlier = otherwise; fixed = record { fixed = fixed_of (R.branch (statement_of a) other) h.0.0 h.0.1 h.1; fits = h.2; unmixed = h.3 } }
+    record { earlier = otherwise; fixed = record { fixed = fixed_of (R.branch (statement_of a) other) h.0.0 h.0.1 h.1; fits = h.2 } }
 taken_fixed a nodes n kind w s v other (arm ∷ arms) h below otherwise =
     go (is_taken kind w s v (items_of (map (tree_of a) arm.items)) unknown)
     (taken_fixed a nodes n kind w s v other arms
-    ((none_right (statement_signals st) (arms_signals rest) signals, not_right (items_call items || statement_calls st) (arms_call rest) h.0.1), and_right (are_constant st) _ h.1, and_right (fit_items items && fits_statement st) _ h.2, right_empty (mixed_in true st) (mixed_in_arms true rest) h.3)
+    ((none_right (statement_signals st) (arms_signals rest) signals, not_right (items_call items || statement_calls st) (arms_call rest) h.0.1), and_right (are_constant st) _ h.1, and_right (fit_items items && fits_statement st) _ h.2)
     (λ k arm e. below (suc k) arm e) otherwise)
   where
     st : Statement
@@ -241,29 +219,95 @@ taken_fixed a nodes n kind w s v other (arm ∷ arms) h below otherwise =
       fixed = record {
         fixed = fixed_of st (none_left (statement_signals st) (arms_signals rest) signals) (not_right (items_call items) (statement_calls st) (not_left (items_call items || statement_calls st) (arms_call rest) h.0.1)) (and_left (are_constant st) (arms_constant rest) h.1);
         fits = and_right (fit_items items) _ (and_left _ _ h.2);
-        unmixed = left_empty (mixed_in true st) (mixed_in_arms true rest) h.3;
       };
     }
 
+-- ---- they read nothing
+
+both_nil : (xs ys : List ℕ) → xs ≡ [] → ys ≡ [] → xs ++ ys ≡ []
+both_nil xs ys h k = ap (λ zs. zs ++ ys) h ∙ k
+
+mutual
+  expression_reads : (e : Expression) → has_none (read_signals e) ≡ true → read_bits e ≡ []
+  expression_reads (Literal bits signed sized) h = refl
+  expression_reads (Name signal) h = absurd (let z : ⊥ = cc in z)
+  expression_reads (Select (OfSignal signal) part index) h = absurd (let z : ⊥ = cc in z)
+  expression_reads (Select (OfConstant bits) part index) h = expression_reads index h
+  expression_reads (Word signal index) h = absurd (let z : ⊥ = cc in z)
+  expression_reads (Unary op a) h = expression_reads a h
+  expression_reads (Binary op a b) h = both_nil (read_bits a) (read_bits b) (expression_reads a (none_left (read_signals a) (read_signals b) h)) (expression_reads b (none_right (read_signals a) (read_signals b) h))
+  expression_reads (Choice c p q) h =
+      let rest = none_right (read_signals c) (read_signals p ++ read_signals q) h in
+      both_nil (read_bits c) (read_bits p ++ read_bits q) (expression_reads c (none_left (read_signals c) (read_signals p ++ read_signals q) h))
+      (both_nil (read_bits p) (read_bits q) (expression_reads p (none_left (read_signals p) (read_signals q) rest)) (expression_reads q (none_right (read_signals p) (read_signals q) rest)))
+  expression_reads (Join high low) h = both_nil (read_bits high) (read_bits low) (expression_reads high (none_left (read_signals high) (read_signals low) h)) (expression_reads low (none_right (read_signals high) (read_signals low) h))
+  expression_reads (Repeat count a) h = expression_reads a h
+  expression_reads (At place e) h = expression_reads e h
+  expression_reads (Call header statement arguments) h = items_read arguments h
+
+  items_read : (es : Items) → has_none (items_signals es) ≡ true → items_reads es ≡ []
+  items_read NoItem h = refl
+  items_read (Item e es) h = both_nil (read_bits e) (items_reads es) (expression_reads e (none_left (read_signals e) (items_signals es) h)) (items_read es (none_right (read_signals e) (items_signals es) h))
+
+target_read : (t : Target) → has_none (target_signals t) ≡ true → target_reads t ≡ []
+target_read (Whole signal) h = refl
+target_read (PartOf signal part index) h = expression_reads index h
+target_read (WordOf signal index) h = expression_reads index h
+target_read (Both high low) h = both_nil (target_reads high) (target_reads low) (target_read high (none_left (target_signals high) (target_signals low) h)) (target_read low (none_right (target_signals high) (target_signals low) h))
+
+mutual
+  statement_read : (s : Statement) → has_none (statement_signals s) ≡ true → statement_reads s ≡ []
+  statement_read Empty h = refl
+  statement_read (Assignment place target e blocking) h = both_nil (target_reads target) (read_bits e) (target_read target (none_left (target_signals target) (read_signals e) h)) (expression_reads e (none_right (target_signals target) (read_signals e) h))
+  statement_read (Then first rest) h =
+      both_nil (statement_reads first) (statement_reads rest) (statement_read first (none_left (statement_signals first) (statement_signals rest) h)) (statement_read rest (none_right (statement_signals first) (statement_signals rest) h))
+  statement_read (If c taken other) h =
+      let rest = none_right (read_signals c) (statement_signals taken ++ statement_signals other) h in
+      both_nil (read_bits c) (statement_reads taken ++ statement_reads other) (expression_reads c (none_left (read_signals c) (statement_signals taken ++ statement_signals other) h))
+      (both_nil (statement_reads taken) (statement_reads other) (statement_read taken (none_left (statement_signals taken) (statement_signals other) rest)) (statement_read other (none_right (statement_signals taken) (statement_signals other) rest)))
+  statement_read (Case kind subject arms) h = both_nil (read_bits subject) (arms_reads arms) (expression_reads subject (none_left (read_signals subject) (arms_signals arms) h)) (arms_read arms (none_right (read_signals subject) (arms_signals arms) h))
+
+  arms_read : (arms : Arms) → has_none (arms_signals arms) ≡ true → arms_reads arms ≡ []
+  arms_read (Arm items s rest) h =
+      let more = none_right (items_signals items) (statement_signals s ++ arms_signals rest) h in
+      both_nil (items_reads items) (statement_reads s ++ arms_reads rest) (items_read items (none_left (items_signals items) (statement_signals s ++ arms_signals rest) h))
+      (both_nil (statement_reads s) (arms_reads rest) (statement_read s (none_left (statement_signals s) (arms_signals rest) more)) (arms_read rest (none_right (statement_signals s) (arms_signals rest) more)))
+  arms_read (Default s) h = statement_read s h
+
+pub fixed_reads : (s : Statement) → IsFixed s → statement_reads s ≡ []
+fixed_reads s h = statement_read s (parts_of s h.fixed).signals
+
+-- so what they do is the same in every state
+same_anywhere : BodyReads → (s : Statement) → statement_reads s ≡ [] → (t u : State) → body s t ≡ body s u
+same_anywhere law s none t u = law s t u (λ b h. absurd (nothing b (subst (λ bs. contains bs b ≡ true) none h)))
+  where
+    nothing : (b : ℕ) → contains [] b ≡ true → ⊥
+    nothing b h = cc
+
 -- ---- what they do
 
-pub updated_nothing : (s : State) → updated Empty s ≡ s
+pub given_nothing : (p : Bool) (s : State) → given p Empty s ≡ s
 unfolding write_all flatten
-updated_nothing s = refl
-
--- it writes nothing at once
-pub updates_alone : NoWrites → (st : Statement) → IsFixed st → flatten (branch_effects st) ≡ flatten (branch_updates st)
-unfolding flatten
-updates_alone law st h = ap (λ (ws : List Write). ws ++ flatten (branch_updates st)) (law st unknown h.unmixed)
+given_nothing true s = refl
+given_nothing false s = refl
 
 append_nothing : (ws : List Write) → ws ++ [] ≡ ws
 append_nothing [] = refl
 append_nothing (w ∷ ws) = ap (λ xs. w ∷ xs) (append_nothing ws)
 
-pub updated_assign : (place : ℕ) (target : Target) (e : Expression) (blocking : Bool) (s : State) → blocking ≡ false → updated (Assignment place target e blocking) s ≡ write_all s (assignment_writes target e unknown)
+pub given_assigned : (p : Bool) (place : ℕ) (target : Target) (e : Expression) (blocking : Bool) (s : State) → beq blocking p ≡ true → given p (Assignment place target e blocking) s ≡ write_all s (assignment_writes target e unknown)
 unfolding flatten
-updated_assign place target e true s h = absurd (let z : ⊥ = cc in z)
-updated_assign place target e false s h = ap (write_all s) (append_nothing (assignment_writes target e unknown))
+given_assigned true place target e true s h = refl
+given_assigned true place target e false s h = absurd (let z : ⊥ = cc in z)
+given_assigned false place target e true s h = absurd (let z : ⊥ = cc in z)
+given_assigned false place target e false s h = ap (write_all s) (append_nothing (assignment_writes target e unknown))
+
+pub given_other : (p : Bool) (place : ℕ) (target : Target) (e : Expression) (blocking : Bool) (s : State) → beq blocking p ≡ false → given p (Assignment place target e blocking) s ≡ s
+unfolding write_all flatten
+given_other true place target e true s h = absurd (let z : ⊥ = cc in z)
+given_other true place target e false s h = refl
+given_other false place target e true s h = refl
+given_other false place target e false s h = absurd (let z : ⊥ = cc in z)
 
 flat_both : (us vs : List Update) → flatten (us ++ vs) ≡ flatten us ++ flatten vs
 unfolding flatten
@@ -274,28 +318,32 @@ flat_both (u ∷ us) vs = ap (λ ws. u ++ ws) (flat_both us vs) ∙ sym (assoc u
     assoc [] ys zs = refl
     assoc (x ∷ xs) ys zs = ap (λ ws. x ∷ ws) (assoc xs ys zs)
 
-no_write : (s : State) → write_all s [] ≡ s
-unfolding write_all
-no_write s = refl
-
-pub updated_then : NoWrites → (first rest : Statement) → mixed_in true first ≡ [] → (s : State) → updated (Then first rest) s ≡ updated rest (updated first s)
-updated_then law first rest m s =
+given_then : BodyReads → (first rest : Statement) → statement_reads rest ≡ [] → (p : Bool) (s : State) → given p (Then first rest) s ≡ given p rest (given p first s)
+given_then law first rest none true s =
     let done = body first unknown in
-    let same : write_all unknown done.writes ≡ unknown = ap (write_all unknown) (law first unknown m) ∙ no_write unknown in
-    ap (λ t. write_all s (flatten (done.updates ++ (body rest t).updates))) same
+    ap (λ (f : Effect). write_all s (done.writes ++ f.writes)) (same_anywhere law rest none (write_all unknown done.writes) unknown)
+    ∙ write_all-append done.writes (body rest unknown).writes s
+given_then law first rest none false s =
+    let done = body first unknown in
+    ap (λ (f : Effect). write_all s (flatten (done.updates ++ f.updates))) (same_anywhere law rest none (write_all unknown done.writes) unknown)
     ∙ ap (write_all s) (flat_both done.updates (body rest unknown).updates)
     ∙ write_all-append (flatten done.updates) (flatten (body rest unknown).updates) s
 
-pub updated_arms : (a : Arena) (kind : CaseKind) (w : ℕ) (g : Bool) (v : BitList) (other : Option ℕ) (arms : List F.Arm) (s : State)
-    → write_all s (flatten (arms_body (arms_of a other arms) kind w g v unknown).updates) ≡ updated (R.branch (statement_of a) (taken_arm (tree_of a) kind w g v other arms)) s
-updated_arms a kind w g v other [] s = refl
-updated_arms a kind w g v other (arm ∷ arms) s = go (is_taken kind w g v (items_of (map (tree_of a) arm.items)) unknown) (updated_arms a kind w g v other arms s)
+pub given_arms : (a : Arena) (p : Bool) (kind : CaseKind) (w : ℕ) (g : Bool) (v : BitList) (other : Option ℕ) (arms : List F.Arm) (s : State)
+    → write_all s (part_of p (arms_body (arms_of a other arms) kind w g v unknown)) ≡ given p (R.branch (statement_of a) (taken_arm (tree_of a) kind w g v other arms)) s
+given_arms a p kind w g v other [] s = refl
+given_arms a p kind w g v other (arm ∷ arms) s = go (is_taken kind w g v (items_of (map (tree_of a) arm.items)) unknown) (given_arms a p kind w g v other arms s)
   where
-    go : (t : Bool) → write_all s (flatten (arms_body (arms_of a other arms) kind w g v unknown).updates) ≡ updated (R.branch (statement_of a) (taken_arm (tree_of a) kind w g v other arms)) s
-        → write_all s (flatten (if t then body (statement_of a arm.statement) unknown else arms_body (arms_of a other arms) kind w g v unknown).updates)
-        ≡ updated (R.branch (statement_of a) (if t then Some arm.statement else taken_arm (tree_of a) kind w g v other arms)) s
+    go : (t : Bool) → write_all s (part_of p (arms_body (arms_of a other arms) kind w g v unknown)) ≡ given p (R.branch (statement_of a) (taken_arm (tree_of a) kind w g v other arms)) s
+        → write_all s (part_of p (if t then body (statement_of a arm.statement) unknown else arms_body (arms_of a other arms) kind w g v unknown))
+        ≡ given p (R.branch (statement_of a) (if t then Some arm.statement else taken_arm (tree_of a) kind w g v other arms)) s
     go true k = refl
     go false k = k
+
+-- first what is written at once, and then the updates
+pub given_both : (st : Statement) (s : State) → given false st (given true st s) ≡ write_all s (flatten (branch_effects st))
+unfolding flatten
+given_both st s = sym (write_all-append (branch_writes st) (flatten (branch_updates st)) s)
 
 -- ---- sequences
 
@@ -309,10 +357,22 @@ sequence_fixed st (p ∷ q ∷ parts) (suc k) h inside = sequence_fixed st (q �
 pub parts_fixed : (a : Arena) (n : ℕ) (parts : List ℕ) → ((k : ℕ) → k < length parts → slice_index parts k < n) → IsFixed (R.sequence (map (statement_of a) parts)) → EachIsFixed a n parts
 parts_fixed a n parts below h k inside = record { earlier = below k inside; fixed = sequence_fixed (statement_of a) parts k h inside }
 
-sequence_step : NoWrites → (s : Statement) (ss : List Statement) (state : State) → mixed_in true s ≡ [] → updated (R.sequence (s ∷ ss)) state ≡ updated (R.sequence ss) (updated s state)
-sequence_step law s [] state m = sym (updated_nothing (updated s state))
-sequence_step law s (t ∷ ss) state m = updated_then law s (R.sequence (t ∷ ss)) m state
+whole_reads : (st : ℕ → Statement) (parts : List ℕ) → ((k : ℕ) → k < length parts → statement_reads (st (get_or parts k 0)) ≡ []) → statement_reads (R.sequence (map st parts)) ≡ []
+whole_reads st [] h = refl
+whole_reads st (p ∷ []) h = h 0 (omega arith)
+whole_reads st (p ∷ q ∷ parts) h = both_nil (statement_reads (st p)) (statement_reads (R.sequence (map st (q ∷ parts)))) (h 0 (omega arith)) (whole_reads st (q ∷ parts) (λ k l. h (suc k) (omega (arith, l))))
 
-pub parts_step : NoWrites → (st : ℕ → Statement) (parts : List ℕ) (k : ℕ) (state : State) → k < length parts → mixed_in true (st (get_or parts k 0)) ≡ []
-    → updated (R.sequence (map st (drop k parts))) state ≡ updated (R.sequence (map st (drop (k + 1) parts))) (updated (st (get_or parts k 0)) state)
-parts_step law st parts k state h m = ap (λ ps. updated (R.sequence (map st ps)) state) (drop_more parts k 0 h) ∙ sequence_step law (st (get_or parts k 0)) (map st (drop (k + 1) parts)) state m
+reads_from : (st : ℕ → Statement) (parts : List ℕ) (n : ℕ) → ((k : ℕ) → k < length parts → statement_reads (st (get_or parts k 0)) ≡ []) → statement_reads (R.sequence (map st (drop n parts))) ≡ []
+reads_from st parts zero h = whole_reads st parts h
+reads_from st [] (suc n) h = refl
+reads_from st (p ∷ parts) (suc n) h = reads_from st parts n (λ k l. h (suc k) (omega (arith, l)))
+
+sequence_step : BodyReads → (p : Bool) (s : Statement) (ss : List Statement) (state : State) → statement_reads (R.sequence ss) ≡ [] → given p (R.sequence (s ∷ ss)) state ≡ given p (R.sequence ss) (given p s state)
+sequence_step law p s [] state none = sym (given_nothing p (given p s state))
+sequence_step law p s (t ∷ ss) state none = given_then law s (R.sequence (t ∷ ss)) none p state
+
+pub parts_step : BodyReads → (p : Bool) (st : ℕ → Statement) (parts : List ℕ) (k : ℕ) (state : State) → k < length parts → ((j : ℕ) → j < length parts → IsFixed (st (get_or parts j 0)))
+    → given p (R.sequence (map st (drop k parts))) state ≡ given p (R.sequence (map st (drop (k + 1) parts))) (given p (st (get_or parts k 0)) state)
+parts_step law p st parts k state h each =
+    ap (λ ps. given p (R.sequence (map st ps)) state) (drop_more parts k 0 h)
+    ∙ sequence_step law p (st (get_or parts k 0)) (map st (drop (k + 1) parts)) state (reads_from st parts (k + 1) (λ j l. fixed_reads (st (get_or parts j 0)) (each j l)))

@@ -1,5 +1,5 @@
 -- The branch of a reset: it is fixed, and writes bits of its block alone.
-use Rattle.std.proofs.Common.{◌≡◌, ℕ, ◌+◌, ◌<◌, Bool, true, false, List, [], ◌∷◌, ◌++◌, ◌&&◌, ◌||◌, ◌==◌, refl, sym, ap, ◌∙◌, subst, Some, None, Option, drop, length, if◌then◌else◌}
+use Rattle.std.proofs.Common.{◌≡◌, ℕ, ◌+◌, ◌<◌, Bool, true, false, List, ◌∷◌, ◌++◌, ◌&&◌, ◌||◌, ◌==◌, refl, sym, ap, ◌∙◌, subst, Some, None, Option, drop, length, if◌then◌else◌}
 use Rattle.std.specs.Prelude.{slice_get, All}
 use Rattle.std.specs.List.{list_any}
 use mathlib.Core.Path.{fun_ext}
@@ -7,14 +7,13 @@ use Rattle.std.proofs.lemmas.List.{drop_more}
 use Rattle.std.proofs.lemmas.List.Folds.{list_any-append}
 use Rattle.std.proofs.lemmas.Option.{get_or_from_slice_get}
 use Rattle.vs_net.specs.Network.{flatten}
-use Rattle.vs_design.specs.Designs.{Event, Process, Continuous, Always, has_edge, Design, bit_count}
-use Rattle.vs_design.specs.Clocks.{Events, ByClock, ByBoth, is_clock_event, is_reset_event, events_of, clock_nets, root_of}
+use Rattle.vs_design.specs.Designs.{Event, Process, Continuous, Always, Design, bit_count}
+use Rattle.vs_design.specs.Clocks.{Events, ByClock, ByBoth, events_of, clock_nets, root_of}
 use Rattle.vs_design.specs.Fits.{is_fit, fits_statement, fits_process}
 use Rattle.vs_design.specs.Footprints.{contains, statement_bits, writes_of}
 use Rattle.vs_design.specs.Lifted.{Family}
 use Rattle.vs_design.specs.Resets.{is_condition, is_fixed, reset_branch, reset_of, with_reset, with_resets}
 use Rattle.vs_design.specs.Refusals.{block_refusal, width_refusal}
-use Rattle.vs_design.specs.Rules.{mixed_in, mixed_assigns}
 use Rattle.vs_design.specs.Statements.{Statement, Empty, Assignment, Then, If, Case}
 use Rattle.vs_flat.specs.Arena.{Arena}
 use Rattle.vs_flat.specs.DesignOf.{design_of}
@@ -30,36 +29,7 @@ use Rattle.vs_zero.specs.Values.{with_updates}
 use Rattle.vs_zero.proofs.ByKind.{plain_all}
 use Rattle.vs_reads.proofs.Numbered.{process_there}
 use Rattle.vs_zero.proofs.Settling.{all_below}
-use Rattle.vs_zero.proofs.Unrefused.{clean}
 use Rattle.vs_shape.proofs.Names.{and_both}
-
--- ---- the events of a block with a reset
-
-edge_of_reset : (roots : ℕ → Option ℕ) (e : Event) → is_reset_event roots e ≡ true → has_edge e ≡ true
-edge_of_reset roots e h = (and_both (has_edge e) _ (and_both _ _ h).0).0
-
-first_edge : (a b : Bool) → a ≡ true → (a || (b || false)) ≡ true
-first_edge true b h = refl
-first_edge false b h = cc
-
-second_edge : (a b : Bool) → b ≡ true → (a || (b || false)) ≡ true
-second_edge true b h = refl
-second_edge false true h = refl
-second_edge false false h = cc
-
-clocked_by : (nets : List ℕ) (roots : ℕ → Option ℕ) (events : List Event) (c r : Event) → events_of nets roots events ≡ Some (ByBoth c r) → list_any has_edge events ≡ true
-clocked_by nets roots [] c r h = cc
-clocked_by nets roots (e ∷ []) c r h = at (is_clock_event nets e) h where
-  at : (k : Bool) → (if k then Some (ByClock e) else None) ≡ Some (ByBoth c r) → (has_edge e || false) ≡ true
-  at true h = cc
-  at false h = cc
-clocked_by nets roots (e ∷ f ∷ []) c r h = at (is_clock_event nets e && is_reset_event roots f) refl (is_clock_event nets f && is_reset_event roots e) refl h where
-  at : (k : Bool) → (is_clock_event nets e && is_reset_event roots f) ≡ k → (l : Bool) → (is_clock_event nets f && is_reset_event roots e) ≡ l
-      → (if k then Some (ByBoth e f) else (if l then Some (ByBoth f e) else None)) ≡ Some (ByBoth c r) → (has_edge e || (has_edge f || false)) ≡ true
-  at true p l q h = second_edge (has_edge e) (has_edge f) (edge_of_reset roots f (and_both (is_clock_event nets e) _ p).1)
-  at false p true q h = first_edge (has_edge e) (has_edge f) (edge_of_reset roots e (and_both (is_clock_event nets f) _ q).1)
-  at false p false q h = cc
-clocked_by nets roots (e ∷ f ∷ g ∷ es) c r h = cc
 
 -- ---- the branch
 
@@ -67,23 +37,19 @@ pub record BranchFacts (x : Process) (t : Statement) : Type 0 where
   pub fixed : IsFixed t
   pub within : (b : ℕ) → contains (statement_bits t) b ≡ true → contains (writes_of x) b ≡ true
 
-left_empty : (xs ys : List ℕ) → xs ++ ys ≡ [] → xs ≡ []
-left_empty [] ys h = refl
-left_empty (x ∷ xs) ys h = absurd (let z : ⊥ = cc in z)
-
 left_has : (xs ys : List ℕ) (b : ℕ) → contains xs b ≡ true → contains (xs ++ ys) b ≡ true
 left_has xs ys b h = list_any-append (λ c. b == c) xs ys ∙ ap (λ q. q || contains ys b) h
 
-pub branch_facts : (d : Design) (clock : ℕ) (x : Process) (t : Statement) → branch_of d clock x ≡ Some t → fits_process x ≡ true → mixed_assigns x ≡ [] → BranchFacts x t
-branch_facts d clock (Continuous place port target_place target e) t h fit m = cc
-branch_facts d clock (Always place star events s) t h fit m = by_events (events_of (clock_nets d clock) (root_of d clock) events) refl h
+pub branch_facts : (d : Design) (clock : ℕ) (x : Process) (t : Statement) → branch_of d clock x ≡ Some t → fits_process x ≡ true → BranchFacts x t
+branch_facts d clock (Continuous place port target_place target e) t h fit = cc
+branch_facts d clock (Always place star events s) t h fit = by_events (events_of (clock_nets d clock) (root_of d clock) events) refl h
   where
-    by_statement : (r : Event) (s : Statement) → reset_branch r.edge r.signal.first s ≡ Some t → fits_statement s ≡ true → mixed_in true s ≡ [] → IsFixed t × ((b : ℕ) → contains (statement_bits t) b ≡ true → contains (statement_bits s) b ≡ true)
-    by_statement r Empty h f m = cc
-    by_statement r (Assignment place target e blocking) h f m = cc
-    by_statement r (Then first rest) h f m = cc
-    by_statement r (Case kind subject arms) h f m = cc
-    by_statement r (If c taken other) h f m = at (is_condition r.edge r.signal.first c && is_fixed taken) refl h where
+    by_statement : (r : Event) (s : Statement) → reset_branch r.edge r.signal.first s ≡ Some t → fits_statement s ≡ true → IsFixed t × ((b : ℕ) → contains (statement_bits t) b ≡ true → contains (statement_bits s) b ≡ true)
+    by_statement r Empty h f = cc
+    by_statement r (Assignment place target e blocking) h f = cc
+    by_statement r (Then first rest) h f = cc
+    by_statement r (Case kind subject arms) h f = cc
+    by_statement r (If c taken other) h f = at (is_condition r.edge r.signal.first c && is_fixed taken) refl h where
       same : Some taken ≡ Some t → taken ≡ t
       same e = cc
 
@@ -94,7 +60,6 @@ branch_facts d clock (Always place star events s) t h fit m = by_events (events_
             record {
               fixed = (and_both (is_condition r.edge r.signal.first c) (is_fixed taken) e).1;
               fits = (and_both (is_fit c) (fits_statement taken) (and_both (is_fit c && fits_statement taken) (fits_statement other) f).0).1;
-              unmixed = left_empty (mixed_in true taken) (mixed_in true other) m;
             },
             λ b. left_has (statement_bits taken) (statement_bits other) b,
           )
@@ -103,7 +68,7 @@ branch_facts d clock (Always place star events s) t h fit m = by_events (events_
     by_events None e h = cc
     by_events (Some (ByClock c)) e h = cc
     by_events (Some (ByBoth c r)) e h =
-        let f = by_statement r s h fit (ap (λ k. mixed_in k s) (sym (clocked_by (clock_nets d clock) (root_of d clock) events c r e)) ∙ m) in
+        let f = by_statement r s h fit in
         record { fixed = f.0; within = f.1 }
 
 -- ---- one process after the other, the last one first
@@ -147,7 +112,7 @@ reset_there fits has a l w b clock resets all p here r e bits k =
     let d = design_of a in
     let x = process_there d.processes p here in
     let i : IsResetOf a clock x.0 r = subst (λ o. IsReset a clock x.0 o) (sym e) (all.each p x.0 x.1) in
-    let f = branch_facts d clock x.0 (plain_branch a r) i.branch (plain_all fits_process d.processes p x.0 (fits d l.design w) x.1) (clean d b p x.0 x.1).unmixed in
+    let f = branch_facts d clock x.0 (plain_branch a r) i.branch (plain_all fits_process d.processes p x.0 (fits d l.design w) x.1) in
     let own : HasBitsOf (bit_count d) bits (writes_of x.0) = subst (λ (bs : List ℕ). HasBitsOf (bit_count d) bs (writes_of x.0)) (sym k) (has d l.design p x.0 x.1).writes in
     record {
       process = x.0;

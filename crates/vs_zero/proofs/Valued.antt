@@ -1,5 +1,5 @@
 -- Values that are the same in two states, and the sets with them.
-use Rattle.std.proofs.Common.{◌≡◌, ℕ, zero, suc, ◌+◌, ◌<◌, ◌≢◌, Bool, true, false, List, [], ◌∷◌, length, take, get_or, set, refl, sym, ap, ap₂, ◌∙◌, subst, arith, ◌⊎◌, inl, inr}
+use Rattle.std.proofs.Common.{◌≡◌, ℕ, zero, suc, ◌+◌, ◌<◌, ◌≢◌, Bool, true, false, List, [], ◌∷◌, ◌++◌, length, take, get_or, set, refl, sym, ap, ap₂, ◌∙◌, subst, arith, ◌⊎◌, inl, inr}
 use Rattle.std.specs.Prelude.{◌||◌, ◌==◌, if◌then◌else◌, All}
 use mathlib.Core.Path.{fun_ext}
 use Rattle.std.proofs.lemmas.Bool.{cond-true, cond-false}
@@ -11,12 +11,13 @@ use Rattle.vs_design.specs.Bodies.{last_of_each}
 use Rattle.vs_design.specs.Fits.{fits_statement}
 use Rattle.vs_design.specs.Footprints.{contains}
 use Rattle.vs_design.specs.Lifted.{Family}
-use Rattle.vs_design.specs.Resets.{branch_updates}
+use Rattle.vs_design.specs.Resets.{branch_writes, branch_updates}
 use Rattle.vs_design.specs.Sets.{Set4, only, union}
 use Rattle.vs_design.specs.Statements.{Statement}
 use Rattle.vs_design.specs.TreeLaws.{BodyWritesWithin}
 use Rattle.vs_sets.specs.Branches.{replaced}
 use Rattle.vs_sets.specs.StatementParts.{Covers}
+use Rattle.vs_zero.specs.Constants.{branch_effects}
 use Rattle.vs_zero.specs.States.{state_of, unknown}
 use Rattle.vs_zero.specs.Values.{joined, with_updates, IsZero, replaced_by}
 use Rattle.vs_sets.proofs.BranchSteps.{union_twice}
@@ -85,8 +86,18 @@ write_all_other (w ∷ ws) s b h =
 abbrev pub AreCovered : List ℕ → List Write → Type 0
 AreCovered bits ws = (b : ℕ) → is_written ws b ≡ true → contains bits b ≡ true
 
-pub covered : BodyWritesWithin → (st : Statement) (bits : List ℕ) → fits_statement st ≡ true → Covers bits st → AreCovered bits (flatten (branch_updates st))
-covered law st bits fit covers b h = covers b (law st fit unknown b (inr h))
+written_either : (xs ys : List Write) (b : ℕ) → is_written (xs ++ ys) b ≡ true → (is_written xs b ≡ true) ⊎ (is_written ys b ≡ true)
+unfolding is_written
+written_either [] ys b h = inr h
+written_either (x ∷ xs) ys b h = go (b == x.bit) (is_written xs b) h (written_either xs ys b)
+  where
+    go : (t w : Bool) → (t || is_written (xs ++ ys) b) ≡ true → (is_written (xs ++ ys) b ≡ true → (w ≡ true) ⊎ (is_written ys b ≡ true)) → ((t || w) ≡ true) ⊎ (is_written ys b ≡ true)
+    go true w k rest = inl refl
+    go false w k rest = rest k
+
+pub covered : BodyWritesWithin → (st : Statement) (bits : List ℕ) → fits_statement st ≡ true → Covers bits st → AreCovered bits (flatten (branch_effects st))
+unfolding flatten
+covered law st bits fit covers b h = covers b (law st fit unknown b (written_either (branch_writes st) (flatten (branch_updates st)) b h))
 
 not_written : (bits : List ℕ) (ws : List Write) (b : ℕ) → AreCovered bits ws → contains bits b ≡ false → is_written ws b ≡ false
 not_written bits ws b h k = by_test (is_written ws b) (λ e. absurd (let c = h b e in let z : ⊥ = cc in z)) (λ e. e)

@@ -1,14 +1,13 @@
 -- Statements that read no signal.
-use Rattle.std.specs.Prelude.{◌≡◌, ◌<◌, ℕ, Bool, true, ◌&&◌, List, [], ◌∷◌, length, map, if◌then◌else◌, Option, Some, slice_index}
+use Rattle.std.specs.Prelude.{◌≡◌, ◌<◌, ℕ, Bool, true, false, ◌&&◌, List, [], ◌∷◌, length, map, if◌then◌else◌, Option, Some, slice_index}
 use Rattle.vs_four.specs.Logic.{BitList}
 use Rattle.vs_design.specs.Expressions.{Expression, items_of}
-use Rattle.vs_net.specs.Network.{State, Update, flatten, write_all}
+use Rattle.vs_net.specs.Network.{State, Write, Update, Effect, flatten, write_all}
 use Rattle.vs_design.specs.Footprints.{contains, statement_bits, target_bits}
 use Rattle.vs_design.specs.Statements.{CaseKind, Target, Statement, Arms, Arm, Default}
 use Rattle.vs_design.specs.Bodies.{body, is_taken}
 use Rattle.vs_design.specs.Fits.{fits_statement}
 use Rattle.vs_design.specs.Resets.{is_fixed, branch_writes, branch_updates}
-use Rattle.vs_design.specs.Rules.{mixed_in}
 use Rattle.vs_flat.specs.Arena.{Arena}
 use Rattle.vs_flat.specs.Trees.{branch}
 use Rattle.vs_sets.specs.StatementParts.{BranchBelow, statement_of}
@@ -28,15 +27,19 @@ taken_arm tree kind w s v other (arm ∷ arms) = if is_taken kind w s v (items_o
 
 -- ---- statements
 
--- it names no signal but as a target, by constant selects; nothing in it is over 64 bits, and it has no `=`
+-- it names no signal but as a target, by constant selects, and nothing in it is over 64 bits
 pub record IsFixed (s : Statement) : Type 0 where
   pub fixed : is_fixed s ≡ true
   pub fits : fits_statement s ≡ true
-  pub unmixed : mixed_in true s ≡ []
 
--- the state after the updates that it gives
-abbrev pub updated : Statement → State → State
-updated s state = write_all state (flatten (body s unknown).updates)
+-- what an effect writes at once, or by its updates
+abbrev pub part_of : (at_once : Bool) → Effect → List Write
+part_of true effect = effect.writes
+part_of false effect = flatten effect.updates
+
+-- the state after what the statement writes so
+abbrev pub given : (at_once : Bool) → Statement → State → State
+given at_once s state = write_all state (part_of at_once (body s unknown))
 
 -- all that it gives as the branch of a reset, in the order in which it takes effect: its blocking writes, and then its updates
 abbrev pub branch_effects : Statement → List Update

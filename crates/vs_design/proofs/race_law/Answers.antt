@@ -1,5 +1,5 @@
-use Rattle.vs_design.proofs.RaceLaws.{unmixed_has_no_race}
+use Rattle.vs_design.proofs.Stirring.{stirred_bits_are, race_by_any_order}
 use Rattle.vs_design.proofs.race_law.Goals as goal
 
 pub returns : goal.returns
-returns c = unmixed_has_no_race
+returns c = record { stirred = stirred_bits_are; orders = race_by_any_order }

@@ -19,11 +19,16 @@ returns-in-Err-order-clause-refused c =
     let k = c.in_ok-check_writers.ensures.kept in
     c.level_error.ensures (design_of c.args.typed) (option_map (λ c. c.now) c.args.clock) (k.0, k.1, k.2, c.in-Ok.ensures.lawful) c.in-Err-order.ensures.refused
 
+pub returns-in-Err-races-clause-refused : goal.returns-in-Err-races-clause-refused
+returns-in-Err-races-clause-refused c =
+    let k = c.in_ok-check_writers.ensures.kept in
+    c.race_error.ensures (design_of c.args.typed) (option_map (λ c. c.now) c.args.clock) (k.0, k.1, k.2, c.in-Ok.ensures.lawful) c.in-Ok-order.ensures.acyclic c.in-Err-races.ensures.refused
+
 pub returns-in-Ok-check-clause-accepted : goal.returns-in-Ok-check-clause-accepted
 returns-in-Ok-check-clause-accepted c =
     let k = c.in_ok-check_writers.ensures.kept in
     accepted c.accepted_law.ensures.exactly (design_of c.args.typed) (option_map (λ c. c.now) c.args.clock) c.flat-flat.ensures.lawful.design (k.0, k.1, k.2, c.in-Ok.ensures.lawful)
-    c.in-Ok-order.ensures.acyclic (c.in-Ok-check.ensures.lawful (option_map (λ c. c.now) c.args.clock) c.in-Ok.ensures.clock)
+    c.in-Ok-order.ensures.acyclic c.in_default.ensures.free (c.in-Ok-check.ensures.lawful (option_map (λ c. c.now) c.args.clock) c.in-Ok.ensures.clock)
 
 pub returns-in-Ok-check-clause-lent : goal.returns-in-Ok-check-clause-lent
 returns-in-Ok-check-clause-lent c =
@@ -33,5 +38,5 @@ returns-in-Ok-check-clause-lent c =
 pub returns-in-Err-check-clause-refused : goal.returns-in-Err-check-clause-refused
 returns-in-Err-check-clause-refused c =
     let k = c.in_ok-check_writers.ensures.kept in
-    c.zero_error.ensures (design_of c.args.typed) (option_map (λ c. c.now) c.args.clock) (k.0, k.1, k.2, c.in-Ok.ensures.lawful) c.in-Ok-order.ensures.acyclic
+    c.zero_error.ensures (design_of c.args.typed) (option_map (λ c. c.now) c.args.clock) (k.0, k.1, k.2, c.in-Ok.ensures.lawful) c.in-Ok-order.ensures.acyclic c.in_default.ensures.free
     (c.in-Err-check.ensures.refused (option_map (λ c. c.now) c.args.clock) c.in-Ok.ensures.clock)

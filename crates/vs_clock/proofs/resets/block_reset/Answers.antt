@@ -5,7 +5,7 @@ use Rattle.vs_flat.specs.Arena.{Arena}
 use Rattle.vs_flat.specs.Trees.{signal_at}
 use Rattle.vs_flat.specs.DesignOf.{arena_signals, event_of}
 use Rattle.vs_clock.specs.declared.events.BlockEvents.TheVariants.{Clock, Reset, Other}
-use Rattle.vs_clock.proofs.Ruled.{events_below, statement_there, moved}
+use Rattle.vs_clock.proofs.Ruled.{events_below, statement_there, statement_fits, moved}
 use Rattle.vs_clock.proofs.Resetting.{assign_absent, none_absent, clock_absent, reset_found}
 use Rattle.vs_clock.proofs.resets.block_reset.Goals as goal
 
@@ -17,6 +17,10 @@ events_of-requires c =
 
 pub event_reset-requires-clause-there : goal.event_reset-requires-clause-there
 event_reset-requires-clause-there c = statement_there c.names_law.ensures.processes c.args.typed.now c.flat-flat.ensures.lawful.names c.args.p c.process.result.now c.in-Block.star c.in-Block.events c.in-Block.statement (subst (λ (a : Arena). slice_get a.processes c.args.p ≡ Some c.process.result.now) c.flat-flat.ensures.same c.process.ensures) c.in-Block.is
+
+pub event_reset-requires-clause-fits : goal.event_reset-requires-clause-fits
+event_reset-requires-clause-fits c =
+    statement_fits c.fits_law.ensures.fits c.trees_law.ensures.processes c.args.typed.now c.flat-flat.ensures.lawful c.flat-flat.ensures.fits c.args.p c.process.result.now c.in-Block.star c.in-Block.events c.in-Block.statement (subst (λ (a : Arena). slice_get a.processes c.args.p ≡ Some c.process.result.now) c.flat-flat.ensures.same c.process.ensures) c.in-Block.is
 
 pub returns-in-Assign : goal.returns-in-Assign
 returns-in-Assign c = λ n a x e. assign_absent c.trees_law.ensures.processes c.args.typed.now c.args.p c.process.result.now c.in-Assign.target c.in-Assign.expr c.in-Assign.port (subst (λ (a : Arena). slice_get a.processes c.args.p ≡ Some c.process.result.now) c.flat-flat.ensures.same c.process.ensures) c.in-Assign.is n x e

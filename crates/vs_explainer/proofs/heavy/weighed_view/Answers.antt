@@ -1,4 +1,4 @@
-use Rattle.std.proofs.Common.{List, ℕ, length, None, option_map, ap, subst}
+use Rattle.std.proofs.Common.{List, ℕ, length, Option, None, option_map, ap, subst}
 use Rattle.vs_explainer.specs.Heavy.{AreWeighed}
 use Rattle.vs_explainer.proofs.Sights.{as_long}
 use Rattle.vs_explainer.proofs.heavy.weighed_view.Goals as goal
@@ -7,7 +7,7 @@ pub returns-clause-view : goal.returns-clause-view
 returns-clause-view c =
     let heavy = option_map (λ v. v.items) c.in_ok-heavy.heavy in (
       heavy,
-      subst (λ (t : List ℕ). AreWeighed c.args.text.items t heavy) c.as_bytes.ensures
-          (subst (λ (t : List ℕ). AreWeighed t c.as_bytes.result.now heavy) c.as_slice.ensures.value c.in_ok-heavy.ensures),
-      as_long _ _ _ None heavy None (ap (λ (t : List ℕ). length t) c.as_bytes-2.ensures),
+      subst (λ (t : Option (List ℕ)). AreWeighed c.args.text.items t heavy) c.top_bytes.ensures
+          (subst (λ (t : List ℕ). AreWeighed t (option_map (λ n. n.now) c.top_bytes.result) heavy) c.as_slice.ensures.value c.in_ok-heavy.ensures),
+      as_long _ _ _ None heavy None (ap (λ (t : List ℕ). length t) c.as_bytes.ensures),
     )

@@ -11,7 +11,7 @@ pub loop-at-init : goal.loop-at-init
 loop-at-init c = record {
   inside = omega arith;
   few = let e = ap length c.new-tokens.ensures.items in omega arith;
-  progress = let P : List Token → Type 0 = λ ts. Progress c.args.text.now ts 0 in subst P (sym c.new-tokens.ensures.items) (begun c.args.text.now);
+  progress = let P : List Token → Type 0 = λ ts. Progress c.args.text.now ts c.byte_order_mark-at.result in subst P (sym c.new-tokens.ensures.items) (begun c.args.text.now c.byte_order_mark-at.result c.byte_order_mark-at.ensures.value);
 }
 
 pub returns-in_default-clause-fault : goal.returns-in_default-clause-fault

@@ -1,4 +1,4 @@
-use Rattle.std.proofs.Common.{◌≡◌, ◌∙◌, ℕ, List, Some, false, length, sym, ap, subst, arith}
+use Rattle.std.proofs.Common.{◌≡◌, ◌∙◌, ℕ, List, Some, length, sym, ap, subst, arith}
 use Rattle.vs_design.specs.Footprints.{contains, statement_bits}
 use Rattle.vs_design.specs.Statements.{Statement}
 use Rattle.vs_flat.specs.Arena.{body_at}
@@ -20,9 +20,9 @@ statement-requires-clause-ready c =
     let at : body_at a f ≡ Some c.body-body.result = rw c.flat.ensures.same at c.body-body.ensures in
     let st = statement_is a f c.body-body.result at in
     let ready = body_ready c.within_law.ensures.functions (design_of a) fn c.from-code.result formed c.requires.fits c.requires.light (c.from-code.ensures.calls ∙ c.new.ensures) (c.from-code.ensures.next ∙ c.home.ensures ∙ ap home c.input_bits.ensures.is) (omega (arith, c.input_bits.ensures.is, c.input_bits.ensures.few)) in
-    subst (λ (x : List ℕ). IsStatementReady (length x) x c.environment_at_call-2.result c.from-code.result false (body_of a c.body-body.result.statement)) (sym c.environment_at_call.ensures)
-    (subst (λ (x : List ℕ). IsStatementReady (length S) S x c.from-code.result false (body_of a c.body-body.result.statement)) (sym c.environment_at_call-2.ensures)
-    (subst (λ (x : Statement). IsStatementReady (length S) S S c.from-code.result false x) st ready))
+    subst (λ (x : List ℕ). IsStatementReady (length x) x c.environment_at_call-2.result c.from-code.result (body_of a c.body-body.result.statement)) (sym c.environment_at_call.ensures)
+    (subst (λ (x : List ℕ). IsStatementReady (length S) S x c.from-code.result (body_of a c.body-body.result.statement)) (sym c.environment_at_call-2.ensures)
+    (subst (λ (x : Statement). IsStatementReady (length S) S S c.from-code.result x) st ready))
 
 pub statement-requires-clause-inside : goal.statement-requires-clause-inside
 statement-requires-clause-inside c = λ b h.
@@ -51,6 +51,6 @@ returns c =
     let later1 = c.statement.new.env.ahead in
     let adds = subst (λ (x : Statement). AddsStatement S S c.from-code.result new x now1 later1) (sym st)
     (subst (λ (x : List ℕ). AddsStatement S x c.from-code.result new (body_of a c.body-body.result.statement) now1 later1) c.environment_at_call-2.ensures
-    (subst (λ (x : List ℕ). AddsStatement x c.environment_at_call-2.result c.from-code.result new (body_of a c.body-body.result.statement) now1 later1) c.environment_at_call.ensures c.in_ok-statement.ensures.adds)) in
+    (subst (λ (x : List ℕ). AddsStatement x c.environment_at_call-2.result c.from-code.result new (body_of a c.body-body.result.statement) now1 later1) c.environment_at_call.ensures c.in_ok-statement.ensures)) in
     is_template (design_of a) fn _ c.from-code.result new now1 later1 formed (c.from-code.ensures.calls ∙ c.new.ensures) (c.from-code.ensures.next ∙ c.home.ensures ∙ ap home c.input_bits.ensures.is) adds
     c.into_program.ensures (c.of.ensures ∙ c.in_ok-result.ensures) c.next-next.ensures

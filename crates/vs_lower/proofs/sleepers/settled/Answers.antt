@@ -1,4 +1,4 @@
-use Rattle.std.proofs.Common.{ℕ, List, length, false, Result, Ok, Err, refl, arith, ap}
+use Rattle.std.proofs.Common.{ℕ, List, length, Result, Ok, Err, refl, arith, ap}
 use Rattle.std.specs.Prelude.{IfOk}
 use Rattle.vs_flat.specs.Arena.{bit_count}
 use Rattle.vs_shape.specs.Bodies.{body_of}
@@ -18,8 +18,8 @@ pub statement-requires-clause-ready : goal.statement-requires-clause-ready
 statement-requires-clause-ready c =
     let n = bit_count c.args.templates.now.arena.signals in
     let st = body_of c.args.templates.now.arena c.args.s in
-    own_bits _ _ _ _ _ _
-    (at_homes n c.args.count c.at_home.result c.at_home-2.result (λ (x y : List ℕ). IsStatementReady n x y c.args.code.now false st) c.requires.count c.at_home.ensures c.at_home-2.ensures (block_ready n c.args.code.now false st c.requires.ready))
+    own_bits _ _ _ _ _
+    (at_homes n c.args.count c.at_home.result c.at_home-2.result (λ (x y : List ℕ). IsStatementReady n x y c.args.code.now st) c.requires.count c.at_home.ensures c.at_home-2.ensures (block_ready n c.args.code.now st c.requires.ready))
 
 pub statement-requires-clause-inside : goal.statement-requires-clause-inside
 statement-requires-clause-inside c b h =
@@ -29,12 +29,12 @@ statement-requires-clause-inside c b h =
 pub picked-requires : goal.picked-requires
 picked-requires c =
     settled_inside (bit_count c.args.templates.now.arena.signals) c.args.count c.at_home.result c.at_home-2.result c.args.code.now c.statement.new.code (body_of c.args.templates.now.arena c.args.s) c.statement.new.env.values c.statement.new.env.ahead c.args.bits.now
-    c.requires.count c.at_home.ensures c.at_home-2.ensures c.in_ok-statement.ensures.adds c.requires.inside
+    c.requires.count c.at_home.ensures c.at_home-2.ensures c.in_ok-statement.ensures c.requires.inside
 
 pub owned-requires : goal.owned-requires
 owned-requires c = record {
   call = λ others. can_own (bit_count c.args.templates.now.arena.signals) c.args.count c.at_home.result c.at_home-2.result c.args.code.now c.statement.new.code (body_of c.args.templates.now.arena c.args.s) c.statement.new.env.values c.statement.new.env.ahead c.args.bits.now
-      c.requires.count c.at_home.ensures c.at_home-2.ensures c.in_ok-statement.ensures.adds c.requires.inside
+      c.requires.count c.at_home.ensures c.at_home-2.ensures c.in_ok-statement.ensures c.requires.inside
       c.in_ok-slots.slots.items (length c.args.bits.now) c.requires.ready c.requires.some c.requires.few c.in_ok-slots.ensures refl;
 }
 
@@ -42,5 +42,5 @@ pub returns : goal.returns
 returns c =
     if_ok c.owned.result c.owned.ensures
     (λ now is. settled_adds (bit_count c.args.templates.now.arena.signals) c.args.count c.at_home.result c.at_home-2.result c.args.code.now c.statement.new.code (body_of c.args.templates.now.arena c.args.s) c.statement.new.env.values c.statement.new.env.ahead c.args.bits.now
-    c.requires.count c.at_home.ensures c.at_home-2.ensures c.in_ok-statement.ensures.adds c.requires.inside
+    c.requires.count c.at_home.ensures c.at_home-2.ensures c.in_ok-statement.ensures c.requires.inside
     c.owned.new.code c.in_ok-slots.slots.items now.items c.next-first.result (length c.args.bits.now) c.requires.ready c.requires.some c.requires.few c.in_ok-slots.ensures c.next-first.ensures refl is)

@@ -35,11 +35,11 @@ decreases-optional l = 8 * l.s + 2
 
 abbrev pub invariant-in_order-loop-n : goal.invariant-in_order-loop-n
 invariant-in_order-loop-n l =
-    IsUpTo (length l.initial.env.values) l.clocked l.initial.env.values l.initial.env.ahead l.initial.code (map (body_of l.templates.arena) l.parts) (map (body_of l.templates.arena) (drop l.n l.parts)) l.env.values l.env.ahead l.code
+    IsUpTo (length l.initial.env.values) l.initial.env.values l.initial.env.ahead l.initial.code (map (body_of l.templates.arena) l.parts) (map (body_of l.templates.arena) (drop l.n l.parts)) l.env.values l.env.ahead l.code
 
 abbrev pub invariant-branches-loop-k : goal.invariant-branches-loop-k
 invariant-branches-loop-k l =
-    AddsCases l.clocked l.fn.env.values l.fn.env.ahead l.subject l.fn.code l.code l.kind l.context.width l.context.signed
-    (distinct (arms_bits (arms_tree (tree_at (arena_trees l.templates.arena)) (body_of l.templates.arena) l.fn.other l.arms))) (arms_tree (tree_at (arena_trees l.templates.arena)) (body_of l.templates.arena) l.fn.other (drop (length l.arms - l.k) l.arms)) l.bits l.behind.items
+    AddsCases l.fn.env.values l.fn.env.ahead l.subject l.fn.code l.code l.kind l.context.width l.context.signed
+    (distinct (arms_bits (arms_tree (tree_at (arena_trees l.templates.arena)) (body_of l.templates.arena) l.fn.other l.arms))) (arms_tree (tree_at (arena_trees l.templates.arena)) (body_of l.templates.arena) l.fn.other (drop (length l.arms - l.k) l.arms)) l.bits l.behind.values.items l.behind.ahead.items
     × (l.env.values ≡ l.fn.env.values)
     × (l.env.ahead ≡ l.fn.env.ahead)

@@ -1,4 +1,5 @@
 use Rattle.std.proofs.Common.{refl, subst}
+use Rattle.std.proofs.lemmas.Result.{IfOk-weaker}
 use Rattle.vs_ast.specs.Views as view
 use Rattle.vs_elaborated.specs.Environments.{Env}
 use Rattle.vs_elaborated.specs.Functions as spec
@@ -21,7 +22,8 @@ pub returns : goal.returns
 returns c = λ outer e.
     let f = view.function c.args.f.now in
     let i : Inside = record { here = c.args.here; locals = c.in_ok-locals.field-0.locals } in
-    function_said outer c.args.number c.args.most c.args.scope f i c.in_ok-locals.field-0 c.in_ok-said.said _ c.size_fault-size.result c.first_of.result c.first_of-fault.result e refl
+    IfOk-weaker c.function_of.result _ _
+    (λ r is. function_said outer c.args.number c.args.most c.args.scope f i c.in_ok-locals.field-0 c.in_ok-said.said r e refl
     (subst (λ (env : Env). IsSaidLocals c.in_ok-locals.field-0 (spec.function_locals c.args.scope env f) (spec.declared_locals f)) e c.in_ok-locals.ensures)
-    c.in_ok-said.ensures c.size_fault-size.ensures c.first_of.ensures c.first_of-fault.ensures refl refl
-    c.in_ok-inputs.ensures c.in_ok-depth.ensures refl refl c.is_known.ensures refl
+    c.in_ok-said.ensures is)
+    c.function_of.ensures

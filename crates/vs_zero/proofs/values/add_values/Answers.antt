@@ -1,15 +1,13 @@
 use Rattle.std.specs.Prelude.{All}
-use Rattle.std.proofs.Common.{List, length, sym, ap, ap₂, ◌∙◌, arith, ◌<◌, subst}
-use Rattle.vs_net.specs.Network.{State, Write, flatten}
-use Rattle.vs_design.specs.Lifted.{Family}
-use Rattle.vs_design.specs.Resets.{branch_updates}
+use Rattle.std.proofs.Common.{length, sym, ap, ap₂, ◌∙◌, arith, ◌<◌, subst}
+use Rattle.vs_net.specs.Network.{State, flatten}
+use Rattle.vs_zero.specs.Constants.{branch_effects}
 use Rattle.vs_four.specs.declared.Bit4.TheVariants.{X, Zero}
 use Rattle.vs_sets.specs.Branches.{replaced}
 use Rattle.vs_sets.specs.StatementParts.{statement_of}
 use Rattle.vs_sets.specs.Tables.{family_of}
 use Rattle.vs_zero.specs.States.{state_of}
-use Rattle.vs_zero.specs.Values.{joined, replaced_by, with_updates}
-use Rattle.vs_zero.proofs.Fixing.{updates_alone}
+use Rattle.vs_zero.specs.Values.{joined, replaced_by}
 use Rattle.vs_zero.proofs.Valued.{covered, values_are, unknown_again, zero_again}
 use Rattle.vs_zero.proofs.Below.{covered_below}
 use Rattle.vs_zero.proofs.values.add_values.Goals as goal
@@ -17,26 +15,25 @@ use Rattle.vs_zero.proofs.values.add_values.Goals as goal
 pub returns-clause-table : goal.returns-clause-table
 returns-clause-table c =
     let st = statement_of c.args.shapes.now c.args.branch in
-    let ws = flatten (branch_updates st) in
+    let ws = flatten (branch_effects st) in
     let bits = c.args.bits.now in
     let g = family_of c.args.table.now in
     c.join.ensures
     ∙ ap₂ (λ (x z : State). replaced bits (λ b. joined (x b) (z b) (g b)) g) c.run.ensures c.run-2.ensures
     ∙ values_are bits ws (length c.args.table.now) (state_of c.args.from_x.now) (state_of c.args.from_zero.now) g (covered c.write_law.ensures.body st bits c.requires.fixed.fits c.requires.bits) c.requires.within
     (λ b l. c.requires.zero b (omega (arith, l, c.requires.zero_count))) c.requires.x
-    ∙ ap (λ (vs : List Write). let f : Family = λ b. with_updates vs b (g b) in f) (sym (updates_alone c.write_law.ensures.no_writes st c.requires.fixed))
 
 pub returns-clause-x : goal.returns-clause-x
 returns-clause-x c =
     let st = statement_of c.args.shapes.now c.args.branch in
-    let ws = flatten (branch_updates st) in
+    let ws = flatten (branch_effects st) in
     let bits = c.args.bits.now in
     c.reset_bits.ensures ∙ ap (λ (s : State). replaced_by bits (λ b. X) s) c.run.ensures ∙ unknown_again bits ws (state_of c.args.from_x.now) (covered c.write_law.ensures.body st bits c.requires.fixed.fits c.requires.bits) c.requires.x
 
 pub returns-clause-zero : goal.returns-clause-zero
 returns-clause-zero c =
     let st = statement_of c.args.shapes.now c.args.branch in
-    let ws = flatten (branch_updates st) in
+    let ws = flatten (branch_effects st) in
     let bits = c.args.bits.now in
     zero_again bits ws c.args.from_zero.now c.reset_bits-2.new.state (covered c.write_law.ensures.body st bits c.requires.fixed.fits c.requires.bits) c.requires.zero
     (omega (arith, c.reset_bits-2.auto.state, c.run-2.auto.state)) (c.reset_bits-2.ensures ∙ ap (λ (s : State). replaced_by bits (λ b. Zero) s) c.run-2.ensures)

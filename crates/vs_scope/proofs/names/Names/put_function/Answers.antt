@@ -1,4 +1,4 @@
-use Rattle.std.proofs.Common.{◌≡◌, ◌++◌, ◌∷◌, [], List, ℕ, sym, ap, ◌∙◌, subst}
+use Rattle.std.proofs.Common.{◌++◌, ◌∷◌, [], List, ℕ, ap, ◌∙◌}
 use Rattle.std.specs.Borrow.{Bor}
 use Rattle.vs_ast.specs.declared.items.Function.{Function}
 use Rattle.vs_elaborated.specs.Functions as spec

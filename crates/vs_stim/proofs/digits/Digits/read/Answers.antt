@@ -1,32 +1,5 @@
-use Rattle.std.proofs.Common.{◌+◌, arith, refl, sym, ap, ◌∙◌}
-use Rattle.vs_stim.proofs.Ahead.{planes_count, room_more, half_fits, digit_fits, read_plain}
+use Rattle.vs_stim.proofs.Ahead.{reads_both}
 use Rattle.vs_stim.proofs.digits.Digits.read.Goals as goal
 
-pub overflow_mul-value : goal.overflow_mul-value
-overflow_mul-value c = omega (arith, half_fits (c.self.inside.len + c.loop-count.count) c.loop-count.value (room_more c.self.inside.len c.self.inside.value c.self.inside.unknown c.loop-count.count c.args.most c.args.self.now c.self.view_is c.requires c.loop-count-test.true) c.loop-count.invariant.read.value_fits)
-
-pub overflow_add-value : goal.overflow_add-value
-overflow_add-value c =
-    let h = digit_fits (c.self.inside.len + c.loop-count.count) c.loop-count.value 1 (room_more c.self.inside.len c.self.inside.value c.self.inside.unknown c.loop-count.count c.args.most c.args.self.now c.self.view_is c.requires c.loop-count-test.true) c.loop-count.invariant.read.value_fits (omega arith) in
-    omega (arith, h, c.if-digit-gt1.false)
-
-pub overflow_mul-unknown : goal.overflow_mul-unknown
-overflow_mul-unknown c = omega (arith, half_fits (c.self.inside.len + c.loop-count.count) c.loop-count.unknown (room_more c.self.inside.len c.self.inside.value c.self.inside.unknown c.loop-count.count c.args.most c.args.self.now c.self.view_is c.requires c.loop-count-test.true) c.loop-count.invariant.read.unknown_fits)
-
-pub loop-count-preserved : goal.loop-count-preserved
-loop-count-preserved c = record {
-  few = omega (arith, c.loop-count-test.true);
-  read = read_plain _ _ _ _ _ _ _ _ _ c.loop-count.invariant.read c.if-count-bytes.true refl c.if-digit-gt1.false c.plain_digit-digit.ensures.zero c.plain_digit-digit.ensures.one;
-}
-
-pub invariant_of-self : goal.invariant_of-self
-invariant_of-self c = (
-  omega (arith, c.requires, c.loop-count.invariant.few, planes_count c.self.inside.len c.self.inside.value c.self.inside.unknown c.args.self.now c.self.view_is),
-  c.loop-count.invariant.read.value_fits,
-  c.loop-count.invariant.read.unknown_fits,
-)
-
-pub returns-clause-count : goal.returns-clause-count
-returns-clause-count c =
-    sym (planes_count (c.self.inside.len + c.loop-count.count) c.loop-count.value c.loop-count.unknown _ refl)
-    ∙ ap (λ n. n + c.loop-count.count) (planes_count c.self.inside.len c.self.inside.value c.self.inside.unknown c.args.self.now c.self.view_is)
+pub returns-clause-reads : goal.returns-clause-reads
+returns-clause-reads c = reads_both _ _ _ _ _ _ c.read_eights-count.ensures.reads c.read_singly-more.ensures.reads

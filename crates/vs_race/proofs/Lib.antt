@@ -1,0 +1,5 @@
+pub mod Telling
+pub mod Noting
+pub mod AtOnce
+pub mod Spreading
+pub mod Racing

@@ -1,0 +1,4 @@
+pub mod Views
+pub mod Adding
+pub mod Only
+pub mod Topless
