@@ -1,8 +1,10 @@
 //! Places of a file.
 
 ghost use Rattle.std.specs.Prelude.{◌≡◌, ◌++◌, OnOk, option_map};
+ghost use Rattle.vs_explanation.specs.Files.{place_of};
 ghost use Rattle.vs_explanation.specs.Placed as spec;
 
+use crate::files::FilePlace;
 use std::alloc::AllocError;
 use vs_excerpt::{Page, column, line_number, push_excerpt};
 
@@ -32,17 +34,12 @@ pub(crate) fn push_position(
     }
 }
 
-/// Adds the place of byte `at` of a file, or the path alone where that isn't there.
-pub(crate) fn push_place(
-    page: &mut Page,
-    path: &[u8],
-    file: Option<&[u8]>,
-    at: u32,
-) -> Result<(), AllocError>
-    ensures { OnOk result (page.new ≡ page.old ++ spec.place_text path.now (option_map (λ t. t.now) file.entry) at) }
+/// Adds the place of a byte of a file, or the path alone where that isn't there.
+pub(crate) fn push_place(page: &mut Page, place: FilePlace<'_>) -> Result<(), AllocError>
+    ensures { OnOk result (page.new ≡ page.old ++ spec.place_text (place_of place.entry).path (place_of place.entry).file (place_of place.entry).at) }
 {
-    page.escaped(path)?;
-    push_position(page, file, at as usize)
+    page.escaped(place.path)?;
+    push_position(page, place.file, place.at)
 }
 
 /// Adds the line of byte `at` of a file and a caret below it, where that is there.
@@ -56,12 +53,12 @@ pub(crate) fn push_caret(page: &mut Page, file: Option<&[u8]>, at: usize) -> Res
 }
 
 /// Adds a note where byte `at` isn't there.
-pub(crate) fn push_change(page: &mut Page, file: Option<&[u8]>, at: u32) -> Result<(), AllocError>
+pub(crate) fn push_change(page: &mut Page, file: Option<&[u8]>, at: usize) -> Result<(), AllocError>
     ensures { OnOk result (page.new ≡ page.old ++ spec.change_text (option_map (λ t. t.now) file.entry) at) }
 {
     match file {
         None => page.text("note: the file can't be read again\n"),
-        Some(text) if at as usize <= text.len() => Ok(()),
+        Some(text) if at <= text.len() => Ok(()),
         Some(_) => page.text("note: the file has changed: it ends before this place\n"),
     }
 }
