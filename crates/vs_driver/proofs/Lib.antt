@@ -1,3 +1,5 @@
 pub mod Counting
 pub mod Least
 pub mod ByKind
+pub mod Marking
+pub mod Writing

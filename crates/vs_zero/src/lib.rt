@@ -9,6 +9,7 @@ mod families;
 mod fixed;
 mod process;
 mod sources;
+mod starts;
 mod targets;
 mod turns;
 mod values;
