@@ -5,7 +5,7 @@ use Bit4::{One, X, Zero};
 use std::process::Abort;
 use vs_four::{
     Bit4, Bits, add, and, clog2, cut, div, equal, extend, join, less, matches_x, matches_z, merge,
-    mul, neg, not, or, reduce_and, reduce_or, reduce_xor, rem, same, shift_arith, shift_left,
+    mul, neg, not, or, pow, reduce_and, reduce_or, reduce_xor, rem, same, shift_arith, shift_left,
     shift_right, sub, truth, xnor, xor,
 };
 
@@ -148,6 +148,19 @@ fn quotients(rt: HostRuntime) {
     expect_if_any(&rt, div(bits(b"1000"), bits(b"1111"), true), b"1000");
     expect_if_any(&rt, div(dividend, bits(b"0000"), false), b"none");
     expect_if_any(&rt, rem(dividend, bits(b"001x"), false), b"none");
+}
+
+#[test]
+fn powers(rt: HostRuntime) {
+    let (three, fifteen, zero) = (bits(b"0011"), bits(b"1111"), bits(b"0000"));
+    expect_if_any(&rt, pow(three, bits(b"10"), false, false), b"1001");
+    expect_if_any(&rt, pow(three, bits(b"11"), true, false), b"1011");
+    expect_if_any(&rt, pow(fifteen, bits(b"101"), true, true), b"1111");
+    expect_if_any(&rt, pow(fifteen, bits(b"110"), true, true), b"0001");
+    expect_if_any(&rt, pow(fifteen, bits(b"110"), false, true), b"0000");
+    expect_if_any(&rt, pow(zero, bits(b"1"), true, true), b"none");
+    expect_if_any(&rt, pow(zero, bits(b"0"), true, true), b"0001");
+    expect_if_any(&rt, pow(three, bits(b"x1"), false, false), b"none");
 }
 
 #[test]

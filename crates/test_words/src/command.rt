@@ -45,6 +45,13 @@ fn job<'a>(alloc: Global, name: &'a str, about: &'a str) -> Result<Command<'a>, 
             "A macro that is defined before the design's text, up to 64 of them",
         )
         .action(ArgAction::Append))?
+        .arg(named(
+            alloc,
+            "with",
+            "PATH",
+            "A further file of the design, read behind it, up to 64 of them",
+        )
+        .action(ArgAction::Append))?
         .arg(placed(alloc, "design", "DESIGN", "The path of the design").required(true))
 }
 

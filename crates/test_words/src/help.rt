@@ -19,6 +19,7 @@ Options:
       --clock <C>             The name of the top's clock input, if it has one
       --half <H>              Half a clock period, from 1 to 1000000 [default: 5]
       --define <NAME[=TEXT]>  A macro that is defined before the design's text, up to 64 of them
+      --with <PATH>           A further file of the design, read behind it, up to 64 of them
       --share                 One identifier code in a waveform for all signals that ports join
 ";
 
@@ -37,6 +38,7 @@ Options:
       --clock <C>             The name of the top's clock input, if it has one
       --half <H>              Half a clock period, from 1 to 1000000 [default: 5]
       --define <NAME[=TEXT]>  A macro that is defined before the design's text, up to 64 of them
+      --with <PATH>           A further file of the design, read behind it, up to 64 of them
 ";
 
 /// The help of the words behind `queue`.
@@ -54,6 +56,7 @@ Options:
       --clock <C>             The name of the top's clock input, if it has one
       --half <H>              Half a clock period, from 1 to 1000000 [default: 5]
       --define <NAME[=TEXT]>  A macro that is defined before the design's text, up to 64 of them
+      --with <PATH>           A further file of the design, read behind it, up to 64 of them
       --order <N>             The order of the queue's steps, from 0 to 18446744073709551615
 ";
 

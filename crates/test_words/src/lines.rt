@@ -22,6 +22,9 @@ x run --clock c d s
 x check d s0 s1
 x check d s --half 7 --top=t
 x run --define=A=1 --top t --define B_2= --clock c d --define A=$b=c+`D s
+x run --with e --top t --clock c d s
+x check d --with=e s --clock c --with f --top=t --with e
+x queue --with e --order 7 -- d --with
 x run --share --top t --clock c d s
 x run d --top t --share s --clock=c s1
 x run --top t --clock c -- d --share
@@ -55,6 +58,9 @@ x run --top t --clock c --other d s
 x run --top t --clock c d s --half
 x run --top t --clock c d s --define
 x run --top t --clock c d --define s
+x run --top t --clock c d s --with
+x run --top t --clock c d --with s
+x run --top t --clock c --withs e d s
 x run --share --top t --clock c d s --share
 x run --share=x --top t --clock c d s
 x run --top t --clock c --shared d s
@@ -81,6 +87,7 @@ x run --order 7 --top t --clock c d s
 x check --order 7 --top t --clock c d s
 x bench --order 7
 x bench --share 1
+x bench --with e 1
 x bench
 x bench 0
 x bench 1001
@@ -99,13 +106,13 @@ fn words(alloc: Global, line: &str) -> Result<Vec<String>, AllocError> {
     Ok(words)
 }
 
-/// Whether these are the paths of the stimuli.
-fn are_paths(paths: &[&str], stimuli: &Texts) -> bool {
-    if paths.len() != stimuli.len() {
+/// Whether these are the paths of the files.
+fn are_paths(paths: &[&str], files: &Texts) -> bool {
+    if paths.len() != files.len() {
         return false;
     }
     for (n, path) in paths.iter().enumerate() {
-        if *path != stimuli.get(n).as_str() {
+        if *path != files.get(n).as_str() {
             return false;
         }
     }
@@ -145,6 +152,7 @@ fn is_job(matches: &ArgMatches<'_>, job: &Job) -> bool {
         && matches.get_str("clock") == job.clock.as_ref().map(|clock| clock.as_str())
         && matches.get_one::<u32>("half") == Some(job.half)
         && is_head(job.head.as_str(), matches.get_strs("define").unwrap_or(&[]))
+        && are_paths(matches.get_strs("with").unwrap_or(&[]), &job.others)
         && matches.get_str("design") == Some(job.design.as_str())
         && are_paths(matches.get_strs("stimuli").unwrap_or(&[]), &job.stimuli)
 }

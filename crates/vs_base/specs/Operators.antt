@@ -3,9 +3,9 @@ use Rattle.std.specs.Prelude.{ℕ, Bool, true, false, ◌&&◌, max}
 use Rattle.vs_base.specs.declared.operators.UnaryOp.{UnaryOp}
 use Rattle.vs_base.specs.declared.operators.UnaryOp.TheVariants.{Plus, Minus, BitNot, Signed, Unsigned}
 use Rattle.vs_base.specs.declared.operators.BinaryOp.{BinaryOp}
-use Rattle.vs_base.specs.declared.operators.BinaryOp.TheVariants.{Less, LessEqual, Greater, GreaterEqual, Equal, NotEqual, CaseEqual, CaseNotEqual, LogicalAnd, LogicalOr, ShiftLeft, ShiftRight, ShiftLeftArith, ShiftRightArith}
+use Rattle.vs_base.specs.declared.operators.BinaryOp.TheVariants.{Less, LessEqual, Greater, GreaterEqual, Equal, NotEqual, CaseEqual, CaseNotEqual, LogicalAnd, LogicalOr, ShiftLeft, ShiftRight, ShiftLeftArith, ShiftRightArith, Power}
 use Rattle.vs_base.specs.declared.operators.Way.{Way}
-use Rattle.vs_base.specs.declared.operators.Way.TheVariants.{InContext, Own, Compared, Shifted}
+use Rattle.vs_base.specs.declared.operators.Way.TheVariants.{InContext, Own, Compared, Shifted, Raised}
 
 -- in its own context, each self-determined, both in a context of their own, or the first in its context and the second self-determined
 abbrev pub unary_way : UnaryOp → Way
@@ -29,6 +29,7 @@ way ShiftLeft = Shifted
 way ShiftRight = Shifted
 way ShiftLeftArith = Shifted
 way ShiftRightArith = Shifted
+way Power = Raised
 way _ = InContext
 
 -- the length of an operator's result, by those of its operands (table 5-22)
@@ -51,11 +52,13 @@ unary_sign _ s = false
 abbrev pub binary_length : Way → ℕ → ℕ → ℕ
 binary_length InContext m n = max m n
 binary_length Shifted m n = m
+binary_length Raised m n = m
 binary_length _ m n = 1
 
 abbrev pub binary_sign : Way → Bool → Bool → Bool
 binary_sign InContext s t = s && t
 binary_sign Shifted s t = s
+binary_sign Raised s t = s
 binary_sign _ s t = false
 
 -- the length and the sign in which an operand is evaluated (5.4.1, 5.5.2): w and s are those of the context, m and n the lengths of the operands by themselves, t and u their signs

@@ -6,8 +6,8 @@ ghost use Rattle.vs_base.specs.Applied as spec;
 
 use crate::operators::{BinaryOp, UnaryOp};
 use vs_four::{
-    Bit4, Bits, add, and, div, equal, less, mul, neg, not, or, reduce_and, reduce_or, reduce_xor,
-    rem, repeated, same, shift_arith, shift_left, shift_right, sub, truth, xnor, xor,
+    Bit4, Bits, add, and, div, equal, less, mul, neg, not, or, pow, reduce_and, reduce_or,
+    reduce_xor, rem, repeated, same, shift_arith, shift_left, shift_right, sub, truth, xnor, xor,
 };
 
 /// One bit.
@@ -24,7 +24,7 @@ fn other(bit: Bit4) -> Bits
     not(one(bit))
 }
 
-/// A quotient or remainder that has no value is all x (IEEE 1364-2005, 5.1.5).
+/// A quotient, remainder or power that has no value is all x (IEEE 1364-2005, 5.1.5).
 fn or_all_x(len: u32, value: Option<Bits>) -> Bits
     requires some { 1 ≤ len }
     requires most { len ≤ 64 }
@@ -57,11 +57,11 @@ impl UnaryOp {
 }
 
 impl BinaryOp {
-    /// The operator on operands that have the lengths of their contexts, signed where both are taken as
-    /// signed.
-    pub fn apply(self, signed: bool, a: Bits, b: Bits) -> Bits
+    /// The operator on operands that have the lengths of their contexts, of which the first is taken as signed where `signed` is true,
+    /// and the second where `other_signed` is.
+    pub fn apply(self, signed: bool, other_signed: bool, a: Bits, b: Bits) -> Bits
         requires { spec.HasLengths self a b }
-        ensures { result ≡ spec.apply_binary self signed a b }
+        ensures { result ≡ spec.apply_binary self signed other_signed a b }
     {
         match self {
             BinaryOp::Add => add(a, b),
@@ -87,6 +87,7 @@ impl BinaryOp {
             BinaryOp::ShiftRight => shift_right(a, b),
             BinaryOp::ShiftRightArith if signed => shift_arith(a, b),
             BinaryOp::ShiftRightArith => shift_right(a, b),
+            BinaryOp::Power => or_all_x(a.len(), pow(a, b, signed, other_signed)),
         }
     }
 }

@@ -55,7 +55,7 @@ impl UnaryOp {
     {
         match self.way() {
             Way::Own => a,
-            Way::InContext | Way::Compared | Way::Shifted => context,
+            Way::InContext | Way::Compared | Way::Shifted | Way::Raised => context,
         }
     }
 }
@@ -68,7 +68,7 @@ impl Way {
     {
         match self {
             Way::InContext => a.shared(b),
-            Way::Shifted => a,
+            Way::Shifted | Way::Raised => a,
             Way::Own | Way::Compared => Context {
                 width: 1,
                 signed: false,
@@ -85,7 +85,7 @@ impl Way {
         match self {
             Way::Own => a,
             Way::Compared => a.shared(b),
-            Way::InContext | Way::Shifted => context,
+            Way::InContext | Way::Shifted | Way::Raised => context,
         }
     }
 
@@ -97,7 +97,7 @@ impl Way {
         match self {
             Way::InContext => context,
             Way::Compared => a.shared(b),
-            Way::Own | Way::Shifted => b,
+            Way::Own | Way::Shifted | Way::Raised => b,
         }
     }
 }

@@ -81,6 +81,8 @@ pub enum BinaryOp {
     ShiftLeftArith,
     /// `>>>`
     ShiftRightArith,
+    /// `**`
+    Power,
 }
 
 /// How an operator takes its operands (IEEE 1364-2005, table 5-22).
@@ -94,6 +96,8 @@ pub enum Way {
     Compared,
     /// The first in its context, the second by itself.
     Shifted,
+    /// As a shift does, which it isn't.
+    Raised,
 }
 
 impl UnaryOp {
@@ -144,6 +148,7 @@ impl BinaryOp {
             | BinaryOp::ShiftRight
             | BinaryOp::ShiftLeftArith
             | BinaryOp::ShiftRightArith => Way::Shifted,
+            BinaryOp::Power => Way::Raised,
         }
     }
 }

@@ -43,6 +43,7 @@ pub fn bench_job(alloc: Global, lanes: u32) -> Result<Job, AllocError>
         share: false,
         head: text(alloc, "")?,
         design: text(alloc, DESIGN_PATH)?,
+        others: Texts::of(Vec::new(alloc)),
         stimuli: lane_paths(alloc, lanes)?,
     })
 }

@@ -84,7 +84,7 @@ fn holds(shapes: &Shapes, op: BinaryOp, a: u32, b: u32, value: Bit4) -> bool
     let context = shared_context(shapes, a, b);
     let first = operand_value(shapes, a, context, value);
     let second = operand_value(shapes, b, context, value);
-    truth(op.apply(context.signed, first, second)) == Bit4::One
+    truth(op.apply(context.signed, context.signed, first, second)) == Bit4::One
 }
 
 /// Whether an operator on these operands compares this bit with a constant, and holds where the bit has this value.

@@ -2,7 +2,7 @@
 use Rattle.std.proofs.Common.{◌≡◌, ℕ, zero, suc, ◌*◌, ◌≤◌, ◌<◌, min, ◌⊎◌, inl, inr, Bool, true, false, nat_lt, refl, arith, ap, ◌∙◌}
 use Rattle.std.proofs.lemmas.Bool.{ltb-true, ltb-false}
 use Rattle.std.proofs.Math.Nat.{mul-le-mul_right, mul-le-mul_left}
-use Rattle.vs_design.specs.Expressions.{UnaryOp, Plus, Minus, BitNot, Signed, Unsigned, Way, InContext, Own, Compared, Shifted, unary_length, binary_length}
+use Rattle.vs_design.specs.Expressions.{UnaryOp, Plus, Minus, BitNot, Signed, Unsigned, Way, InContext, Own, Compared, Shifted, Raised, unary_length, binary_length}
 
 many : (m k : ℕ) → 65 ≤ m → 1 ≤ k → 65 ≤ m * k
 many m k h i = let e : m * 1 ≤ m * k = mul-le-mul_left m i in omega (arith, e)
@@ -43,5 +43,6 @@ capped_unary _ n = refl
 pub capped_binary : (w : Way) (m n : ℕ) → binary_length w (min 65 m) (min 65 n) ≡ min 65 (binary_length w m n)
 capped_binary InContext m n = omega arith
 capped_binary Shifted m n = refl
+capped_binary Raised m n = refl
 capped_binary Own m n = refl
 capped_binary Compared m n = refl

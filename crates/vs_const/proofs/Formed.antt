@@ -5,7 +5,7 @@ use Rattle.vs_four.specs.declared.Range.{Range}
 use Rattle.vs_four.specs.Logic.{BitList, all_known}
 use Rattle.vs_four.specs.Numbers.{integer, clog2}
 use Rattle.vs_four.specs.Selects.{Part, range_length, is_descending}
-use Rattle.vs_design.specs.Expressions.{OfSignal, OfConstant, Expression, Literal, Name, Select, Word, Unary, Binary, Choice, Join, Repeat, At, Call, Items, NoItem, Item, UnaryOp, Signed, Unsigned, BinaryOp, Way, InContext, Own, Compared, Shifted, way, binary_length, width, sign, is_constant}
+use Rattle.vs_design.specs.Expressions.{OfSignal, OfConstant, Expression, Literal, Name, Select, Word, Unary, Binary, Choice, Join, Repeat, At, Call, Items, NoItem, Item, UnaryOp, Signed, Unsigned, BinaryOp, Way, InContext, Own, Compared, Shifted, Raised, way, binary_length, width, sign, is_constant}
 use Rattle.vs_design.specs.Values.{constant_value}
 use Rattle.vs_design.specs.Designs.{Design}
 use Rattle.vs_design.specs.Fits.{fits_64}
@@ -94,6 +94,7 @@ way_length InContext m n = refl
 way_length Own m n = refl
 way_length Compared m n = refl
 way_length Shifted m n = refl
+way_length Raised m n = refl
 
 binary_fine : (d : Design) (needed : Bool) (op : BinaryOp) (t u : Typed) → IsFine d needed t → IsFine d needed u → IsFine d needed (binary_typed op t u)
 binary_fine d needed op t u f g = record {

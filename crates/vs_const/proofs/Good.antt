@@ -4,7 +4,7 @@ use Rattle.std.proofs.lemmas.Bool.{leb-true}
 use Rattle.vs_four.specs.declared.Range.{Range}
 use Rattle.vs_four.specs.Numbers.{clog2}
 use Rattle.vs_four.specs.Selects.{range_length}
-use Rattle.vs_design.specs.Expressions.{Literal, UnaryOp, Plus, Minus, BitNot, LogicalNot, ReduceAnd, ReduceNand, ReduceOr, ReduceNor, ReduceXor, ReduceXnor, Signed, Unsigned, unary_length, BinaryOp, Way, InContext, Own, Compared, Shifted, way, binary_length, width}
+use Rattle.vs_design.specs.Expressions.{Literal, UnaryOp, Plus, Minus, BitNot, LogicalNot, ReduceAnd, ReduceNand, ReduceOr, ReduceNor, ReduceXor, ReduceXnor, Signed, Unsigned, unary_length, BinaryOp, Way, InContext, Own, Compared, Shifted, Raised, way, binary_length, width}
 use Rattle.vs_design.specs.Values.{constant_value}
 use Rattle.vs_design.proofs.Lengths.{length_bits_of}
 use Rattle.vs_grammar.specs.Trees as tree
@@ -52,6 +52,7 @@ binary_some InContext m n h = omega arith
 binary_some Own m n h = omega arith
 binary_some Compared m n h = omega arith
 binary_some Shifted m n h = h
+binary_some Raised m n h = h
 
 unary_long : (op : UnaryOp) (t : Typed) → IsLong t → IsLong (unary_typed op t)
 unary_long op t g = record { length = ap (unary_op_length op) g.length; some = unary_some op (width t.expression) g.some }

@@ -2,7 +2,7 @@
 use Rattle.std.specs.Prelude.{ℕ, ◌+◌, ◌*◌, Bool, true, false, not, ◌&&◌, List, [], ◌++◌, max, if◌then◌else◌, nat_lt, nat_le, ◌==◌, ℤ, pos, negsuc, Option, Some, None}
 use Rattle.vs_four.specs.Logic.{BitList, all_known}
 use Rattle.vs_four.specs.Numbers.{integer}
-use Rattle.vs_design.specs.Expressions.{Expression, Literal, Unary, Binary, Choice, Join, Repeat, At, UnaryOp, unary_length, BinaryOp, Way, InContext, Shifted, way, width, sign}
+use Rattle.vs_design.specs.Expressions.{Expression, Literal, Unary, Binary, Choice, Join, Repeat, At, UnaryOp, unary_length, BinaryOp, Way, InContext, Shifted, Raised, way, width, sign}
 use Rattle.vs_design.specs.Values.{constant_value}
 use Rattle.vs_const.specs.declared.faults.Fault.{Fault}
 use Rattle.vs_const.specs.Faults.{fault, fault_if, names_signal, BadRange, UnknownConstant}
@@ -117,6 +117,7 @@ unary_typed op a = record { expression = Unary op a.expression; length = unary_o
 abbrev pub binary_way_length : Way → Option ℕ → Option ℕ → Option ℕ
 binary_way_length InContext m n = both_lengths max m n
 binary_way_length Shifted m n = m
+binary_way_length Raised m n = m
 binary_way_length _ m n = Some 1
 
 -- an operator on two operands

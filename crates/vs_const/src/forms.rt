@@ -205,17 +205,32 @@ pub fn value(f: &Form, w: u32, signed: bool) -> Bits
         }
         Form::Binary { op, left, right } => match op.way() {
             Way::InContext => extended(
-                op.apply(signed, value(left, w, signed), value(right, w, signed)),
+                op.apply(
+                    signed,
+                    signed,
+                    value(left, w, signed),
+                    value(right, w, signed),
+                ),
                 w,
                 signed,
             ),
-            Way::Shifted => extended(
-                op.apply(signed, value(left, w, signed), own(right)),
+            Way::Shifted | Way::Raised => extended(
+                op.apply(
+                    signed,
+                    shape(right).signed,
+                    value(left, w, signed),
+                    own(right),
+                ),
                 w,
                 signed,
             ),
             Way::Own => extended(
-                op.apply(shape(left).signed, own(left), own(right)),
+                op.apply(
+                    shape(left).signed,
+                    shape(right).signed,
+                    own(left),
+                    own(right),
+                ),
                 w,
                 signed,
             ),
@@ -223,6 +238,7 @@ pub fn value(f: &Form, w: u32, signed: bool) -> Bits
                 let s = shape(left).shared(shape(right));
                 extended(
                     op.apply(
+                        s.signed,
                         s.signed,
                         value(left, s.width, s.signed),
                         value(right, s.width, s.signed),

@@ -120,7 +120,7 @@ pub(crate) fn binary(op: BinaryOp, a: Checked, b: Checked) -> Checked
             signed: a.signed && b.signed,
             depth,
         },
-        Way::Shifted => Checked {
+        Way::Shifted | Way::Raised => Checked {
             flaws,
             length: a.length,
             good,

@@ -7,11 +7,11 @@ use Rattle.vs_net.specs.Network.{State, write_all}
 use Rattle.vs_four.specs.Logic.{BitList, map2, choose, truth, all_known}
 use Rattle.vs_four.specs.Lengths.{extend_with, last_or, repeat}
 use Rattle.vs_four.specs.Tables.{merge_bit, not_bit, and_bit, or_bit, xor_bit, xnor_bit}
-use Rattle.vs_four.specs.Numbers.{bits_of, bits_of_integer, if_known, has_quotient, integer, number}
+use Rattle.vs_four.specs.Numbers.{bits_of, bits_of_integer, if_known, has_quotient, integer, number, reciprocal, bits_if_any, raised, pow}
 use Rattle.vs_four.specs.Shifts.{move_up, move_down, distance}
 use Rattle.vs_four.specs.Selects.{Part, range_length, at_place, places, select}
 use Rattle.vs_design.proofs.Places.{first_place, places_from, places_are}
-use Rattle.vs_design.specs.Expressions.{Signal, signal_length, word_length, Source, UnaryOp, Plus, Minus, BitNot, Signed, Unsigned, BinaryOp, Add, Subtract, Multiply, Divide, Remainder, BitAnd, BitOr, BitXor, BitXnor, ShiftLeft, ShiftRight, ShiftLeftArith, ShiftRightArith, Expression, Literal, Name, Select, Word, Unary, Binary, Choice, Join, Repeat, At, Call, Way, InContext, Own, Compared, Shifted, unary_way, way, unary_length, binary_length, width, sign}
+use Rattle.vs_design.specs.Expressions.{Signal, signal_length, word_length, Source, UnaryOp, Plus, Minus, BitNot, Signed, Unsigned, BinaryOp, Add, Subtract, Multiply, Divide, Remainder, BitAnd, BitOr, BitXor, BitXnor, ShiftLeft, ShiftRight, ShiftLeftArith, ShiftRightArith, Power, Expression, Literal, Name, Select, Word, Unary, Binary, Choice, Join, Repeat, At, Call, Way, InContext, Own, Compared, Shifted, Raised, unary_way, way, unary_length, binary_length, width, sign}
 use Rattle.vs_design.specs.Values.{count_from, bits_of_signal, read, source_value, address_place, spread, word_places, select_word, apply_unary, or_all_x, apply_binary, left_width, right_width, left_sign, right_sign, unset, value, argument_state, body, assigned_value}
 
 pub length_extend : {A : Type 0} (fill : A) (w : ℕ) (xs : List A) → length xs ≤ w → length (extend_with fill w xs) ≡ w
@@ -81,12 +81,14 @@ left_fits InContext w m n h = omega arith
 left_fits Own w m n h = omega arith
 left_fits Compared w m n h = omega arith
 left_fits Shifted w m n h = omega arith
+left_fits Raised w m n h = omega arith
 
 pub right_fits : (y : Way) (w m n : ℕ) → binary_length y m n ≤ w → n ≤ right_width y w m n
 right_fits InContext w m n h = omega arith
 right_fits Own w m n h = omega arith
 right_fits Compared w m n h = omega arith
 right_fits Shifted w m n h = omega arith
+right_fits Raised w m n h = omega arith
 
 pub unary_fits : (op : UnaryOp) (w n : ℕ) → unary_length op n ≤ w → n ≤ left_width (unary_way op) w n 0
 unary_fits Plus w n h = h
@@ -102,22 +104,36 @@ length_unary Signed w n a h k = omega arith
 length_unary Unsigned w n a h k = omega arith
 length_unary _ w n a h k = k
 
-length_binary : (op : BinaryOp) (g : Bool) (w m n : ℕ) (a b : BitList) → length a ≡ left_width (way op) w m n → length b ≡ right_width (way op) w m n → binary_length (way op) m n ≤ w → length (apply_binary op g a b) ≤ w
-length_binary Add g w m n a b h k l = let e = length_if_known (all_known a && all_known b) (length a) (bits_of (length a) (number a + number b)) (length_bits_of (length a) (number a + number b)) in omega (arith, e)
-length_binary Subtract g w m n a b h k l = let e = length_if_known (all_known a && all_known b) (length a) (bits_of (length a) ((number a + 2 ^ length a) - number b)) (length_bits_of (length a) ((number a + 2 ^ length a) - number b)) in omega (arith, e)
-length_binary Multiply g w m n a b h k l = let e = length_if_known (all_known a && all_known b) (length a) (bits_of (length a) (number a * number b)) (length_bits_of (length a) (number a * number b)) in omega (arith, e)
-length_binary Divide g w m n a b h k l = let e = length_or_all_x (length a) (has_quotient a b) (bits_of_integer (length a) (int_div (integer g a) (integer g b))) (length_bits_of_integer (length a) (int_div (integer g a) (integer g b))) in omega (arith, e)
-length_binary Remainder g w m n a b h k l = let e = length_or_all_x (length a) (has_quotient a b) (bits_of_integer (length a) (int_rem (integer g a) (integer g b))) (length_bits_of_integer (length a) (int_rem (integer g a) (integer g b))) in omega (arith, e)
-length_binary BitAnd g w m n a b h k l = let e = length_map2 and_bit a b (h ∙ sym k) in omega (arith, e)
-length_binary BitOr g w m n a b h k l = let e = length_map2 or_bit a b (h ∙ sym k) in omega (arith, e)
-length_binary BitXor g w m n a b h k l = let e = length_map2 xor_bit a b (h ∙ sym k) in omega (arith, e)
-length_binary BitXnor g w m n a b h k l = let e = length_map2 xnor_bit a b (h ∙ sym k) in omega (arith, e)
-length_binary ShiftLeft g w m n a b h k l = let e = length_if_known (all_known b) (length a) (move_up Zero (distance (length a) b) a) (length_move_up Zero (distance (length a) b) a) in omega (arith, e)
-length_binary ShiftLeftArith g w m n a b h k l = let e = length_if_known (all_known b) (length a) (move_up Zero (distance (length a) b) a) (length_move_up Zero (distance (length a) b) a) in omega (arith, e)
-length_binary ShiftRight g w m n a b h k l = let e = length_if_known (all_known b) (length a) (move_down Zero (distance (length a) b) a) (length_move_down Zero (distance (length a) b) a) in omega (arith, e)
-length_binary ShiftRightArith true w m n a b h k l = let e = length_if_known (all_known b) (length a) (move_down (last_or Zero a) (distance (length a) b) a) (length_move_down (last_or Zero a) (distance (length a) b) a) in omega (arith, e)
-length_binary ShiftRightArith false w m n a b h k l = let e = length_if_known (all_known b) (length a) (move_down Zero (distance (length a) b) a) (length_move_down Zero (distance (length a) b) a) in omega (arith, e)
-length_binary _ g w m n a b h k l = l
+-- a power is as long as its base
+length_any : (w : ℕ) (o : Option ℤ) → length (or_all_x w (bits_if_any w o)) ≡ w
+length_any w None = length-replicate w X
+length_any w (Some z) = length_bits_of_integer w z
+
+length_raised : (known g : Bool) (a : BitList) (z : ℤ) → length (or_all_x (length a) (if known then raised g a z else None)) ≡ length a
+length_raised false g a z = length-replicate (length a) X
+length_raised true g a (pos n) = length_bits_of (length a) (number a ^ n)
+length_raised true g a (negsuc n) = length_any (length a) (reciprocal (integer g a) (suc n))
+
+length_power : (g j : Bool) (a b : BitList) → length (or_all_x (length a) (pow g j a b)) ≡ length a
+length_power g j a b = length_raised (all_known a && all_known b) g a (integer j b)
+
+length_binary : (op : BinaryOp) (g j : Bool) (w m n : ℕ) (a b : BitList) → length a ≡ left_width (way op) w m n → length b ≡ right_width (way op) w m n → binary_length (way op) m n ≤ w → length (apply_binary op g j a b) ≤ w
+length_binary Add g j w m n a b h k l = let e = length_if_known (all_known a && all_known b) (length a) (bits_of (length a) (number a + number b)) (length_bits_of (length a) (number a + number b)) in omega (arith, e)
+length_binary Subtract g j w m n a b h k l = let e = length_if_known (all_known a && all_known b) (length a) (bits_of (length a) ((number a + 2 ^ length a) - number b)) (length_bits_of (length a) ((number a + 2 ^ length a) - number b)) in omega (arith, e)
+length_binary Multiply g j w m n a b h k l = let e = length_if_known (all_known a && all_known b) (length a) (bits_of (length a) (number a * number b)) (length_bits_of (length a) (number a * number b)) in omega (arith, e)
+length_binary Divide g j w m n a b h k l = let e = length_or_all_x (length a) (has_quotient a b) (bits_of_integer (length a) (int_div (integer g a) (integer g b))) (length_bits_of_integer (length a) (int_div (integer g a) (integer g b))) in omega (arith, e)
+length_binary Remainder g j w m n a b h k l = let e = length_or_all_x (length a) (has_quotient a b) (bits_of_integer (length a) (int_rem (integer g a) (integer g b))) (length_bits_of_integer (length a) (int_rem (integer g a) (integer g b))) in omega (arith, e)
+length_binary BitAnd g j w m n a b h k l = let e = length_map2 and_bit a b (h ∙ sym k) in omega (arith, e)
+length_binary BitOr g j w m n a b h k l = let e = length_map2 or_bit a b (h ∙ sym k) in omega (arith, e)
+length_binary BitXor g j w m n a b h k l = let e = length_map2 xor_bit a b (h ∙ sym k) in omega (arith, e)
+length_binary BitXnor g j w m n a b h k l = let e = length_map2 xnor_bit a b (h ∙ sym k) in omega (arith, e)
+length_binary ShiftLeft g j w m n a b h k l = let e = length_if_known (all_known b) (length a) (move_up Zero (distance (length a) b) a) (length_move_up Zero (distance (length a) b) a) in omega (arith, e)
+length_binary ShiftLeftArith g j w m n a b h k l = let e = length_if_known (all_known b) (length a) (move_up Zero (distance (length a) b) a) (length_move_up Zero (distance (length a) b) a) in omega (arith, e)
+length_binary ShiftRight g j w m n a b h k l = let e = length_if_known (all_known b) (length a) (move_down Zero (distance (length a) b) a) (length_move_down Zero (distance (length a) b) a) in omega (arith, e)
+length_binary ShiftRightArith true j w m n a b h k l = let e = length_if_known (all_known b) (length a) (move_down (last_or Zero a) (distance (length a) b) a) (length_move_down (last_or Zero a) (distance (length a) b) a) in omega (arith, e)
+length_binary ShiftRightArith false j w m n a b h k l = let e = length_if_known (all_known b) (length a) (move_down Zero (distance (length a) b) a) (length_move_down Zero (distance (length a) b) a) in omega (arith, e)
+length_binary Power g j w m n a b h k l = let e = length_power g j a b in omega (arith, e)
+length_binary _ g j w m n a b h k l = l
 
 length_choose : (c : Bit4) (w : ℕ) (p q : BitList) → length p ≡ w → length q ≡ w → length (choose c p q) ≡ w
 length_choose One w p q h k = h
@@ -146,7 +162,7 @@ length_value (Binary op a b) w g s h =
     let vb = value b (right_width (way op) w (width a) (width b)) (right_sign (way op) g (sign a) (sign b)) s in
     let ea : length va ≡ left_width (way op) w (width a) (width b) = length_value a (left_width (way op) w (width a) (width b)) (left_sign (way op) g (sign a) (sign b)) s (left_fits (way op) w (width a) (width b) h) in
     let eb : length vb ≡ right_width (way op) w (width a) (width b) = length_value b (right_width (way op) w (width a) (width b)) (right_sign (way op) g (sign a) (sign b)) s (right_fits (way op) w (width a) (width b) h) in
-    length_extend _ w (apply_binary op (left_sign (way op) g (sign a) (sign b)) va vb) (length_binary op (left_sign (way op) g (sign a) (sign b)) w (width a) (width b) va vb ea eb h)
+    length_extend _ w (apply_binary op (left_sign (way op) g (sign a) (sign b)) (right_sign (way op) g (sign a) (sign b)) va vb) (length_binary op (left_sign (way op) g (sign a) (sign b)) (right_sign (way op) g (sign a) (sign b)) w (width a) (width b) va vb ea eb h)
 length_value (Choice c p q) w g s h =
     length_choose (truth (value c (width c) (sign c) s)) w (value p w g s) (value q w g s) (length_value p w g s (omega arith)) (length_value q w g s (omega arith))
 length_value (Join high low) w g s h =

@@ -99,8 +99,8 @@ mutual
   value_reads (Binary op a b) w g s t h =
       let ha = value_reads a (left_width (way op) w (width a) (width b)) (left_sign (way op) g (sign a) (sign b)) s t (agree-left (read_bits a) (read_bits b) s t h) in
       let hb = value_reads b (right_width (way op) w (width a) (width b)) (right_sign (way op) g (sign a) (sign b)) s t (agree-right (read_bits a) (read_bits b) s t h) in
-      ap {B = BitList} (λ v. extend w g (apply_binary op (left_sign (way op) g (sign a) (sign b)) v (value b (right_width (way op) w (width a) (width b)) (right_sign (way op) g (sign a) (sign b)) s))) ha
-      ∙ ap {B = BitList} (λ v. extend w g (apply_binary op (left_sign (way op) g (sign a) (sign b)) (value a (left_width (way op) w (width a) (width b)) (left_sign (way op) g (sign a) (sign b)) t) v)) hb
+      ap {B = BitList} (λ v. extend w g (apply_binary op (left_sign (way op) g (sign a) (sign b)) (right_sign (way op) g (sign a) (sign b)) v (value b (right_width (way op) w (width a) (width b)) (right_sign (way op) g (sign a) (sign b)) s))) ha
+      ∙ ap {B = BitList} (λ v. extend w g (apply_binary op (left_sign (way op) g (sign a) (sign b)) (right_sign (way op) g (sign a) (sign b)) (value a (left_width (way op) w (width a) (width b)) (left_sign (way op) g (sign a) (sign b)) t) v)) hb
   value_reads (Choice c p q) w g s t h =
       let hc = value_reads c (width c) (sign c) s t (agree-left (read_bits c) (read_bits p ++ read_bits q) s t h) in
       let hpq = agree-right (read_bits c) (read_bits p ++ read_bits q) s t h in

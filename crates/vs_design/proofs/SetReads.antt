@@ -7,7 +7,7 @@ use Rattle.vs_four.specs.Logic.{all_known}
 use Rattle.vs_four.specs.Lengths.{extend_literal, join, repeat, cut}
 use Rattle.vs_four.specs.Shifts.{distance}
 use Rattle.vs_four.specs.Selects.{Part, range_length, places, at_place}
-use Rattle.vs_design.specs.Expressions.{Signal, signal_length, word_length, addresses, Source, OfSignal, OfConstant, UnaryOp, Plus, Minus, BitNot, Signed, Unsigned, BinaryOp, Add, Subtract, Multiply, Divide, Remainder, BitAnd, BitOr, BitXor, BitXnor, ShiftLeft, ShiftRight, ShiftLeftArith, ShiftRightArith, Expression, Literal, Name, Select, Word, Unary, Binary, Choice, Join, Repeat, At, Call, Items, NoItem, Item, unary_way, way, unary_length, binary_length, width, sign, is_constant}
+use Rattle.vs_design.specs.Expressions.{Signal, signal_length, word_length, addresses, Source, OfSignal, OfConstant, UnaryOp, Plus, Minus, BitNot, Signed, Unsigned, BinaryOp, Add, Subtract, Multiply, Divide, Remainder, BitAnd, BitOr, BitXor, BitXnor, ShiftLeft, ShiftRight, ShiftLeftArith, ShiftRightArith, Power, Expression, Literal, Name, Select, Word, Unary, Binary, Choice, Join, Repeat, At, Call, Items, NoItem, Item, unary_way, way, unary_length, binary_length, width, sign, is_constant}
 use Rattle.vs_design.specs.Values.{count_from, bits_of_signal, word_places, value, constant_value, left_width, right_width, left_sign, right_sign}
 use Rattle.vs_design.specs.Bodies.{bits_at}
 use Rattle.vs_design.specs.Footprints.{contains, somes, source_bits, addressed_bits, read_bits, items_reads}
@@ -53,6 +53,7 @@ binary_long : (op : BinaryOp) (w m n : ℕ) (g t : Bool) (b whole : Expression) 
     → length (lift_operator (lift_of op) op w g t b (lift_quotient whole w g) ss ts) ≡ w
 binary_long Divide w m n g t b whole ss ts q l h k = quotient_long whole w g q
 binary_long Remainder w m n g t b whole ss ts q l h k = quotient_long whole w g q
+binary_long Power w m n g t b whole ss ts q l h k = quotient_long whole w g q
 binary_long ShiftLeft w m n g t b whole ss ts q l h k = let e = shift_long ShiftLeft t b ts ss in extend_long w g (lift_shift ShiftLeft t b ts ss) (omega (arith, e))
 binary_long ShiftRight w m n g t b whole ss ts q l h k = let e = shift_long ShiftRight t b ts ss in extend_long w g (lift_shift ShiftRight t b ts ss) (omega (arith, e))
 binary_long ShiftLeftArith w m n g t b whole ss ts q l h k = let e = shift_long ShiftLeftArith t b ts ss in extend_long w g (lift_shift ShiftLeftArith t b ts ss) (omega (arith, e))

@@ -13,7 +13,7 @@ use Rattle.vs_four.specs.Lengths.{last_or}
 use Rattle.vs_four.specs.Numbers.{bits_of, number, integer, if_known}
 use Rattle.vs_four.specs.Shifts.{distance, move_up, move_down}
 use Rattle.vs_four.specs.Selects.{Part, range_length, at_place, places, select}
-use Rattle.vs_design.specs.Expressions.{Signal, signal_length, Source, OfSignal, OfConstant, UnaryOp, Plus, Minus, BitNot, LogicalNot, ReduceAnd, ReduceNand, ReduceOr, ReduceNor, ReduceXor, ReduceXnor, Signed, Unsigned, BinaryOp, Add, Subtract, Multiply, Divide, Remainder, BitAnd, BitOr, BitXor, BitXnor, Less, LessEqual, Greater, GreaterEqual, Equal, NotEqual, CaseEqual, CaseNotEqual, LogicalAnd, LogicalOr, ShiftLeft, ShiftRight, ShiftLeftArith, ShiftRightArith, Expression, Binary, way, width, sign, is_constant}
+use Rattle.vs_design.specs.Expressions.{Signal, signal_length, Source, OfSignal, OfConstant, UnaryOp, Plus, Minus, BitNot, LogicalNot, ReduceAnd, ReduceNand, ReduceOr, ReduceNor, ReduceXor, ReduceXnor, Signed, Unsigned, BinaryOp, Add, Subtract, Multiply, Divide, Remainder, BitAnd, BitOr, BitXor, BitXnor, Less, LessEqual, Greater, GreaterEqual, Equal, NotEqual, CaseEqual, CaseNotEqual, LogicalAnd, LogicalOr, ShiftLeft, ShiftRight, ShiftLeftArith, ShiftRightArith, Power, Expression, Binary, way, width, sign, is_constant}
 use Rattle.vs_design.specs.Values.{count_from, bits_of_signal, read, source_value, word_places, select_word, apply_unary, apply_binary, left_width, right_width, left_sign, right_sign, value, own_value, constant_value}
 use Rattle.vs_design.specs.Footprints.{contains, source_bits, addressed_bits, somes}
 use Rattle.vs_design.specs.Bodies.{bits_at}
@@ -87,30 +87,31 @@ swap_known false true = refl
 swap_known false false = refl
 
 -- operators whose sets come from their operands' sets
-binary_in : (op : BinaryOp) (g : Bool) {ss ts : List Set4} {us vs : BitList} → lift_of op ≡ FromSets → AllIn ss us → AllIn ts vs → AllIn (lift_binary op ss ts) (apply_binary op g us vs)
-binary_in Add g {us} {vs} o h k = sum_in h k (number us + number vs)
-binary_in Subtract g {us} {vs} o h k = sum_in h k ((number us + 2 ^ length us) - number vs)
-binary_in Multiply g {us} {vs} o h k = sum_in h k (number us * number vs)
-binary_in BitAnd g o h k = all_map2 and_bit h k
-binary_in BitOr g o h k = all_map2 or_bit h k
-binary_in BitXor g o h k = all_map2 xor_bit h k
-binary_in BitXnor g o h k = all_map2 xnor_bit h k
-binary_in Less g {ss} {ts} {us} {vs} o h k = one_in (arithmetic_bit (all_append h k) (all_known us && all_known vs) (of_bool (int_lt (integer g us) (integer g vs))) (known_append us vs) (of_bool_known (int_lt (integer g us) (integer g vs)))) none_in
-binary_in GreaterEqual g {ss} {ts} {us} {vs} o h k = one_in (arithmetic_not (all_append h k) (all_known us && all_known vs) (of_bool (int_lt (integer g us) (integer g vs))) (known_append us vs) (of_bool_known (int_lt (integer g us) (integer g vs)))) none_in
-binary_in Greater g {ss} {ts} {us} {vs} o h k = one_in (arithmetic_bit (all_append h k) (all_known vs && all_known us) (of_bool (int_lt (integer g vs) (integer g us))) (known_append us vs ∙ swap_known (all_known us) (all_known vs)) (of_bool_known (int_lt (integer g vs) (integer g us)))) none_in
-binary_in LessEqual g {ss} {ts} {us} {vs} o h k = one_in (arithmetic_not (all_append h k) (all_known vs && all_known us) (of_bool (int_lt (integer g vs) (integer g us))) (known_append us vs ∙ swap_known (all_known us) (all_known vs)) (of_bool_known (int_lt (integer g vs) (integer g us)))) none_in
-binary_in Equal g {ss} {ts} {us} {vs} o h k = single_in (set_match xnor_bit ss ts) (equal us vs) (match_in xnor_bit h k)
-binary_in NotEqual g {ss} {ts} {us} {vs} o h k = not_in (set_match xnor_bit ss ts) (equal us vs) (match_in xnor_bit h k)
-binary_in CaseEqual g {ss} {ts} {us} {vs} o h k = single_in (set_match same_bit ss ts) (identical us vs) (match_in same_bit h k)
-binary_in CaseNotEqual g {ss} {ts} {us} {vs} o h k = not_in (set_match same_bit ss ts) (identical us vs) (match_in same_bit h k)
-binary_in LogicalAnd g {ss} {ts} {us} {vs} o h k = single_in (image2 and_bit (set_or ss) (set_or ts)) (and_bit (truth us) (truth vs)) (image2_has and_bit (set_or ss) (set_or ts) (truth us) (truth vs) (truth_in h) (truth_in k))
-binary_in LogicalOr g {ss} {ts} {us} {vs} o h k = single_in (image2 or_bit (set_or ss) (set_or ts)) (or_bit (truth us) (truth vs)) (image2_has or_bit (set_or ss) (set_or ts) (truth us) (truth vs) (truth_in h) (truth_in k))
-binary_in Divide g o h k = cc
-binary_in Remainder g o h k = cc
-binary_in ShiftLeft g o h k = cc
-binary_in ShiftRight g o h k = cc
-binary_in ShiftLeftArith g o h k = cc
-binary_in ShiftRightArith g o h k = cc
+binary_in : (op : BinaryOp) (g j : Bool) {ss ts : List Set4} {us vs : BitList} → lift_of op ≡ FromSets → AllIn ss us → AllIn ts vs → AllIn (lift_binary op ss ts) (apply_binary op g j us vs)
+binary_in Add g j {us} {vs} o h k = sum_in h k (number us + number vs)
+binary_in Subtract g j {us} {vs} o h k = sum_in h k ((number us + 2 ^ length us) - number vs)
+binary_in Multiply g j {us} {vs} o h k = sum_in h k (number us * number vs)
+binary_in BitAnd g j o h k = all_map2 and_bit h k
+binary_in BitOr g j o h k = all_map2 or_bit h k
+binary_in BitXor g j o h k = all_map2 xor_bit h k
+binary_in BitXnor g j o h k = all_map2 xnor_bit h k
+binary_in Less g j {ss} {ts} {us} {vs} o h k = one_in (arithmetic_bit (all_append h k) (all_known us && all_known vs) (of_bool (int_lt (integer g us) (integer g vs))) (known_append us vs) (of_bool_known (int_lt (integer g us) (integer g vs)))) none_in
+binary_in GreaterEqual g j {ss} {ts} {us} {vs} o h k = one_in (arithmetic_not (all_append h k) (all_known us && all_known vs) (of_bool (int_lt (integer g us) (integer g vs))) (known_append us vs) (of_bool_known (int_lt (integer g us) (integer g vs)))) none_in
+binary_in Greater g j {ss} {ts} {us} {vs} o h k = one_in (arithmetic_bit (all_append h k) (all_known vs && all_known us) (of_bool (int_lt (integer g vs) (integer g us))) (known_append us vs ∙ swap_known (all_known us) (all_known vs)) (of_bool_known (int_lt (integer g vs) (integer g us)))) none_in
+binary_in LessEqual g j {ss} {ts} {us} {vs} o h k = one_in (arithmetic_not (all_append h k) (all_known vs && all_known us) (of_bool (int_lt (integer g vs) (integer g us))) (known_append us vs ∙ swap_known (all_known us) (all_known vs)) (of_bool_known (int_lt (integer g vs) (integer g us)))) none_in
+binary_in Equal g j {ss} {ts} {us} {vs} o h k = single_in (set_match xnor_bit ss ts) (equal us vs) (match_in xnor_bit h k)
+binary_in NotEqual g j {ss} {ts} {us} {vs} o h k = not_in (set_match xnor_bit ss ts) (equal us vs) (match_in xnor_bit h k)
+binary_in CaseEqual g j {ss} {ts} {us} {vs} o h k = single_in (set_match same_bit ss ts) (identical us vs) (match_in same_bit h k)
+binary_in CaseNotEqual g j {ss} {ts} {us} {vs} o h k = not_in (set_match same_bit ss ts) (identical us vs) (match_in same_bit h k)
+binary_in LogicalAnd g j {ss} {ts} {us} {vs} o h k = single_in (image2 and_bit (set_or ss) (set_or ts)) (and_bit (truth us) (truth vs)) (image2_has and_bit (set_or ss) (set_or ts) (truth us) (truth vs) (truth_in h) (truth_in k))
+binary_in LogicalOr g j {ss} {ts} {us} {vs} o h k = single_in (image2 or_bit (set_or ss) (set_or ts)) (or_bit (truth us) (truth vs)) (image2_has or_bit (set_or ss) (set_or ts) (truth us) (truth vs) (truth_in h) (truth_in k))
+binary_in Divide g j o h k = cc
+binary_in Remainder g j o h k = cc
+binary_in Power g j o h k = cc
+binary_in ShiftLeft g j o h k = cc
+binary_in ShiftRight g j o h k = cc
+binary_in ShiftLeftArith g j o h k = cc
+binary_in ShiftRightArith g j o h k = cc
 
 -- shifts: what they bring in is in its set
 shift_value_in : (op : BinaryOp) (g left : Bool) (v : Bit4) (b : Expression) (us : BitList) {ts ss : List Set4} {vs : BitList} → AllIn ts us → AllIn ss vs → has (fill_set op g ss) v ≡ true → is_left op ≡ left → (is_constant b ≡ true → us ≡ constant_value b)
@@ -122,31 +123,32 @@ shift_value_in op g left v b us {ts} {ss} {vs} h k f l c =
     (shift_by_in (all_known us) left (fill_set op g ss) v (distance (length vs) us) f k))))
     (λ e. rw e (shift_in h k left (fill_set op g ss) v (distance (length vs) us) f))
 
-shifted_in : (op : BinaryOp) (g : Bool) (b : Expression) {ts ss : List Set4} {us vs : BitList} → lift_of op ≡ Moved → AllIn ts us → AllIn ss vs → (is_constant b ≡ true → us ≡ constant_value b) → AllIn (lift_shift op g b ts ss) (apply_binary op g vs us)
-shifted_in ShiftLeft g b {us} o h k c = shift_value_in ShiftLeft g true Zero b us h k refl refl c
-shifted_in ShiftLeftArith g b {us} o h k c = shift_value_in ShiftLeftArith g true Zero b us h k refl refl c
-shifted_in ShiftRight g b {us} o h k c = shift_value_in ShiftRight g false Zero b us h k refl refl c
-shifted_in ShiftRightArith true b {us} {vs} o h k c = shift_value_in ShiftRightArith true false (last_or Zero vs) b us h k (all_last (only Zero) Zero refl k) refl c
-shifted_in ShiftRightArith false b {us} o h k c = shift_value_in ShiftRightArith false false Zero b us h k refl refl c
-shifted_in Add g b o h k c = cc
-shifted_in Subtract g b o h k c = cc
-shifted_in Multiply g b o h k c = cc
-shifted_in Divide g b o h k c = cc
-shifted_in Remainder g b o h k c = cc
-shifted_in BitAnd g b o h k c = cc
-shifted_in BitOr g b o h k c = cc
-shifted_in BitXor g b o h k c = cc
-shifted_in BitXnor g b o h k c = cc
-shifted_in Less g b o h k c = cc
-shifted_in LessEqual g b o h k c = cc
-shifted_in Greater g b o h k c = cc
-shifted_in GreaterEqual g b o h k c = cc
-shifted_in Equal g b o h k c = cc
-shifted_in NotEqual g b o h k c = cc
-shifted_in CaseEqual g b o h k c = cc
-shifted_in CaseNotEqual g b o h k c = cc
-shifted_in LogicalAnd g b o h k c = cc
-shifted_in LogicalOr g b o h k c = cc
+shifted_in : (op : BinaryOp) (g j : Bool) (b : Expression) {ts ss : List Set4} {us vs : BitList} → lift_of op ≡ Moved → AllIn ts us → AllIn ss vs → (is_constant b ≡ true → us ≡ constant_value b) → AllIn (lift_shift op g b ts ss) (apply_binary op g j vs us)
+shifted_in ShiftLeft g j b {us} o h k c = shift_value_in ShiftLeft g true Zero b us h k refl refl c
+shifted_in ShiftLeftArith g j b {us} o h k c = shift_value_in ShiftLeftArith g true Zero b us h k refl refl c
+shifted_in ShiftRight g j b {us} o h k c = shift_value_in ShiftRight g false Zero b us h k refl refl c
+shifted_in ShiftRightArith true j b {us} {vs} o h k c = shift_value_in ShiftRightArith true false (last_or Zero vs) b us h k (all_last (only Zero) Zero refl k) refl c
+shifted_in ShiftRightArith false j b {us} o h k c = shift_value_in ShiftRightArith false false Zero b us h k refl refl c
+shifted_in Add g j b o h k c = cc
+shifted_in Subtract g j b o h k c = cc
+shifted_in Multiply g j b o h k c = cc
+shifted_in Divide g j b o h k c = cc
+shifted_in Remainder g j b o h k c = cc
+shifted_in Power g j b o h k c = cc
+shifted_in BitAnd g j b o h k c = cc
+shifted_in BitOr g j b o h k c = cc
+shifted_in BitXor g j b o h k c = cc
+shifted_in BitXnor g j b o h k c = cc
+shifted_in Less g j b o h k c = cc
+shifted_in LessEqual g j b o h k c = cc
+shifted_in Greater g j b o h k c = cc
+shifted_in GreaterEqual g j b o h k c = cc
+shifted_in Equal g j b o h k c = cc
+shifted_in NotEqual g j b o h k c = cc
+shifted_in CaseEqual g j b o h k c = cc
+shifted_in CaseNotEqual g j b o h k c = cc
+shifted_in LogicalAnd g j b o h k c = cc
+shifted_in LogicalOr g j b o h k c = cc
 
 source_in : (source : Source) (part : Part) (index : Expression) (sets : Family) (s : State) → is_constant index ≡ false → InSets (source_bits source part index) sets s → AllIn (source_sets sets source) (source_value s source)
 source_in (OfConstant bits) part index sets s e h = all_only bits
@@ -243,5 +245,5 @@ pub operator_in : (l : Lift) (op : BinaryOp) → lift_of op ≡ l → (w : ℕ) 
     → AllIn ts (value b (right_width (way op) w (width a) (width b)) (right_sign (way op) g (sign a) (sign b)) s)
     → AllIn (lift_operator l op w g (left_sign (way op) g (sign a) (sign b)) b (lift_quotient (Binary op a b) w g) ss ts) (value (Binary op a b) w g s)
 operator_in Divided op o w g a b s h ia ib = quotient_in (Binary op a b) w g s h
-operator_in Moved op o w g a b s h ia ib = all_extend w g (shifted_in op (left_sign (way op) g (sign a) (sign b)) b o ib ia (shift_own op w g a b s o))
-operator_in FromSets op o w g a b s h ia ib = all_extend w g (binary_in op (left_sign (way op) g (sign a) (sign b)) o ia ib)
+operator_in Moved op o w g a b s h ia ib = all_extend w g (shifted_in op (left_sign (way op) g (sign a) (sign b)) (right_sign (way op) g (sign a) (sign b)) b o ib ia (shift_own op w g a b s o))
+operator_in FromSets op o w g a b s h ia ib = all_extend w g (binary_in op (left_sign (way op) g (sign a) (sign b)) (right_sign (way op) g (sign a) (sign b)) o ia ib)

@@ -4,7 +4,7 @@ use Rattle.std.specs.Prelude.{nat_le, is_some}
 use Rattle.std.specs.List.{list_all}
 use Rattle.vs_four.specs.declared.Range.{Range}
 use Rattle.vs_four.specs.Selects.{range_length, Part}
-use Rattle.vs_design.specs.Expressions.{Signal, range_or_one, words_length, signal_length, word_length, Source, OfSignal, OfConstant, UnaryOp, Plus, Minus, BitNot, Signed, Unsigned, Expression, Literal, Name, Select, Word, Unary, Binary, Choice, Join, Repeat, At, Call, Items, NoItem, Item, Header, local_signals, Way, InContext, Shifted, way, unary_length, binary_length, width, is_constant}
+use Rattle.vs_design.specs.Expressions.{Signal, range_or_one, words_length, signal_length, word_length, Source, OfSignal, OfConstant, UnaryOp, Plus, Minus, BitNot, Signed, Unsigned, Expression, Literal, Name, Select, Word, Unary, Binary, Choice, Join, Repeat, At, Call, Items, NoItem, Item, Header, local_signals, Way, InContext, Shifted, Raised, way, unary_length, binary_length, width, is_constant}
 use Rattle.vs_design.specs.Statements.{Target, Whole, PartOf, WordOf, Both, target_width, Statement, Empty, Assignment, Then, If, Case, Arms, Arm, Default}
 use Rattle.vs_design.specs.Designs.{Design, Process, Continuous, Always}
 use Rattle.vs_design.specs.Footprints.{is_input, is_net, is_variable, is_memory}
@@ -68,6 +68,7 @@ unary_positive _ n h = omega arith
 binary_positive : (y : Way) (m n : ℕ) → 1 ≤ m → 1 ≤ n → 1 ≤ binary_length y m n
 binary_positive InContext m n h k = omega arith
 binary_positive Shifted m n h k = h
+binary_positive Raised m n h k = h
 binary_positive _ m n h k = omega arith
 
 select_fits : (d : Design) (source : Source) (part : Part) → is_formed_select d source part ≡ true → (fits_64 part.width ≡ true) × ((range_length part.range == source_length source) ≡ true)
@@ -304,6 +305,7 @@ unary_most _ n h = omega arith
 binary_most : (y : Way) (m n : ℕ) → m ≤ 64 → n ≤ 64 → binary_length y m n ≤ 64
 binary_most InContext m n h k = omega arith
 binary_most Shifted m n h k = h
+binary_most Raised m n h k = h
 binary_most _ m n h k = omega arith
 
 pub width_most : (e : Expression) → fits e ≡ true → width e ≤ 64

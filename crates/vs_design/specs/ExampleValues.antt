@@ -4,7 +4,7 @@ use Rattle.vs_four.specs.declared.Bit4.TheVariants.{Zero, One, X, Z}
 use Rattle.vs_four.specs.Numbers.{bits_of}
 use Rattle.vs_four.specs.Selects.{places, one_bit}
 use Rattle.vs_net.specs.Network.{State}
-use Rattle.vs_design.specs.Expressions.{OfConstant, Plus, BitNot, ReduceAnd, Signed, Add, Multiply, Divide, Remainder, Less, Equal, CaseEqual, ShiftLeft, ShiftRightArith, Expression, Literal, Select, Unary, Binary, Choice}
+use Rattle.vs_design.specs.Expressions.{OfConstant, Plus, BitNot, ReduceAnd, Signed, Add, Multiply, Divide, Remainder, Power, Less, Equal, CaseEqual, ShiftLeft, ShiftRightArith, Expression, Literal, Select, Unary, Binary, Choice}
 use Rattle.vs_design.specs.Values.{constant_value, assigned_value}
 use Rattle.vs_design.specs.ExampleParts.{lit, dec, sdec, plain, range_of, upward, downward}
 
@@ -57,6 +57,16 @@ pub record ValuesComputed : Type 0 where
   pub quotient : constant_value (Binary Divide (sdec 4 9) (sdec 4 2)) ≡ bits_of 4 13
   pub remainder : constant_value (Binary Remainder (sdec 4 9) (sdec 4 2)) ≡ bits_of 4 15
   pub by_zero : constant_value (Binary Divide (dec 4 9) (dec 4 0)) ≡ replicate 4 X
+  -- `4'd3 ** 2'd2` is 9 and `4'd3 ** 2'd3` 11, modulo 16
+  pub power : constant_value (Binary Power (dec 4 3) (dec 2 2)) ≡ bits_of 4 9
+  pub power_modulo : constant_value (Binary Power (dec 4 3) (dec 2 3)) ≡ bits_of 4 11
+  -- of a negative exponent: -1 by an odd one is -1, and by an even one 1; 15 is no -1; 0 has no power
+  pub odd_reciprocal : constant_value (Binary Power (sdec 4 15) (sdec 4 13)) ≡ bits_of 4 15
+  pub even_reciprocal : constant_value (Binary Power (sdec 4 15) (sdec 4 14)) ≡ bits_of 4 1
+  pub unsigned_reciprocal : constant_value (Binary Power (dec 4 15) (sdec 4 14)) ≡ bits_of 4 0
+  pub zero_reciprocal : constant_value (Binary Power (sdec 4 0) (sdec 4 14)) ≡ replicate 4 X
+  -- an exponent without a sign isn't negative
+  pub large_exponent : constant_value (Binary Power (sdec 4 15) (dec 4 13)) ≡ bits_of 4 15
   -- `[3:3]` counts as descending: `[3 +: 2]` begins with its one bit, and `[3 -: 2]` ends with it
   pub one_bit_upward : places (upward (range_of 3 3) 2) false (bits_of 32 3) ≡ Some 0 ∷ None ∷ []
   pub one_bit_downward : places (downward (range_of 3 3) 2) false (bits_of 32 3) ≡ None ∷ Some 0 ∷ []

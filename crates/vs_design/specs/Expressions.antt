@@ -4,9 +4,9 @@ pub use Rattle.vs_design.specs.Trees.{Signal, range_or_one, words_length, signal
 pub use Rattle.vs_base.specs.declared.operators.UnaryOp.{UnaryOp}
 pub use Rattle.vs_base.specs.declared.operators.UnaryOp.TheVariants.{Plus, Minus, BitNot, LogicalNot, ReduceAnd, ReduceNand, ReduceOr, ReduceNor, ReduceXor, ReduceXnor, Signed, Unsigned}
 pub use Rattle.vs_base.specs.declared.operators.BinaryOp.{BinaryOp}
-pub use Rattle.vs_base.specs.declared.operators.BinaryOp.TheVariants.{Add, Subtract, Multiply, Divide, Remainder, BitAnd, BitOr, BitXor, BitXnor, Less, LessEqual, Greater, GreaterEqual, Equal, NotEqual, CaseEqual, CaseNotEqual, LogicalAnd, LogicalOr, ShiftLeft, ShiftRight, ShiftLeftArith, ShiftRightArith}
+pub use Rattle.vs_base.specs.declared.operators.BinaryOp.TheVariants.{Add, Subtract, Multiply, Divide, Remainder, BitAnd, BitOr, BitXor, BitXnor, Less, LessEqual, Greater, GreaterEqual, Equal, NotEqual, CaseEqual, CaseNotEqual, LogicalAnd, LogicalOr, ShiftLeft, ShiftRight, ShiftLeftArith, ShiftRightArith, Power}
 pub use Rattle.vs_base.specs.declared.operators.Way.{Way}
-pub use Rattle.vs_base.specs.declared.operators.Way.TheVariants.{InContext, Own, Compared, Shifted}
+pub use Rattle.vs_base.specs.declared.operators.Way.TheVariants.{InContext, Own, Compared, Shifted, Raised}
 pub use Rattle.vs_base.specs.Operators.{unary_way, way, unary_length, unary_sign, binary_length, binary_sign}
 
 -- the length of an expression by itself (table 5-22); of a call it is its function's

@@ -2,7 +2,7 @@
 use Rattle.std.specs.Prelude.{ℕ, ◌+◌, ◌*◌, Bool, true, false, not, ◌&&◌, ◌||◌, length, nat_le, ◌==◌}
 use Rattle.std.specs.List.{list_all}
 use Rattle.vs_four.specs.Selects.{range_length}
-use Rattle.vs_design.specs.Expressions.{Signal, signal_length, word_length, Source, OfSignal, OfConstant, BinaryOp, Divide, Remainder, Expression, Literal, Name, Select, Word, Unary, Binary, Choice, Join, Repeat, At, Call, Items, NoItem, Item, width, is_constant}
+use Rattle.vs_design.specs.Expressions.{Signal, signal_length, word_length, Source, OfSignal, OfConstant, BinaryOp, Divide, Remainder, Power, Expression, Literal, Name, Select, Word, Unary, Binary, Choice, Join, Repeat, At, Call, Items, NoItem, Item, width, is_constant}
 use Rattle.vs_design.specs.Statements.{Target, Whole, PartOf, WordOf, Both, target_width, Statement, Empty, Assignment, Then, If, Case, Arms, Arm, Default}
 use Rattle.vs_design.specs.Designs.{Process, Continuous, Always}
 
@@ -19,9 +19,10 @@ fits_signal s = fits_64 (signal_length s)
 abbrev pub is_division : BinaryOp → Bool
 is_division Divide = true
 is_division Remainder = true
+is_division Power = true
 is_division _ = false
 
--- no `/` or `%` has an operand that names a signal; those in the arguments and the statement of a call are a matter of `fits`
+-- no `/`, `%` or `**` has an operand that names a signal; those in the arguments and the statement of a call are a matter of `fits`
 abbrev pub divides_constants : Expression → Bool
 divides_constants (Literal bits signed sized) = true
 divides_constants (Name signal) = true

@@ -8,7 +8,7 @@ use Rattle.vs_four.specs.Lengths.{last_or, extend_with, extend_literal, cut, joi
 use Rattle.vs_four.specs.Shifts.{distance}
 use Rattle.vs_four.specs.Selects.{range_length, Part, one_bit, places, at_place}
 use Rattle.vs_design.specs.Sets.{Set4, only, any_result, any_value, image, image2, is_known_set, all_of, all_words, set_and, set_or, set_xor, arithmetic, set_match, variable, set_shift_by, set_shift, set_choose}
-use Rattle.vs_design.specs.Expressions.{Signal, signal_length, word_length, addresses, Source, OfSignal, OfConstant, UnaryOp, Minus, BitNot, LogicalNot, ReduceAnd, ReduceNand, ReduceOr, ReduceNor, ReduceXor, ReduceXnor, BinaryOp, Add, Subtract, Multiply, Divide, Remainder, BitAnd, BitOr, BitXor, BitXnor, Less, LessEqual, Greater, GreaterEqual, Equal, NotEqual, CaseEqual, CaseNotEqual, LogicalAnd, LogicalOr, ShiftLeft, ShiftRight, ShiftLeftArith, ShiftRightArith, Expression, Literal, Name, Select, Word, Unary, Binary, Choice, Join, Repeat, At, Call, Items, NoItem, Item, unary_way, way, width, sign, is_constant}
+use Rattle.vs_design.specs.Expressions.{Signal, signal_length, word_length, addresses, Source, OfSignal, OfConstant, UnaryOp, Minus, BitNot, LogicalNot, ReduceAnd, ReduceNand, ReduceOr, ReduceNor, ReduceXor, ReduceXnor, BinaryOp, Add, Subtract, Multiply, Divide, Remainder, BitAnd, BitOr, BitXor, BitXnor, Less, LessEqual, Greater, GreaterEqual, Equal, NotEqual, CaseEqual, CaseNotEqual, LogicalAnd, LogicalOr, ShiftLeft, ShiftRight, ShiftLeftArith, ShiftRightArith, Power, Expression, Literal, Name, Select, Word, Unary, Binary, Choice, Join, Repeat, At, Call, Items, NoItem, Item, unary_way, way, width, sign, is_constant}
 use Rattle.vs_design.specs.Values.{bits_of_signal, word_places, value, constant_value, left_width, right_width, left_sign, right_sign}
 use Rattle.vs_design.specs.Statements.{target_width, CaseKind, Statement, Empty, Assignment, Then, If, Case, Arms, Arm, Default, case_width, case_sign}
 use Rattle.vs_design.specs.LiftedParts.{put_each, write_sets, join_branches, matches_of, join_arms}
@@ -93,6 +93,7 @@ pub data Lift : Type 0 where
 abbrev pub lift_of : BinaryOp → Lift
 lift_of Divide = Divided
 lift_of Remainder = Divided
+lift_of Power = Divided
 lift_of ShiftLeft = Moved
 lift_of ShiftRight = Moved
 lift_of ShiftLeftArith = Moved
@@ -115,7 +116,7 @@ lift_shift op s amount amount_sets ss =
     then set_shift_by (all_known (constant_value amount)) (is_left op) (fill_set op s ss) (distance (length ss) (constant_value amount)) ss
     else set_shift (fill_set op s ss) amount_sets ss
 
--- `/` and `%` stand between constants alone: the one-member sets of the value in its context
+-- `/`, `%` and `**` stand between constants alone: the one-member sets of the value in its context
 abbrev pub lift_quotient : Expression → ℕ → Bool → List Set4
 lift_quotient e w s = if is_constant e then map only (value e w s (λ b. X)) else replicate w any_value
 

@@ -67,7 +67,7 @@ abbrev mutual
       extend w s (apply_unary op (value a (left_width (unary_way op) w (width a) 0) (left_sign (unary_way op) s (sign a) false) state))
   value (Binary op a b) w s state =
       extend w s
-      (apply_binary op (left_sign (way op) s (sign a) (sign b))
+      (apply_binary op (left_sign (way op) s (sign a) (sign b)) (right_sign (way op) s (sign a) (sign b))
       (value a (left_width (way op) w (width a) (width b)) (left_sign (way op) s (sign a) (sign b)) state)
       (value b (right_width (way op) w (width a) (width b)) (right_sign (way op) s (sign a) (sign b)) state))
   value (Choice c p q) w s state = choose (truth (value c (width c) (sign c) state)) (value p w s state) (value q w s state)

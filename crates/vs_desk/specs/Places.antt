@@ -19,6 +19,14 @@ stimulus_place lane = 1000 + lane
 abbrev pub waveform_place : ℕ → ℕ
 waveform_place lane = 2000 + lane
 
+-- the greatest number of further files of the design
+abbrev pub most_others : ℕ
+most_others = 64
+
+-- a further file of the design, from 0
+abbrev pub other_place : ℕ → ℕ
+other_place i = 3000 + i
+
 -- the places from the first one on, attached in this way with these paths
 abbrev pub with_places : Register → ℕ → Way → List (List ℕ) → Register
 with_places register first way [] = register

@@ -17,4 +17,6 @@ pub use desk::{Desk, Failed, Way, put_all};
 pub use host::HostDesk;
 pub use laws::{attach_law, fail_law, put_law, take_law};
 pub use memory::MemoryDesk;
-pub use places::{DESIGN_PLACE, FIRST_STIMULUS, FIRST_WAVEFORM, MOST_LANES};
+pub use places::{
+    DESIGN_PLACE, FIRST_OTHER, FIRST_STIMULUS, FIRST_WAVEFORM, MOST_LANES, MOST_OTHERS,
+};

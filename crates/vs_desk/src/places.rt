@@ -11,3 +11,9 @@ pub const FIRST_STIMULUS: u32 = 1000;
 
 /// The place of lane 0's waveform. Those of the lanes behind it follow.
 pub const FIRST_WAVEFORM: u32 = 2000;
+
+/// The greatest number of further files of the design.
+pub const MOST_OTHERS: usize = 64;
+
+/// The place of the design's first further file. Those of the files behind it follow.
+pub const FIRST_OTHER: u32 = 3000;

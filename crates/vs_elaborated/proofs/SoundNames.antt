@@ -5,7 +5,7 @@ use Rattle.std.proofs.lemmas.Bool.{leb-true, leb-false, le-leb, ltb-false}
 use Rattle.vs_four.specs.declared.Bit4.TheVariants.{X}
 use Rattle.vs_four.specs.declared.Range.{Range}
 use Rattle.vs_four.specs.Selects.{Part, is_descending, range_length}
-use Rattle.vs_design.specs.Expressions.{Signal, range_or_one, words_length, signal_length, OfSignal as SignalSource, OfConstant, Expression, Literal, Name, Select, Word, Unary, Binary, Choice, Join, Repeat, At, Call, UnaryOp, Plus, Minus, BitNot, LogicalNot, ReduceAnd, ReduceNand, ReduceOr, ReduceNor, ReduceXor, ReduceXnor, Signed, Unsigned, unary_length, Way, InContext, Own, Compared, Shifted, way, binary_length, width, sign}
+use Rattle.vs_design.specs.Expressions.{Signal, range_or_one, words_length, signal_length, OfSignal as SignalSource, OfConstant, Expression, Literal, Name, Select, Word, Unary, Binary, Choice, Join, Repeat, At, Call, UnaryOp, Plus, Minus, BitNot, LogicalNot, ReduceAnd, ReduceNand, ReduceOr, ReduceNor, ReduceXor, ReduceXnor, Signed, Unsigned, unary_length, Way, InContext, Own, Compared, Shifted, Raised, way, binary_length, width, sign}
 use Rattle.vs_design.specs.Values.{constant_value}
 use Rattle.vs_design.specs.Designs.{Design}
 use Rattle.vs_design.specs.Fits.{fits_64}
@@ -139,6 +139,7 @@ binary_some InContext m n h = omega arith
 binary_some Own m n h = omega arith
 binary_some Compared m n h = omega arith
 binary_some Shifted m n h = h
+binary_some Raised m n h = h
 
 times_some : (n m : ℕ) → 1 ≤ n → 1 ≤ m → 1 ≤ n * m
 times_some zero m h k = absurd (omega arith)

@@ -1,7 +1,7 @@
 //! A run that explains its answer.
 
 ghost use Rattle.std.specs.Prelude.{◌≡◌, ◌≢◌, ◌≤◌, List, Option, None, true, false, length, map, option_map, string_bytes};
-ghost use Rattle.vs_desk.specs.Places.{most_lanes};
+ghost use Rattle.vs_desk.specs.Places.{most_lanes, most_others};
 ghost use Rattle.std.specs.Option.{ForSome};
 ghost use Rattle.vs_refusal.specs.declared.ending.Ending.TheVariants as ending;
 ghost use Rattle.vs_top.specs.declared.outcome.Outcome.TheVariants.{Memory};
@@ -47,6 +47,7 @@ fn behind_name(words: &[String]) -> &[String]
 fn explain_refused<D: Desk>(alloc: Global, job: Option<&Job>, refusal: &Refusal, desk: &mut D)
     requires unread { AreUnread (D.told desk.old).register }
     requires heads { ForSome job (λ j. length j.now.head ≤ most_bytes) }
+    requires together { ForSome job (λ j. length j.now.others ≤ most_others) }
     ensures { ExplainsRefused (option_map (λ j. j.now) job.entry) refusal.now (D.told desk.old) (D.told desk.new) }
 {
     match job {
@@ -98,6 +99,7 @@ fn ordered_ending(course: &Course) -> Ending
 fn explain<D: Desk>(alloc: Global, job: Option<&Job>, answered: &Answered, desk: &mut D)
     requires unread { AreUnread (D.told desk.old).register }
     requires heads { ForSome job (λ j. length j.now.head ≤ most_bytes) }
+    requires together { ForSome job (λ j. length j.now.others ≤ most_others) }
     requires few { length answered.now.found.items ≤ most_lanes }
     ensures { Explains (option_map (λ j. j.now) job.entry) answered.now.outcome answered.now.found.items (D.told desk.old) (D.told desk.new) }
 {
@@ -150,7 +152,7 @@ fn run_words<D: Desk, L: Ledger>(
     desk: &mut D,
     steps: &mut Steps<L>,
 ) -> Answered
-    requires unused { IsUnused (D.told desk.old).register most_lanes }
+    requires unused { IsUnused (D.told desk.old).register most_lanes most_others }
     ensures run { IsRun D.told (map string_bytes words.now) desk.old desk.new steps.old steps.new result.outcome }
     ensures kept { KeepsFound D.told (map string_bytes words.now) desk.old desk.new result.outcome result.found.items }
     ensures few { length result.found.items ≤ most_lanes }
@@ -162,7 +164,7 @@ fn run_words<D: Desk, L: Ledger>(
 /// Runs the words of the command line as `run` of `vs_top` does, the program's own name first. Where the word behind that is `--explain`, the words behind it are
 /// run, and then what the answer says to a person is put on place 0, behind its report line. The answer is the run's, whatever becomes of that.
 ///
-/// The files that a refusal is about are read again, at places 2 and 3, and the stimulus of a lane of a check that missed something at place 4 + the lane. Memory is
+/// The files that a refusal is about are read again, at places 2 and 3 and of a design's further file n at place 4 + n, and the stimulus of a lane of a check that missed something at place 4 + the lane. Memory is
 /// taken for the job of the words, which is read again, and for a refusal of it: where it runs out nothing is put. It is taken for the stimuli of a check, too: where
 /// it runs out the lane's line is put without what would be found there. Want of memory itself, and words that call for no job, are explained without any. Where a call
 /// at place 0 fails some first bytes are put.
@@ -172,7 +174,7 @@ pub fn explain_run<D: Desk, L: Ledger>(
     desk: &mut D,
     steps: &mut Steps<L>,
 ) -> Outcome
-    requires unused { IsUnused (D.told desk.old).register most_lanes }
+    requires unused { IsUnused (D.told desk.old).register most_lanes most_others }
     requires unread { AreUnread (D.told desk.old).register }
 
     // Without `--explain` it is the run.

@@ -1,3 +1,4 @@
 pub mod Sights
 pub mod Founds
 pub mod Weighed
+pub mod Joins

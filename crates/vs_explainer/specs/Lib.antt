@@ -1,4 +1,5 @@
 pub mod Heavy
+pub mod Joined
 pub mod Looks
 pub mod Lent
 pub mod Told

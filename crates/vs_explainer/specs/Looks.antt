@@ -1,5 +1,5 @@
 -- Which files are read again for an explanation, and what is seen of them.
-use Rattle.std.specs.Prelude.{◌≡◌, ◌⊎◌, ℕ, ◌-◌, Bool, true, IsTrue, List, ◌++◌, length, take, slice_get, Option, Some, None, false, option_map, MatchBool, if◌then◌else◌}
+use Rattle.std.specs.Prelude.{◌≡◌, ◌⊎◌, ℕ, ◌-◌, Bool, true, IsTrue, List, [], ◌++◌, length, take, slice_get, Option, Some, None, false, option_map, MatchBool, if◌then◌else◌}
 use Rattle.std.specs.Option.{option_or}
 use Rattle.vs_desk.specs.Desk.{Told, Rose}
 use Rattle.vs_job.specs.declared.job.Job.{Job}
@@ -13,27 +13,29 @@ use Rattle.vs_explanation.specs.Refused.{at_of}
 use Rattle.vs_reread.specs.Again.{most_bytes, most_stimulus, first_lines, OnlyRead, IsFaultless}
 use Rattle.vs_reread.specs.Drawings.{IsDrawing}
 use Rattle.vs_setup.specs.Ports.{TellsPorts}
+use Rattle.vs_setup.specs.DesignText.{joined_files}
 use Rattle.vs_explainer.specs.Heavy.{AreWeighed}
+use Rattle.vs_explainer.specs.Joined.{file_starts}
 
--- A file that is read again: the design, with the lines of macros before it, which is drawn or isn't; the design, of which the processes are weighed; the design, which is accepted with the input of this name
+-- What is read again: the design with its further files, and the lines of macros before it, which is drawn or isn't; the design, of which the processes are weighed; the design, which is accepted with the input of this name
 -- as its clock, or without a clock, for the ports that stimuli name; or a stimulus, as far as one of its lines or, where none is known, as far as the text of a design may go.
 pub data Look : Type 0 where
-  design : (path head : List ℕ) → (draws : Bool) → Look
-  weighed : (path head : List ℕ) → Look
-  ported : (path head : List ℕ) → (clock : Option (List ℕ)) → Look
+  design : (path : List ℕ) (others : List (List ℕ)) (head : List ℕ) → (draws : Bool) → Look
+  weighed : (path : List ℕ) (others : List (List ℕ)) (head : List ℕ) → Look
+  ported : (path : List ℕ) (others : List (List ℕ)) (head : List ℕ) → (clock : Option (List ℕ)) → Look
   stimulus : (path : List ℕ) → (lines : Option ℕ) → Look
 
 abbrev pub stimulus_look : (lines : Option ℕ) → List ℕ → Look
 stimulus_look lines path = stimulus path lines
 
 abbrev pub design_look : Job → (draws : Bool) → Look
-design_look job draws = design job.design job.head draws
+design_look job draws = design job.design job.others job.head draws
 
 abbrev pub weighed_look : Job → Look
-weighed_look job = weighed job.design job.head
+weighed_look job = weighed job.design job.others job.head
 
 abbrev pub ported_look : Job → Look
-ported_look job = ported job.design job.head job.clock
+ported_look job = ported job.design job.others job.head job.clock
 
 -- The file of which lines are shown. Of a refusal with a byte it is the design, which is drawn where the refusal has numbers of the elaborated design; of one of a line
 -- of a stimulus it is the lane's stimulus, as far as that line; of one of the header or of the first vector it is the lane's stimulus; of a design that is too large it
@@ -58,18 +60,19 @@ read_of (Some n) file = first_lines n (take most_stimulus file)
 
 -- nothing was seen of a file
 abbrev pub unseen : ℕ → Seen
-unseen head = record { file = None; head = head; drawn = None; heavy = None; ports = None }
+unseen head = record { file = None; starts = []; head = head; drawn = None; heavy = None; ports = None }
 
--- The file couldn't be read: a call at the place where it is read again failed.
+-- The file, or one of the design's files, couldn't be read: a call at the place where it is read again failed.
 pub record IsUnread {tells : Bool} (head : ℕ) (old new : Told tells) (seen : Seen) : Type 0 where
   pub seen_is : seen ≡ unseen head
   pub failed : Rose old.register.faults new.register.faults
 
 -- The design was read, as far as its text may go, and drawn where it is to be.
-pub record IsDesignRead {tells : Bool} (top : Option (List ℕ)) (path head : List ℕ) (draws : Bool) (old new : Told tells) (seen : Seen) : Type 0 where
+pub record IsDesignRead {tells : Bool} (top : Option (List ℕ)) (path : List ℕ) (others : List (List ℕ)) (head : List ℕ) (draws : Bool) (old new : Told tells) (seen : Seen) : Type 0 where
   pub taken : List ℕ
   pub file_is : seen.file ≡ Some taken
-  pub taken_is : IsTrue tells → taken ≡ take (most_bytes - length head) (old.contents.files path)
+  pub taken_is : IsTrue tells → taken ≡ take (most_bytes - length head) (joined_files old.contents.files path others)
+  pub starts_are : IsTrue tells → seen.starts ≡ file_starts (most_bytes - length head) old.contents.files path others
   pub head_is : seen.head ≡ length head
   pub drawn_is : MatchBool draws (IsDrawing (head ++ taken) top seen.drawn) (seen.drawn ≡ None)
   pub heavy_is : seen.heavy ≡ None
@@ -77,10 +80,11 @@ pub record IsDesignRead {tells : Bool} (top : Option (List ℕ)) (path head : Li
   pub faultless : IsFaultless old.register new.register
 
 -- The design was read, as far as its text may go, and its processes were weighed.
-pub record IsDesignWeighed {tells : Bool} (top : Option (List ℕ)) (path head : List ℕ) (old new : Told tells) (seen : Seen) : Type 0 where
+pub record IsDesignWeighed {tells : Bool} (top : Option (List ℕ)) (path : List ℕ) (others : List (List ℕ)) (head : List ℕ) (old new : Told tells) (seen : Seen) : Type 0 where
   pub taken : List ℕ
   pub file_is : seen.file ≡ Some taken
-  pub taken_is : IsTrue tells → taken ≡ take (most_bytes - length head) (old.contents.files path)
+  pub taken_is : IsTrue tells → taken ≡ take (most_bytes - length head) (joined_files old.contents.files path others)
+  pub starts_are : IsTrue tells → seen.starts ≡ file_starts (most_bytes - length head) old.contents.files path others
   pub head_is : seen.head ≡ length head
   pub drawn_is : seen.drawn ≡ None
   pub heavy_is : AreWeighed (head ++ taken) top seen.heavy
@@ -88,10 +92,11 @@ pub record IsDesignWeighed {tells : Bool} (top : Option (List ℕ)) (path head :
   pub faultless : IsFaultless old.register new.register
 
 -- The design was read, as far as its text may go, and where this text is accepted its ports were seen, and where it is refused none. A header need not name an output for these.
-pub record IsPortsRead {tells : Bool} (top : Option (List ℕ)) (path head : List ℕ) (clock : Option (List ℕ)) (old new : Told tells) (seen : Seen) : Type 0 where
+pub record IsPortsRead {tells : Bool} (top : Option (List ℕ)) (path : List ℕ) (others : List (List ℕ)) (head : List ℕ) (clock : Option (List ℕ)) (old new : Told tells) (seen : Seen) : Type 0 where
   pub taken : List ℕ
   pub file_is : seen.file ≡ Some taken
-  pub taken_is : IsTrue tells → taken ≡ take (most_bytes - length head) (old.contents.files path)
+  pub taken_is : IsTrue tells → taken ≡ take (most_bytes - length head) (joined_files old.contents.files path others)
+  pub starts_are : IsTrue tells → seen.starts ≡ file_starts (most_bytes - length head) old.contents.files path others
   pub head_is : seen.head ≡ length head
   pub drawn_is : seen.drawn ≡ None
   pub heavy_is : seen.heavy ≡ None
@@ -101,21 +106,21 @@ pub record IsPortsRead {tells : Bool} (top : Option (List ℕ)) (path head : Lis
 -- The stimulus was read, as far as it is to be.
 pub record IsStimulusRead {tells : Bool} (path : List ℕ) (lines : Option ℕ) (old new : Told tells) (seen : Seen) : Type 0 where
   pub taken : List ℕ
-  pub seen_is : seen ≡ record { file = Some taken; head = 0; drawn = None; heavy = None; ports = None }
+  pub seen_is : seen ≡ record { file = Some taken; starts = []; head = 0; drawn = None; heavy = None; ports = None }
   pub taken_is : IsTrue tells → taken ≡ read_of lines (old.contents.files path)
   pub faultless : IsFaultless old.register new.register
 
 -- what is seen of the file, where one is read again
 abbrev pub SeesOf : {tells : Bool} → Option (List ℕ) → Option Look → Told tells → Told tells → Seen → Type 0
 SeesOf top None old new seen = (new ≡ old) × (seen ≡ unseen 0)
-SeesOf top (Some (design path head draws)) old new seen = OnlyRead old new × (IsUnread (length head) old new seen ⊎ IsDesignRead top path head draws old new seen)
-SeesOf top (Some (weighed path head)) old new seen = OnlyRead old new × (IsUnread (length head) old new seen ⊎ IsDesignWeighed top path head old new seen)
-SeesOf top (Some (ported path head clock)) old new seen = OnlyRead old new × (IsUnread (length head) old new seen ⊎ IsPortsRead top path head clock old new seen)
+SeesOf top (Some (design path others head draws)) old new seen = OnlyRead old new × (IsUnread (length head) old new seen ⊎ IsDesignRead top path others head draws old new seen)
+SeesOf top (Some (weighed path others head)) old new seen = OnlyRead old new × (IsUnread (length head) old new seen ⊎ IsDesignWeighed top path others head old new seen)
+SeesOf top (Some (ported path others head clock)) old new seen = OnlyRead old new × (IsUnread (length head) old new seen ⊎ IsPortsRead top path others head clock old new seen)
 SeesOf top (Some (stimulus path lines)) old new seen = OnlyRead old new × (IsUnread 0 old new seen ⊎ IsStimulusRead path lines old new seen)
 
 -- what is seen of a file, with the design that was drawn of another where none was of it, and the ports of that
 abbrev pub with_ports : (ports file : Seen) → Seen
-with_ports ports file = record { file = file.file; head = file.head; drawn = option_or file.drawn ports.drawn; heavy = file.heavy; ports = ports.ports }
+with_ports ports file = record { file = file.file; starts = file.starts; head = file.head; drawn = option_or file.drawn ports.drawn; heavy = file.heavy; ports = ports.ports }
 
 -- What was seen again of the files that a refusal of a job is about: of the design for its ports, and then of the file of which lines are shown. Of what the desk tells
 -- nothing changed but at the places of files that are read again.

@@ -1,18 +1,20 @@
 //! What is weighed of a design that is too large.
 
-ghost use Rattle.std.specs.Prelude.{◌≡◌, ◌≢◌, ◌≤◌, ℕ, List, None, Option, Some, IfOk, IsNone, drop, length, map, option_map};
+ghost use Rattle.std.specs.Prelude.{◌≡◌, ◌≤◌, List, None, Option, Some, IfOk, drop, length, map, option_map};
 ghost use Rattle.vs_flat.specs.DesignOf.{design_of};
 ghost use Rattle.vs_flat.specs.Lawful.{IsLawful};
 ghost use Rattle.vs_typed.specs.Refused.{first_refused};
 ghost use Rattle.vs_typed.specs.Weights.{told_weight};
 ghost use Rattle.vs_explanation.specs.Heavy as most;
 ghost use Rattle.vs_explanation.specs.declared.heavy.Heavy as declared;
-ghost use Rattle.vs_reread.specs.Again.{design_again, most_bytes, OnlyRead};
+ghost use Rattle.vs_desk.specs.Places.{most_others};
+ghost use Rattle.vs_reread.specs.Again.{most_bytes, AreUnread, OnlyRead};
 ghost use Rattle.vs_explainer.specs.Heavy.{AreWeighed, unless_refused, weighed_in};
 ghost use Rattle.vs_explainer.specs.Lent.{seen_of};
 ghost use Rattle.vs_explainer.specs.Looks as spec;
 
-use crate::looks::{View, read_design, unseen};
+use crate::joined::{Joined, read_design};
+use crate::looks::{View, unseen};
 use std::alloc::{AllocError, Global};
 use vs_desk::Desk;
 use vs_explanation::{Heavy, heaviest};
@@ -78,15 +80,16 @@ fn weigh_text(
 }
 
 /// What is seen of a text that was read of a design that is too large.
-fn weighed_view(alloc: Global, job: &Job, text: Vec<u8>) -> Result<View, AllocError>
-    requires { length text.items ≤ most_bytes }
+fn weighed_view(alloc: Global, job: &Job, joined: Joined) -> Result<View, AllocError>
+    requires { length joined.text.items ≤ most_bytes }
     ensures head { IfOk result (λ view. view.head ≡ length job.now.head) }
-    ensures view { IfOk result (λ view. (heavy : Option (List declared.Heavy)) × AreWeighed text.items job.now.top heavy
-        × (seen_of view ≡ record { file = Some (drop (length job.now.head) text.items); head = length job.now.head; drawn = None; heavy = heavy; ports = None })) }
+    ensures view { IfOk result (λ view. (heavy : Option (List declared.Heavy)) × AreWeighed joined.text.items job.now.top heavy
+        × (seen_of view ≡ record { file = Some (drop (length job.now.head) joined.text.items); starts = joined.starts.items; head = length job.now.head; drawn = None; heavy = heavy; ports = None })) }
 {
-    let heavy = weigh_text(alloc, text.as_slice(), job.top_bytes())?;
+    let heavy = weigh_text(alloc, joined.text.as_slice(), job.top_bytes())?;
     Ok(View {
-        text: Some(text),
+        text: Some(joined.text),
+        starts: joined.starts,
         head: job.head.as_bytes().len(),
         drawing: None,
         heavy,
@@ -100,15 +103,15 @@ pub(crate) fn see_weights<D: Desk>(
     desk: &mut D,
     job: &Job,
 ) -> Result<View, AllocError>
-    requires free { IsNone ((D.told desk.old).register.attached design_again) }
+    requires free { AreUnread (D.told desk.old).register }
     requires head { length job.now.head ≤ most_bytes }
+    requires few { length job.now.others ≤ most_others }
     ensures only { OnlyRead (D.told desk.old) (D.told desk.new) }
-    ensures other { (p : ℕ) → p ≢ design_again → (D.told desk.new).register.attached p ≡ (D.told desk.old).register.attached p }
     ensures sees { IfOk result (λ view. spec.SeesOf job.now.top (Some (spec.weighed_look job.now)) (D.told desk.old) (D.told desk.new) (seen_of view)) }
     ensures head { IfOk result (λ view. view.head ≤ most_bytes) }
 {
     match read_design(alloc, desk, job)? {
-        None => Ok(unseen(job.head.as_bytes().len())),
-        Some(text) => weighed_view(alloc, job, text),
+        None => Ok(unseen(alloc, job.head.as_bytes().len())),
+        Some(joined) => weighed_view(alloc, job, joined),
     }
 }

@@ -3,6 +3,7 @@
 
 mod endings;
 mod heavy;
+mod joined;
 mod looks;
 mod missed;
 mod ports;

@@ -2,15 +2,17 @@
 
 ghost use Rattle.std.specs.Prelude.{◌≡◌, ◌≢◌, ◌≤◌, ℕ, false, Some, None, Err, Option, IsTrue, IsNone, IfOk, List, MatchBool, MatchOption, drop, length, option_map, slice_get, string_bytes};
 ghost use Rattle.vs_names.specs.Drawn.{Drawn};
-ghost use Rattle.vs_reread.specs.Again.{AreUnread, design_again, stimulus_again, most_bytes, OnlyRead, IsFaultless, IsStart};
+ghost use Rattle.vs_reread.specs.Again.{AreUnread, stimulus_again, most_bytes, OnlyRead, IsFaultless};
 ghost use Rattle.vs_reread.specs.Drawings.{IsDrawing};
 ghost use Rattle.vs_explanation.specs.Rows.{refuses_fields as refuses, asks_ports as asks};
 ghost use Rattle.vs_explanation.specs.Seen.{Seen};
 ghost use Rattle.vs_desk.specs.Desk.{Rose};
+ghost use Rattle.vs_desk.specs.Places.{most_others};
 ghost use Rattle.vs_explainer.specs.Looks as spec;
 ghost use Rattle.vs_explainer.specs.Lent.{seen_of};
 
 use crate::heavy::see_weights;
+use crate::joined::{Joined, read_design};
 use crate::ports::see_named;
 use std::alloc::{AllocError, Global};
 use vs_desk::Desk;
@@ -18,7 +20,7 @@ use vs_explanation::{Heavy, asks_ports, at_of, has_numbers, refuses_fields};
 use vs_job::Job;
 use vs_names::Drawing;
 use vs_refusal::{LaneName, Refusal};
-use vs_reread::{AgainError, DESIGN_AGAIN, STIMULUS_AGAIN, draw, read_again, read_lines};
+use vs_reread::{AgainError, STIMULUS_AGAIN, draw, read_again, read_lines};
 use vs_stim::Ports;
 
 /// What is seen of a file.
@@ -26,6 +28,8 @@ use vs_stim::Ports;
 pub(crate) struct View {
     /// Its bytes, behind the lines of macros, or None where it couldn't be read.
     pub(crate) text: Option<Vec<u8>>,
+    /// The bytes behind these lines at which the design's further files begin, in order; none of a stimulus.
+    pub(crate) starts: Vec<usize>,
     /// How many bytes these lines have.
     pub(crate) head: usize,
     /// The design that they elaborate to, where it was drawn and there is one.
@@ -37,37 +41,17 @@ pub(crate) struct View {
 }
 
 /// Nothing is seen of a file.
-pub(crate) fn unseen(head: usize) -> View
+pub(crate) fn unseen(alloc: Global, head: usize) -> View
     ensures seen { seen_of result ≡ spec.unseen head }
     ensures head { result.head ≡ head }
 {
     View {
         text: None,
+        starts: Vec::new(alloc),
         head,
         drawing: None,
         heavy: None,
         ports: None,
-    }
-}
-
-/// The text of the design behind the lines of macros, or None where a call at its place failed.
-pub(crate) fn read_design<D: Desk>(
-    alloc: Global,
-    desk: &mut D,
-    job: &Job,
-) -> Result<Option<Vec<u8>>, AllocError>
-    requires free { IsNone ((D.told desk.old).register.attached design_again) }
-    requires head { length job.now.head ≤ most_bytes }
-    ensures only { OnlyRead (D.told desk.old) (D.told desk.new) }
-    ensures other { (p : ℕ) → p ≢ design_again → (D.told desk.new).register.attached p ≡ (D.told desk.old).register.attached p }
-    ensures read { IfOk result (λ o. MatchOption o (Rose (D.told desk.old).register.faults (D.told desk.new).register.faults)
-        (λ text. IsStart D.tells job.now.head ((D.told desk.old).contents.files job.now.design) text.items × (length text.items ≤ most_bytes) × IsFaultless (D.told desk.old).register (D.told desk.new).register)) }
-{
-    let path = String::from_str(alloc, job.design.as_str())?;
-    match read_again(alloc, desk, DESIGN_AGAIN, path, job.head.as_bytes()) {
-        Ok(text) => Ok(Some(text)),
-        Err(AgainError::ReadFault) => Ok(None),
-        Err(AgainError::Memory) => Err(AllocError),
     }
 }
 
@@ -89,15 +73,16 @@ fn draw_text(
 }
 
 /// What is seen of a text that was read of the design.
-fn view_of(alloc: Global, job: &Job, draws: bool, text: Vec<u8>) -> Result<View, AllocError>
-    requires { length text.items ≤ most_bytes }
+fn view_of(alloc: Global, job: &Job, draws: bool, joined: Joined) -> Result<View, AllocError>
+    requires { length joined.text.items ≤ most_bytes }
     ensures head { IfOk result (λ view. view.head ≡ length job.now.head) }
-    ensures view { IfOk result (λ view. (drawn : Option Drawn) × MatchBool draws (IsDrawing text.items job.now.top drawn) (drawn ≡ None)
-        × (seen_of view ≡ record { file = Some (drop (length job.now.head) text.items); head = length job.now.head; drawn = drawn; heavy = None; ports = None })) }
+    ensures view { IfOk result (λ view. (drawn : Option Drawn) × MatchBool draws (IsDrawing joined.text.items job.now.top drawn) (drawn ≡ None)
+        × (seen_of view ≡ record { file = Some (drop (length job.now.head) joined.text.items); starts = joined.starts.items; head = length job.now.head; drawn = drawn; heavy = None; ports = None })) }
 {
-    let drawing = draw_text(alloc, draws, text.as_slice(), job.top_bytes())?;
+    let drawing = draw_text(alloc, draws, joined.text.as_slice(), job.top_bytes())?;
     Ok(View {
-        text: Some(text),
+        text: Some(joined.text),
+        starts: joined.starts,
         head: job.head.as_bytes().len(),
         drawing,
         heavy: None,
@@ -112,16 +97,17 @@ fn see_design<D: Desk>(
     job: &Job,
     draws: bool,
 ) -> Result<View, AllocError>
-    requires free { IsNone ((D.told desk.old).register.attached design_again) }
+    requires free { AreUnread (D.told desk.old).register }
     requires head { length job.now.head ≤ most_bytes }
+    requires few { length job.now.others ≤ most_others }
     ensures only { OnlyRead (D.told desk.old) (D.told desk.new) }
-    ensures other { (p : ℕ) → p ≢ design_again → (D.told desk.new).register.attached p ≡ (D.told desk.old).register.attached p }
+    ensures stimulus { (D.told desk.new).register.attached stimulus_again ≡ (D.told desk.old).register.attached stimulus_again }
     ensures sees { IfOk result (λ view. spec.SeesOf job.now.top (Some (spec.design_look job.now draws)) (D.told desk.old) (D.told desk.new) (seen_of view)) }
     ensures head { IfOk result (λ view. view.head ≤ most_bytes) }
 {
     match read_design(alloc, desk, job)? {
-        None => Ok(unseen(job.head.as_bytes().len())),
-        Some(text) => view_of(alloc, job, draws, text),
+        None => Ok(unseen(alloc, job.head.as_bytes().len())),
+        Some(joined) => view_of(alloc, job, draws, joined),
     }
 }
 
@@ -177,9 +163,10 @@ fn see_path<D: Desk>(
     ensures head { IfOk result (λ view. view.head ≡ 0) }
 {
     match read_stimulus(alloc, desk, path, lines)? {
-        None => Ok(unseen(0)),
+        None => Ok(unseen(alloc, 0)),
         Some(text) => Ok(View {
             text: Some(text),
+            starts: Vec::new(alloc),
             head: 0,
             drawing: None,
             heavy: None,
@@ -202,7 +189,7 @@ fn see_stimulus<D: Desk>(
     ensures head { IfOk result (λ view. view.head ≡ 0) }
 {
     if lane as usize >= job.stimuli.len() {
-        return Ok(unseen(0));
+        return Ok(unseen(alloc, 0));
     }
     let path = job.stimuli.get(lane as usize).as_str();
     see_path(alloc, desk, path, lines)
@@ -217,9 +204,10 @@ pub(crate) fn see_ports<D: Desk>(
 ) -> Result<View, AllocError>
     requires unread { AreUnread (D.told desk.old).register }
     requires head { length job.now.head ≤ most_bytes }
+    requires few { length job.now.others ≤ most_others }
     ensures only { OnlyRead (D.told desk.old) (D.told desk.new) }
     ensures stimulus { IsNone ((D.told desk.new).register.attached stimulus_again) }
-    ensures design { refuses refusal.now ≡ false → asks refusal.now ≡ false → IsNone ((D.told desk.new).register.attached design_again) }
+    ensures design { refuses refusal.now ≡ false → asks refusal.now ≡ false → AreUnread (D.told desk.new).register }
     ensures sees { IfOk result (λ view. spec.SeesOf job.now.top (spec.ports_look job.now refusal.now) (D.told desk.old) (D.told desk.new) (seen_of view)) }
 {
     if refuses_fields(refusal) {
@@ -228,7 +216,7 @@ pub(crate) fn see_ports<D: Desk>(
     if asks_ports(refusal) {
         return see_named(alloc, desk, job);
     }
-    Ok(unseen(0))
+    Ok(unseen(alloc, 0))
 }
 
 /// What is seen of the file of which lines are shown for a refusal, if there is one.
@@ -239,8 +227,9 @@ pub(crate) fn see_file<D: Desk>(
     refusal: &Refusal,
 ) -> Result<View, AllocError>
     requires stimulus { IsNone ((D.told desk.old).register.attached stimulus_again) }
-    requires design { refuses refusal.now ≡ false → asks refusal.now ≡ false → IsNone ((D.told desk.old).register.attached design_again) }
+    requires design { refuses refusal.now ≡ false → asks refusal.now ≡ false → AreUnread (D.told desk.old).register }
     requires head { length job.now.head ≤ most_bytes }
+    requires few { length job.now.others ≤ most_others }
     ensures only { OnlyRead (D.told desk.old) (D.told desk.new) }
     ensures sees { IfOk result (λ view. spec.SeesOf job.now.top (spec.look_for job.now refusal.now) (D.told desk.old) (D.told desk.new) (seen_of view)) }
     ensures head { IfOk result (λ view. view.head ≤ most_bytes) }
@@ -254,7 +243,7 @@ pub(crate) fn see_file<D: Desk>(
         Refusal::TooLarge { .. } => see_weights(alloc, desk, job),
         _ => match at_of(refusal) {
             Some(_) => see_design(alloc, desk, job, has_numbers(refusal)),
-            None => Ok(unseen(0)),
+            None => Ok(unseen(alloc, 0)),
         },
     }
 }

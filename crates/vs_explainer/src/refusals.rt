@@ -2,6 +2,7 @@
 
 ghost use Rattle.std.specs.Prelude.{◌≡◌, ◌≤◌, IfOk, length, option_map};
 ghost use Rattle.std.specs.Option.{option_or};
+ghost use Rattle.vs_desk.specs.Places.{most_others};
 ghost use Rattle.vs_reread.specs.Again.{most_bytes, AreUnread, OnlyRead};
 ghost use Rattle.vs_explanation.specs.Seen.{Seen as Saw};
 ghost use Rattle.vs_explanation.specs.Refused.{refusal_text};
@@ -70,6 +71,7 @@ fn seen_page(
     let mut page = Page::new(alloc);
     let seen = Seen {
         file: file_of(file),
+        starts: file.starts.as_slice(),
         head: file.head as u32,
         drawing: drawing_of(ports, file),
         heavy: heavy_of(file),
@@ -88,6 +90,7 @@ fn page_of<D: Desk>(
 ) -> Result<Page, AllocError>
     requires unread { AreUnread (D.told desk.old).register }
     requires head { length job.now.head ≤ most_bytes }
+    requires few { length job.now.others ≤ most_others }
     ensures only { OnlyRead (D.told desk.old) (D.told desk.new) }
     ensures page { IfOk result (λ page. (seen : Saw) × IsSeen job.now refusal.now (D.told desk.old) (D.told desk.new) seen × (page ≡ refusal_text job.now seen refusal.now)) }
 {
@@ -97,12 +100,13 @@ fn page_of<D: Desk>(
 }
 
 /// Puts at place 0 of a desk what is said of a refusal of a job: where it is told, its sentence, the line with a caret, further places, names for numbers, the field of
-/// a header or a vector that is wrong, the heaviest processes of a design that is too large, and a remedy. For that the design is read again at place 2, and a stimulus at place 3.
+/// a header or a vector that is wrong, the heaviest processes of a design that is too large, and a remedy. For that the design is read again at place 2, its further file n at place 4 + n, and a stimulus at place 3.
 ///
 /// Where memory runs out nothing is put, and where a call at place 0 fails some first bytes are.
 pub fn explain_refusal<D: Desk>(alloc: Global, job: &Job, refusal: &Refusal, desk: &mut D)
     requires unread { AreUnread (D.told desk.old).register }
     requires head { length job.now.head ≤ most_bytes }
+    requires few { length job.now.others ≤ most_others }
     ensures { ExplainsRefusal job.now refusal.now (D.told desk.old) (D.told desk.new) }
 {
     if let Ok(page) = page_of(alloc, job, refusal, desk) {

@@ -4,3 +4,4 @@ pub mod Waves
 pub mod Newlines
 pub mod Lines
 pub mod HeavySteps
+pub mod FilePlaces

@@ -1,15 +1,18 @@
 -- The heaviest processes of a design that is too large.
 use Rattle.std.specs.Prelude.{ℕ, ◌-◌, ◌==◌, nat_le, List, [], ◌∷◌, ◌++◌, map, min, take, Option, Some, None, option_map, codes, if◌then◌else◌}
 use Rattle.std.specs.List.{flat_map}
+use Rattle.std.specs.Option.{option_map_or}
 use Rattle.vs_design.specs.Designs.{Process}
 use Rattle.vs_design.specs.Sizes.{process_weight}
 use Rattle.vs_flat.specs.DesignOf.{design_of}
 use Rattle.vs_names.specs.Drawn.{Drawn, byte_of}
 use Rattle.vs_excerpt.specs.Escapes.{escaped}
 use Rattle.vs_explanation.specs.declared.heavy.Heavy.{Heavy}
+use Rattle.vs_job.specs.declared.job.Job.{Job}
+use Rattle.vs_explanation.specs.Files.{file_place}
+use Rattle.vs_explanation.specs.Placed.{found_in}
 use Rattle.vs_explanation.specs.Seen.{Seen}
 use Rattle.vs_explanation.specs.Subjects.{size_text}
-use Rattle.vs_explanation.specs.Rows.{row_position}
 
 -- ---- which they are
 
@@ -47,22 +50,26 @@ paired (at ∷ bytes) (weight ∷ weights) = record { at = at; weight = weight }
 abbrev pub byte_in : Seen → Heavy → Option ℕ
 byte_in seen p = option_map (λ (byte : ℕ). byte - seen.head) p.at
 
+-- where a process stands, and the path of the design alone where it stands nowhere
+abbrev pub heavy_place : Job → Seen → Option ℕ → List ℕ
+heavy_place job seen at = option_map_or (λ byte. found_in (file_place job seen byte)) at (escaped job.design)
+
 -- `d.v:12:3: note: 1048576 plane operations a half-period`
-abbrev pub heavy_at : List ℕ → Seen → Heavy → List ℕ
-heavy_at path seen p = escaped path ++ (row_position seen.file (byte_in seen p) ++ (codes ": note: " ++ (size_text p.weight ++ codes "\n")))
+abbrev pub heavy_at : Job → Seen → Heavy → List ℕ
+heavy_at job seen p = heavy_place job seen (byte_in seen p) ++ (codes ": note: " ++ (size_text p.weight ++ codes "\n"))
 
 -- a process that weighs nothing isn't told
-abbrev pub heavy_line : List ℕ → Seen → Heavy → List ℕ
-heavy_line path seen p = if p.weight == 0 then [] else heavy_at path seen p
+abbrev pub heavy_line : Job → Seen → Heavy → List ℕ
+heavy_line job seen p = if p.weight == 0 then [] else heavy_at job seen p
 
 -- no process was weighed
 abbrev pub unweighed_text : Option (List ℕ) → List ℕ
 unweighed_text None = codes "note: the file can't be read again\n"
 unweighed_text (Some text) = codes "note: the file has changed: it elaborates to no design, or a length or a division of it is refused, so no process is weighed\n"
 
-abbrev pub heavy_lines : List ℕ → Seen → List Heavy → List ℕ
-heavy_lines path seen ps = flat_map (heavy_line path seen) ps
+abbrev pub heavy_lines : Job → Seen → List Heavy → List ℕ
+heavy_lines job seen ps = flat_map (heavy_line job seen) ps
 
-abbrev pub heavy_text : List ℕ → Seen → Option (List Heavy) → List ℕ
-heavy_text path seen None = unweighed_text seen.file
-heavy_text path seen (Some ps) = heavy_lines path seen ps
+abbrev pub heavy_text : Job → Seen → Option (List Heavy) → List ℕ
+heavy_text job seen None = unweighed_text seen.file
+heavy_text job seen (Some ps) = heavy_lines job seen ps

@@ -1,4 +1,5 @@
 pub mod Seen
+pub mod Files
 pub mod Placed
 pub mod Subjects
 pub mod Located

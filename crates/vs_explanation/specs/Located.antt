@@ -1,4 +1,4 @@
--- The lines of a refusal that has a place in the design's file.
+-- The lines of a refusal that has a place in the design's text.
 use Rattle.std.specs.Prelude.{ℕ, ◌-◌, Bool, true, false, not, ◌&&◌, ◌==◌, List, [], ◌∷◌, ◌++◌, drop, Option, None, is_some, is_none, codes, option_and_then, if◌then◌else◌}
 use Rattle.std.specs.List.{flat_map}
 use Rattle.std.specs.Option.{option_map_or}
@@ -8,6 +8,8 @@ use Rattle.vs_refusal.specs.declared.refusal.Refusal.{Refusal}
 use Rattle.vs_refusal.specs.declared.refusal.Refusal.TheVariants.{Latch, Sensitivity, TwoDrivers, Process, Cycle, Race}
 use Rattle.vs_refusal.specs.declared.names.ProcessName.TheVariants.{NotTheClock}
 use Rattle.vs_hints.specs.Hints.{opening, closing, remedy}
+use Rattle.vs_job.specs.declared.job.Job.{Job}
+use Rattle.vs_explanation.specs.Files.{FilePlace, file_place}
 use Rattle.vs_explanation.specs.Seen.{Seen}
 use Rattle.vs_explanation.specs.Placed.{place_text, caret_text, change_text}
 
@@ -32,16 +34,16 @@ further _ = []
 abbrev pub process_at : Seen → ℕ → Option ℕ
 process_at seen process = option_and_then (λ (d : Drawn). process_byte d process) seen.drawn
 
--- each of them, where it is in the file
-abbrev pub further_at : List ℕ → Option (List ℕ) → ℕ → List ℕ
-further_at path file at = place_text path file at ++ codes ": note: and here\n"
+-- each of them, where it is in its file
+abbrev pub further_in : FilePlace → List ℕ
+further_in p = place_text p.path p.file p.at ++ codes ": note: and here\n"
 
-abbrev pub further_line : List ℕ → Seen → ℕ → List ℕ
-further_line path seen process =
-    option_map_or (λ (byte : ℕ). further_at path seen.file (byte - seen.head)) (process_at seen process) []
+abbrev pub further_line : Job → Seen → ℕ → List ℕ
+further_line job seen process =
+    option_map_or (λ byte. further_in (file_place job seen (byte - seen.head))) (process_at seen process) []
 
-abbrev pub further_text : List ℕ → Seen → List ℕ → List ℕ
-further_text path seen processes = flat_map (further_line path seen) processes
+abbrev pub further_text : Job → Seen → List ℕ → List ℕ
+further_text job seen processes = flat_map (further_line job seen) processes
 
 -- whether a refusal has numbers of the elaborated design
 abbrev pub has_numbers : Refusal → Bool
@@ -66,10 +68,14 @@ abbrev pub clockless_text : Option (List ℕ) → Refusal → List ℕ
 clockless_text None (Process NotTheClock process at) = codes "note: no clock is named: --clock <C> says which input it is\n"
 clockless_text clock r = []
 
--- the notes of a refusal at byte `at` of the file, where the clock is this one
-abbrev pub notes_text : List ℕ → Option (List ℕ) → Seen → Refusal → ℕ → List ℕ
-notes_text path clock seen r at = head_text seen.head at ++ (further_text path seen (further r) ++ (change_text seen.file at ++ (unnamed_text seen r ++ (clockless_text clock r ++ remedy_text r))))
+-- the notes of a refusal at byte `at` of the text, which lies there
+abbrev pub notes_text : Job → Seen → Refusal → ℕ → FilePlace → List ℕ
+notes_text job seen r at p =
+    head_text seen.head at ++ (further_text job seen (further r) ++ (change_text p.file p.at ++ (unnamed_text seen r ++ (clockless_text job.clock r ++ remedy_text r))))
 
 -- all its lines
-abbrev pub located : List ℕ → Option (List ℕ) → Seen → Refusal → List ℕ → ℕ → List ℕ
-located path clock seen r subject at = error_at (place_text path seen.file at) r subject ++ (caret_text seen.file at ++ notes_text path clock seen r at)
+abbrev pub located_in : Job → Seen → Refusal → List ℕ → ℕ → FilePlace → List ℕ
+located_in job seen r subject at p = error_at (place_text p.path p.file p.at) r subject ++ (caret_text p.file p.at ++ notes_text job seen r at p)
+
+abbrev pub located : Job → Seen → Refusal → List ℕ → ℕ → List ℕ
+located job seen r subject at = located_in job seen r subject at (file_place job seen at)

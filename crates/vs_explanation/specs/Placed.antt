@@ -3,6 +3,7 @@ use Rattle.std.specs.Prelude.{ℕ, nat_le, List, [], ◌++◌, length, Option, S
 use Rattle.vs_excerpt.specs.Positions.{line_number, column}
 use Rattle.vs_excerpt.specs.Escapes.{escaped}
 use Rattle.vs_excerpt.specs.Excerpts.{excerpt}
+use Rattle.vs_explanation.specs.Files.{FilePlace}
 
 -- a line and a column behind a path
 abbrev pub line_column : ℕ → ℕ → List ℕ
@@ -24,6 +25,10 @@ position_text file at = position_in (reaching file at) at
 -- the place of byte `at` of a file, and the path alone where that isn't there
 abbrev pub place_text : List ℕ → Option (List ℕ) → ℕ → List ℕ
 place_text path file at = escaped path ++ position_text file at
+
+-- the place of a byte in a file of the design
+abbrev pub found_in : FilePlace → List ℕ
+found_in p = place_text p.path p.file p.at
 
 -- its line with a caret below it
 abbrev pub caret_in : Option (List ℕ) → ℕ → List ℕ

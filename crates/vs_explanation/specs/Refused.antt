@@ -15,7 +15,7 @@ use Rattle.vs_explanation.specs.Located.{error_at, remedy_text, located}
 use Rattle.vs_explanation.specs.Headers.{bad_of, names_text}
 use Rattle.vs_explanation.specs.Rows.{from_line, row_text, wrong_of, row_at, fields_text, row_of, row_position, row_caret}
 
--- the byte of the design's file at which a refusal is told; a stimulus's and those without a place have none
+-- the byte of the design's text at which a refusal is told; a stimulus's and those without a place have none
 abbrev pub at_of : Refusal → Option ℕ
 at_of (At kind at) = Some at
 at_of (Latch process bit at) = Some at
@@ -51,7 +51,7 @@ unlined job seen r = unlined_at job seen r (row_of r seen.file (bad_of r seen)) 
 
 -- all lines of a design that is too large
 abbrev pub oversized : Job → Seen → Refusal → List ℕ
-oversized job seen r = error_at (path_text job (about r)) r (subject job seen.drawn r) ++ (heavy_text job.design seen seen.heavy ++ remedy_text r)
+oversized job seen r = error_at (path_text job (about r)) r (subject job seen.drawn r) ++ (heavy_text job seen seen.heavy ++ remedy_text r)
 
 abbrev pub unlocated : Job → Seen → Refusal → List ℕ
 unlocated job seen (TooLarge size) = oversized job seen (TooLarge size)
@@ -61,4 +61,4 @@ unlocated job seen r = unlined job seen r
 
 -- all lines of a refusal of a job
 abbrev pub refusal_text : Job → Seen → Refusal → List ℕ
-refusal_text job seen r = option_map_or (located job.design job.clock seen r (subject job seen.drawn r)) (at_of r) (unlocated job seen r)
+refusal_text job seen r = option_map_or (located job seen r (subject job seen.drawn r)) (at_of r) (unlocated job seen r)

@@ -1,7 +1,7 @@
 -- The name or the number in the sentence of a refusal.
 use Rattle.std.specs.Prelude.{ℕ, ◌-◌, nat_lt, List, [], ◌++◌, slice_get, Option, Some, None, codes, decimal, if◌then◌else◌}
 use Rattle.std.specs.Option.{option_map_or}
-use Rattle.vs_desk.specs.Places.{stimulus_place, waveform_place}
+use Rattle.vs_desk.specs.Places.{stimulus_place, waveform_place, other_place}
 use Rattle.vs_flat.specs.DesignOf.{design_of}
 use Rattle.vs_names.specs.Names.{bit_text, signal_of_number}
 use Rattle.vs_names.specs.Drawn.{Drawn}
@@ -27,7 +27,8 @@ wave_path mode stimulus = escaped stimulus ++ wave_suffix mode
 abbrev pub role_text : ℕ → List ℕ
 role_text place =
     if nat_lt place (stimulus_place 0) then codes "the design"
-    else (if nat_lt place (waveform_place 0) then codes "the stimulus of lane " ++ decimal (place - stimulus_place 0) else codes "the waveform of lane " ++ decimal (place - waveform_place 0))
+    else (if nat_lt place (waveform_place 0) then codes "the stimulus of lane " ++ decimal (place - stimulus_place 0)
+    else (if nat_lt place (other_place 0) then codes "the waveform of lane " ++ decimal (place - waveform_place 0) else codes "the design's further file " ++ decimal (place - other_place 0)))
 
 -- the path of a lane's stimulus, as it is shown, and of its waveform; of a lane that the job hasn't they are empty
 abbrev pub stimulus_path : Job → ℕ → List ℕ
@@ -36,11 +37,16 @@ stimulus_path job lane = option_map_or escaped (slice_get job.stimuli lane) []
 abbrev pub waveform_path : Job → ℕ → List ℕ
 waveform_path job lane = option_map_or (wave_path job.mode) (slice_get job.stimuli lane) []
 
+-- the path of a further file of the design; of one that the job hasn't it is empty
+abbrev pub other_path : Job → ℕ → List ℕ
+other_path job n = option_map_or escaped (slice_get job.others n) []
+
 -- the path of a place
 abbrev pub path_text : Job → ℕ → List ℕ
 path_text job place =
     if nat_lt place (stimulus_place 0) then escaped job.design
-    else (if nat_lt place (waveform_place 0) then stimulus_path job (place - stimulus_place 0) else waveform_path job (place - waveform_place 0))
+    else (if nat_lt place (waveform_place 0) then stimulus_path job (place - stimulus_place 0)
+    else (if nat_lt place (other_place 0) then waveform_path job (place - waveform_place 0) else other_path job (place - other_place 0)))
 
 -- a bit by its name, and by its number where there is no design
 abbrev pub bit_subject : Option Drawn → ℕ → List ℕ
@@ -57,7 +63,7 @@ size_text size = decimal size ++ codes " plane operations a half-period"
 
 -- a refusal of the top is of the name that is given, or of the one module that no instance names
 abbrev pub top_text : Option (List ℕ) → List ℕ
-top_text None = codes "that alone has no instance"
+top_text None = codes "that is the only one without an instance"
 top_text (Some top) = escaped top
 
 -- a refusal of the clock is of the name that is given

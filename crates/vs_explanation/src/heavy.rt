@@ -6,10 +6,11 @@ ghost use Rattle.vs_explanation.specs.Heavy as spec;
 ghost use Rattle.vs_explanation.specs.Seen.{seen_of};
 
 use crate::Seen;
-use crate::stimuli::push_row_position;
+use crate::placed::push_found;
 use crate::subjects::push_size;
 use std::alloc::{AllocError, Global};
 use vs_excerpt::Page;
+use vs_job::Job;
 
 /// A process of a design.
 #[derive(Clone, Copy)]
@@ -77,15 +78,29 @@ fn byte_in(seen: &Seen<'_>, heavy: &Heavy) -> Option<usize>
     Some(at.saturating_sub(seen.head) as usize)
 }
 
+/// Adds where a process stands, or the path of the design alone where it stands nowhere.
+fn push_heavy_place(
+    page: &mut Page,
+    job: &Job,
+    seen: &Seen<'_>,
+    at: Option<usize>,
+) -> Result<(), AllocError>
+    ensures { OnOk result (page.new ≡ page.old ++ spec.heavy_place job.now (seen_of seen.now) at) }
+{
+    match at {
+        Some(at) => push_found(page, job, seen, at),
+        None => page.escaped(job.design.as_bytes()),
+    }
+}
+
 /// Adds where a process stands and what it weighs, if it weighs something.
-fn push_line(page: &mut Page, path: &[u8], seen: &Seen<'_>, heavy: &Heavy) -> Result<(), AllocError>
-    ensures { OnOk result (page.new ≡ page.old ++ spec.heavy_line path.now (seen_of seen.now) heavy.now) }
+fn push_line(page: &mut Page, job: &Job, seen: &Seen<'_>, heavy: &Heavy) -> Result<(), AllocError>
+    ensures { OnOk result (page.new ≡ page.old ++ spec.heavy_line job.now (seen_of seen.now) heavy.now) }
 {
     if heavy.weight == 0 {
         return Ok(());
     }
-    page.escaped(path)?;
-    push_row_position(page, seen.file, byte_in(seen, heavy))?;
+    push_heavy_place(page, job, seen, byte_in(seen, heavy))?;
     page.text(": note: ")?;
     push_size(page, heavy.weight)?;
     page.text("\n")
@@ -94,14 +109,14 @@ fn push_line(page: &mut Page, path: &[u8], seen: &Seen<'_>, heavy: &Heavy) -> Re
 /// Adds the lines of processes.
 fn push_lines(
     page: &mut Page,
-    path: &[u8],
+    job: &Job,
     seen: &Seen<'_>,
     processes: &[Heavy],
 ) -> Result<(), AllocError>
-    ensures { OnOk result (page.new ≡ page.old ++ spec.heavy_lines path.now (seen_of seen.now) processes.now) }
+    ensures { OnOk result (page.new ≡ page.old ++ spec.heavy_lines job.now (seen_of seen.now) processes.now) }
 {
     for heavy in processes {
-        push_line(page, path, seen, heavy)?;
+        push_line(page, job, seen, heavy)?;
     }
     Ok(())
 }
@@ -119,11 +134,11 @@ fn push_unweighed(page: &mut Page, file: Option<&[u8]>) -> Result<(), AllocError
 }
 
 /// Adds the lines of the heaviest processes of a design that is too large, or that none was weighed.
-pub(crate) fn push_heavy(page: &mut Page, path: &[u8], seen: &Seen<'_>) -> Result<(), AllocError>
-    ensures { OnOk result (page.new ≡ page.old ++ spec.heavy_text path.now (seen_of seen.now) (seen_of seen.now).heavy) }
+pub(crate) fn push_heavy(page: &mut Page, job: &Job, seen: &Seen<'_>) -> Result<(), AllocError>
+    ensures { OnOk result (page.new ≡ page.old ++ spec.heavy_text job.now (seen_of seen.now) (seen_of seen.now).heavy) }
 {
     match seen.heavy {
-        Some(processes) => push_lines(page, path, seen, processes),
+        Some(processes) => push_lines(page, job, seen, processes),
         None => push_unweighed(page, seen.file),
     }
 }

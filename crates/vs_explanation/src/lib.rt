@@ -2,6 +2,7 @@
 #![tactic(auto)]
 
 mod ended;
+mod files;
 mod headers;
 mod heavy;
 mod located;

@@ -1,11 +1,13 @@
-//! The lines of a refusal that has a place in the design's file.
+//! The lines of a refusal that has a place in the design's text.
 
 ghost use Rattle.std.specs.Prelude.{◌≡◌, ◌++◌, OnOk, option_map, codes};
+ghost use Rattle.vs_explanation.specs.Files.{place_of};
 ghost use Rattle.vs_explanation.specs.Located as spec;
 ghost use Rattle.vs_explanation.specs.Subjects.{subject};
 ghost use Rattle.vs_explanation.specs.Seen.{seen_of};
 
 use crate::Seen;
+use crate::files::{FilePlace, file_place};
 use crate::notes::{push_clockless, push_further, push_head, push_remedy, push_unnamed};
 use crate::placed::{push_caret, push_change, push_place};
 use crate::subjects::push_subject;
@@ -33,25 +35,44 @@ pub(crate) fn push_error(
     page.text("\n")
 }
 
-/// Adds the notes of a refusal at byte `at` of the design's file.
+/// Adds the notes of a refusal at byte `at` of the design's text, which lies there.
 fn push_notes(
     page: &mut Page,
     job: &Job,
     seen: &Seen<'_>,
     refusal: &Refusal,
     at: u32,
+    place: FilePlace<'_>,
 ) -> Result<(), AllocError>
-    ensures { OnOk result (page.new ≡ page.old ++ spec.notes_text job.now.design job.now.clock (seen_of seen.now) refusal.now at) }
+    ensures { OnOk result (page.new ≡ page.old ++ spec.notes_text job.now (seen_of seen.now) refusal.now at (place_of place.entry)) }
 {
     push_head(page, seen.head, at)?;
-    push_further(page, job.design.as_bytes(), seen, refusal)?;
-    push_change(page, seen.file, at)?;
+    push_further(page, job, seen, refusal)?;
+    push_change(page, place.file, place.at)?;
     push_unnamed(page, seen, refusal)?;
     push_clockless(page, job, refusal)?;
     push_remedy(page, refusal)
 }
 
-/// Adds all lines of a refusal at byte `at` of the design's file.
+/// Adds all lines of a refusal at byte `at` of the design's text, which lies there.
+fn push_located_in(
+    page: &mut Page,
+    job: &Job,
+    seen: &Seen<'_>,
+    refusal: &Refusal,
+    at: u32,
+    place: FilePlace<'_>,
+) -> Result<(), AllocError>
+    ensures { OnOk result (page.new ≡ page.old ++ spec.located_in job.now (seen_of seen.now) refusal.now (subject job.now (seen_of seen.now).drawn refusal.now) at (place_of place.entry)) }
+{
+    push_place(page, place)?;
+    page.text(": ")?;
+    push_error(page, job, seen, refusal)?;
+    push_caret(page, place.file, place.at)?;
+    push_notes(page, job, seen, refusal, at, place)
+}
+
+/// Adds all lines of a refusal at byte `at` of the design's text.
 pub(crate) fn push_located(
     page: &mut Page,
     job: &Job,
@@ -59,11 +80,14 @@ pub(crate) fn push_located(
     refusal: &Refusal,
     at: u32,
 ) -> Result<(), AllocError>
-    ensures { OnOk result (page.new ≡ page.old ++ spec.located job.now.design job.now.clock (seen_of seen.now) refusal.now (subject job.now (seen_of seen.now).drawn refusal.now) at) }
+    ensures { OnOk result (page.new ≡ page.old ++ spec.located job.now (seen_of seen.now) refusal.now (subject job.now (seen_of seen.now).drawn refusal.now) at) }
 {
-    push_place(page, job.design.as_bytes(), seen.file, at)?;
-    page.text(": ")?;
-    push_error(page, job, seen, refusal)?;
-    push_caret(page, seen.file, at as usize)?;
-    push_notes(page, job, seen, refusal, at)
+    push_located_in(
+        page,
+        job,
+        seen,
+        refusal,
+        at,
+        file_place(job, seen, at as usize),
+    )
 }

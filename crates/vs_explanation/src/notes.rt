@@ -5,7 +5,7 @@ ghost use Rattle.vs_explanation.specs.Located as spec;
 ghost use Rattle.vs_explanation.specs.Seen.{seen_of};
 
 use crate::Seen;
-use crate::placed::push_place;
+use crate::placed::push_found;
 use std::alloc::AllocError;
 use vs_excerpt::Page;
 use vs_hints::remedy;
@@ -38,19 +38,19 @@ fn process_byte(seen: &Seen<'_>, process: u32) -> Option<u32>
     seen.drawing?.process_byte(process)
 }
 
-/// Adds the place of a further process, where it is in the file.
+/// Adds the place of a further process, where it is in its file.
 fn push_further_line(
     page: &mut Page,
-    path: &[u8],
+    job: &Job,
     seen: &Seen<'_>,
     process: u32,
 ) -> Result<(), AllocError>
-    ensures { OnOk result (page.new ≡ page.old ++ spec.further_line path.now (seen_of seen.now) process) }
+    ensures { OnOk result (page.new ≡ page.old ++ spec.further_line job.now (seen_of seen.now) process) }
 {
     match process_byte(seen, process) {
         None => Ok(()),
         Some(byte) => {
-            push_place(page, path, seen.file, byte.saturating_sub(seen.head))?;
+            push_found(page, job, seen, byte.saturating_sub(seen.head) as usize)?;
             page.text(": note: and here\n")
         }
     }
@@ -59,14 +59,14 @@ fn push_further_line(
 /// Adds the places of processes.
 fn push_all(
     page: &mut Page,
-    path: &[u8],
+    job: &Job,
     seen: &Seen<'_>,
     processes: &[u32],
 ) -> Result<(), AllocError>
-    ensures { OnOk result (page.new ≡ page.old ++ spec.further_text path.now (seen_of seen.now) processes.now) }
+    ensures { OnOk result (page.new ≡ page.old ++ spec.further_text job.now (seen_of seen.now) processes.now) }
 {
     for process in processes {
-        push_further_line(page, path, seen, *process)?;
+        push_further_line(page, job, seen, *process)?;
     }
     Ok(())
 }
@@ -74,16 +74,16 @@ fn push_all(
 /// Adds the places of the further processes of a refusal.
 pub(crate) fn push_further(
     page: &mut Page,
-    path: &[u8],
+    job: &Job,
     seen: &Seen<'_>,
     refusal: &Refusal,
 ) -> Result<(), AllocError>
-    ensures { OnOk result (page.new ≡ page.old ++ spec.further_text path.now (seen_of seen.now) (spec.further refusal.now)) }
+    ensures { OnOk result (page.new ≡ page.old ++ spec.further_text job.now (seen_of seen.now) (spec.further refusal.now)) }
 {
     match refusal {
-        Refusal::TwoDrivers { first, .. } => push_all(page, path, seen, &[*first]),
+        Refusal::TwoDrivers { first, .. } => push_all(page, job, seen, &[*first]),
         Refusal::Cycle { processes, .. } => match processes.numbers() {
-            [_, others @ ..] => push_all(page, path, seen, others),
+            [_, others @ ..] => push_all(page, job, seen, others),
             [] => Ok(()),
         },
         _ => Ok(()),

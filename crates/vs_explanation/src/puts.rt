@@ -9,7 +9,7 @@ ghost use Rattle.vs_explanation.specs.Subjects as spec;
 
 use crate::roles::wave_suffix;
 use itoa::Buffer;
-use vs_desk::{Desk, FIRST_STIMULUS, FIRST_WAVEFORM, Failed, put_all, put_law};
+use vs_desk::{Desk, FIRST_OTHER, FIRST_STIMULUS, FIRST_WAVEFORM, Failed, put_all, put_law};
 use vs_job::Job;
 
 /// Puts a text.
@@ -129,6 +129,16 @@ fn put_waveform<D: Desk>(desk: &mut D, job: &Job, lane: usize) -> Result<(), Fai
     )
 }
 
+/// Puts the path of a further file of the design, or nothing where the job has no such file.
+fn put_other<D: Desk>(desk: &mut D, job: &Job, n: usize) -> Result<(), Failed>
+    ensures { PutsAll (D.told desk.old) (D.told desk.new) 0 (spec.other_path job.now n) result }
+{
+    if n >= job.others.len() {
+        return put_text(desk, "");
+    }
+    put_escaped(desk, job.others.get(n).as_bytes())
+}
+
 /// Puts the path of a place.
 pub(crate) fn put_path<D: Desk>(desk: &mut D, job: &Job, place: u32) -> Result<(), Failed>
     ensures { PutsAll (D.told desk.old) (D.told desk.new) 0 (spec.path_text job.now place) result }
@@ -139,5 +149,8 @@ pub(crate) fn put_path<D: Desk>(desk: &mut D, job: &Job, place: u32) -> Result<(
     if place < FIRST_WAVEFORM {
         return put_stimulus(desk, job, (place - FIRST_STIMULUS) as usize);
     }
-    put_waveform(desk, job, (place - FIRST_WAVEFORM) as usize)
+    if place < FIRST_OTHER {
+        return put_waveform(desk, job, (place - FIRST_WAVEFORM) as usize);
+    }
+    put_other(desk, job, (place - FIRST_OTHER) as usize)
 }

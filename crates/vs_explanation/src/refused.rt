@@ -22,7 +22,7 @@ use vs_job::Job;
 use vs_refusal::Refusal;
 use vs_rows::{BadName, Wrong};
 
-/// The byte of the design's file at which a refusal is told. None where it is told of the whole design, of the words, or of a stimulus.
+/// The byte of the design's text at which a refusal is told. None where it is told of the whole design, of the words, or of a stimulus.
 pub fn at_of(refusal: &Refusal) -> Option<u32>
     ensures { result ≡ spec.at_of refusal.now }
 {
@@ -120,7 +120,7 @@ fn push_oversized(
     push_path(page, job, about(refusal))?;
     page.text(": ")?;
     push_error(page, job, seen, refusal)?;
-    push_heavy(page, job.design.as_bytes(), seen)?;
+    push_heavy(page, job, seen)?;
     push_remedy(page, refusal)
 }
 

@@ -4,16 +4,16 @@ ghost use Rattle.std.specs.Prelude.{◌≡◌, ◌++◌, OnOk, decimal};
 ghost use Rattle.vs_explanation.specs.Subjects as spec;
 
 use std::alloc::AllocError;
-use vs_desk::{FIRST_STIMULUS, FIRST_WAVEFORM};
+use vs_desk::{FIRST_OTHER, FIRST_STIMULUS, FIRST_WAVEFORM};
 use vs_excerpt::Page;
 use vs_job::{Job, Mode};
 
-/// Adds a file of a lane in words.
-fn push_of_lane(page: &mut Page, what: &str, lane: u32) -> Result<(), AllocError>
-    ensures { OnOk result (page.new ≡ page.old ++ (what.now ++ decimal lane)) }
+/// Adds one of several files in words, by its number.
+fn push_numbered(page: &mut Page, what: &str, number: u32) -> Result<(), AllocError>
+    ensures { OnOk result (page.new ≡ page.old ++ (what.now ++ decimal number)) }
 {
     page.text(what)?;
-    page.number(u64::from(lane))
+    page.number(u64::from(number))
 }
 
 /// Adds a place of a run in words.
@@ -23,9 +23,11 @@ pub(crate) fn push_role(page: &mut Page, place: u32) -> Result<(), AllocError>
     if place < FIRST_STIMULUS {
         page.text("the design")
     } else if place < FIRST_WAVEFORM {
-        push_of_lane(page, "the stimulus of lane ", place - FIRST_STIMULUS)
+        push_numbered(page, "the stimulus of lane ", place - FIRST_STIMULUS)
+    } else if place < FIRST_OTHER {
+        push_numbered(page, "the waveform of lane ", place - FIRST_WAVEFORM)
     } else {
-        push_of_lane(page, "the waveform of lane ", place - FIRST_WAVEFORM)
+        push_numbered(page, "the design's further file ", place - FIRST_OTHER)
     }
 }
 
@@ -60,17 +62,31 @@ fn push_waveform(page: &mut Page, job: &Job, lane: usize) -> Result<(), AllocErr
     page.text(wave_suffix(job.mode))
 }
 
+/// Adds the path of a further file of the design, or nothing where the job has no such file.
+fn push_other(page: &mut Page, job: &Job, n: usize) -> Result<(), AllocError>
+    ensures { OnOk result (page.new ≡ page.old ++ spec.other_path job.now n) }
+{
+    if n >= job.others.len() {
+        return Ok(());
+    }
+    page.escaped(job.others.get(n).as_bytes())
+}
+
 /// Adds the path of a place.
 pub(crate) fn push_path(page: &mut Page, job: &Job, place: u64) -> Result<(), AllocError>
     ensures { OnOk result (page.new ≡ page.old ++ spec.path_text job.now place) }
 {
     let first_stimulus = u64::from(FIRST_STIMULUS);
     let first_waveform = u64::from(FIRST_WAVEFORM);
+    let first_other = u64::from(FIRST_OTHER);
     if place < first_stimulus {
         return page.escaped(job.design.as_bytes());
     }
     if place < first_waveform {
         return push_stimulus(page, job, (place - first_stimulus) as usize);
     }
-    push_waveform(page, job, (place - first_waveform) as usize)
+    if place < first_other {
+        return push_waveform(page, job, (place - first_waveform) as usize);
+    }
+    push_other(page, job, (place - first_other) as usize)
 }

@@ -7,8 +7,10 @@ use vs_stim::Ports;
 /// What was seen again of the file that an answer is about.
 #[derive(Drop)]
 pub struct Seen<'a> {
-    /// The bytes of the file, without the lines of macros that stand before a design, or None where it couldn't be read.
+    /// The bytes of the file, and of a design those of all its files, as they stand in its text, without the lines of macros before them; or None where one couldn't be read.
     pub file: Option<&'a [u8]>,
+    /// The bytes of `file` at which the design's further files begin, in order; none of a stimulus.
+    pub starts: &'a [usize],
     /// How many bytes the lines of macros before the file have.
     pub head: u32,
     /// The design that these lines and the file elaborate to, or of a stimulus the design that it is for; None where there is none.

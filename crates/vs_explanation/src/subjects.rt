@@ -59,7 +59,7 @@ fn push_top(page: &mut Page, job: &Job) -> Result<(), AllocError>
 {
     match job.top_bytes() {
         Some(top) => page.escaped(top),
-        None => page.text("that alone has no instance"),
+        None => page.text("that is the only one without an instance"),
     }
 }
 

@@ -10,3 +10,4 @@ pub mod NumberLemmas
 pub mod ShiftLemmas
 pub mod SelectLemmas
 pub mod SelectPlanes
+pub mod PowerLemmas

@@ -68,6 +68,28 @@ div signed a b = if has_quotient a b then Some (bits_of_integer (length a) (int_
 abbrev pub rem : Bool → BitList → BitList → Option BitList
 rem signed a b = if has_quotient a b then Some (bits_of_integer (length a) (int_rem (integer signed a) (integer signed b))) else None
 
+-- a base to a negative power (5.1.5, table 5-6): nothing for 0, 1 for 1, 1 or -1 for -1, as the exponent is even or odd, and 0 for any other
+abbrev pub reciprocal : ℤ → ℕ → Option ℤ
+reciprocal (pos zero) exponent = None
+reciprocal (pos (suc zero)) exponent = Some (pos 1)
+reciprocal (pos (suc (suc n))) exponent = Some (pos 0)
+reciprocal (negsuc zero) exponent = Some (if exponent % 2 == 0 then pos 1 else negsuc 0)
+reciprocal (negsuc (suc n)) exponent = Some (pos 0)
+
+-- the low w bits of a number with a sign, where there is one
+abbrev pub bits_if_any : ℕ → Option ℤ → Option BitList
+bits_if_any w None = None
+bits_if_any w (Some z) = Some (bits_of_integer w z)
+
+-- known bits to a power (table 5-6), modulo 2^w: for an exponent that isn't negative it is the same be the base signed or not
+abbrev pub raised : Bool → BitList → ℤ → Option BitList
+raised signed base (pos n) = Some (bits_of (length base) (number base ^ n))
+raised signed base (negsuc n) = bits_if_any (length base) (reciprocal (integer signed base) (suc n))
+
+-- `a ** b` (5.1.5): the base is signed or not, and the exponent by itself
+abbrev pub pow : Bool → Bool → BitList → BitList → Option BitList
+pow signed exponent_signed a b = if all_known a && all_known b then raised signed a (integer exponent_signed b) else None
+
 -- the least n up to `most` for which 2^n reaches v
 abbrev pub log_up : ℕ → ℕ → ℕ
 log_up zero v = 0

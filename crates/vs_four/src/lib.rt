@@ -16,7 +16,7 @@ pub use logic::{
     truth, xnor, xor,
 };
 pub use numbers::{
-    add, clog2, div, integer, is_known, less, mul, neg, of_number, rem, repeated, sub,
+    add, clog2, div, integer, is_known, less, mul, neg, of_number, pow, rem, repeated, sub,
 };
 pub use planes::Bits;
 pub use selects::{bit, part, write_bit, write_part};

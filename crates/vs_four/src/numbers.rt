@@ -1,8 +1,8 @@
 //! Arithmetic and comparison.
 
-ghost use Rattle.std.specs.Prelude.{◌≡◌, ◌≤◌, ◌^◌, length, replicate, ◌<◌, ◌-◌, IsTrue, unsigned_abs, ◌==◌, Some, None, if◌then◌else◌};
+ghost use Rattle.std.specs.Prelude.{◌≡◌, ◌≤◌, ◌^◌, length, replicate, ◌<◌, ◌-◌, IsTrue, unsigned_abs, ◌==◌, ◌%◌, ◌*◌, Some, None, IfSome, if◌then◌else◌};
 ghost use Rattle.vs_four.specs.Logic.{all_known};
-ghost use Rattle.vs_four.specs.Numbers.{number, integer, bits_of, bits_of_integer, add, sub, mul, neg, less, has_quotient, div, rem, log_up, clog2};
+ghost use Rattle.vs_four.specs.Numbers.{number, integer, bits_of, bits_of_integer, add, sub, mul, neg, less, has_quotient, div, rem, reciprocal, pow, log_up, clog2};
 
 use crate::lengths::top;
 use crate::logic::not;
@@ -172,6 +172,62 @@ pub fn rem(a: Bits, b: Bits, signed: bool) -> Option<Bits>
         Some(of_integer(a.len(), remainder))
     } else {
         None
+    }
+}
+
+/// A power times a number where the exponent is odd, modulo 2^64.
+fn times_if_odd(power: u64, number: u64, exponent: u64) -> u64
+    ensures { result ≡ (if exponent % 2 == 1 then power * number % 2 ^ 64 else power) }
+{
+    if exponent % 2 == 1 {
+        power.wrapping_mul(number)
+    } else {
+        power
+    }
+}
+
+/// A number to a power modulo 2^64, by squares of the number.
+fn wrapping_power(base: u64, exponent: u64) -> u64
+    ensures { result ≡ base ^ exponent % 2 ^ 64 }
+{
+    let mut power: u64 = 1;
+    let mut square = base;
+    let mut left = exponent;
+    while left > 0 {
+        power = times_if_odd(power, square, left);
+        square = square.wrapping_mul(square);
+        left /= 2;
+    }
+    power
+}
+
+/// A base to a negative power, whose exponent is even or odd (IEEE 1364-2005, table 5-6): None for 0.
+fn reciprocal(base: i128, exponent: u64) -> Option<i128>
+    ensures value { result ≡ reciprocal base exponent }
+    ensures fits { IfSome result (λ z. unsigned_abs z ≤ 1) }
+{
+    match base {
+        0 => None,
+        1 => Some(1),
+        -1 => Some(if exponent % 2 == 0 { 1 } else { -1 }),
+        _ => Some(0),
+    }
+}
+
+/// `a ** b` modulo 2 to the length of `a` (IEEE 1364-2005, 5.1.5, table 5-6), where each operand is signed or not by itself: None where a
+/// bit is unknown, or where the base is 0 and the exponent negative.
+pub fn pow(a: Bits, b: Bits, signed: bool, exponent_signed: bool) -> Option<Bits>
+    ensures { result ≡ pow signed exponent_signed a b }
+{
+    if !(is_known(a) && is_known(b)) {
+        return None;
+    }
+    let exponent = integer(b, exponent_signed);
+    if exponent < 0 {
+        let value = reciprocal(integer(a, signed), exponent.unsigned_abs() as u64)?;
+        Some(of_integer(a.len(), value))
+    } else {
+        Some(of_number(a.len(), wrapping_power(number(a), exponent as u64)))
     }
 }
 

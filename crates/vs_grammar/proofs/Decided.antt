@@ -23,7 +23,7 @@ every_one f (suc n) k e h = let p = and_parts (f n) (every f n) e in elim (split
 rows : every (is_right verilog) rule_count ≡ true
 rows = refl
 
-samples : every (derives_some verilog 20) rule_count ≡ true
+samples : every (derives_some verilog 21) rule_count ≡ true
 samples = refl
 
 -- ---- past the last rule nothing stands
@@ -40,8 +40,8 @@ none_past n h = slice_get_past rules n h
 right_past : (n : ℕ) → rule_count ≤ n → is_right verilog n ≡ true
 right_past n h = ap says_row (none_past n h)
 
-derives_past : (n : ℕ) → rule_count ≤ n → derives_some verilog 20 n ≡ true
-derives_past n h = ap (λ (o : Option rule). derives_some_by verilog (derives_some verilog 19) (rule_phrase o)) (none_past n h)
+derives_past : (n : ℕ) → rule_count ≤ n → derives_some verilog 21 n ≡ true
+derives_past n h = ap (λ (o : Option rule). derives_some_by verilog (derives_some verilog 20) (rule_phrase o)) (none_past n h)
 
 in_or_past : (n : ℕ) → (n < rule_count) ⊎ (rule_count ≤ n)
 in_or_past n = grind arith
@@ -49,11 +49,11 @@ in_or_past n = grind arith
 right : (n : ℕ) → is_right verilog n ≡ true
 right n = elim (in_or_past n) [ inl h ↦ every_one (is_right verilog) rule_count n rows h | inr h ↦ right_past n h ]
 
-derives : (n : ℕ) → derives_some verilog 20 n ≡ true
-derives n = elim (in_or_past n) [ inl h ↦ every_one (derives_some verilog 20) rule_count n samples h | inr h ↦ derives_past n h ]
+derives : (n : ℕ) → derives_some verilog 21 n ≡ true
+derives n = elim (in_or_past n) [ inl h ↦ every_one (derives_some verilog 21) rule_count n samples h | inr h ↦ derives_past n h ]
 
 source_decided : is_decided verilog (r rule.Source) (end_of_text ∷ []) ≡ true
 source_decided = refl
 
 pub verilog_is_predictive : IsPredictive verilog (r rule.Source) end_of_text
-verilog_is_predictive = record { right = right; steps = 20; derives = derives; whole = source_decided }
+verilog_is_predictive = record { right = right; steps = 21; derives = derives; whole = source_decided }

@@ -122,9 +122,16 @@ module _ (bytes : ℕ → List ℕ) (s : ℕ) (smaller : (e : D (r rule.Expressi
   unary_is (named (former (nested (both o a)))) w = let h = unary_is a (omega arith) in let f = flat o refl in omega arith
   unary_is (named (latter a)) w = primary_is a (omega arith)
 
+  power_chain_is : (d : D (phrase_of rule.Power)) → size d ≤ s → expr_depth (meaning.power_chain bytes d) ≡ depth d
+  power_chain_is (start a) w = unary_is a (omega arith)
+  power_chain_is (grown a (both o b)) w = let h = power_chain_is a (omega arith) in let i = unary_is b (omega arith) in let f = flat o refl in omega arith
+
+  power_is : (d : D (r rule.Power)) → size d ≤ s → expr_depth (meaning.power_of bytes d) ≡ depth d
+  power_is (named a) w = power_chain_is a (omega arith)
+
   product_chain_is : (d : D (phrase_of rule.Product)) → size d ≤ s → expr_depth (meaning.product_chain bytes d) ≡ depth d
-  product_chain_is (start a) w = unary_is a (omega arith)
-  product_chain_is (grown a (both o b)) w = let h = product_chain_is a (omega arith) in let i = unary_is b (omega arith) in let f = flat o refl in omega arith
+  product_chain_is (start a) w = power_is a (omega arith)
+  product_chain_is (grown a (both o b)) w = let h = product_chain_is a (omega arith) in let i = power_is b (omega arith) in let f = flat o refl in omega arith
 
   product_is : (d : D (r rule.Product)) → size d ≤ s → expr_depth (meaning.product_of bytes d) ≡ depth d
   product_is (named a) w = product_chain_is a (omega arith)

@@ -140,9 +140,16 @@ module _ (bytes : ℕ → List ℕ) (numbers : (a : Terminal) → IsLiteral (mea
   unary_ok (named (former (nested (both o a)))) w p = unary_ok a (omega arith) p.1
   unary_ok (named (latter a)) w p = primary_ok a (omega arith) p
 
+  power_chain_ok : (d : D (phrase_of rule.Power)) → size d ≤ s → Sound bytes d → IsExpr (meaning.power_chain bytes d)
+  power_chain_ok (start a) w p = unary_ok a (omega arith) p
+  power_chain_ok (grown a (both o b)) w p = (power_chain_ok a (omega arith) p.0, unary_ok b (omega arith) p.1.1)
+
+  power_ok : (d : D (r rule.Power)) → size d ≤ s → Sound bytes d → IsExpr (meaning.power_of bytes d)
+  power_ok (named a) w p = power_chain_ok a (omega arith) p
+
   product_chain_ok : (d : D (phrase_of rule.Product)) → size d ≤ s → Sound bytes d → IsExpr (meaning.product_chain bytes d)
-  product_chain_ok (start a) w p = unary_ok a (omega arith) p
-  product_chain_ok (grown a (both o b)) w p = (product_chain_ok a (omega arith) p.0, unary_ok b (omega arith) p.1.1)
+  product_chain_ok (start a) w p = power_ok a (omega arith) p
+  product_chain_ok (grown a (both o b)) w p = (product_chain_ok a (omega arith) p.0, power_ok b (omega arith) p.1.1)
 
   product_ok : (d : D (r rule.Product)) → size d ≤ s → Sound bytes d → IsExpr (meaning.product_of bytes d)
   product_ok (named a) w p = product_chain_ok a (omega arith) p

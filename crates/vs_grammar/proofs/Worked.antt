@@ -142,7 +142,7 @@ read_as text ts cut e =
 -- ---- what is found of a text
 
 abbrev pub reading : (ts : List Token) → Run verilog (phrase_of rule.Text) (terminals ts)
-reading ts = run_rule verilog 60 (index_of rule.Text) (terminals ts)
+reading ts = run_rule verilog 80 (index_of rule.Text) (terminals ts)
 
 pub record Found (text : List ℕ) : Type 0 where
   pub source : Source

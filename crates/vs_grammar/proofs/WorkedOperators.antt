@@ -23,6 +23,10 @@ joined_unaries : ex.IsGrouped (codes "!~&a-^~^b") (codes "[[![~&a]]-[~^[^b]]]")
 unfolding is_in_range cut_text word_kind system_kind sign_kind signs keywords left_out_words system_names literal_bits is_signed_literal has_size literal_size number_bits
 joined_unaries = let f = found (ex.assign_text (codes "!~&a-^~^b")) refl refl refl refl in record { source = f.source; spelled = f.spelled; grouped = refl }
 
+powers : ex.IsGrouped (codes "a ** -b ** c * d") (codes "[[[a**[-b]]**c]*d]")
+unfolding is_in_range cut_text word_kind system_kind sign_kind signs keywords left_out_words system_names literal_bits is_signed_literal has_size literal_size number_bits
+powers = let f = found (ex.assign_text (codes "a ** -b ** c * d")) refl refl refl refl in record { source = f.source; spelled = f.spelled; grouped = refl }
+
 products : ex.IsGrouped (codes "a * b / c % d") (codes "[[[a*b]/c]%d]")
 unfolding is_in_range cut_text word_kind system_kind sign_kind signs keywords left_out_words system_names literal_bits is_signed_literal has_size literal_size number_bits
 products = let f = found (ex.assign_text (codes "a * b / c % d")) refl refl refl refl in record { source = f.source; spelled = f.spelled; grouped = refl }
@@ -84,4 +88,4 @@ unfolding is_in_range cut_text word_kind system_kind sign_kind signs keywords le
 applications = let f = found (ex.assign_text (codes "f(a) + g(b + c, {d})")) refl refl refl refl in record { source = f.source; spelled = f.spelled; grouped = refl }
 
 pub operators_are : ex.OperatorsAre
-operators_are = record { rising = rising; falling = falling; unaries = unaries; joined_unaries = joined_unaries; products = products; sums = sums; shifts = shifts; relations = relations; equalities = equalities; ands = ands; xors = xors; ors = ors; logical_ands = logical_ands; logical_ors = logical_ors; choices = choices; choices_within = choices_within; brackets = brackets; primaries = primaries; applications = applications }
+operators_are = record { rising = rising; falling = falling; unaries = unaries; joined_unaries = joined_unaries; powers = powers; products = products; sums = sums; shifts = shifts; relations = relations; equalities = equalities; ands = ands; xors = xors; ors = ors; logical_ands = logical_ands; logical_ors = logical_ors; choices = choices; choices_within = choices_within; brackets = brackets; primaries = primaries; applications = applications }

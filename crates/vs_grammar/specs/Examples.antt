@@ -520,6 +520,7 @@ binary_sign binary.ShiftLeft = codes "<<"
 binary_sign binary.ShiftRight = codes ">>"
 binary_sign binary.ShiftLeftArith = codes "<<<"
 binary_sign binary.ShiftRightArith = codes ">>>"
+binary_sign binary.Power = codes "**"
 
 abbrev function_name : SystemFunction → List ℕ
 function_name AsSigned = codes "$signed"
@@ -570,6 +571,7 @@ pub record OperatorsAre : Type 0 where
   pub falling : IsGrouped (codes "-m * l + k << j < i == h & g ^ f | e && d || c ? b : a") (codes "[[[[[[[[[[[[-m]*l]+k]<<j]<i]==h]&g]^f]|e]&&d]||c]?b:a]")
   pub unaries : IsGrouped (codes "! ~ & a + | ~| b - ^ ~^ c * - + d") (codes "[[[![~[&a]]]+[|[~|b]]]-[[^[~^c]]*[-[+d]]]]")
   pub joined_unaries : IsGrouped (codes "!~&a-^~^b") (codes "[[![~&a]]-[~^[^b]]]")
+  pub powers : IsGrouped (codes "a ** -b ** c * d") (codes "[[[a**[-b]]**c]*d]")
   pub products : IsGrouped (codes "a * b / c % d") (codes "[[[a*b]/c]%d]")
   pub sums : IsGrouped (codes "a - b + c - d") (codes "[[[a-b]+c]-d]")
   pub shifts : IsGrouped (codes "a << b >> c <<< d >>> e") (codes "[[[[a<<b]>>c]<<<d]>>>e]")

@@ -213,8 +213,15 @@ module _ (bytes : ℕ → List ℕ) where
     product_of (named a) = product_chain a
 
     pub product_chain : D (phrase_of rule.Product) → Expr
-    product_chain (start a) = unary_of a
-    product_chain (grown a (both o b)) = Binary (product_op o) (product_chain a) (unary_of b)
+    product_chain (start a) = power_of a
+    product_chain (grown a (both o b)) = Binary (product_op o) (product_chain a) (power_of b)
+
+    pub power_of : D (r rule.Power) → Expr
+    power_of (named a) = power_chain a
+
+    pub power_chain : D (phrase_of rule.Power) → Expr
+    power_chain (start a) = unary_of a
+    power_chain (grown a (both o b)) = Binary binary.Power (power_chain a) (unary_of b)
 
     pub unary_of : D (r rule.Unary) → Expr
     unary_of (named (former (nested (both o a)))) = Unary (first_place o) (unary_op o) (unary_of a)

@@ -7,12 +7,13 @@ use Rattle.vs_grammar.specs.Grammars.Tree.{both}
 use Rattle.vs_grammar.specs.Kinds.{number_of}
 use Rattle.vs_grammar.specs.Verilog.{◌⨾◌, t, r, Rule as rule}
 use Rattle.vs_grammar.specs.Trees.{BinaryOp}
-use Rattle.vs_grammar.specs.Trees.{Multiply, Divide, Remainder, Add, Subtract, ShiftLeft, ShiftRight, ShiftLeftArith, ShiftRightArith, Less, LessEqual, Greater, GreaterEqual, Equal, NotEqual, CaseEqual, CaseNotEqual, BitAnd, BitXor, BitXnor, BitOr, LogicalAnd, LogicalOr}
+use Rattle.vs_grammar.specs.Trees.{Power, Multiply, Divide, Remainder, Add, Subtract, ShiftLeft, ShiftRight, ShiftLeftArith, ShiftRightArith, Less, LessEqual, Greater, GreaterEqual, Equal, NotEqual, CaseEqual, CaseNotEqual, BitAnd, BitXor, BitXnor, BitOr, LogicalAnd, LogicalOr}
 use Rattle.vs_grammar.specs.Meaning.{D, expr_of}
 use Rattle.vs_grammar.specs.Examples.{binary_sign, written}
 
 -- how strongly an operator binds: the lines of the table from below, `?:` left away
 abbrev pub strength : BinaryOp → ℕ
+strength Power = 11
 strength Multiply = 10
 strength Divide = 10
 strength Remainder = 10
@@ -48,7 +49,7 @@ operator k o = record { kind = k; op = o }
 -- all of them
 abbrev pub operators : List Operator
 operators =
-    operator kind.Star Multiply ∷ operator kind.Slash Divide ∷ operator kind.Percent Remainder ∷ operator kind.Plus Add ∷ operator kind.Minus Subtract
+    operator kind.Power Power ∷ operator kind.Star Multiply ∷ operator kind.Slash Divide ∷ operator kind.Percent Remainder ∷ operator kind.Plus Add ∷ operator kind.Minus Subtract
     ∷ operator kind.ShiftLeft ShiftLeft ∷ operator kind.ShiftRight ShiftRight ∷ operator kind.ArithmeticShiftLeft ShiftLeftArith
     ∷ operator kind.ArithmeticShiftRight ShiftRightArith ∷ operator kind.Less Less ∷ operator kind.LessEqual LessEqual ∷ operator kind.Greater Greater
     ∷ operator kind.GreaterEqual GreaterEqual ∷ operator kind.Equal Equal ∷ operator kind.NotEqual NotEqual ∷ operator kind.CaseEqual CaseEqual

@@ -6,7 +6,7 @@ use Rattle.vs_four.specs.Logic.{BitList}
 pub use Rattle.vs_base.specs.declared.operators.UnaryOp.{UnaryOp}
 pub use Rattle.vs_base.specs.declared.operators.UnaryOp.TheVariants.{Plus, Minus, BitNot, LogicalNot, ReduceAnd, ReduceNand, ReduceOr, ReduceNor, ReduceXor, ReduceXnor, Signed, Unsigned}
 pub use Rattle.vs_base.specs.declared.operators.BinaryOp.{BinaryOp}
-pub use Rattle.vs_base.specs.declared.operators.BinaryOp.TheVariants.{Add, Subtract, Multiply, Divide, Remainder, BitAnd, BitOr, BitXor, BitXnor, Less, LessEqual, Greater, GreaterEqual, Equal, NotEqual, CaseEqual, CaseNotEqual, LogicalAnd, LogicalOr, ShiftLeft, ShiftRight, ShiftLeftArith, ShiftRightArith}
+pub use Rattle.vs_base.specs.declared.operators.BinaryOp.TheVariants.{Add, Subtract, Multiply, Divide, Remainder, BitAnd, BitOr, BitXor, BitXnor, Less, LessEqual, Greater, GreaterEqual, Equal, NotEqual, CaseEqual, CaseNotEqual, LogicalAnd, LogicalOr, ShiftLeft, ShiftRight, ShiftLeftArith, ShiftRightArith, Power}
 pub use Rattle.vs_base.specs.declared.events.Edge.{Edge}
 pub use Rattle.vs_base.specs.declared.events.Edge.TheVariants.{Any, Posedge, Negedge}
 pub use Rattle.vs_base.specs.declared.events.CaseKind.{CaseKind}

@@ -23,7 +23,7 @@ pub data Rule : Type 0 where
   VariableType Variables InputType FunctionInput FunctionInputs FunctionDeclaration FunctionHead Function : Rule
   Item GenerateItem Instance Connections GenerateCaseItem GenerateCaseDefault GenerateCases GenerateBlock : Rule
   EventControl Event BlockScope LoopHead Statement CaseItem CaseDefault Cases Target Select Part Arguments : Rule
-  Primary Unary Product Sum Shift Relation Equality BitAnd BitXor BitOr LogicalAnd LogicalOr Expression : Rule
+  Primary Unary Power Product Sum Shift Relation Equality BitAnd BitXor BitOr LogicalAnd LogicalOr Expression : Rule
   Text : Rule
 
 -- the rules by number
@@ -33,12 +33,12 @@ rules =
     ∷ VariableType ∷ Variables ∷ InputType ∷ FunctionInput ∷ FunctionInputs ∷ FunctionDeclaration ∷ FunctionHead ∷ Function
     ∷ Item ∷ GenerateItem ∷ Instance ∷ Connections ∷ GenerateCaseItem ∷ GenerateCaseDefault ∷ GenerateCases ∷ GenerateBlock
     ∷ EventControl ∷ Event ∷ BlockScope ∷ LoopHead ∷ Statement ∷ CaseItem ∷ CaseDefault ∷ Cases ∷ Target ∷ Select ∷ Part ∷ Arguments
-    ∷ Primary ∷ Unary ∷ Product ∷ Sum ∷ Shift ∷ Relation ∷ Equality ∷ BitAnd ∷ BitXor ∷ BitOr ∷ LogicalAnd ∷ LogicalOr ∷ Expression
+    ∷ Primary ∷ Unary ∷ Power ∷ Product ∷ Sum ∷ Shift ∷ Relation ∷ Equality ∷ BitAnd ∷ BitXor ∷ BitOr ∷ LogicalAnd ∷ LogicalOr ∷ Expression
     ∷ Text ∷ []
 
 -- how many there are
 abbrev pub rule_count : ℕ
-rule_count = 52
+rule_count = 53
 
 abbrev pub index_of : Rule → ℕ
 index_of Source = 0
@@ -81,18 +81,19 @@ index_of Part = 36
 index_of Arguments = 37
 index_of Primary = 38
 index_of Unary = 39
-index_of Product = 40
-index_of Sum = 41
-index_of Shift = 42
-index_of Relation = 43
-index_of Equality = 44
-index_of BitAnd = 45
-index_of BitXor = 46
-index_of BitOr = 47
-index_of LogicalAnd = 48
-index_of LogicalOr = 49
-index_of Expression = 50
-index_of Text = 51
+index_of Power = 40
+index_of Product = 41
+index_of Sum = 42
+index_of Shift = 43
+index_of Relation = 44
+index_of Equality = 45
+index_of BitAnd = 46
+index_of BitXor = 47
+index_of BitOr = 48
+index_of LogicalAnd = 49
+index_of LogicalOr = 50
+index_of Expression = 51
+index_of Text = 52
 
 -- a token, and a rule, as parts of a phrase
 abbrev pub t : TokenKind → Phrase
@@ -411,8 +412,10 @@ phrase_of Arguments = level (t kind.OpenParen ⨾ separated (r Expression) ⨾ t
 phrase_of Primary = number ∣ named_primary ∣ brackets ∣ braces ∣ call
 -- ('+' | '-' | '!' | '~' | '&' | '~&' | '|' | '~|' | '^' | '~^' | '^~') unary | prim, the first a level
 phrase_of Unary = level (unary_operator ⨾ r Unary) ∣ r Primary
--- unary {('*' | '/' | '%') unary}
-phrase_of Product = operations (r Unary) product_operator
+-- unary {'**' unary}
+phrase_of Power = operations (r Unary) (t kind.Power)
+-- power {('*' | '/' | '%') power}
+phrase_of Product = operations (r Power) product_operator
 -- product {('+' | '-') product}
 phrase_of Sum = operations (r Product) sum_operator
 -- sum {('<<' | '>>' | '<<<' | '>>>') sum}
@@ -547,8 +550,11 @@ after_sum = kind.ShiftLeft ∷ kind.ShiftRight ∷ kind.ArithmeticShiftLeft ∷ 
 abbrev pub after_product : List TokenKind
 after_product = kind.Plus ∷ kind.Minus ∷ after_sum
 
+abbrev pub after_power : List TokenKind
+after_power = kind.Star ∷ kind.Slash ∷ kind.Percent ∷ after_product
+
 abbrev pub after_unary : List TokenKind
-after_unary = kind.Star ∷ kind.Slash ∷ kind.Percent ∷ after_product
+after_unary = kind.Power ∷ after_power
 
 -- what follows an item of a generate block
 abbrev pub after_generate_item : List TokenKind
@@ -596,6 +602,7 @@ follows_of_rule Part = kind.Assign ∷ after_unary
 follows_of_rule Arguments = after_unary
 follows_of_rule Primary = after_unary
 follows_of_rule Unary = after_unary
+follows_of_rule Power = after_power
 follows_of_rule Product = after_product
 follows_of_rule Sum = after_sum
 follows_of_rule Shift = after_shift

@@ -58,7 +58,7 @@ at_sentence LoopVariable = codes "an integer is named outside its loops, assigne
 at_sentence FunctionRule = codes "a function names a signal or an integer of its module, writes an input, has a <=, no input, too many bits or calls that nest too deep, or a call has another number of arguments"
 at_sentence Recursion = codes "a function calls itself, or one that isn't declared before it"
 at_sentence TooWide = codes "an expression or target is longer than 64 bits"
-at_sentence Division = codes "/ or % has an operand that names a signal"
+at_sentence Division = codes "/, % or ** has an operand that names a signal"
 at_sentence MixedAssign = codes "<= stands in a combinational block, or = writes a bit that its clocked block writes by <= too"
 at_sentence FunctionLatch = codes "a function leaves a variable that it writes unassigned on some path"
 

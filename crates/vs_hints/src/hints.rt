@@ -74,7 +74,7 @@ fn at_sentence(name: AtName) -> &'static str
             "a function names a signal or an integer of its module, writes an input, has a <=, no input, too many bits or calls that nest too deep, or a call has another number of arguments",
         AtName::Recursion => "a function calls itself, or one that isn't declared before it",
         AtName::TooWide => "an expression or target is longer than 64 bits",
-        AtName::Division => "/ or % has an operand that names a signal",
+        AtName::Division => "/, % or ** has an operand that names a signal",
         AtName::MixedAssign =>
             "<= stands in a combinational block, or = writes a bit that its clocked block writes by <= too",
         AtName::FunctionLatch =>

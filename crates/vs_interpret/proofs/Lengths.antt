@@ -5,7 +5,7 @@ use Rattle.vs_four.specs.Lengths.{extend_with}
 use Rattle.vs_four.specs.Logic.{BitList}
 use Rattle.vs_net.specs.Network.{State}
 use Rattle.vs_base.specs.Applied.{HasLengths}
-use Rattle.vs_design.specs.Expressions.{Expression, Unary, UnaryOp, Binary, BinaryOp, Add, Subtract, Multiply, Divide, Remainder, BitAnd, BitOr, BitXor, BitXnor, Less, LessEqual, Greater, GreaterEqual, Equal, NotEqual, CaseEqual, CaseNotEqual, LogicalAnd, LogicalOr, ShiftLeft, ShiftRight, ShiftLeftArith, ShiftRightArith, unary_way, way, width, sign}
+use Rattle.vs_design.specs.Expressions.{Expression, Unary, UnaryOp, Binary, BinaryOp, Add, Subtract, Multiply, Divide, Remainder, BitAnd, BitOr, BitXor, BitXnor, Less, LessEqual, Greater, GreaterEqual, Equal, NotEqual, CaseEqual, CaseNotEqual, LogicalAnd, LogicalOr, ShiftLeft, ShiftRight, ShiftLeftArith, ShiftRightArith, Power, unary_way, way, width, sign}
 use Rattle.vs_design.specs.Values.{value, apply_unary, apply_binary, left_width, right_width, left_sign, right_sign}
 use Rattle.vs_design.specs.TreeLaws.{ValueLength}
 
@@ -17,7 +17,7 @@ pub unary_within : ValueLength → (op : UnaryOp) (e : Expression) (w : ℕ) (g 
 unary_within law op e w g s k = extend_fits _ w _ (law (Unary op e) w g s k)
 
 pub binary_within : ValueLength → (op : BinaryOp) (e f : Expression) (w : ℕ) (g : Bool) (s : State) → width (Binary op e f) ≤ w
-    → length (apply_binary op (left_sign (way op) g (sign e) (sign f)) (value e (left_width (way op) w (width e) (width f)) (left_sign (way op) g (sign e) (sign f)) s) (value f (right_width (way op) w (width e) (width f)) (right_sign (way op) g (sign e) (sign f)) s)) ≤ w
+    → length (apply_binary op (left_sign (way op) g (sign e) (sign f)) (right_sign (way op) g (sign e) (sign f)) (value e (left_width (way op) w (width e) (width f)) (left_sign (way op) g (sign e) (sign f)) s) (value f (right_width (way op) w (width e) (width f)) (right_sign (way op) g (sign e) (sign f)) s)) ≤ w
 binary_within law op e f w g s k = extend_fits _ w _ (law (Binary op e f) w g s k)
 
 -- operands in one context are equally long
@@ -45,3 +45,4 @@ operand_lengths ShiftLeft w m n a b p q = tt
 operand_lengths ShiftRight w m n a b p q = tt
 operand_lengths ShiftLeftArith w m n a b p q = tt
 operand_lengths ShiftRightArith w m n a b p q = tt
+operand_lengths Power w m n a b p q = tt

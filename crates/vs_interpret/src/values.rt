@@ -215,7 +215,7 @@ impl Evaluator<'_> {
         let first = self.value(a, first_context)?;
         let second_context = way.right(context, left, right);
         let second = self.value(b, second_context)?;
-        let result = op.apply(first_context.signed, first, second);
+        let result = op.apply(first_context.signed, second_context.signed, first, second);
         Ok(in_context(result, context))
     }
 

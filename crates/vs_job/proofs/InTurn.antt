@@ -5,22 +5,22 @@ use Rattle.std.specs.Str.{bytes_eq}
 use Rattle.std.proofs.lemmas.Bool.{and_parts, cond-false, false_from_ne_true, leb-true}
 use Rattle.std.proofs.lemmas.Bool.Decides.{nat_tests}
 use Rattle.std.proofs.lemmas.List.{length-append, append-nil}
-use Rattle.vs_desk.specs.Places.{most_lanes}
+use Rattle.vs_desk.specs.Places.{most_lanes, most_others}
 use Rattle.vs_job.specs.declared.job.Job.{Job}
 use Rattle.vs_job.specs.declared.job.Mode.{Mode}
 use Rattle.vs_job.specs.declared.job.Mode.TheVariants.{Run, Check, Queue}
 use Rattle.vs_job.specs.declared.words.Flag.{Flag}
-use Rattle.vs_job.specs.declared.words.Flag.TheVariants.{Top, Clock, Half, Order, Define}
+use Rattle.vs_job.specs.declared.words.Flag.TheVariants.{Top, Clock, Half, Order, Define, With}
 use Rattle.vs_job.specs.declared.words.Next.{Next}
 use Rattle.vs_job.specs.declared.words.Next.TheVariants.{Any, Value, Path}
 use Rattle.vs_job.specs.declared.words.Verb.{Verb}
 use Rattle.vs_job.specs.declared.words.Verb.TheVariants as verbs
-use Rattle.vs_job.specs.Job.{Text, verb_and_words, Said, only_paths, path_and, share_and, value_and, is_plain, plain_value_and, flag_named, is_equals, attached, option_and, said, at_most_once, half_given, mode_given, most_defines, are_defines, head_given, most_stimuli, design_and_stimuli, share_given, called, job}
+use Rattle.vs_job.specs.Job.{Text, verb_and_words, Said, only_paths, path_and, share_and, value_and, is_plain, plain_value_and, flag_named, is_equals, attached, option_and, said, at_most_once, half_given, mode_given, most_defines, are_defines, head_given, others_given, most_stimuli, design_and_stimuli, share_given, called, job}
 use Rattle.vs_job.specs.Lines.{Line, start, with_path, is_given, with_share, given, with_value, with_flag, with_any, with_word, is_complete, read, line, values, shares, said_of}
 
 -- what a line and the words behind it say
 abbrev behind : Line → Said → Said
-behind l s = record { tops = values l.top ++ s.tops; clocks = values l.clock ++ s.clocks; halves = values l.half ++ s.halves; orders = values l.order ++ s.orders; defines = l.defines ++ s.defines; shares = shares l.share + s.shares; paths = l.paths ++ s.paths }
+behind l s = record { tops = values l.top ++ s.tops; clocks = values l.clock ++ s.clocks; halves = values l.half ++ s.halves; orders = values l.order ++ s.orders; defines = l.defines ++ s.defines; withs = l.withs ++ s.withs; shares = shares l.share + s.shares; paths = l.paths ++ s.paths }
 
 -- what words say where the first one may be this
 abbrev said_at : Next → List Text → Option Said
@@ -60,13 +60,17 @@ called-defines : (verb : Verb) (s : Said) → head_given s.defines ≡ None → 
 called-defines verb s e =
     no_more (mode_given verb s.orders) _ (λ mode. no_more (at_most_once s.tops) _ (λ top. no_more (at_most_once s.clocks) _ (λ clock. no_more (half_given s.halves) _ (λ half. rw e))))
 
+called-withs : (verb : Verb) (s : Said) → others_given s.withs ≡ None → called verb s ≡ None
+called-withs verb s e =
+    no_more (mode_given verb s.orders) _ (λ mode. no_more (at_most_once s.tops) _ (λ top. no_more (at_most_once s.clocks) _ (λ clock. no_more (half_given s.halves) _ (λ half. no_more (head_given s.defines) _ (λ head. rw e)))))
+
 called-paths : (verb : Verb) (s : Said) → ((mode : Mode) → design_and_stimuli (most_stimuli mode) s.paths ≡ None) → called verb s ≡ None
 called-paths verb s e =
-    no_more (mode_given verb s.orders) _ (λ mode. no_more (at_most_once s.tops) _ (λ top. no_more (at_most_once s.clocks) _ (λ clock. no_more (half_given s.halves) _ (λ half. no_more (head_given s.defines) _ (λ head. rw (e mode))))))
+    no_more (mode_given verb s.orders) _ (λ mode. no_more (at_most_once s.tops) _ (λ top. no_more (at_most_once s.clocks) _ (λ clock. no_more (half_given s.halves) _ (λ half. no_more (head_given s.defines) _ (λ head. no_more (others_given s.withs) _ (λ others. rw (e mode)))))))
 
 called-shares : (verb : Verb) (s : Said) → ((mode : Mode) → share_given mode s.shares ≡ None) → called verb s ≡ None
 called-shares verb s e =
-    no_more (mode_given verb s.orders) _ (λ mode. no_more (at_most_once s.tops) _ (λ top. no_more (at_most_once s.clocks) _ (λ clock. no_more (half_given s.halves) _ (λ half. no_more (head_given s.defines) _ (λ head. no_more (design_and_stimuli (most_stimuli mode) s.paths) _ (λ paths. rw (e mode)))))))
+    no_more (mode_given verb s.orders) _ (λ mode. no_more (at_most_once s.tops) _ (λ top. no_more (at_most_once s.clocks) _ (λ clock. no_more (half_given s.halves) _ (λ half. no_more (head_given s.defines) _ (λ head. no_more (others_given s.withs) _ (λ others. no_more (design_and_stimuli (most_stimuli mode) s.paths) _ (λ paths. rw (e mode))))))))
 
 -- `--order` stands twice
 twice_ordered : (verb : Verb) (first second : Text) (more : List Text) → mode_given verb (first ∷ second ∷ more) ≡ None
@@ -86,6 +90,12 @@ too_many_defines values more =
     let few = leb-true (length values) most_defines (and_parts (nat_le (length values) most_defines) _ is).0 in
     absurd (omega arith)))
 
+too_many_others : (values : List Text) → most_others < length values → others_given values ≡ None
+too_many_others values more =
+    cond-false (nat_le (length values) most_others) _ _ (false_from_ne_true _ (λ is.
+    let few = leb-true (length values) most_others is in
+    absurd (omega arith)))
+
 few_stimuli : (mode : Mode) → most_stimuli mode ≤ most_lanes
 few_stimuli Run = omega arith
 few_stimuli Check = omega arith
@@ -103,7 +113,7 @@ too_many most (design ∷ stimuli) le more =
 path_moved : (path : Text) (l : Line) (o : Option Said) → job_with (record l { paths = l.paths ++ path ∷ [] }) o ≡ job_with l (option_map (path_and path) o)
 path_moved path l None = refl
 path_moved path l (Some s) =
-    ap (λ (paths : List Text). called l.verb (record { tops = values l.top ++ s.tops; clocks = values l.clock ++ s.clocks; halves = values l.half ++ s.halves; orders = values l.order ++ s.orders; defines = l.defines ++ s.defines; shares = shares l.share + s.shares; paths = paths }))
+    ap (λ (paths : List Text). called l.verb (record { tops = values l.top ++ s.tops; clocks = values l.clock ++ s.clocks; halves = values l.half ++ s.halves; orders = values l.order ++ s.orders; defines = l.defines ++ s.defines; withs = l.withs ++ s.withs; shares = shares l.share + s.shares; paths = paths }))
     (append_assoc l.paths (path ∷ []) s.paths)
 
 path_full : (path : Text) (l : Line) (o : Option Said) → nat_le (length l.paths) most_lanes ≡ false → job_with l (option_map (path_and path) o) ≡ None
@@ -129,7 +139,7 @@ share_moved : (l : Line) (o : Option Said) → l.share ≡ false → job_with (r
 share_moved l None e = refl
 share_moved l (Some s) e =
     let count : 1 + s.shares ≡ shares l.share + suc s.shares = one_more s.shares ∙ sym (ap (λ (b : Bool). shares b + suc s.shares) e) in
-    ap (λ (n : ℕ). called l.verb (record { tops = values l.top ++ s.tops; clocks = values l.clock ++ s.clocks; halves = values l.half ++ s.halves; orders = values l.order ++ s.orders; defines = l.defines ++ s.defines; shares = n; paths = l.paths ++ s.paths })) count
+    ap (λ (n : ℕ). called l.verb (record { tops = values l.top ++ s.tops; clocks = values l.clock ++ s.clocks; halves = values l.half ++ s.halves; orders = values l.order ++ s.orders; defines = l.defines ++ s.defines; withs = l.withs ++ s.withs; shares = n; paths = l.paths ++ s.paths })) count
   where
     one_more : (n : ℕ) → 1 + n ≡ 0 + suc n
     one_more n = omega arith
@@ -168,13 +178,17 @@ value_moved Clock value l None e = refl
 value_moved Half value l None e = refl
 value_moved Order value l None e = refl
 value_moved Define value l None e = refl
+value_moved With value l None e = refl
 value_moved Top value l (Some s) e = let none = is_none l.top e in rw none
 value_moved Clock value l (Some s) e = let none = is_none l.clock e in rw none
 value_moved Half value l (Some s) e = let none = is_none l.half e in rw none
 value_moved Order value l (Some s) e = let none = is_none l.order e in rw none
 value_moved Define value l (Some s) e =
-    ap (λ (defines : List Text). called l.verb (record { tops = values l.top ++ s.tops; clocks = values l.clock ++ s.clocks; halves = values l.half ++ s.halves; orders = values l.order ++ s.orders; defines = defines; shares = shares l.share + s.shares; paths = l.paths ++ s.paths }))
+    ap (λ (defines : List Text). called l.verb (record { tops = values l.top ++ s.tops; clocks = values l.clock ++ s.clocks; halves = values l.half ++ s.halves; orders = values l.order ++ s.orders; defines = defines; withs = l.withs ++ s.withs; shares = shares l.share + s.shares; paths = l.paths ++ s.paths }))
     (append_assoc l.defines (value ∷ []) s.defines)
+value_moved With value l (Some s) e =
+    ap (λ (withs : List Text). called l.verb (record { tops = values l.top ++ s.tops; clocks = values l.clock ++ s.clocks; halves = values l.half ++ s.halves; orders = values l.order ++ s.orders; defines = l.defines ++ s.defines; withs = withs; shares = shares l.share + s.shares; paths = l.paths ++ s.paths }))
+    (append_assoc l.withs (value ∷ []) s.withs)
 
 value_twice : (flag : Flag) (value : Text) (l : Line) (o : Option Said) → is_given flag l ≡ true → job_with l (option_map (value_and flag value) o) ≡ None
 value_twice Top value l None e = refl
@@ -182,6 +196,7 @@ value_twice Clock value l None e = refl
 value_twice Half value l None e = refl
 value_twice Order value l None e = refl
 value_twice Define value l None e = refl
+value_twice With value l None e = refl
 value_twice Top value l (Some s) e = let first = (is_value l.top e).1 in called-tops l.verb (behind l (value_and Top value s)) (rw first)
 value_twice Clock value l (Some s) e = let first = (is_value l.clock e).1 in called-clocks l.verb (behind l (value_and Clock value s)) (rw first)
 value_twice Half value l (Some s) e = let first = (is_value l.half e).1 in called-halves l.verb (behind l (value_and Half value s)) (rw first)
@@ -190,6 +205,10 @@ value_twice Define value l (Some s) e =
     let size = length-append l.defines (value ∷ s.defines) in
     let full = leb-true most_defines (length l.defines) e in
     called-defines l.verb (behind l (value_and Define value s)) (too_many_defines (l.defines ++ value ∷ s.defines) (omega arith))
+value_twice With value l (Some s) e =
+    let size = length-append l.withs (value ∷ s.withs) in
+    let full = leb-true most_others (length l.withs) e in
+    called-withs l.verb (behind l (value_and With value s)) (too_many_others (l.withs ++ value ∷ s.withs) (omega arith))
 
 given_read : (flag : Flag) (value : Text) (words : List Text) (l : Line) → Reads words → job_read (read (given flag value l) words) ≡ job_with (given flag value l) (said None words)
 given_read Top value words l reads = reads (given Top value l)
@@ -197,6 +216,7 @@ given_read Clock value words l reads = reads (given Clock value l)
 given_read Half value words l reads = reads (given Half value l)
 given_read Order value words l reads = reads (given Order value l)
 given_read Define value words l reads = reads (given Define value l)
+given_read With value words l reads = reads (given With value l)
 
 value_step : (flag : Flag) (value : Text) (words : List Text) (l : Line) → Reads words
     → job_read (option_and_then (λ m. read m words) (with_value flag value l)) ≡ job_with l (plain_value_and flag value (said None words))
@@ -235,7 +255,7 @@ add-zero : (n : ℕ) → n + 0 ≡ n
 add-zero n = omega arith
 
 end : (l : Line) → called l.verb (said_of l) ≡ called l.verb (behind l (only_paths []))
-end l = rw (append-nil (values l.top), append-nil (values l.clock), append-nil (values l.half), append-nil (values l.order), append-nil l.defines, add-zero (shares l.share), append-nil l.paths)
+end l = rw (append-nil (values l.top), append-nil (values l.clock), append-nil (values l.half), append-nil (values l.order), append-nil l.defines, append-nil l.withs, add-zero (shares l.share), append-nil l.paths)
 
 ends : (next : Next) (l : Line) → job_read (cond (is_complete next) (Some l) None) ≡ job_with l (said_at next [])
 ends Any l = end l

@@ -8,7 +8,7 @@ use Rattle.std.proofs.lemmas.List.{length-append, length-map, get_or_append_left
 use Rattle.std.proofs.lemmas.List.Quantifiers.{all_pairs_push}
 use Rattle.std.proofs.lemmas.Option.{slice_get-map, slice_get_within, slice_get-get_or}
 use Rattle.std.proofs.lemmas.Slice.Eq.{bytes_eq-Decides}
-use Rattle.vs_desk.specs.Places.{design_place, stimulus_place, waveform_place}
+use Rattle.vs_desk.specs.Places.{design_place, stimulus_place, waveform_place, other_place}
 use Rattle.vs_job.specs.declared.job.Job.{Job}
 use Rattle.vs_job.specs.declared.job.Mode.{Mode}
 use Rattle.vs_job.specs.declared.job.Mode.TheVariants.{Run, Check, Queue}
@@ -26,13 +26,21 @@ get_or-places_from n (p ∷ ps) zero d path e =
     ap (λ (x : List ℕ). place n x) same ∙ ap (λ (k : ℕ). place k path) (omega arith)
 get_or-places_from n (p ∷ ps) (suc i) d path e = get_or-places_from (suc n) ps i d path e ∙ ap (λ (k : ℕ). place k path) (omega arith)
 
-length-by_mode : (j : Job) (mode : Mode) → j.mode ≡ mode → length (places j) ≡ 1 + (length j.stimuli + length (waveforms mode j.stimuli))
+length-by_mode : (j : Job) (mode : Mode) → j.mode ≡ mode → length (places j) ≡ 1 + (length j.stimuli + (length (waveforms mode j.stimuli) + length j.others))
 unfolding places
 length-by_mode j mode e =
-    let a = length-append (places_from (stimulus_place 0) j.stimuli) (waveforms j.mode j.stimuli) in
-    let b = length-places_from (stimulus_place 0) j.stimuli in
-    let c = ap (λ (m : Mode). length (waveforms m j.stimuli)) e in
+    let waves = waveforms j.mode j.stimuli in
+    let others = places_from (other_place 0) j.others in
+    let a = length-append (places_from (stimulus_place 0) j.stimuli) (waves ++ others) in
+    let b = length-append waves others in
+    let c = length-places_from (stimulus_place 0) j.stimuli in
+    let d = length-places_from (other_place 0) j.others in
+    let f = ap (λ (m : Mode). length (waveforms m j.stimuli)) e in
     omega arith
+
+-- how many places there are
+pub length_places : (j : Job) → length (places j) ≡ 1 + (length j.stimuli + (length (waveforms j.mode j.stimuli) + length j.others))
+length_places j = length-by_mode j j.mode refl
 
 -- the path of a waveform where this is done with the lanes
 abbrev with_ending : Mode → List ℕ → List ℕ
@@ -42,59 +50,55 @@ with_ending mode stimulus = stimulus ++ ending mode
 abbrev by_lane : Mode → List (List ℕ) → List Place
 by_lane mode stimuli = places_from (waveform_place 0) (map (with_ending mode) stimuli)
 
-length-waves : (j : Job) (mode : Mode) → j.mode ≡ mode → waveforms mode j.stimuli ≡ by_lane mode j.stimuli → length (places j) ≡ 1 + 2 * length j.stimuli
-length-waves j mode e waves =
-    let a = length-by_mode j mode e in
-    let b = ap (λ (ps : List Place). length ps) waves in
-    let c = length-places_from (waveform_place 0) (map (with_ending mode) j.stimuli) in
-    let m = length-map j.stimuli (with_ending mode) in
-    omega arith
+length-by_lane : (mode : Mode) (stimuli : List (List ℕ)) → length (by_lane mode stimuli) ≡ length stimuli
+length-by_lane mode stimuli = length-places_from (waveform_place 0) (map (with_ending mode) stimuli) ∙ length-map stimuli (with_ending mode)
 
--- a run has a waveform for each lane
-pub length-run : (j : Job) → j.mode ≡ Run → length (places j) ≡ 1 + 2 * length j.stimuli
-length-run j e = length-waves j Run e refl
-
--- and so has a run of the queue
-pub length-queue : (j : Job) (order : ℕ) → j.mode ≡ Queue order → length (places j) ≡ 1 + 2 * length j.stimuli
-length-queue j order e = length-waves j (Queue order) e refl
+waves_of : (j : Job) (mode : Mode) → j.mode ≡ mode → waveforms mode j.stimuli ≡ by_lane mode j.stimuli → waveforms j.mode j.stimuli ≡ by_lane j.mode j.stimuli
+waves_of j mode e waves = rw e waves
 
 -- where waveforms are written there is one for each lane
-pub length-written : (j : Job) → (j.mode ≡ Run) ⊎ ((order : ℕ) × (j.mode ≡ Queue order)) → length (places j) ≡ 1 + 2 * length j.stimuli
-length-written j (inl e) = length-run j e
-length-written j (inr e) = length-queue j e.0 e.1
+written : (j : Job) → (j.mode ≡ Run) ⊎ ((order : ℕ) × (j.mode ≡ Queue order)) → waveforms j.mode j.stimuli ≡ by_lane j.mode j.stimuli
+written j (inl e) = waves_of j Run e refl
+written j (inr e) = waves_of j (Queue e.0) e.1 refl
+
+pub length-written : (j : Job) → (j.mode ≡ Run) ⊎ ((order : ℕ) × (j.mode ≡ Queue order)) → length (waveforms j.mode j.stimuli) ≡ length j.stimuli
+length-written j h = ap (λ (ps : List Place). length ps) (written j h) ∙ length-by_lane j.mode j.stimuli
 
 -- and a check has none
-pub length-check : (j : Job) → j.mode ≡ Check → length (places j) ≡ 1 + length j.stimuli
-length-check j e = let a = length-by_mode j Check e in omega arith
+pub length-unwritten : (j : Job) → j.mode ≡ Check → length (waveforms j.mode j.stimuli) ≡ 0
+length-unwritten j e = ap (λ (m : Mode). length (waveforms m j.stimuli)) e
 
--- a place behind the stimuli is a waveform's
-pub record IsBehind (j : Job) (n : ℕ) : Type 0 where
-  pub waves : waveforms j.mode j.stimuli ≡ by_lane j.mode j.stimuli
-  pub within : n < 1 + 2 * length j.stimuli
-
-pub behind_stimuli : (j : Job) (n : ℕ) → n < length (places j) → length j.stimuli < n → IsBehind j n
-behind_stimuli j n lt behind = go j.mode refl
+pub few_waveforms : (j : Job) → length (waveforms j.mode j.stimuli) ≤ length j.stimuli
+few_waveforms j = go j.mode refl
   where
-    same_waves : (mode : Mode) → j.mode ≡ mode → waveforms mode j.stimuli ≡ by_lane mode j.stimuli → waveforms j.mode j.stimuli ≡ by_lane j.mode j.stimuli
-    same_waves mode e waves = rw e waves
+    go : (mode : Mode) → j.mode ≡ mode → length (waveforms j.mode j.stimuli) ≤ length j.stimuli
+    go Run e = let size = length-written j (inl e) in omega arith
+    go (Queue order) e = let size = length-written j (inr (order, e)) in omega arith
+    go Check e = let size = length-unwritten j e in omega arith
 
-    go : (mode : Mode) → j.mode ≡ mode → IsBehind j n
-    go Run e = let size = length-run j e in record { waves = same_waves Run e refl; within = omega arith }
-    go (Queue order) e = let size = length-queue j order e in record { waves = same_waves (Queue order) e refl; within = omega arith }
-    go Check e = let size = length-check j e in absurd (omega arith)
+-- a run has a waveform for each lane
+pub length-run : (j : Job) → j.mode ≡ Run → length (places j) ≡ 1 + 2 * length j.stimuli + length j.others
+length-run j e = let all = length_places j in let waves = length-written j (inl e) in omega arith
 
--- there are as many as a run has, or fewer
-pub few_places : (j : Job) → length (places j) ≤ 1 + 2 * length j.stimuli
-few_places j = go j.mode refl
+-- and so has a run of the queue
+pub length-queue : (j : Job) (order : ℕ) → j.mode ≡ Queue order → length (places j) ≡ 1 + 2 * length j.stimuli + length j.others
+length-queue j order e = let all = length_places j in let waves = length-written j (inr (order, e)) in omega arith
+
+pub length-check : (j : Job) → j.mode ≡ Check → length (places j) ≡ 1 + length j.stimuli + length j.others
+length-check j e = let all = length_places j in let waves = length-unwritten j e in omega arith
+
+-- where there is any waveform there is one for each lane
+pub some_waveforms : (j : Job) → 0 < length (waveforms j.mode j.stimuli) → waveforms j.mode j.stimuli ≡ by_lane j.mode j.stimuli
+some_waveforms j some = go j.mode refl
   where
-    go : (mode : Mode) → j.mode ≡ mode → length (places j) ≤ 1 + 2 * length j.stimuli
-    go Run e = let size = length-run j e in omega arith
-    go (Queue order) e = let size = length-queue j order e in omega arith
-    go Check e = let size = length-check j e in omega arith
+    go : (mode : Mode) → j.mode ≡ mode → waveforms j.mode j.stimuli ≡ by_lane j.mode j.stimuli
+    go Run e = written j (inl e)
+    go (Queue order) e = written j (inr (order, e))
+    go Check e = let size = length-unwritten j e in absurd (omega arith)
 
 -- the design and the stimuli have places
 pub stimuli_have_places : (j : Job) → 1 + length j.stimuli ≤ length (places j)
-stimuli_have_places j = let a = length-by_mode j j.mode refl in omega arith
+stimuli_have_places j = let a = length_places j in omega arith
 
 pub place-design : (j : Job) (d : Place) → get_or (places j) 0 d ≡ place design_place j.design
 unfolding places
@@ -104,10 +108,10 @@ pub place-stimulus : (j : Job) (n i : ℕ) (d : Place) (path : List ℕ) → n �
 unfolding places
 place-stimulus j n i d path e is =
     let stimuli = places_from (stimulus_place 0) j.stimuli in
-    let vcds = waveforms j.mode j.stimuli in
+    let behind = waveforms j.mode j.stimuli ++ places_from (other_place 0) j.others in
     let within = slice_get_within j.stimuli i path is in
     let size = length-places_from (stimulus_place 0) j.stimuli in
-    ap (λ (k : ℕ). get_or (places j) k d) (e ∙ add-one i) ∙ get_or_append_left stimuli vcds d i (omega arith) ∙ get_or-places_from (stimulus_place 0) j.stimuli i d path is
+    ap (λ (k : ℕ). get_or (places j) k d) (e ∙ add-one i) ∙ get_or_append_left stimuli behind d i (omega arith) ∙ get_or-places_from (stimulus_place 0) j.stimuli i d path is
 
 pub place-waveform : (j : Job) (n i : ℕ) (d : Place) (path : List ℕ) → waveforms j.mode j.stimuli ≡ by_lane j.mode j.stimuli → n ≡ 1 + (length j.stimuli + i) → slice_get j.stimuli i ≡ Some path
     → get_or (places j) n d ≡ place (waveform_place i) (path ++ ending j.mode)
@@ -115,10 +119,24 @@ unfolding places
 place-waveform j n i d path waves e is =
     let stimuli = places_from (stimulus_place 0) j.stimuli in
     let vcds = waveforms j.mode j.stimuli in
+    let others = places_from (other_place 0) j.others in
     let size = length-places_from (stimulus_place 0) j.stimuli in
+    let count : length vcds ≡ length j.stimuli = ap (λ (ps : List Place). length ps) waves ∙ length-by_lane j.mode j.stimuli in
+    let within = slice_get_within j.stimuli i path is in
     let at_vcd : n ≡ suc (length stimuli + i) = omega arith in
-    ap (λ (k : ℕ). get_or (places j) k d) at_vcd ∙ get_or-append-add stimuli vcds i d ∙ ap (λ (ps : List Place). get_or ps i d) waves
+    ap (λ (k : ℕ). get_or (places j) k d) at_vcd ∙ get_or-append-add stimuli (vcds ++ others) i d ∙ get_or_append_left vcds others d i (omega arith) ∙ ap (λ (ps : List Place). get_or ps i d) waves
     ∙ get_or-places_from (waveform_place 0) (map (with_ending j.mode) j.stimuli) i d (path ++ ending j.mode) (slice_get-map (with_ending j.mode) j.stimuli i ∙ ap (λ (o : Option (List ℕ)). option_map (with_ending j.mode) o) is)
+
+pub place-other : (j : Job) (n i : ℕ) (d : Place) (path : List ℕ) → n ≡ 1 + (length j.stimuli + (length (waveforms j.mode j.stimuli) + i)) → slice_get j.others i ≡ Some path → get_or (places j) n d ≡ place (other_place i) path
+unfolding places
+place-other j n i d path e is =
+    let stimuli = places_from (stimulus_place 0) j.stimuli in
+    let vcds = waveforms j.mode j.stimuli in
+    let others = places_from (other_place 0) j.others in
+    let size = length-places_from (stimulus_place 0) j.stimuli in
+    let at_other : n ≡ suc (length stimuli + (length vcds + i)) = omega arith in
+    ap (λ (k : ℕ). get_or (places j) k d) at_other ∙ get_or-append-add stimuli (vcds ++ others) (length vcds + i) d ∙ get_or-append-add vcds others i d
+    ∙ get_or-places_from (other_place 0) j.others i d path is
 
 -- a first place that isn't taken
 passed : (b : Bool) (n : ℕ) (o : Option ℕ) → cond b (Some n) o ≡ None → (b ≡ false) × (o ≡ None)
@@ -202,16 +220,25 @@ slice_get-stimulus j i path is =
     let within = slice_get_within j.stimuli i path is in
     slice_get-get_or (places j) (1 + i) (place 0 []) (omega arith) ∙ ap (λ (p : Place). Some p) (place-stimulus j (1 + i) i (place 0 []) path (omega arith) is)
 
-slice_get-waveform : (j : Job) (i : ℕ) (path : List ℕ) → length (places j) ≡ 1 + 2 * length j.stimuli → waveforms j.mode j.stimuli ≡ by_lane j.mode j.stimuli → slice_get j.stimuli i ≡ Some path
+slice_get-waveform : (j : Job) (i : ℕ) (path : List ℕ) → waveforms j.mode j.stimuli ≡ by_lane j.mode j.stimuli → slice_get j.stimuli i ≡ Some path
     → slice_get (places j) (1 + length j.stimuli + i) ≡ Some (place (waveform_place i) (path ++ ending j.mode))
-slice_get-waveform j i path size waves is =
+slice_get-waveform j i path waves is =
+    let size = length_places j in
+    let count : length (waveforms j.mode j.stimuli) ≡ length j.stimuli = ap (λ (ps : List Place). length ps) waves ∙ length-by_lane j.mode j.stimuli in
     let within = slice_get_within j.stimuli i path is in
     slice_get-get_or (places j) (1 + length j.stimuli + i) (place 0 []) (omega arith) ∙ ap (λ (p : Place). Some p) (place-waveform j (1 + length j.stimuli + i) i (place 0 []) path waves (omega arith) is)
 
 pub slice_get-vcd : (j : Job) (i : ℕ) (path : List ℕ) → j.mode ≡ Run → slice_get j.stimuli i ≡ Some path → slice_get (places j) (1 + length j.stimuli + i) ≡ Some (place (waveform_place i) (vcd_path path))
 slice_get-vcd j i path run is =
-    slice_get-waveform j i path (length-run j run) (rw run refl) is ∙ ap (λ (m : Mode). Some (place (waveform_place i) (path ++ ending m))) run
+    slice_get-waveform j i path (written j (inl run)) is ∙ ap (λ (m : Mode). Some (place (waveform_place i) (path ++ ending m))) run
 
 pub slice_get-queue : (j : Job) (order i : ℕ) (path : List ℕ) → j.mode ≡ Queue order → slice_get j.stimuli i ≡ Some path → slice_get (places j) (1 + length j.stimuli + i) ≡ Some (place (waveform_place i) (queue_path path))
 slice_get-queue j order i path queue is =
-    slice_get-waveform j i path (length-queue j order queue) (rw queue refl) is ∙ ap (λ (m : Mode). Some (place (waveform_place i) (path ++ ending m))) queue
+    slice_get-waveform j i path (written j (inr (order, queue))) is ∙ ap (λ (m : Mode). Some (place (waveform_place i) (path ++ ending m))) queue
+
+pub slice_get-other : (j : Job) (i : ℕ) (path : List ℕ) → slice_get j.others i ≡ Some path → slice_get (places j) (1 + length j.stimuli + length (waveforms j.mode j.stimuli) + i) ≡ Some (place (other_place i) path)
+slice_get-other j i path is =
+    let n = 1 + length j.stimuli + length (waveforms j.mode j.stimuli) + i in
+    let size = length_places j in
+    let within = slice_get_within j.others i path is in
+    slice_get-get_or (places j) n (place 0 []) (omega arith) ∙ ap (λ (p : Place). Some p) (place-other j n i (place 0 []) path (omega arith) is)

@@ -5,11 +5,11 @@ use Rattle.std.specs.Str.{all_ascii_digits}
 use Rattle.std.specs.Str.Parse.{digits_value}
 use Rattle.std.proofs.lemmas.Bool.{and_parts, leb-true}
 use Rattle.std.proofs.lemmas.Option.{cond_some, option_and_then_some, same_Some}
-use Rattle.vs_desk.specs.Places.{most_lanes}
+use Rattle.vs_desk.specs.Places.{most_lanes, most_others}
 use Rattle.vs_job.specs.declared.job.Job.{Job}
 use Rattle.vs_job.specs.declared.job.Mode.{Mode}
 use Rattle.vs_job.specs.declared.job.Mode.TheVariants.{Run, Check, Queue}
-use Rattle.vs_job.specs.Job.{Text, verb_and_words, said, is_count, count_value, at_most_once, half_given, mode_given, most_defines, most_head, are_defines, is_define, head_of, head_given, Paths, most_stimuli, design_and_stimuli, share_given, job, IsJob, most_half}
+use Rattle.vs_job.specs.Job.{Text, verb_and_words, said, is_count, count_value, at_most_once, half_given, mode_given, most_defines, most_head, are_defines, is_define, head_of, head_given, others_given, Paths, most_stimuli, design_and_stimuli, share_given, job, IsJob, most_half}
 
 pub record IsCount (most n : ℕ) : Type 0 where
   pub from : 1 ≤ n
@@ -38,6 +38,11 @@ head_given-short values head e =
     let are = and_parts (nat_le (length values) most_defines) _ h.0 in
     let short = leb-true (length (head_of values)) most_head (and_parts (list_all is_define values) _ are.1).1 in
     subst (λ (t : Text). length t ≤ most_head) h.1 short
+
+others_given-few : (values others : List Text) → others_given values ≡ Some others → length others ≤ most_others
+others_given-few values others e =
+    let h = cond_some (nat_le (length values) most_others) values others e in
+    subst (λ (ws : List Text). length ws ≤ most_others) h.1 (leb-true (length values) most_others h.0)
 
 pub record IsFew (most : ℕ) (stimuli : List Text) : Type 0 where
   pub some : 1 ≤ length stimuli
@@ -73,9 +78,10 @@ IsJob-job words j e =
     option_and_then_some _ (at_most_once s.clocks) j e3 (λ clock _ e4.
     option_and_then_some _ (half_given s.halves) j e4 (λ half is_half e5.
     option_and_then_some _ (head_given s.defines) j e5 (λ head is_head e6.
-    option_and_then_some _ (design_and_stimuli (most_stimuli mode) s.paths) j e6 (λ paths are_paths e7.
+    option_and_then_some _ (others_given s.withs) j e6 (λ others are_others e6'.
+    option_and_then_some _ (design_and_stimuli (most_stimuli mode) s.paths) j e6' (λ paths are_paths e7.
     option_and_then_some _ (share_given mode s.shares) j e7 (λ share _ e8.
     let range = half_given-range s.halves half is_half in
     let few = design_and_stimuli-range (most_stimuli mode) s.paths paths are_paths in
     let P : Job → Type 0 = λ x. IsJob x in
-    subst P (same_Some _ j e8) (record { half_from = range.from; half_to = range.to; short = head_given-short s.defines head is_head; some = few.some; few = few_lanes mode paths.stimuli few; lone = lone_lane mode paths.stimuli few }))))))))))
+    subst P (same_Some _ j e8) (record { half_from = range.from; half_to = range.to; short = head_given-short s.defines head is_head; together = others_given-few s.withs others are_others; some = few.some; few = few_lanes mode paths.stimuli few; lone = lone_lane mode paths.stimuli few })))))))))))

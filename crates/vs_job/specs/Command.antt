@@ -16,6 +16,7 @@ line_of l = record {
   half = option_map (λ s. s.now) l.half;
   order = option_map (λ s. s.now) l.order;
   defines = map (λ s. s.now) l.defines.items;
+  withs = map (λ s. s.now) l.withs.items;
   share = l.share;
   paths = map (λ s. s.now) l.paths.items;
 }
@@ -29,6 +30,7 @@ job_of c = record {
   share = c.share;
   head = head_of (map (λ s. s.now) c.defines.now);
   design = c.design.now;
+  others = map (λ s. s.now) c.others.now;
   stimuli = map (λ s. s.now) c.stimuli.now;
 }
 

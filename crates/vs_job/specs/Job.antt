@@ -3,12 +3,12 @@ use Rattle.std.specs.Prelude.{◌≡◌, ℕ, zero, suc, ◌≤◌, Bool, true, 
 use Rattle.std.specs.List.{list_all, list_any, before_first, after_first, flat_map}
 use Rattle.std.specs.Str.{all_ascii_digits}
 use Rattle.std.specs.Str.Parse.{digits_value}
-use Rattle.vs_desk.specs.Places.{most_lanes}
+use Rattle.vs_desk.specs.Places.{most_lanes, most_others}
 use Rattle.vs_job.specs.declared.job.Job.{Job}
 use Rattle.vs_job.specs.declared.job.Mode.{Mode}
 use Rattle.vs_job.specs.declared.job.Mode.TheVariants.{Run, Check, Queue}
 use Rattle.vs_job.specs.declared.words.Flag.{Flag}
-use Rattle.vs_job.specs.declared.words.Flag.TheVariants.{Top, Clock, Half, Order, Define}
+use Rattle.vs_job.specs.declared.words.Flag.TheVariants.{Top, Clock, Half, Order, Define, With}
 use Rattle.vs_job.specs.declared.words.Verb.{Verb}
 use Rattle.vs_job.specs.declared.words.Verb.TheVariants as verbs
 
@@ -37,11 +37,12 @@ pub record Said : Type 0 where
   pub halves : List Text
   pub orders : List Text
   pub defines : List Text
+  pub withs : List Text
   pub shares : ℕ
   pub paths : List Text
 
 abbrev pub only_paths : List Text → Said
-only_paths paths = record { tops = []; clocks = []; halves = []; orders = []; defines = []; shares = 0; paths = paths }
+only_paths paths = record { tops = []; clocks = []; halves = []; orders = []; defines = []; withs = []; shares = 0; paths = paths }
 
 -- a path, and what the words behind it say
 abbrev pub path_and : Text → Said → Said
@@ -58,6 +59,7 @@ value_and Clock value rest = record rest { clocks = value ∷ rest.clocks }
 value_and Half value rest = record rest { halves = value ∷ rest.halves }
 value_and Order value rest = record rest { orders = value ∷ rest.orders }
 value_and Define value rest = record rest { defines = value ∷ rest.defines }
+value_and With value rest = record rest { withs = value ∷ rest.withs }
 
 -- the word doesn't begin with `-`
 abbrev pub is_plain : Text → Bool
@@ -73,7 +75,8 @@ flag_named name =
     if bytes_eq name (codes "--top") then Some Top
     else (if bytes_eq name (codes "--clock") then Some Clock
     else (if bytes_eq name (codes "--half") then Some Half
-    else (if bytes_eq name (codes "--order") then Some Order else (if bytes_eq name (codes "--define") then Some Define else None))))
+    else (if bytes_eq name (codes "--order") then Some Order
+    else (if bytes_eq name (codes "--define") then Some Define else (if bytes_eq name (codes "--with") then Some With else None)))))
 
 -- `=`
 abbrev pub is_equals : ℕ → Bool
@@ -215,6 +218,10 @@ are_defines values = list_all is_define values && nat_le (length (head_of values
 abbrev pub head_given : List Text → Option Text
 head_given values = if nat_le (length values) most_defines && are_defines values then Some (head_of values) else None
 
+-- the further files of the design, of which there are so many at most
+abbrev pub others_given : List Text → Option (List Text)
+others_given values = if nat_le (length values) most_others then Some values else None
+
 -- the design, and a stimulus for each lane
 pub record Paths : Type 0 where
   pub design : Text
@@ -238,9 +245,10 @@ called verb s = do
   clock ← at_most_once s.clocks
   half ← half_given s.halves
   head ← head_given s.defines
+  others ← others_given s.withs
   paths ← design_and_stimuli (most_stimuli mode) s.paths
   share ← share_given mode s.shares
-  Some (record { mode = mode; top = top; clock = clock; half = half; share = share; head = head; design = paths.design; stimuli = paths.stimuli })
+  Some (record { mode = mode; top = top; clock = clock; half = half; share = share; head = head; design = paths.design; others = others; stimuli = paths.stimuli })
 
 -- the job that the words call for, the program's own name first; none where they call for none
 unfoldable pub job : List Text → Option Job
@@ -254,6 +262,7 @@ pub record IsJob (j : Job) : Type 0 where
   pub half_from : 1 ≤ j.half
   pub half_to : j.half ≤ most_half
   pub short : length j.head ≤ most_head
+  pub together : length j.others ≤ most_others
   pub some : 1 ≤ length j.stimuli
   pub few : length j.stimuli ≤ most_lanes
   pub lone : (order : ℕ) → j.mode ≡ Queue order → length j.stimuli ≡ 1

@@ -1,9 +1,9 @@
 -- The words, read one after the other.
 use Rattle.std.specs.Prelude.{ℕ, Bool, true, false, not, ◌&&◌, nat_le, List, [], ◌∷◌, ◌++◌, length, Option, Some, None, is_some, codes, bytes_eq, if◌then◌else◌}
 use Rattle.std.specs.List.{before_first}
-use Rattle.vs_desk.specs.Places.{most_lanes}
+use Rattle.vs_desk.specs.Places.{most_lanes, most_others}
 use Rattle.vs_job.specs.declared.words.Flag.{Flag}
-use Rattle.vs_job.specs.declared.words.Flag.TheVariants.{Top, Clock, Half, Order, Define}
+use Rattle.vs_job.specs.declared.words.Flag.TheVariants.{Top, Clock, Half, Order, Define, With}
 use Rattle.vs_job.specs.declared.words.Next.{Next}
 use Rattle.vs_job.specs.declared.words.Next.TheVariants.{Any, Value, Path}
 use Rattle.vs_job.specs.declared.words.Verb.{Verb}
@@ -18,12 +18,13 @@ pub record Line : Type 0 where
   pub half : Option Text
   pub order : Option Text
   pub defines : List Text
+  pub withs : List Text
   pub share : Bool
   pub paths : List Text
 
 -- before the first word behind the command
 abbrev pub start : Verb → Line
-start verb = record { verb = verb; next = Any; top = None; clock = None; half = None; order = None; defines = []; share = false; paths = [] }
+start verb = record { verb = verb; next = Any; top = None; clock = None; half = None; order = None; defines = []; withs = []; share = false; paths = [] }
 
 -- one more path: the design and 256 stimuli at most
 abbrev pub with_path : Text → Line → Option Line
@@ -40,6 +41,7 @@ is_given Clock l = is_some l.clock
 is_given Half l = is_some l.half
 is_given Order l = is_some l.order
 is_given Define l = nat_le most_defines (length l.defines)
+is_given With l = nat_le most_others (length l.withs)
 
 abbrev pub given : Flag → Text → Line → Line
 given Top value l = record l { next = Any; top = Some value }
@@ -47,6 +49,7 @@ given Clock value l = record l { next = Any; clock = Some value }
 given Half value l = record l { next = Any; half = Some value }
 given Order value l = record l { next = Any; order = Some value }
 given Define value l = record l { next = Any; defines = l.defines ++ value ∷ [] }
+given With value l = record l { next = Any; withs = l.withs ++ value ∷ [] }
 
 -- the option's value: it doesn't begin with `-`, and the option may have it
 abbrev pub with_value : Flag → Text → Line → Option Line
@@ -104,4 +107,4 @@ shares true = 1
 shares false = 0
 
 abbrev pub said_of : Line → Said
-said_of l = record { tops = values l.top; clocks = values l.clock; halves = values l.half; orders = values l.order; defines = l.defines; shares = shares l.share; paths = l.paths }
+said_of l = record { tops = values l.top; clocks = values l.clock; halves = values l.half; orders = values l.order; defines = l.defines; withs = l.withs; shares = shares l.share; paths = l.paths }

@@ -1,6 +1,6 @@
 -- The places of a job on a desk, and the path of each.
 use Rattle.std.specs.Prelude.{◌≢◌, ℕ, suc, List, [], ◌∷◌, ◌++◌, map, AllPairs, Option, Some, None, codes, bytes_eq, if◌then◌else◌}
-use Rattle.vs_desk.specs.Places.{design_place, stimulus_place, waveform_place}
+use Rattle.vs_desk.specs.Places.{design_place, stimulus_place, waveform_place, other_place}
 use Rattle.vs_job.specs.declared.job.Job.{Job}
 use Rattle.vs_job.specs.declared.job.Mode.{Mode}
 use Rattle.vs_job.specs.declared.job.Mode.TheVariants.{Run, Check, Queue}
@@ -32,9 +32,9 @@ waveforms Run stimuli = places_from (waveform_place 0) (map vcd_path stimuli)
 waveforms Check stimuli = []
 waveforms (Queue order) stimuli = places_from (waveform_place 0) (map queue_path stimuli)
 
--- the design, the stimuli by lane, and the waveforms by lane
+-- the design, the stimuli by lane, the waveforms by lane, and the further files of the design
 unfoldable pub places : Job → List Place
-places j = place design_place j.design ∷ (places_from (stimulus_place 0) j.stimuli ++ waveforms j.mode j.stimuli)
+places j = place design_place j.design ∷ (places_from (stimulus_place 0) j.stimuli ++ (waveforms j.mode j.stimuli ++ places_from (other_place 0) j.others))
 
 -- the first of the places that has this path
 abbrev pub place_with : List ℕ → List Place → Option ℕ

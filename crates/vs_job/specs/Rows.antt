@@ -26,11 +26,15 @@ of_none line = record { line = line; job = None; bench = None }
 
 -- the job of top t, clock c and design d
 abbrev a_job : ℕ → List Text → Job
-a_job half stimuli = record { mode = Run; top = Some (codes "t"); clock = Some (codes "c"); half = half; share = false; head = []; design = codes "d"; stimuli = stimuli }
+a_job half stimuli = record { mode = Run; top = Some (codes "t"); clock = Some (codes "c"); half = half; share = false; head = []; design = codes "d"; others = []; stimuli = stimuli }
 
 -- the same with macros, and one stimulus
 abbrev defined : Text → Job
 defined head = record (a_job 5 (codes "s" ∷ [])) { head = head }
+
+-- the same with further files of the design, and one stimulus
+abbrev joined : List Text → Job
+joined others = record (a_job 5 (codes "s" ∷ [])) { others = others }
 
 -- the same job without a clock, and one stimulus
 abbrev clockless : Job
@@ -58,14 +62,18 @@ jobs =
     of_job (codes "x run --top t --clock c d s") (a_job 5 (codes "s" ∷ []))
     ∷ of_job (codes "x run d --clock=c s --half 9 --top=t u") (a_job 9 (codes "s" ∷ codes "u" ∷ []))
     ∷ of_job (codes "x run --top=t --half=1000000 --clock c -- d -s -- --top=u") (a_job 1000000 (codes "-s" ∷ codes "--" ∷ codes "--top=u" ∷ []))
-    ∷ of_job (codes "x run --top t=u= --clock= d s") (record { mode = Run; top = Some (codes "t=u="); clock = Some []; half = 5; share = false; head = []; design = codes "d"; stimuli = codes "s" ∷ [] })
-    ∷ of_job (codes "x run --top=t=u --clock  d ") (record { mode = Run; top = Some (codes "t=u"); clock = Some []; half = 5; share = false; head = []; design = codes "d"; stimuli = [] ∷ [] })
+    ∷ of_job (codes "x run --top t=u= --clock= d s") (record { mode = Run; top = Some (codes "t=u="); clock = Some []; half = 5; share = false; head = []; design = codes "d"; others = []; stimuli = codes "s" ∷ [] })
+    ∷ of_job (codes "x run --top=t=u --clock  d ") (record { mode = Run; top = Some (codes "t=u"); clock = Some []; half = 5; share = false; head = []; design = codes "d"; others = []; stimuli = [] ∷ [] })
     ∷ of_job (codes "x run --define A --top t --clock c d s") (defined (codes "`define A\n"))
     ∷ of_job (codes "x run --top t --clock c d s --define=W=4 --define _w$2=a=b//`A") (defined (codes "`define W 4\n`define _w$2 a=b//`A\n"))
     ∷ of_job (codes "x run --define=W=1 --top t --define Z9= d --clock c --define W s") (defined (codes "`define W 1\n`define Z9 \n`define W\n"))
     ∷ of_job (codes "x run --share --top t --clock c d s") (shared (a_job 5 (codes "s" ∷ [])))
     ∷ of_job (codes "x run --top t d --half=9 --share s --clock c") (shared (a_job 9 (codes "s" ∷ [])))
     ∷ of_job (codes "x run --top t --clock c d --share -- --share s") (shared (a_job 5 (codes "--share" ∷ codes "s" ∷ [])))
+    ∷ of_job (codes "x run --with e --top t --clock c d s") (joined (codes "e" ∷ []))
+    ∷ of_job (codes "x run --top t --with=f --clock c d --with e s --with f") (joined (codes "f" ∷ codes "e" ∷ codes "f" ∷ []))
+    ∷ of_job (codes "x check d --with= --top t --clock c s --with e=g") (checked (joined ([] ∷ codes "e=g" ∷ [])))
+    ∷ of_job (codes "x queue --with e --order 7 --top t --clock c -- d --with") (queued 7 (record (a_job 5 (codes "--with" ∷ [])) { others = codes "e" ∷ [] }))
     ∷ of_job (codes "x check --top t --clock c d s") (checked (a_job 5 (codes "s" ∷ [])))
     ∷ of_job (codes "x run --top t d s") clockless
     ∷ of_job (codes "x check d s --half 5 --top=t") (checked clockless)
@@ -137,6 +145,12 @@ broken =
     ∷ codes "x run --top t --clock c d s --define w=4/*"
     ∷ codes "x run --top t --clock c d s --define w=//*/"
     ∷ codes "x run --top t --clock c d s --defines w"
+    ∷ codes "x run --top t --clock c d s --with"
+    ∷ codes "x run --top t --clock c d --with s"
+    ∷ codes "x run --top t --clock c d s --with -e"
+    ∷ codes "x run --top t --clock c d s --with=-e"
+    ∷ codes "x run --top t --clock c d s --with -- e"
+    ∷ codes "x run --top t --clock c d s --withs e"
     ∷ codes "x run --share --top t --clock c d s --share"
     ∷ codes "x run --share=1 --top t --clock c d s"
     ∷ codes "x run --share= --top t --clock c d s"
@@ -172,6 +186,7 @@ broken =
     ∷ codes "x check --top t --clock c d s --order=0"
     ∷ codes "x bench --order 7"
     ∷ codes "x bench --share 1"
+    ∷ codes "x bench --with e 1"
     ∷ codes "x bench"
     ∷ codes "x bench 0"
     ∷ codes "x bench 1001"

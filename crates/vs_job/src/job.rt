@@ -44,6 +44,8 @@ pub struct Job {
     pub head: Text,
     /// The path of the design.
     pub design: Text,
+    /// The paths of the design's further files, 64 at most, whose texts stand behind it in this order.
+    pub others: Texts,
     /// The path of each lane's stimulus, for 1 to 256 lanes, and for one alone where the event queue
     /// runs it.
     pub stimuli: Texts,
@@ -91,17 +93,18 @@ impl From<AllocError> for JobError {
 }
 
 /// Reads the words of the command line, the program's own name first:
-/// `cyclesim run [--top T] [--clock C] [--half H] [--define NAME[=TEXT]].. [--share] DESIGN STIM..`, the
+/// `cyclesim run [--top T] [--clock C] [--half H] [--define NAME[=TEXT]].. [--with PATH].. [--share] DESIGN STIM..`, the
 /// same with `check` in the place of `run` and without `--share`, or
-/// `cyclesim queue --order N [--top T] [--clock C] [--half H] [--define NAME[=TEXT]].. DESIGN STIM`.
+/// `cyclesim queue --order N [--top T] [--clock C] [--half H] [--define NAME[=TEXT]].. [--with PATH].. DESIGN STIM`.
 ///
-/// The options stand anywhere behind the command, each once but for `--define`, all but `--share` with
+/// The options stand anywhere behind the command, each once but for `--define` and `--with`, all but `--share` with
 /// the value in the next word or, as in `--top=T`, behind the first `=`. `--` ends them: each word behind it is a path.
 /// Before it no value and no path begins with `-`. H is a decimal number from 1 to 1,000,000 without a
 /// sign or a leading zero, and 5 where it isn't given. N is a decimal number from 0 to
 /// 18,446,744,073,709,551,615 without a sign or a leading zero. Without `--top` the text has one module that no instance of any
 /// module names, and that is the top. Without `--clock` the design has no clock.
-/// The first path is the design, and 1 to 256 stimuli follow, with `queue` one alone.
+/// The first path is the design, and 1 to 256 stimuli follow, with `queue` one alone. A value of `--with` is the path of a
+/// further file of the design, of which there are 64 at most.
 ///
 /// A value of `--define` is a simple identifier (IEEE 1364-2005, 3.7), or one with `=` and a text of
 /// printable characters of ASCII, which has neither `\` nor `/*`. There are 64 at most, and their

@@ -1,14 +1,14 @@
 //! Laws on jobs and benches, as functions that do nothing: each clause is over the definitions alone.
 
 ghost use Rattle.std.specs.Prelude.{◌≡◌, ◌+◌, ◌*◌, ℕ, List, None, Some, map, length, slice_get};
-ghost use Rattle.vs_desk.specs.Places.{design_place, stimulus_place, waveform_place};
+ghost use Rattle.vs_desk.specs.Places.{design_place, stimulus_place, waveform_place, other_place};
 ghost use Rattle.vs_job.specs.declared.bench.Bench.{Bench};
 ghost use Rattle.vs_job.specs.declared.job.Job.{Job};
 ghost use Rattle.vs_job.specs.declared.job.Mode.TheVariants.{Run, Check, Queue};
 ghost use Rattle.vs_job.specs.Bench.{bench, IsBench};
 ghost use Rattle.vs_job.specs.Job.{job, IsJob};
 ghost use Rattle.vs_job.specs.Rows.{words, rows};
-ghost use Rattle.vs_job.specs.Places.{places, same_paths, vcd_path, queue_path, place, PathsDiffer};
+ghost use Rattle.vs_job.specs.Places.{places, waveforms, same_paths, vcd_path, queue_path, place, PathsDiffer};
 
 /// Every job that words call for keeps its ranges.
 pub fn job_law()
@@ -36,8 +36,8 @@ pub fn same_paths_law()
     ensures { (j : Job) → same_paths j ≡ None → PathsDiffer (places j) }
 {}
 
-/// Which places there are: the design, a stimulus for each lane, and a waveform for each in a run and where the event queue
-/// runs it.
+/// Which places there are: the design, a stimulus for each lane, a waveform for each in a run and where the event queue
+/// runs it, and the further files of the design.
 pub fn places_law()
     ensures design { (j : Job) → slice_get (places j) 0 ≡ Some (place design_place j.design) }
     ensures stimulus { (j : Job) (i : ℕ) (path : List ℕ) → slice_get j.stimuli i ≡ Some path
@@ -46,7 +46,9 @@ pub fn places_law()
         → slice_get (places j) (1 + length j.stimuli + i) ≡ Some (place (waveform_place i) (vcd_path path)) }
     ensures queue_vcd { (j : Job) (order i : ℕ) (path : List ℕ) → j.mode ≡ Queue order → slice_get j.stimuli i ≡ Some path
         → slice_get (places j) (1 + length j.stimuli + i) ≡ Some (place (waveform_place i) (queue_path path)) }
-    ensures run { (j : Job) → j.mode ≡ Run → length (places j) ≡ 1 + 2 * length j.stimuli }
-    ensures check { (j : Job) → j.mode ≡ Check → length (places j) ≡ 1 + length j.stimuli }
-    ensures queue { (j : Job) (order : ℕ) → j.mode ≡ Queue order → length (places j) ≡ 1 + 2 * length j.stimuli }
+    ensures other { (j : Job) (i : ℕ) (path : List ℕ) → slice_get j.others i ≡ Some path
+        → slice_get (places j) (1 + length j.stimuli + length (waveforms j.mode j.stimuli) + i) ≡ Some (place (other_place i) path) }
+    ensures run { (j : Job) → j.mode ≡ Run → length (places j) ≡ 1 + 2 * length j.stimuli + length j.others }
+    ensures check { (j : Job) → j.mode ≡ Check → length (places j) ≡ 1 + length j.stimuli + length j.others }
+    ensures queue { (j : Job) (order : ℕ) → j.mode ≡ Queue order → length (places j) ≡ 1 + 2 * length j.stimuli + length j.others }
 {}

@@ -1,13 +1,13 @@
 //! The places of a job, and two of them that have one path.
 
 ghost use Rattle.std.specs.Prelude.{◌≡◌, ◌<◌, ◌≤◌, ◌++◌, take, length, slice_index_or, bytes_eq};
-ghost use Rattle.vs_desk.specs.Places.{most_lanes};
+ghost use Rattle.vs_desk.specs.Places.{most_lanes, most_others};
 ghost use Rattle.vs_job.specs.Places as spec;
 ghost use Rattle.vs_job.specs.Paths as paths;
 ghost use Rattle.vs_job.specs.Paths.{path_of, place_of};
 
 use crate::job::{Job, Mode};
-use vs_desk::{DESIGN_PLACE, FIRST_STIMULUS, FIRST_WAVEFORM};
+use vs_desk::{DESIGN_PLACE, FIRST_OTHER, FIRST_STIMULUS, FIRST_WAVEFORM};
 
 /// What is added to a stimulus's path in a run.
 const VCD: &[u8] = b".vcd";
@@ -63,32 +63,41 @@ fn is_same(a: Path<'_>, b: Path<'_>, added: &[u8]) -> bool
     }
 }
 
-/// How many places there are.
-fn place_count(job: &Job) -> usize
-    requires { length job.now.stimuli ≤ most_lanes }
-    ensures { result ≡ length (spec.places job.now) }
+/// How many waveforms there are.
+fn waveform_count(job: &Job) -> usize
+    ensures { result ≡ length (spec.waveforms job.now.mode job.now.stimuli) }
 {
-    let lanes = job.stimuli.len();
     match job.mode {
-        Mode::Run | Mode::Queue { .. } => 1 + 2 * lanes,
-        Mode::Check => 1 + lanes,
+        Mode::Run | Mode::Queue { .. } => job.stimuli.len(),
+        Mode::Check => 0,
     }
 }
 
-/// Place n, from 0: the design, the stimuli by lane, and the waveforms by lane.
-#[tactic(auto, using(crate::proofs::Listed::few_places))]
+/// How many places there are.
+#[tactic(auto, using(crate::proofs::Listed::length_places, crate::proofs::Listed::few_waveforms))]
+fn place_count(job: &Job) -> usize
+    requires few { length job.now.stimuli ≤ most_lanes }
+    requires together { length job.now.others ≤ most_others }
+    ensures { result ≡ length (spec.places job.now) }
+{
+    1 + job.stimuli.len() + waveform_count(job) + job.others.len()
+}
+
+/// Place n, from 0: the design, the stimuli by lane, the waveforms by lane, and the further files of the design.
+#[tactic(auto, using(crate::proofs::Listed::length_places, crate::proofs::Listed::few_waveforms))]
 fn place_at(job: &Job, n: usize) -> Place<'_>
     requires few { length job.now.stimuli ≤ most_lanes }
+    requires together { length job.now.others ≤ most_others }
     requires place { n < length (spec.places job.now) }
     ensures { (d : spec.Place) → slice_index_or (spec.places job.now) n d ≡ place_of (paths.ending job.now.mode) result }
 {
-    let lanes = job.stimuli.len();
     if n == 0 {
         return Place {
             number: DESIGN_PLACE,
             path: Path::Word(job.design.as_str()),
         };
     }
+    let lanes = job.stimuli.len();
     if n <= lanes {
         let lane = n - 1;
         return Place {
@@ -96,16 +105,25 @@ fn place_at(job: &Job, n: usize) -> Place<'_>
             path: Path::Word(job.stimuli.get(lane).as_str()),
         };
     }
-    let lane = n - 1 - lanes;
+    let behind = lanes + waveform_count(job);
+    if n <= behind {
+        let lane = n - 1 - lanes;
+        return Place {
+            number: FIRST_WAVEFORM + lane as u32,
+            path: Path::Waveform(job.stimuli.get(lane).as_str()),
+        };
+    }
+    let file = n - 1 - behind;
     Place {
-        number: FIRST_WAVEFORM + lane as u32,
-        path: Path::Waveform(job.stimuli.get(lane).as_str()),
+        number: FIRST_OTHER + file as u32,
+        path: Path::Word(job.others.get(file).as_str()),
     }
 }
 
 /// The first of the first n places that has the path.
 fn place_with(job: &Job, n: usize, path: Path<'_>) -> Option<u32>
     requires few { length job.now.stimuli ≤ most_lanes }
+    requires together { length job.now.others ≤ most_others }
     requires places { n ≤ length (spec.places job.now) }
     ensures { result ≡ spec.place_with (path_of (paths.ending job.now.mode) path.entry) (take n (spec.places job.now)) }
 {
@@ -120,12 +138,13 @@ fn place_with(job: &Job, n: usize, path: Path<'_>) -> Option<u32>
 }
 
 /// Two places of the job whose paths are equal texts, if there are any: the design's place is 1, lane
-/// i's stimulus has 1000 + i and its waveform, which a check has not, 2000 + i.
+/// i's stimulus has 1000 + i and its waveform, which a check has not, 2000 + i, and further file i of the design, from 0, has 3000 + i.
 ///
-/// In the order of the design, the stimuli by lane and the waveforms by lane it is the pair whose
+/// In the order of the design, the stimuli by lane, the waveforms by lane and the further files of the design it is the pair whose
 /// later member comes first, and with it the earliest equal one. It takes no memory.
 pub fn same_paths(job: &Job) -> Option<(u32, u32)>
-    requires { length job.now.stimuli ≤ most_lanes }
+    requires few { length job.now.stimuli ≤ most_lanes }
+    requires together { length job.now.others ≤ most_others }
     ensures { result ≡ spec.same_paths job.now }
 {
     for n in 0..place_count(job) {

@@ -12,7 +12,7 @@ use crate::job::{Job, Mode};
 use crate::text::{Text, Texts};
 use arrayvec::ArrayVec;
 use std::alloc::{AllocError, Global};
-use vs_desk::MOST_LANES;
+use vs_desk::{MOST_LANES, MOST_OTHERS};
 
 /// The half-period where none is given.
 const DEFAULT_HALF: u32 = 5;
@@ -47,6 +47,8 @@ pub(crate) enum Flag {
     Order,
     /// `--define`, which may be given again.
     Define,
+    /// `--with`, which may be given again.
+    With,
 }
 
 /// What the next word may be.
@@ -70,6 +72,7 @@ pub(crate) struct Line<'a> {
     half: Option<&'a str>,
     order: Option<&'a str>,
     defines: ArrayVec<&'a str, MOST_DEFINES>,
+    withs: ArrayVec<&'a str, MOST_OTHERS>,
     share: bool,
     paths: ArrayVec<&'a str, MOST_PATHS>,
 }
@@ -84,6 +87,7 @@ pub(crate) struct Command<'b, 'a> {
     share: bool,
     defines: &'b [&'a str],
     design: &'a str,
+    others: &'b [&'a str],
     stimuli: &'b [&'a str],
 }
 
@@ -136,6 +140,8 @@ fn flag_named(name: &str) -> Option<Flag>
         Some(Flag::Order)
     } else if name == "--define" {
         Some(Flag::Define)
+    } else if name == "--with" {
+        Some(Flag::With)
     } else {
         None
     }
@@ -165,6 +171,7 @@ impl<'a> Line<'a> {
             half: None,
             order: None,
             defines: ArrayVec::new(),
+            withs: ArrayVec::new(),
             share: false,
             paths: ArrayVec::new(),
         }
@@ -202,6 +209,7 @@ impl<'a> Line<'a> {
             Flag::Half => self.half.is_some(),
             Flag::Order => self.order.is_some(),
             Flag::Define => self.defines.is_full(),
+            Flag::With => self.withs.is_full(),
         }
     }
 
@@ -219,6 +227,7 @@ impl<'a> Line<'a> {
             Flag::Half => self.half = Some(value),
             Flag::Order => self.order = Some(value),
             Flag::Define => self.defines.push(value),
+            Flag::With => self.withs.push(value),
         }
         Some(())
     }
@@ -288,6 +297,7 @@ impl<'a> Line<'a> {
         if !are_defines(defines) {
             return None;
         }
+        let others = self.withs.as_slice();
         let (design, stimuli) = design_and_stimuli(most_stimuli(mode), self.paths.as_slice())?;
         let share = share_given(mode, self.share)?;
         Some(Command {
@@ -298,6 +308,7 @@ impl<'a> Line<'a> {
             share,
             defines,
             design,
+            others,
             stimuli,
         })
     }
@@ -452,6 +463,7 @@ impl Command<'_, '_> {
             share: self.share,
             head: head_of(alloc, self.defines)?,
             design: copy(alloc, self.design)?,
+            others: copies(alloc, self.others)?,
             stimuli: copies(alloc, self.stimuli)?,
         })
     }

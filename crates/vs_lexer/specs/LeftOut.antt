@@ -12,14 +12,13 @@ kind_at ts n = elim (slice_get ts n) [ None ↦ None | Some t ↦ Some t.kind ]
 abbrev pub kind_before : List Token → ℕ → Option TokenKind
 kind_before ts n = if n == 0 then None else kind_at ts (n - 1)
 
--- strings that are no numbers, escaped identifiers, system names, directives, words, `**` and `->`
+-- strings that are no numbers, escaped identifiers, system names, directives, words and `->`
 abbrev pub is_left_out_kind : TokenKind → Bool
 is_left_out_kind kind.Text = true
 is_left_out_kind kind.EscapedIdentifier = true
 is_left_out_kind kind.SystemName = true
 is_left_out_kind kind.Directive = true
 is_left_out_kind kind.LeftOutWord = true
-is_left_out_kind kind.Power = true
 is_left_out_kind kind.Arrow = true
 is_left_out_kind _ = false
 

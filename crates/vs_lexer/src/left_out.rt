@@ -27,7 +27,6 @@ fn is_left_out_kind(kind: TokenKind) -> bool
             | TokenKind::SystemName
             | TokenKind::Directive
             | TokenKind::LeftOutWord
-            | TokenKind::Power
             | TokenKind::Arrow
     )
 }

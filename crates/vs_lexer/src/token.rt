@@ -3,7 +3,7 @@
 use thiserror::Error;
 
 /// What a token is: one variant for each sign and each word of the grammar, and one for each class of token that is spelled
-/// in many ways. `Text` to `LeftOutWord`, `Power` and `Arrow` belong to no rule of the grammar.
+/// in many ways. `Text` to `LeftOutWord` and `Arrow` belong to no rule of the grammar.
 #[derive(Clone, Copy, Debug, PartialEq, Eq)]
 pub enum TokenKind {
     /// A simple identifier (IEEE 1364-2005, 3.7).
@@ -170,7 +170,7 @@ pub enum TokenKind {
     PlusColon,
     /// `-:`
     MinusColon,
-    /// `**`, left out
+    /// `**`
     Power,
     /// `->`, left out
     Arrow,

@@ -1,7 +1,7 @@
 -- Files that are read again, at places of their own.
 use Rattle.std.specs.Prelude.{◌≡◌, ◌≢◌, ◌⊎◌, ℕ, zero, suc, ◌+◌, ◌-◌, ◌<◌, Bool, IsTrue, IsNone, List, [], ◌∷◌, ◌++◌, length, take, if◌then◌else◌}
 use Rattle.vs_desk.specs.Desk.{Register, Told}
-use Rattle.vs_desk.specs.Places.{most_lanes}
+use Rattle.vs_desk.specs.Places.{most_lanes, most_others}
 use Rattle.vs_excerpt.specs.Positions.{is_newline}
 
 -- the places at which files are read again, a design and a stimulus; a run has no such places
@@ -17,6 +17,10 @@ IsAgain place = (place ≡ design_again) ⊎ (place ≡ stimulus_again)
 -- the places at which stimuli of several lanes are read again, one behind the other: each has a place of its own, since one is attached only once
 abbrev pub lane_again : ℕ → ℕ
 lane_again lane = 4 + lane
+
+-- The places at which the design's further files are read again. They are some of the places of lanes: where a refusal is explained no stimuli of several lanes are read again.
+abbrev pub other_again : ℕ → ℕ
+other_again n = lane_again n
 
 -- nothing is attached at any of these
 pub record AreUnread (register : Register) : Type 0 where
@@ -44,13 +48,17 @@ first_lines zero text = []
 first_lines (suc n) [] = []
 first_lines (suc n) (b ∷ bs) = b ∷ first_lines (if is_newline b then n else suc n) bs
 
--- Nothing that a desk tells has changed but at the places at which files are read again. A call at such a place may have failed.
+-- none of the places of further files
+abbrev pub IsNoOther : ℕ → Type 0
+IsNoOther p = (n : ℕ) → n < most_others → p ≢ other_again n
+
+-- Nothing that a desk tells has changed but at the places at which files are read again for a refusal. A call at such a place may have failed.
 pub record OnlyRead {tells : Bool} (old new : Told tells) : Type 0 where
-  pub others : (p : ℕ) → p ≢ design_again → p ≢ stimulus_again → new.register.attached p ≡ old.register.attached p
+  pub others : (p : ℕ) → p ≢ design_again → p ≢ stimulus_again → IsNoOther p → new.register.attached p ≡ old.register.attached p
   pub losses : new.register.losses ≡ old.register.losses
   pub files : IsTrue tells → new.contents.files ≡ old.contents.files
   pub put : IsTrue tells → new.contents.put ≡ old.contents.put
-  pub left : IsTrue tells → (p : ℕ) → p ≢ design_again → p ≢ stimulus_again → new.contents.left p ≡ old.contents.left p
+  pub left : IsTrue tells → (p : ℕ) → p ≢ design_again → p ≢ stimulus_again → IsNoOther p → new.contents.left p ≡ old.contents.left p
 
 -- Nothing that a desk tells has changed but at this place. A call there may have failed.
 pub record OnlyReadAt {tells : Bool} (place : ℕ) (old new : Told tells) : Type 0 where

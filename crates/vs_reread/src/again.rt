@@ -2,12 +2,12 @@
 
 ghost use Rattle.std.specs.Prelude.{◌≡◌, ◌≢◌, ◌<◌, ◌≤◌, ◌++◌, ◌-◌, ℕ, [], Err, length, take, count_by, if◌then◌else◌, IsTrue, IsNone, IfOk, OnOk, OnErr, string_bytes};
 ghost use Rattle.vs_desk.specs.Desk.{IsAttached, Fails, Rose};
-ghost use Rattle.vs_desk.specs.Places.{most_lanes};
+ghost use Rattle.vs_desk.specs.Places.{most_lanes, most_others};
 ghost use Rattle.vs_desk.specs.Taking.{OnlyTaken, TakesAt};
 ghost use Rattle.vs_desk.specs.declared.desk.Way.TheVariants.{Read};
 ghost use Rattle.vs_reread.specs.declared.again.AgainError.TheVariants.{ReadFault, Memory};
 ghost use Rattle.vs_excerpt.specs.Positions.{is_newline};
-ghost use Rattle.vs_reread.specs.Again.{IsAgain, lane_again, most_bytes, most_stimulus, first_lines, IsStart, OnlyRead, OnlyReadAt, IsFaultless};
+ghost use Rattle.vs_reread.specs.Again.{IsAgain, lane_again, other_again, most_bytes, most_stimulus, first_lines, IsStart, OnlyRead, OnlyReadAt, IsFaultless};
 
 use std::alloc::{AllocError, Global};
 use thiserror::Error;
@@ -196,6 +196,31 @@ pub fn read_again<D: Desk>(
     ensures failed { result ≡ Err AgainError.ReadFault → Rose (D.told desk.old).register.faults (D.told desk.new).register.faults }
     ensures faultless { result ≢ Err AgainError.ReadFault → IsFaultless (D.told desk.old).register (D.told desk.new).register }
 {
+    desk.attach(place, path, Way::Read)?;
+    take_start(alloc, desk, place, head)
+}
+
+/// Reads further file n of a design again: attaches place 4 + n to its path, and takes the first bytes of it, as many as the text of a design may have, behind those of
+/// the head. The answer is head and file together.
+///
+/// `ReadFault` comes only where a call at that place failed.
+pub fn read_other<D: Desk>(
+    alloc: Global,
+    desk: &mut D,
+    n: u32,
+    path: String,
+    head: &[u8],
+) -> Result<Vec<u8>, AgainError>
+    requires few { n < most_others }
+    requires free { IsNone ((D.told desk.old).register.attached (other_again n)) }
+    requires head { length head.now ≤ most_bytes }
+    ensures text { IfOk result (λ text. IsStart D.tells head.now ((D.told desk.old).contents.files (string_bytes path)) text.items) }
+    ensures short { IfOk result (λ text. length text.items ≤ most_bytes) }
+    ensures only { OnlyReadAt (other_again n) (D.told desk.old) (D.told desk.new) }
+    ensures failed { result ≡ Err AgainError.ReadFault → Rose (D.told desk.old).register.faults (D.told desk.new).register.faults }
+    ensures faultless { result ≢ Err AgainError.ReadFault → IsFaultless (D.told desk.old).register (D.told desk.new).register }
+{
+    let place = FIRST_LANE_AGAIN + n;
     desk.attach(place, path, Way::Read)?;
     take_start(alloc, desk, place, head)
 }

@@ -4,5 +4,7 @@
 mod again;
 mod drawing;
 
-pub use again::{AgainError, DESIGN_AGAIN, STIMULUS_AGAIN, read_again, read_lane, read_lines};
+pub use again::{
+    AgainError, DESIGN_AGAIN, STIMULUS_AGAIN, read_again, read_lane, read_lines, read_other,
+};
 pub use drawing::draw;

@@ -4,7 +4,7 @@ use Rattle.std.specs.Prelude.{◌&&◌, ◌||◌, ◌==◌, nat_le}
 use Rattle.std.specs.List.{list_all}
 use Rattle.std.proofs.lemmas.Bool.Decides.{nat_tests}
 use Rattle.vs_four.specs.Selects.{range_length}
-use Rattle.vs_design.specs.Expressions.{Expression, Literal, Name, Select, Word, Unary, Binary, Choice, Join, Repeat, At, Call, signal_length, word_length, width, is_constant, UnaryOp, unary_length, binary_length, Way, InContext, Own, Compared, Shifted, way}
+use Rattle.vs_design.specs.Expressions.{Expression, Literal, Name, Select, Word, Unary, Binary, Choice, Join, Repeat, At, Call, signal_length, word_length, width, is_constant, UnaryOp, unary_length, binary_length, Way, InContext, Own, Compared, Shifted, Raised, way}
 use Rattle.vs_design.specs.Expressions as E
 use Rattle.vs_design.specs.Fits.{source_length, is_fit, fit_items, fits_signal, fits_statement, is_division, fits, divides_constants, fits_64}
 use Rattle.vs_sets.specs.FitParts.{Is64, FitParts}
@@ -110,6 +110,7 @@ binary_is64 InContext m n h k = (omega arith, omega arith)
 binary_is64 Own m n h k = (omega arith, omega arith)
 binary_is64 Compared m n h k = (omega arith, omega arith)
 binary_is64 Shifted m n h k = h
+binary_is64 Raised m n h k = h
 
 width64 : (e : Expression) → fits e ≡ true → Is64 (width e)
 width64 (Literal bits signed sized) p = is64_of (length bits) p

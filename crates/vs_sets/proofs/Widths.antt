@@ -115,6 +115,7 @@ length-lift_binary E.Subtract ss ts w m n h k b = copies (length ss) w _ h
 length-lift_binary E.Multiply ss ts w m n h k b = copies (length ss) w _ h
 length-lift_binary E.Divide ss ts w m n h k b = copies (length ss) w _ h
 length-lift_binary E.Remainder ss ts w m n h k b = copies (length ss) w _ h
+length-lift_binary E.Power ss ts w m n h k b = copies (length ss) w _ h
 length-lift_binary E.BitAnd ss ts w m n h k b = pairs _ ss ts w h k
 length-lift_binary E.BitOr ss ts w m n h k b = pairs _ ss ts w h k
 length-lift_binary E.BitXor ss ts w m n h k b = pairs _ ss ts w h k
@@ -193,12 +194,14 @@ left_wide E.InContext w m n h = omega arith
 left_wide E.Own w m n h = omega arith
 left_wide E.Compared w m n h = omega arith
 left_wide E.Shifted w m n h = h
+left_wide E.Raised w m n h = h
 
 pub right_wide : (y : E.Way) (w m n : ℕ) → binary_length y m n ≤ w → n ≤ right_width y w m n
 right_wide E.InContext w m n h = omega arith
 right_wide E.Own w m n h = omega arith
 right_wide E.Compared w m n h = omega arith
 right_wide E.Shifted w m n h = omega arith
+right_wide E.Raised w m n h = omega arith
 
 extended_literal : (w : ℕ) (s sized : Bool) (bits : BitList) → length bits ≤ w → length (map only (extend_literal w s sized bits)) ≡ w
 extended_literal w s sized bits h =

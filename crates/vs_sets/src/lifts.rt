@@ -22,7 +22,7 @@ pub(crate) fn set_lift(op: BinaryOp) -> Lift
     ensures { lift_of result ≡ L.lift_of op }
 {
     match op {
-        BinaryOp::Divide | BinaryOp::Remainder => Lift::Divided,
+        BinaryOp::Divide | BinaryOp::Remainder | BinaryOp::Power => Lift::Divided,
         BinaryOp::ShiftLeft
         | BinaryOp::ShiftRight
         | BinaryOp::ShiftLeftArith

@@ -81,7 +81,7 @@ fn logical(operator: BitOperator, a: &[Set4], b: &[Set4]) -> SetList
     one(set_or(a).image2(operator, set_or(b)))
 }
 
-/// The lifted operator on two operands, which have the same length, or any with `&&` and `||`. Of a division or a shift it is any result.
+/// The lifted operator on two operands, which have the same length, or any with `&&` and `||`. Of a division, a power or a shift it is any result.
 pub(crate) fn lift_binary(op: BinaryOp, a: &[Set4], b: &[Set4]) -> SetList
     requires same_length { SameLength op a.now b.now }
     requires most { length a.now ≤ 64 }
@@ -106,6 +106,7 @@ pub(crate) fn lift_binary(op: BinaryOp, a: &[Set4], b: &[Set4]) -> SetList
         BinaryOp::LogicalOr => logical(BitOperator::Or, a, b),
         BinaryOp::Divide
         | BinaryOp::Remainder
+        | BinaryOp::Power
         | BinaryOp::ShiftLeft
         | BinaryOp::ShiftRight
         | BinaryOp::ShiftLeftArith

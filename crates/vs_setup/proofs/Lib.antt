@@ -1,5 +1,6 @@
 pub mod Loads
 pub mod Taken
+pub mod Files
 pub mod Opening
 pub mod Lanes
 pub mod Readied

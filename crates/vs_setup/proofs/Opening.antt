@@ -1,8 +1,10 @@
 -- Why a stimulus can't be opened.
-use Rattle.std.proofs.Common.{◌≡◌, ◌≢◌, ◌⊎◌, Option, IsNone, ℕ, ◌<◌, ◌≤◌, ◌+◌, List, [], ◌++◌, length, take, Some, arith, refl, inl, inr, IsTrue, Bool, true, false, Result, Ok, Err, IfOk, IfErr, sym, subst, ap, ◌∙◌}
+use Rattle.std.proofs.Common.{◌≡◌, ◌≢◌, ◌⊎◌, Option, IsNone, ℕ, ◌<◌, ◌≤◌, ◌+◌, List, ◌++◌, length, take, Some, arith, refl, inl, inr, IsTrue, Bool, true, false, Result, Ok, Err, IfOk, IfErr, sym, subst, ap, ◌∙◌}
 use Rattle.std.proofs.lemmas.Bool.{ne_eqb, cond-false}
-use Rattle.vs_desk.specs.Desk.{Attachment, Register, Contents, Told, Fails}
-use Rattle.vs_desk.specs.Places.{design_place, stimulus_place}
+use Rattle.vs_desk.specs.declared.desk.Way.TheVariants.{Read}
+use Rattle.vs_desk.specs.Desk.{Attachment, Register, Contents, Told, Fails, with_place}
+use Rattle.vs_desk.specs.Laws.{OtherPlacesStay}
+use Rattle.vs_desk.specs.Places.{design_place, most_lanes, other_place, stimulus_place}
 use Rattle.vs_stim.specs.Header.{PortLists}
 use Rattle.vs_stim.specs.declared.error.StimError.{StimError}
 use Rattle.vs_stim.specs.declared.error.StimError.TheVariants as E
@@ -22,7 +24,7 @@ use Rattle.vs_setup.specs.declared.design_text.DesignError.{DesignError}
 use Rattle.vs_setup.specs.declared.design_text.DesignError.TheVariants as D
 use Rattle.vs_setup.specs.declared.error.SetupError.{SetupError}
 use Rattle.vs_setup.specs.declared.error.SetupError.TheVariants.{TooLong, Refused, Stimulus, ReadFault, Memory}
-use Rattle.vs_setup.specs.DesignText.{design_text, with_design, IsBehind, IsTooLong, DesignFails}
+use Rattle.vs_setup.specs.DesignText.{AreTaken, IsBehind, IsUnread, design_text, joined_files, with_design}
 use Rattle.vs_setup.specs.Loaded.{IsLoaded}
 use Rattle.vs_setup.specs.Places.{IsFresh}
 use Rattle.vs_setup.specs.Ports.{demands, ports_of}
@@ -105,13 +107,13 @@ unaccepted bytes text top clock A.Memory h = h
 
 -- a text that was taken whole, and has at most as many bytes as it may
 pub record IsWhole (tells : Bool) (job : Job) (old new : Contents) (text : List ℕ) : Type 0 where
-  pub behind : IsBehind tells job.head (old.files job.design) text
+  pub behind : IsBehind tells job.head (joined_files old.files job.design job.others) text
   pub short : length text ≤ most_bytes
-  pub taken : IsTrue tells → new.left design_place ≡ []
+  pub taken : IsTrue tells → AreTaken job new
 
 -- it is loaded
 pub loaded_behind : (tells : Bool) (job : Job) (old : Contents) (text : List ℕ) (a : Acceptance) (ports : PortLists)
-    → IsBehind tells job.head (old.files job.design) text → IsLoaded (demands job.mode) text job.top job.clock a ports → IsDesignLoaded tells job old a ports
+    → IsBehind tells job.head (joined_files old.files job.design job.others) text → IsLoaded (demands job.mode) text job.top job.clock a ports → IsDesignLoaded tells job old a ports
 loaded_behind tells job old text a ports b l = record {
   file = b.taken;
   file_is = b.taken_is;
@@ -120,7 +122,7 @@ loaded_behind tells job old text a ports b l = record {
 
 -- it can't be loaded
 pub unloaded : {tells : Bool} (job : Job) (old new : Told tells) (text : List ℕ) (e : SetupError)
-    → IsLoadError (length job.head) text job.top job.clock e → new.register ≡ with_design old.register job.design → IsWhole tells job old.contents new.contents text → IsUnprepared job old new e
+    → IsLoadError (length job.head) text job.top job.clock e → new.register ≡ with_design old.register job.design job.others → IsWhole tells job old.contents new.contents text → IsUnprepared job old new e
 unloaded job old new text TooLong h at w = absurd h
 unloaded job old new text (Refused r) h at w =
     let b = w.behind in
@@ -138,16 +140,10 @@ unloaded job old new text Memory h at w =
     inr (0, none_below, at)
 
 -- a design's text that can't be read
-pub undesigned : {tells : Bool} (job : Job) (old new : Told tells) (path : List ℕ) (d : DesignError) → path ≡ job.design
-    → (d ≡ D.TooLong → IsTrue tells → IsTooLong job.head (old.contents.files path) (new.contents.left design_place)) → (d ≢ D.ReadFault → new.register ≡ with_design old.register path)
-    → (d ≡ D.ReadFault → DesignFails old new job.head path) → IsUnprepared job old new (design_error d)
-undesigned job old new path D.TooLong is long attached fails =
-    (attached (λ e. cc) ∙ ap (with_design old.register) is, λ t. subst (λ (p : List ℕ). IsTooLong job.head (old.contents.files p) (new.contents.left design_place)) is (long refl t))
-undesigned job old new path D.ReadFault is long attached fails =
-    inl (record { place_is = refl; fails = subst (λ (p : List ℕ). DesignFails old new job.head p) is (fails refl) })
-undesigned job old new path D.Memory is long attached fails =
-    let none_below : 0 ≤ length job.stimuli = omega arith in
-    inr (0, none_below, attached (λ e. cc) ∙ ap (with_design old.register) is)
+pub undesigned : {tells : Bool} (job : Job) (old new : Told tells) (d : DesignError) → IsUnread job old new d → IsUnprepared job old new (design_error d)
+undesigned job old new D.TooLong h = h
+undesigned job old new (D.ReadFault place) h = inl h
+undesigned job old new D.Memory h = inl h
 
 -- an equal text is accepted as the same design
 with_text : (top clock : Option (List ℕ)) (d : Design) (text other : List ℕ) → text ≡ other → IsAcceptedText text top clock d → IsAcceptedText other top clock d
@@ -163,7 +159,7 @@ with_text top clock d text other e a = record {
 -- a stimulus that can't be opened, behind a loaded design
 pub unprepared : {tells : Bool} (job : Job) (old mid new : Told tells) (a : Acceptance) (ports : PortLists)
     → IsDesignLoaded tells job old.contents a ports → (IsTrue tells → mid.contents.files ≡ old.contents.files)
-    → (e : SetupError) → IsUnopened ports job.stimuli (record mid { register = with_design old.register job.design }) new e → IsUnprepared job old new e
+    → (e : SetupError) → IsUnopened ports job.stimuli (record mid { register = with_design old.register job.design job.others }) new e → IsUnprepared job old new e
 unfolding with_text
 unprepared {tells} job old mid new a ports l same e u = by_error e u
   where
@@ -181,7 +177,7 @@ unprepared {tells} job old mid new a ports l same e u = by_error e u
         → header_refusal (ports_of job.mode (accepted t)) (old.contents.files (path_at job.stimuli n)) ≡ Some error
     refused t n error h = ap (λ is. header_refusal is (old.contents.files (path_at job.stimuli n))) (sym (ports_are t)) ∙ ap (λ (files : List ℕ → List ℕ). header_refusal ports (files (path_at job.stimuli n))) (sym (same t)) ∙ h
 
-    by_error : (e : SetupError) → IsUnopened ports job.stimuli (record mid { register = with_design old.register job.design }) new e → IsUnprepared job old new e
+    by_error : (e : SetupError) → IsUnopened ports job.stimuli (record mid { register = with_design old.register job.design job.others }) new e → IsUnprepared job old new e
     by_error TooLong u = absurd u
     by_error (Refused r) u = absurd u
     by_error (Stimulus n error) u = (
@@ -210,9 +206,11 @@ unprepared {tells} job old mid new a ports l same e u = by_error e u
 pub memory_is : {V : Type 0} (text : List ℕ) (top clock : Option (List ℕ)) (r : Result V AcceptError) (e : AcceptError) → ◌≡◌ {A = Result V AcceptError} r (Err e) → e ≡ A.Memory → IfErr r (IsRefusalOf text top clock)
 memory_is text top clock r e is memory = err_is (IsRefusalOf text top clock) r A.Memory (is ∙ ap Err memory) tt
 
--- the stimuli's places stay free where the design's is attached
-pub free_behind : (r : Register) (path : List ℕ) (lanes : ℕ) → IsFresh r lanes → AreFree (with_design r path) lanes
-free_behind r path lanes h = record {
+-- the stimuli's places stay free where those of the design's files are attached
+pub free_behind : OtherPlacesStay → (r : Register) (design : List ℕ) (files : List (List ℕ)) (lanes others : ℕ) → lanes ≤ most_lanes → IsFresh r lanes others → AreFree (with_design r design files) lanes
+free_behind stay r design files lanes others few h = record {
   each = λ i lt.
-      subst (λ (o : Option Attachment). IsNone o) (sym (cond-false _ _ _ (ne_eqb (stimulus_place i) design_place (λ e. omega arith)))) (h.stimuli i lt);
+      subst (λ (o : Option Attachment). IsNone o)
+      (sym (stay (with_place r design_place Read design) (other_place 0) Read files (stimulus_place i) (inl (omega arith)) ∙ cond-false _ _ _ (ne_eqb (stimulus_place i) design_place (λ e. omega arith))))
+      (h.stimuli i lt);
 }

@@ -2,7 +2,7 @@
 use Rattle.std.proofs.Common.{◌≡◌, ℕ, ◌+◌, ◌-◌, ◌<◌, ◌≤◌, Bool, IsTrue, List, [], ◌++◌, length, drop, append_assoc, append-nil, refl, sym, ap, ◌∙◌, arith}
 use Rattle.std.proofs.lemmas.List.{length-append, drop_at}
 use Rattle.vs_accept.specs.Accepted.{most_bytes}
-use Rattle.vs_setup.specs.DesignText.{IsBehind, IsTooLong, IsPartTaken}
+use Rattle.vs_setup.specs.DesignText.{IsBehind, IsTooLongBehind, IsPartTaken}
 
 -- The text is the head with what was taken of the file, of which this is left.
 pub record IsTaken (tells : Bool) (head file left text : List ℕ) : Type 0 where
@@ -38,16 +38,13 @@ part_taken tells head file left text now s short t e =
     }
 
 -- the text has more bytes than it may
-pub long_taken : (tells : Bool) (head file left text piece rest : List ℕ) → IsTaken tells head file left text → IsTrue tells → (IsTrue tells → piece ++ rest ≡ left)
-    → most_bytes < length (text ++ piece) → length text ≤ most_bytes → length piece ≤ most_bytes + 1 - length text → IsTooLong head file rest
-long_taken tells head file left text piece rest s t e long short most =
-    let all = more_taken tells head file left text piece rest (text ++ piece) s refl e in
-    let split = all.split t in
-    let grown = length-append text piece in
-    let size = ap (λ (xs : List ℕ). length xs) all.text_is ∙ length-append head all.taken in
-    let whole = sym (ap (λ (xs : List ℕ). length xs) split) ∙ length-append all.taken rest in
+pub long_taken : (tells : Bool) (head file left text : List ℕ) → IsTaken tells head file left text → IsTrue tells → most_bytes < length text → length text ≤ most_bytes + 1 → IsTooLongBehind head file left
+long_taken tells head file left text s t long most =
+    let split = s.split t in
+    let size = ap (λ (xs : List ℕ). length xs) s.text_is ∙ length-append head s.taken in
+    let whole = sym (ap (λ (xs : List ℕ). length xs) split) ∙ length-append s.taken left in
     let both = length-append head file in
     record {
       long = omega arith;
-      taken = sym (ap (λ (xs : List ℕ). drop (most_bytes + 1 - length head) xs) (sym split) ∙ drop_at all.taken rest (most_bytes + 1 - length head) (omega arith));
+      taken = sym (ap (λ (xs : List ℕ). drop (most_bytes + 1 - length head) xs) (sym split) ∙ drop_at s.taken left (most_bytes + 1 - length head) (omega arith));
     }

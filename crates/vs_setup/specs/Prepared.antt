@@ -1,7 +1,6 @@
 -- A run that can begin, and a check that can.
-use Rattle.std.specs.Prelude.{◌≡◌, ℕ, Bool, false, IsTrue, List, [], ◌++◌, length, map}
+use Rattle.std.specs.Prelude.{◌≡◌, ℕ, Bool, false, IsTrue, List, ◌++◌, length, map}
 use Rattle.vs_desk.specs.Desk.{Contents, Told}
-use Rattle.vs_desk.specs.Places.{design_place}
 use Rattle.vs_design.specs.Designs.{Design}
 use Rattle.vs_design.specs.Sizes.{size as size_of}
 use Rattle.vs_flat.specs.DesignOf.{design_of}
@@ -17,6 +16,7 @@ use Rattle.vs_job.specs.Places.{vcd_path}
 use Rattle.vs_rounds.specs.Lanes.{Run, Simulation, AreOpened, HaveNext}
 use Rattle.vs_rounds.specs.Ready.{IsReady}
 use Rattle.vs_rounds.specs.Checked.{Checking, IsCheckable, AreWatched}
+use Rattle.vs_setup.specs.DesignText.{AreTaken, AreTextsKept, joined_files}
 use Rattle.vs_setup.specs.Loaded.{IsLoaded}
 use Rattle.vs_setup.specs.Ports.{demands, ports_of}
 use Rattle.vs_setup.specs.Places.{with_texts}
@@ -25,18 +25,13 @@ use Rattle.vs_setup.specs.Places.{with_texts}
 abbrev pub run_of : Job → (List ℕ → List ℕ) → Design → ℕ → PortLists → Run
 run_of job files d clock ports = record { share = job.share; design = d; clock = clock; half = job.half; ports = ports; texts = λ i. files (path_at job.stimuli i) }
 
--- nothing changed of the files and of what was put
-pub record AreTextsKept (old new : Contents) : Type 0 where
-  pub files : new.files ≡ old.files
-  pub put : new.put ≡ old.put
-
--- The design's file was taken to its end, accepted behind the head and loaded, each lane's stimulus is about to give its first vector, and nothing of the
+-- The design's files were taken to their ends, accepted behind the head and loaded, each lane's stimulus is about to give its first vector, and nothing of the
 -- waveforms was begun, where the desk told this before and tells that now, and `lane` reads a lane of a word.
 pub record IsPrepared {W : Type 0} (lane : W → ℕ → Bool) {tells : Bool} (job : Job) (old new : Told tells) (m : Simulation W) (size : ℕ) (wave_paths : List (List ℕ)) : Type 0 where
   -- the design
   pub file : List ℕ
-  pub file_is : IsTrue tells → file ≡ old.contents.files job.design
-  pub taken : IsTrue tells → new.contents.left design_place ≡ []
+  pub file_is : IsTrue tells → file ≡ joined_files old.contents.files job.design job.others
+  pub taken : IsTrue tells → AreTaken job new.contents
   pub design : Design
   pub accepted : IsAcceptedText (job.head ++ file) job.top job.clock design
   pub size_is : size ≡ size_of design
@@ -55,13 +50,13 @@ pub record IsPrepared {W : Type 0} (lane : W → ℕ → Bool) {tells : Bool} (j
   pub readable : AreAttached new.register m.stimuli
   pub kept : IsTrue tells → AreTextsKept old.contents new.contents
 
--- The design's file was taken to its end, accepted behind the head and loaded, each lane's stimulus is about to give its first vector, and the outputs are
+-- The design's files were taken to their ends, accepted behind the head and loaded, each lane's stimulus is about to give its first vector, and the outputs are
 -- watched, of which nothing was found, where the desk told this before and tells that now, and `lane` reads a lane of a word.
 pub record IsCheckPrepared {W : Type 0} (lane : W → ℕ → Bool) {tells : Bool} (job : Job) (old new : Told tells) (m : Checking W) (size : ℕ) : Type 0 where
   -- the design
   pub file : List ℕ
-  pub file_is : IsTrue tells → file ≡ old.contents.files job.design
-  pub taken : IsTrue tells → new.contents.left design_place ≡ []
+  pub file_is : IsTrue tells → file ≡ joined_files old.contents.files job.design job.others
+  pub taken : IsTrue tells → AreTaken job new.contents
   pub design : Design
   pub accepted : IsAcceptedText (job.head ++ file) job.top job.clock design
   pub size_is : size ≡ size_of design
@@ -79,22 +74,22 @@ pub record IsCheckPrepared {W : Type 0} (lane : W → ℕ → Bool) {tells : Boo
   pub readable : AreAttached new.register m.stimuli
   pub kept : IsTrue tells → AreTextsKept old.contents new.contents
 
--- the design's file is accepted behind the head, where the desk told this
+-- the design's files are accepted behind the head, where the desk told this
 pub record IsDesignLoaded (tells : Bool) (job : Job) (old : Contents) (a : Acceptance) (ports : PortLists) : Type 0 where
   pub file : List ℕ
-  pub file_is : IsTrue tells → file ≡ old.files job.design
+  pub file_is : IsTrue tells → file ≡ joined_files old.files job.design job.others
   pub loaded : IsLoaded (demands job.mode) (job.head ++ file) job.top job.clock a ports
 
 -- what the job runs, where the files have these bytes
 abbrev pub runs : {tells : Bool} {job : Job} {old : Contents} {a : Acceptance} {ports : PortLists} → IsDesignLoaded tells job old a ports → Run
 runs {job = job} {old = old} {a = a} l = run_of job old.files (design_of a.flat) l.loaded.accepted.accepted.clock.first (ports_of job.mode l.loaded.accepted)
 
--- The design's file was taken to its end and accepted behind the head as this design, and each lane's stimulus is about to give its first vector, where the
+-- The design's files were taken to their ends and accepted behind the head as this design, and each lane's stimulus is about to give its first vector, where the
 -- desk told this before and tells that now.
 pub record IsJobOpened {tells : Bool} (job : Job) (old new : Told tells) (a : Acceptance) (ports : PortLists) (ks : List Known) : Type 0 where
   -- the design
   pub loaded : IsDesignLoaded tells job old.contents a ports
-  pub taken : IsTrue tells → new.contents.left design_place ≡ []
+  pub taken : IsTrue tells → AreTaken job new.contents
   -- the desk behind the design's file, and the lanes from there on
   pub middle : Contents
   pub files : IsTrue tells → middle.files ≡ old.contents.files

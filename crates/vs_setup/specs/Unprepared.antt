@@ -1,7 +1,7 @@
 -- Why a run or a check can't begin, by the error.
-use Rattle.std.specs.Prelude.{◌≡◌, ℕ, ◌<◌, ◌≤◌, ◌+◌, ◌⊎◌, Bool, IsTrue, List, [], ◌++◌, length, take, Some, Option}
+use Rattle.std.specs.Prelude.{◌≡◌, ℕ, ◌<◌, ◌≤◌, ◌+◌, ◌⊎◌, Bool, IsTrue, List, ◌++◌, length, take, Some, Option}
 use Rattle.vs_desk.specs.Desk.{Register, Contents, Told, Fails}
-use Rattle.vs_desk.specs.Places.{stimulus_place, design_place}
+use Rattle.vs_desk.specs.Places.{stimulus_place}
 use Rattle.vs_design.specs.Designs.{Design}
 use Rattle.vs_refusal.specs.declared.refusal.Refusal.{Refusal}
 use Rattle.vs_refusal.specs.Behind.{behind}
@@ -21,10 +21,10 @@ use Rattle.vs_setup.specs.declared.design_text.DesignError.TheVariants as D
 use Rattle.vs_setup.specs.declared.error.SetupError.{SetupError}
 use Rattle.vs_setup.specs.declared.error.SetupError.TheVariants.{TooLong, Refused, Stimulus, ReadFault, Memory}
 use Rattle.vs_setup.specs.Ports.{demands, ports_of}
-use Rattle.vs_setup.specs.DesignText.{design_text, with_design, IsTooLong, DesignFails}
+use Rattle.vs_setup.specs.DesignText.{AreTaken, IsDesignFault, IsUnread, design_text, with_design}
 use Rattle.vs_setup.specs.Places.{with_texts}
 
--- the design's file is accepted behind the head, as this design
+-- the design's files are accepted behind the head, as this design
 abbrev pub IsDesignOf : Job → Contents → Design → Type 0
 IsDesignOf job c d = IsAcceptedText (design_text job c) job.top job.clock d
 
@@ -34,13 +34,13 @@ pub record IsRefusedBehind (bytes : ℕ) (text : List ℕ) (top clock : Option (
   pub refused : IsRefusedText text top clock refusal
   pub told : r ≡ behind bytes refusal
 
--- The design's text has at most as many bytes as it may, all of its file was taken, and it is refused so, its places told in the file.
+-- The design's text has at most as many bytes as it may, all of its files were taken, and it is refused so, its places told behind the head.
 pub record IsDesignRefused (job : Job) (old new : Contents) (r : Refusal) : Type 0 where
   pub short : length (design_text job old) ≤ most_bytes
-  pub taken : new.left design_place ≡ []
+  pub taken : AreTaken job new
   pub refused : IsRefusedBehind (length job.head) (design_text job old) job.top job.clock r
 
--- it is a refusal of some file behind the head, for the names of the job's top and clock
+-- it is a refusal of some bytes behind the head, for the names of the job's top and clock
 abbrev pub IsSomeRefusal : Job → Refusal → Type 0
 IsSomeRefusal job r = (file : List ℕ) × IsRefusedBehind (length job.head) (job.head ++ file) job.top job.clock r
 
@@ -72,17 +72,12 @@ StimulusFails {tells} stimuli start old new lane = Fails (with_lanes start (take
     ⊎ (Fails (with_lanes start (take (lane + 1) stimuli)) new.register (stimulus_place lane) start.asked
     × (IsTrue tells → IsUntold first_place (text_of old.contents stimuli lane) (new.contents.left (stimulus_place lane))))
 
--- a fault at the place of the design
-pub record IsDesignFault {tells : Bool} (job : Job) (old new : Told tells) (place : ℕ) : Type 0 where
-  pub place_is : place ≡ design_place
-  pub fails : DesignFails old new job.head job.design
-
 -- a fault at the place of a stimulus, behind the earlier ones
 pub record IsStimulusFault {tells : Bool} (job : Job) (old new : Told tells) (place : ℕ) : Type 0 where
   pub lane : ℕ
   pub is_lane : lane < length job.stimuli
   pub place_is : place ≡ stimulus_place lane
-  pub fails : StimulusFails job.stimuli (with_design old.register job.design) old new lane
+  pub fails : StimulusFails job.stimuli (with_design old.register job.design job.others) old new lane
   pub earlier : IsTrue tells → AreEarlierOpened job old.contents lane
 
 -- A text is refused up to its header, for want of outputs only where these are demanded; a fault isn't that, nor is want of memory.
@@ -94,13 +89,13 @@ IsTextRefusal demanded error = IsHeaderError error
 
 -- Why a run or a check can't begin, where the desk told this before and tells that now.
 abbrev pub IsUnprepared : {tells : Bool} → Job → Told tells → Told tells → SetupError → Type 0
-IsUnprepared {tells} job old new TooLong = (new.register ≡ with_design old.register job.design) × (IsTrue tells → IsTooLong job.head (old.contents.files job.design) (new.contents.left design_place))
+IsUnprepared {tells} job old new TooLong = IsUnread job old new D.TooLong
 IsUnprepared {tells} job old new (Refused r) =
-    (new.register ≡ with_design old.register job.design) × IsSomeRefusal job r × (IsTrue tells → IsDesignRefused job old.contents new.contents r)
+    (new.register ≡ with_design old.register job.design job.others) × IsSomeRefusal job r × (IsTrue tells → IsDesignRefused job old.contents new.contents r)
 IsUnprepared {tells} job old new (Stimulus lane error) =
     (lane < length job.stimuli) × IsTextRefusal (demands job.mode) error × (new.register ≡ with_texts old.register job (take (lane + 1) job.stimuli)) × (IsTrue tells → IsHeaderRefusal job old.contents lane error)
 IsUnprepared {tells} job old new (ReadFault place) = IsDesignFault job old new place ⊎ IsStimulusFault job old new place
-IsUnprepared {tells} job old new Memory = (new.register ≡ old.register) ⊎ ((lanes : ℕ) × (lanes ≤ length job.stimuli) × (new.register ≡ with_texts old.register job (take lanes job.stimuli)))
+IsUnprepared {tells} job old new Memory = IsUnread job old new D.Memory ⊎ ((lanes : ℕ) × (lanes ≤ length job.stimuli) × (new.register ≡ with_texts old.register job (take lanes job.stimuli)))
 
 -- Why a stimulus can't be opened, where the design's ports are these.
 abbrev pub IsUnopened : {tells : Bool} → PortLists → List (List ℕ) → Told tells → Told tells → SetupError → Type 0
@@ -121,7 +116,7 @@ error_of lane error = Stimulus lane error
 -- the error of a design's text that can't be read
 abbrev pub design_error : DesignError → SetupError
 design_error D.TooLong = TooLong
-design_error D.ReadFault = ReadFault design_place
+design_error (D.ReadFault place) = ReadFault place
 design_error D.Memory = Memory
 
 -- the error of a text that isn't accepted, its places told behind this many bytes

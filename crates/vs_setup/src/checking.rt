@@ -9,7 +9,8 @@ ghost use Rattle.vs_rounds.specs.Checked.{AreCheckParts, IsCheckable};
 ghost use Rattle.vs_job.specs.Job.{IsJob};
 ghost use Rattle.vs_setup.specs.Loaded.{watched};
 ghost use Rattle.vs_setup.specs.Places.{IsFresh};
-ghost use Rattle.vs_setup.specs.Prepared.{AreTextsKept, IsCheckPrepared};
+ghost use Rattle.vs_setup.specs.DesignText.{AreTextsKept};
+ghost use Rattle.vs_setup.specs.Prepared.{IsCheckPrepared};
 ghost use Rattle.vs_setup.specs.Unprepared.{IsUnprepared};
 
 use crate::SetupError;
@@ -32,7 +33,7 @@ pub struct PreparedCheck<W: Lanes> {
     pub size: u64,
 }
 
-/// Prepares a check: reads the design at place 1 and accepts it behind the lines of the job's macros, opens the stimulus of lane i at place
+/// Prepares a check: reads the design at place 1, its further file i at place 3000 + i, and accepts them behind the lines of the job's macros, opens the stimulus of lane i at place
 /// 1000 + i by lane, and takes all the memory that the check needs. Whether the header of a stimulus has to name an output says the job's mode.
 pub fn prepare_check<W: Lanes, D: Desk>(
     alloc: Global,
@@ -41,7 +42,7 @@ pub fn prepare_check<W: Lanes, D: Desk>(
 ) -> Result<PreparedCheck<W>, SetupError>
     requires lanes { length job.now.stimuli ≤ W.LANES }
     requires job { IsJob job.now }
-    requires fresh { IsFresh (D.told desk.old).register (length job.now.stimuli) }
+    requires fresh { IsFresh (D.told desk.old).register (length job.now.stimuli) (length job.now.others) }
     ensures prepared { IfOk result (λ p. IsCheckPrepared W.lane job.now (D.told desk.old) (D.told desk.new) p.checker p.size) }
     ensures unprepared { IfErr result (IsUnprepared job.now (D.told desk.old) (D.told desk.new)) }
     ensures kept { IsTrue D.tells → AreTextsKept (D.told desk.old).contents (D.told desk.new).contents }

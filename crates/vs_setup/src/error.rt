@@ -8,7 +8,6 @@ use crate::design_text::DesignError;
 use std::alloc::AllocError;
 use thiserror::Error;
 use vs_accept::AcceptError;
-use vs_desk::DESIGN_PLACE;
 use vs_refusal::Refusal;
 use vs_stim::StimError;
 
@@ -18,7 +17,7 @@ pub enum SetupError {
     /// 3: the design has more than 4,194,304 bytes, with the lines of the macros before it.
     #[error("the design is too long")]
     TooLong,
-    /// 10 to 66: the text is no design, or its design breaks a rule. Places are those of the design's file.
+    /// 10 to 66: the text is no design, or its design breaks a rule. Places are told behind the lines of the macros.
     #[error("the design is refused")]
     Refused(Refusal),
     /// 70, 75 or 76: a lane's stimulus is refused at a line up to its header. 79: its header names no output, though in a check it has to.
@@ -46,9 +45,7 @@ impl From<DesignError> for SetupError {
     fn from(error: DesignError) -> SetupError {
         match error {
             DesignError::TooLong => SetupError::TooLong,
-            DesignError::ReadFault => SetupError::ReadFault {
-                place: DESIGN_PLACE,
-            },
+            DesignError::ReadFault { place } => SetupError::ReadFault { place },
             DesignError::Memory => SetupError::Memory,
         }
     }

@@ -1,8 +1,7 @@
 //! The set-up of a run, and what a check's has in common with it.
 
-ghost use Rattle.std.specs.Prelude.{◌≡◌, ◌≤◌, ◌<◌, [], All, IsNone, IsTrue, IfOk, IfErr, OnOk, length, map, string_bytes};
-ghost use Rattle.vs_desk.specs.Taking.{OnlyTaken};
-ghost use Rattle.vs_desk.specs.Places.{design_place, most_lanes};
+ghost use Rattle.std.specs.Prelude.{◌≡◌, ◌≤◌, ◌<◌, All, IsTrue, IfOk, IfErr, OnOk, length, map, string_bytes};
+ghost use Rattle.vs_desk.specs.Places.{most_lanes, most_others};
 ghost use Rattle.vs_flat.specs.DesignOf.{design_of};
 ghost use Rattle.vs_accept.specs.Accepted.{most_bytes};
 ghost use Rattle.vs_design.specs.Sizes.{size as size_of};
@@ -14,9 +13,9 @@ ghost use Rattle.vs_feed.specs.Opened.{AreFree, AreOpened, HaveHeaders, with_lan
 ghost use Rattle.vs_waves.specs.Wave.{IsNewWave};
 ghost use Rattle.vs_job.specs.Job.{IsJob, most_head};
 ghost use Rattle.vs_job.specs.Places.{vcd_path};
-ghost use Rattle.vs_setup.specs.DesignText.{with_design};
+ghost use Rattle.vs_setup.specs.DesignText.{AreFilesFree, AreTaken, AreTextsKept, with_design};
 ghost use Rattle.vs_setup.specs.Places.{IsFresh, with_texts};
-ghost use Rattle.vs_setup.specs.Prepared.{AreTextsKept, IsDesignLoaded, IsJobOpened, IsPrepared};
+ghost use Rattle.vs_setup.specs.Prepared.{IsDesignLoaded, IsJobOpened, IsPrepared};
 ghost use Rattle.vs_setup.specs.Unprepared.{error_of, IsLoadError, IsUnopened, IsUnprepared};
 
 use crate::SetupError;
@@ -24,7 +23,7 @@ use crate::design_text::read_design;
 use crate::loading::{Loaded, engine_of, load};
 use std::alloc::{AllocError, Global};
 use vs_accept::Accepted;
-use vs_desk::{Desk, FIRST_STIMULUS};
+use vs_desk::{Desk, FIRST_STIMULUS, attach_law};
 use vs_engine::Engine;
 use vs_feed::{Drive, Stopped, open};
 use vs_job::{Job, Mode, stimulus_paths, vcd_paths};
@@ -55,7 +54,7 @@ pub struct Opened {
     pub drive: Drive,
 }
 
-/// Prepares a run: reads the design at place 1 and accepts it behind the lines of the job's macros, opens the stimulus of lane i at place
+/// Prepares a run: reads the design at place 1, its further file i at place 3000 + i, and accepts them behind the lines of the job's macros, opens the stimulus of lane i at place
 /// 1000 + i by lane, and takes all the memory that the run needs.
 pub fn prepare<W: Lanes, D: Desk>(
     alloc: Global,
@@ -64,7 +63,7 @@ pub fn prepare<W: Lanes, D: Desk>(
 ) -> Result<Prepared<W>, SetupError>
     requires lanes { length job.now.stimuli ≤ W.LANES }
     requires job { IsJob job.now }
-    requires fresh { IsFresh (D.told desk.old).register (length job.now.stimuli) }
+    requires fresh { IsFresh (D.told desk.old).register (length job.now.stimuli) (length job.now.others) }
     ensures prepared { IfOk result (λ p. IsPrepared W.lane job.now (D.told desk.old) (D.told desk.new) p.machine p.size (map string_bytes p.wave_paths.items)) }
     ensures unprepared { IfErr result (IsUnprepared job.now (D.told desk.old) (D.told desk.new)) }
     ensures kept { IsTrue D.tells → AreTextsKept (D.told desk.old).contents (D.told desk.new).contents }
@@ -75,16 +74,17 @@ pub fn prepare<W: Lanes, D: Desk>(
     Ok(prepared)
 }
 
-/// Reads the design at place 1 and accepts it behind the lines of the job's macros, and opens the stimulus of lane i at place 1000 + i by lane.
+/// Reads the design at place 1, its further file i at place 3000 + i, and accepts them behind the lines of the job's macros, and opens the stimulus of lane i at place 1000 + i by lane.
 /// Nothing is compiled. Whether the header of a stimulus has to name an output says the job's mode.
 pub fn open_job<D: Desk>(alloc: Global, job: &Job, desk: &mut D) -> Result<Opened, SetupError>
     requires job { IsJob job.now }
-    requires fresh { IsFresh (D.told desk.old).register (length job.now.stimuli) }
+    requires fresh { IsFresh (D.told desk.old).register (length job.now.stimuli) (length job.now.others) }
     ensures opened { IfOk result (λ o. IsJobOpened job.now (D.told desk.old) (D.told desk.new) o.accepted o.ports o.drive) }
     ensures register { OnOk result ((D.told desk.new).register ≡ with_texts (D.told desk.old).register job.now job.now.stimuli) }
     ensures unprepared { IfErr result (IsUnprepared job.now (D.told desk.old) (D.told desk.new)) }
     ensures kept { IsTrue D.tells → AreTextsKept (D.told desk.old).contents (D.told desk.new).contents }
 {
+    attach_law();
     let loaded = read_and_load(alloc, job, desk)?;
     let drive = open_stimuli(alloc, job, desk, &loaded.ports)?;
     let Loaded { accepted, ports } = loaded;
@@ -97,16 +97,16 @@ pub fn open_job<D: Desk>(alloc: Global, job: &Job, desk: &mut D) -> Result<Opene
 
 /// Reads the design and loads it.
 fn read_and_load<D: Desk>(alloc: Global, job: &Job, desk: &mut D) -> Result<Loaded, SetupError>
-    requires free { IsNone ((D.told desk.old).register.attached design_place) }
+    requires free { AreFilesFree (D.told desk.old).register (length job.now.others) }
     requires head { length job.now.head ≤ most_head }
+    requires together { length job.now.others ≤ most_others }
     ensures loaded { IfOk result (λ l. IsDesignLoaded D.tells job.now (D.told desk.old).contents l.accepted l.ports) }
-    ensures register { OnOk result ((D.told desk.new).register ≡ with_design (D.told desk.old).register job.now.design) }
+    ensures register { OnOk result ((D.told desk.new).register ≡ with_design (D.told desk.old).register job.now.design job.now.others) }
     ensures unprepared { IfErr result (IsUnprepared job.now (D.told desk.old) (D.told desk.new)) }
-    ensures taken { IsTrue D.tells → OnOk result ((D.told desk.new).contents.left design_place ≡ []) }
-    ensures only { IsTrue D.tells → OnlyTaken design_place (D.told desk.old).contents (D.told desk.new).contents }
+    ensures taken { IsTrue D.tells → OnOk result (AreTaken job.now (D.told desk.new).contents) }
+    ensures kept { IsTrue D.tells → AreTextsKept (D.told desk.old).contents (D.told desk.new).contents }
 {
-    let path = String::from_str(alloc, job.design.as_str())?;
-    let text = read_design(alloc, desk, path, job.head.as_bytes())?;
+    let text = read_design(alloc, desk, job)?;
     load_text(alloc, job, text.as_slice())
 }
 

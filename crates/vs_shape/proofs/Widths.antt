@@ -1,6 +1,6 @@
 -- Lengths of what fits, and lengths as far as 65.
 use Rattle.std.proofs.Common.{◌≡◌, ℕ, ◌≤◌, true, min, refl, arith}
-use Rattle.vs_design.specs.Expressions.{Expression, width, unary_length, binary_length, UnaryOp, Plus, Minus, BitNot, Signed, Unsigned, Way, InContext, Own, Compared, Shifted}
+use Rattle.vs_design.specs.Expressions.{Expression, width, unary_length, binary_length, UnaryOp, Plus, Minus, BitNot, Signed, Unsigned, Way, InContext, Own, Compared, Shifted, Raised}
 use Rattle.vs_design.specs.Fits.{fits}
 use Rattle.vs_design.proofs.WidthExact.{width_most}
 
@@ -21,6 +21,7 @@ binary_room InContext m n h k = omega arith
 binary_room Own m n h k = omega arith
 binary_room Compared m n h k = omega arith
 binary_room Shifted m n h k = h
+binary_room Raised m n h k = h
 
 -- and is as far as 65 by theirs
 pub unary_capped : (op : UnaryOp) (n : ℕ) → unary_length op (min n 65) ≡ min (unary_length op n) 65
@@ -36,6 +37,7 @@ binary_capped InContext m n = omega arith
 binary_capped Own m n = refl
 binary_capped Compared m n = refl
 binary_capped Shifted m n = refl
+binary_capped Raised m n = refl
 
 pub ruleset unary_lengths = (unary_room, unary_capped)
 

@@ -17,6 +17,6 @@ unary_applied op a w s = apply_unary op (value a (left_width (unary_way op) w (w
 
 abbrev pub binary_applied : BinaryOp → Expression → Expression → ℕ → Bool → BitList
 binary_applied op a b w s =
-    apply_binary op (left_sign (way op) s (sign a) (sign b))
+    apply_binary op (left_sign (way op) s (sign a) (sign b)) (right_sign (way op) s (sign a) (sign b))
     (value a (left_width (way op) w (width a) (width b)) (left_sign (way op) s (sign a) (sign b)) (λ b. X))
     (value b (right_width (way op) w (width a) (width b)) (right_sign (way op) s (sign a) (sign b)) (λ b. X))

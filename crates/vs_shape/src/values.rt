@@ -154,7 +154,9 @@ impl Shapes {
     {
         match op.way() {
             Way::InContext => op.apply(self.value(a, w, signed)),
-            Way::Own | Way::Compared | Way::Shifted => op.apply(self.constant_value(a)),
+            Way::Own | Way::Compared | Way::Shifted | Way::Raised => {
+                op.apply(self.constant_value(a))
+            }
         }
     }
 
@@ -190,21 +192,21 @@ impl Shapes {
         match op.way() {
             Way::InContext => {
                 let value = self.value(a, w, signed);
-                op.apply(signed, value, self.value(b, w, signed))
+                op.apply(signed, signed, value, self.value(b, w, signed))
             }
-            Way::Shifted => {
+            Way::Shifted | Way::Raised => {
                 let value = self.value(a, w, signed);
-                op.apply(signed, value, self.constant_value(b))
+                op.apply(signed, right.signed, value, self.constant_value(b))
             }
             Way::Own => {
                 let value = self.constant_value(a);
-                op.apply(left.signed, value, self.constant_value(b))
+                op.apply(left.signed, right.signed, value, self.constant_value(b))
             }
             Way::Compared => {
                 let width = u32::from(left.width.max(right.width));
                 let both = left.signed && right.signed;
                 let value = self.value(a, width, both);
-                op.apply(both, value, self.value(b, width, both))
+                op.apply(both, both, value, self.value(b, width, both))
             }
         }
     }

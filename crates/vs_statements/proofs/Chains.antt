@@ -74,6 +74,9 @@ unary_is level.Unary e = refl
 unary_is _ e = cc
 
 -- the operator that was picked
+power_at : (input : Input) {i : ℕ} {p : Operator} {j : ℕ} → j ≡ i + 1 → i < length input.tokens.now → IsBeside (kind_at input.tokens.now i) p (table_of level.Power) → Chosen input.tokens.now (level_operator level.Power) (level_op level.Power) i p j
+power_at input {i} {p} {j} n h b = elim b [ inl q ↦ subst (λ z. Chosen input.tokens.now (level_operator level.Power) (level_op level.Power) i z j) (sym q.1) (let e = q.0 in chosen_tok 82 e h n) | inr b ↦ absurd b ]
+
 product_at : (input : Input) {i : ℕ} {p : Operator} {j : ℕ} → j ≡ i + 1 → i < length input.tokens.now → IsBeside (kind_at input.tokens.now i) p (table_of level.Product) → Chosen input.tokens.now (level_operator level.Product) (level_op level.Product) i p j
 product_at input {i} {p} {j} n h b = elim b [ inl q ↦ subst (λ z. Chosen input.tokens.now (level_operator level.Product) (level_op level.Product) i z j) (sym q.1) (let e = q.0 in chosen_former meaning.product_op (λ a. refl) (chosen_tok 54 e h n)) | inr b ↦ elim b [ inl q ↦ subst (λ z. Chosen input.tokens.now (level_operator level.Product) (level_op level.Product) i z j) (sym q.1) (let e = q.0 in chosen_latter meaning.product_op (λ a. refl) (known input.tokens.now i 55 (54 ∷ []) false e refl) (chosen_former (λ z. meaning.product_op (latter z)) (λ a. refl) (chosen_tok 55 e h n))) | inr b ↦ elim b [ inl q ↦ subst (λ z. Chosen input.tokens.now (level_operator level.Product) (level_op level.Product) i z j) (sym q.1) (let e = q.0 in chosen_latter meaning.product_op (λ a. refl) (known input.tokens.now i 56 (54 ∷ []) false e refl) (chosen_latter (λ z. meaning.product_op (latter z)) (λ a. refl) (known input.tokens.now i 56 (55 ∷ []) false e refl) (chosen_tok 56 e h n))) | inr b ↦ absurd b ] ] ]
 
@@ -109,6 +112,7 @@ operator_at input level.Unary w = absurd (no w.beside)
   where
     no : ⊥ → ⊥
     no h = h
+operator_at input level.Power w = power_at input w.next w.inside w.beside
 operator_at input level.Product w = product_at input w.next w.inside w.beside
 operator_at input level.Sum w = sum_at input w.next w.inside w.beside
 operator_at input level.Shift w = shift_at input w.next w.inside w.beside
@@ -122,6 +126,7 @@ operator_at input level.LogicalOr w = logical_or_at input w.next w.inside w.besi
 
 pub chained_start : {input : Input} {d i : ℕ} {value : Expr} {j height : ℕ} (v : Level) → is_unary_level v ≡ false → Measured input (level_phrase (below_of v)) (level_of (below_of v)) d i value j height → Chain input v d i value j height
 chained_start level.Unary e p = not_unary e
+chained_start level.Power e p = record { operands = growing_start meaning.power_chain (λ b a. refl) p }
 chained_start level.Product e p = record { operands = growing_start meaning.product_chain (λ b a. refl) p }
 chained_start level.Sum e p = record { operands = growing_start meaning.sum_chain (λ b a. refl) p }
 chained_start level.Shift e p = record { operands = growing_start meaning.shift_chain (λ b a. refl) p }
@@ -135,6 +140,7 @@ chained_start level.LogicalOr e p = record { operands = growing_start meaning.lo
 
 pub chained_more : {input : Input} {d i : ℕ} {value : Expr} {j height f : ℕ} {p : BinaryOp} {k : ℕ} {right : Expr} {n high : ℕ} {both_of : Expr} {now : ℕ} (v : Level) → Chain input v d i value j height → f ≡ d + 1 → d + height < 200 → Chosen input.tokens.now (level_operator v) (level_op v) j p k → Measured input (level_phrase (below_of v)) (level_of (below_of v)) f k right n high → both_of ≡ Binary p value right → now ≡ 1 + max height high → Chain input v d i both_of n now
 chained_more level.Unary g q h c s w u = absurd g.operands
+chained_more level.Power g q h c s w u = record { operands = growing_more (λ b a c e. refl) c.here g.operands q h c s w u }
 chained_more level.Product g q h c s w u = record { operands = growing_more (λ b a c e. refl) c.here g.operands q h c s w u }
 chained_more level.Sum g q h c s w u = record { operands = growing_more (λ b a c e. refl) c.here g.operands q h c s w u }
 chained_more level.Shift g q h c s w u = record { operands = growing_more (λ b a c e. refl) c.here g.operands q h c s w u }
@@ -148,6 +154,7 @@ chained_more level.LogicalOr g q h c s w u = record { operands = growing_more (�
 
 pub chained_done : {input : Input} {d i : ℕ} {value : Expr} {j height : ℕ} (v : Level) → is_member (kind_at input.tokens.now j) (kinds_in (table_of v)) ≡ false → Chain input v d i value j height → Measured input (level_phrase v) (level_of v) d i value j height
 chained_done level.Unary m g = absurd g.operands
+chained_done level.Power m g = measured_var meaning.power_of (λ b a. refl) (growing_done m g.operands)
 chained_done level.Product m g = measured_var meaning.product_of (λ b a. refl) (growing_done m g.operands)
 chained_done level.Sum m g = measured_var meaning.sum_of (λ b a. refl) (growing_done m g.operands)
 chained_done level.Shift m g = measured_var meaning.shift_of (λ b a. refl) (growing_done m g.operands)
@@ -161,6 +168,7 @@ chained_done level.LogicalOr m g = measured_var meaning.logical_or_of (λ b a. r
 
 pub chained_refused_first : (input : Input) {d i : ℕ} {e : ParseError} (v : Level) → is_unary_level v ≡ false → Refused input.tokens.now d (level_phrase (below_of v)) i e → Refused input.tokens.now d (level_phrase v) i e
 chained_refused_first input level.Unary e p = not_unary e
+chained_refused_first input level.Power e p = refused_var (refused_start p)
 chained_refused_first input level.Product e p = refused_var (refused_start p)
 chained_refused_first input level.Sum e p = refused_var (refused_start p)
 chained_refused_first input level.Shift e p = refused_var (refused_start p)
@@ -174,6 +182,7 @@ chained_refused_first input level.LogicalOr e p = refused_var (refused_start p)
 
 pub chained_refused : {input : Input} {d i : ℕ} {value : Expr} {j height f k : ℕ} {p : BinaryOp} {e : ParseError} (v : Level) → Chain input v d i value j height → f ≡ d + 1 → Chosen input.tokens.now (level_operator v) (level_op v) j p k → Refused input.tokens.now f (level_phrase (below_of v)) k e → Refused input.tokens.now d (level_phrase v) i e
 chained_refused level.Unary g q c s = absurd g.operands
+chained_refused level.Power g q c s = refused_var (growing_refused c.here g.operands q c s)
 chained_refused level.Product g q c s = refused_var (growing_refused c.here g.operands q c s)
 chained_refused level.Sum g q c s = refused_var (growing_refused c.here g.operands q c s)
 chained_refused level.Shift g q c s = refused_var (growing_refused c.here g.operands q c s)
@@ -187,6 +196,7 @@ chained_refused level.LogicalOr g q c s = refused_var (growing_refused c.here g.
 
 pub chained_too_deep : {input : Input} {d i : ℕ} {value : Expr} {j height k : ℕ} {p : BinaryOp} {e : ParseError} (v : Level) → Chain input v d i value j height → Chosen input.tokens.now (level_operator v) (level_op v) j p k → e ≡ TooDeep j → 200 ≤ d + height → Refused input.tokens.now d (level_phrase v) i e
 chained_too_deep level.Unary g c q h = absurd g.operands
+chained_too_deep level.Power g c q h = refused_var (growing_too_deep c.here g.operands c q h)
 chained_too_deep level.Product g c q h = refused_var (growing_too_deep c.here g.operands c q h)
 chained_too_deep level.Sum g c q h = refused_var (growing_too_deep c.here g.operands c q h)
 chained_too_deep level.Shift g c q h = refused_var (growing_too_deep c.here g.operands c q h)

@@ -22,7 +22,8 @@ is_unary_level _ = false
 
 abbrev pub below_of : Level → Level
 below_of level.Unary = level.Unary
-below_of level.Product = level.Unary
+below_of level.Power = level.Unary
+below_of level.Product = level.Power
 below_of level.Sum = level.Product
 below_of level.Shift = level.Sum
 below_of level.Relation = level.Shift
@@ -35,19 +36,21 @@ below_of level.LogicalOr = level.LogicalAnd
 
 abbrev pub rank_of : Level → ℕ
 rank_of level.Unary = 0
-rank_of level.Product = 1
-rank_of level.Sum = 2
-rank_of level.Shift = 3
-rank_of level.Relation = 4
-rank_of level.Equality = 5
-rank_of level.BitAnd = 6
-rank_of level.BitXor = 7
-rank_of level.BitOr = 8
-rank_of level.LogicalAnd = 9
-rank_of level.LogicalOr = 10
+rank_of level.Power = 1
+rank_of level.Product = 2
+rank_of level.Sum = 3
+rank_of level.Shift = 4
+rank_of level.Relation = 5
+rank_of level.Equality = 6
+rank_of level.BitAnd = 7
+rank_of level.BitXor = 8
+rank_of level.BitOr = 9
+rank_of level.LogicalAnd = 10
+rank_of level.LogicalOr = 11
 
 abbrev pub table_of : Level → List (TokenKind × BinaryOp)
 table_of level.Unary = []
+table_of level.Power = (kind.Power, binary.Power) ∷ []
 table_of level.Product = (kind.Star, binary.Multiply) ∷ (kind.Slash, binary.Divide) ∷ (kind.Percent, binary.Remainder) ∷ []
 table_of level.Sum = (kind.Plus, binary.Add) ∷ (kind.Minus, binary.Subtract) ∷ []
 table_of level.Shift = (kind.ShiftLeft, binary.ShiftLeft) ∷ (kind.ShiftRight, binary.ShiftRight) ∷ (kind.ArithmeticShiftLeft, binary.ShiftLeftArith) ∷ (kind.ArithmeticShiftRight, binary.ShiftRightArith) ∷ []
@@ -62,6 +65,7 @@ table_of level.LogicalOr = (kind.OrOr, binary.LogicalOr) ∷ []
 -- the rule of a level
 abbrev pub level_phrase : Level → Phrase
 level_phrase level.Unary = r rule.Unary
+level_phrase level.Power = r rule.Power
 level_phrase level.Product = r rule.Product
 level_phrase level.Sum = r rule.Sum
 level_phrase level.Shift = r rule.Shift
@@ -75,6 +79,7 @@ level_phrase level.LogicalOr = r rule.LogicalOr
 
 abbrev pub level_operator : Level → Phrase
 level_operator level.Unary = eps
+level_operator level.Power = t kind.Power
 level_operator level.Product = product_operator
 level_operator level.Sum = sum_operator
 level_operator level.Shift = shift_operator
@@ -88,6 +93,7 @@ level_operator level.LogicalOr = t kind.OrOr
 
 abbrev pub level_op : (v : Level) → D (level_operator v) → BinaryOp
 level_op level.Unary = λ o. binary.Add
+level_op level.Power = (λ o. binary.Power)
 level_op level.Product = meaning.product_op
 level_op level.Sum = meaning.sum_op
 level_op level.Shift = meaning.shift_op
@@ -102,6 +108,7 @@ level_op level.LogicalOr = (λ o. binary.LogicalOr)
 -- what an expression of a level stands for
 abbrev pub level_of : (v : Level) → (ℕ → List ℕ) → D (level_phrase v) → Expr
 level_of level.Unary = meaning.unary_of
+level_of level.Power = meaning.power_of
 level_of level.Product = meaning.product_of
 level_of level.Sum = meaning.sum_of
 level_of level.Shift = meaning.shift_of
@@ -116,7 +123,8 @@ level_of level.LogicalOr = meaning.logical_or_of
 -- as far as the operands and operators of a level have been read
 abbrev pub Chained : Input → Level → ℕ → ℕ → Expr → ℕ → ℕ → Type 0
 Chained input level.Unary d i value j height = ⊥
-Chained input level.Product d i value j height = Growing input (product_operator) (r rule.Unary) meaning.product_op meaning.unary_of meaning.product_chain d i value j height
+Chained input level.Power d i value j height = Growing input (t kind.Power) (r rule.Unary) (λ o. binary.Power) meaning.unary_of meaning.power_chain d i value j height
+Chained input level.Product d i value j height = Growing input (product_operator) (r rule.Power) meaning.product_op meaning.power_of meaning.product_chain d i value j height
 Chained input level.Sum d i value j height = Growing input (sum_operator) (r rule.Product) meaning.sum_op meaning.product_of meaning.sum_chain d i value j height
 Chained input level.Shift d i value j height = Growing input (shift_operator) (r rule.Sum) meaning.shift_op meaning.sum_of meaning.shift_chain d i value j height
 Chained input level.Relation d i value j height = Growing input (relation_operator) (r rule.Shift) meaning.relation_op meaning.shift_of meaning.relation_chain d i value j height

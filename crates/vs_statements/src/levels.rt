@@ -11,6 +11,7 @@ use vs_lexer::TokenKind;
 #[derive(Clone, Copy, Debug)]
 pub enum Level {
     Unary,
+    Power,
     Product,
     Sum,
     Shift,
@@ -35,7 +36,8 @@ pub fn below(level: Level) -> Level
     ensures { result ≡ below_of level }
 {
     match level {
-        Level::Unary | Level::Product => Level::Unary,
+        Level::Unary | Level::Power => Level::Unary,
+        Level::Product => Level::Power,
         Level::Sum => Level::Product,
         Level::Shift => Level::Sum,
         Level::Relation => Level::Shift,
@@ -54,6 +56,7 @@ pub fn operators(level: Level) -> &'static [(TokenKind, BinaryOp)]
 {
     match level {
         Level::Unary => &[],
+        Level::Power => &[(TokenKind::Power, BinaryOp::Power)],
         Level::Product => &[
             (TokenKind::Star, BinaryOp::Multiply),
             (TokenKind::Slash, BinaryOp::Divide),

@@ -31,10 +31,10 @@ paths_long (suc lane) =
 pub bench_job_is : (b : Bench) → IsBench b → IsJob (bench.job b.lanes)
 bench_job_is b h =
     let long = paths_long b.lanes in
-    record { half_from = omega arith; half_to = omega arith; short = omega arith; some = omega (arith, long, h.lanes_from); few = omega (arith, long, h.lanes_to); lone = λ order e. absurd (run_queue modes.Run order refl e) }
+    record { half_from = omega arith; half_to = omega arith; short = omega arith; together = omega arith; some = omega (arith, long, h.lanes_from); few = omega (arith, long, h.lanes_to); lone = λ order e. absurd (run_queue modes.Run order refl e) }
 
-pub all_unused : (lanes : ℕ) → IsUnused no_register lanes
-all_unused lanes = record { texts = record { design = refl; stimuli = λ i h. refl }; waves = λ i h. refl }
+pub all_unused : (lanes others : ℕ) → IsUnused no_register lanes others
+all_unused lanes others = record { texts = record { files = record { design = refl; each = λ i h. refl }; stimuli = λ i h. refl }; waves = λ i h. refl }
 
 -- how a bench ended, from how its job did
 pub bench_ended : (b : Bench) (j : Job) (old new : Told true) (inner o : Outcome) → j ≡ bench.job b.lanes

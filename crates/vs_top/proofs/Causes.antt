@@ -1,9 +1,9 @@
 -- What the desk's counts say of each answer.
-use Rattle.std.proofs.Common.{◌≡◌, ◌≢◌, ◌⊎◌, ℕ, suc, ◌+◌, Bool, List, [], ◌∷◌, ◌++◌, take, refl, sym, ap, ◌∙◌, subst, inl, inr, arith}
+use Rattle.std.proofs.Common.{◌≡◌, ◌≢◌, ◌⊎◌, ℕ, zero, suc, ◌+◌, Bool, List, [], ◌∷◌, ◌++◌, take, refl, sym, ap, ◌∙◌, subst, inl, inr, arith}
 use Rattle.vs_desk.specs.declared.desk.Way.{Way}
 use Rattle.vs_desk.specs.declared.desk.Way.TheVariants.{Read, Write}
 use Rattle.vs_desk.specs.Desk.{Told, Register, Rose, Fails, with_place}
-use Rattle.vs_desk.specs.Places.{with_places, stimulus_place, waveform_place}
+use Rattle.vs_desk.specs.Places.{with_places, design_place, other_place, stimulus_place, waveform_place}
 use Rattle.vs_stim.specs.declared.error.StimError.{StimError}
 use Rattle.vs_stim.specs.declared.error.StimError.TheVariants as E
 use Rattle.vs_feed.specs.Opened.{path_at}
@@ -14,10 +14,10 @@ use Rattle.vs_rounds.specs.Stops.{HasCause, IsLineRefusal}
 use Rattle.vs_job.specs.declared.job.Job.{Job}
 use Rattle.vs_setup.specs.declared.error.SetupError.{SetupError}
 use Rattle.vs_setup.specs.declared.error.SetupError.TheVariants as S
-use Rattle.vs_setup.specs.DesignText.{with_design, DesignFails}
+use Rattle.vs_setup.specs.DesignText.{with_design, with_files, file_path, file_place, DesignFails, IsDesignFault}
 use Rattle.vs_setup.specs.Places.{with_texts}
 use Rattle.vs_setup.specs.Ports.{demands}
-use Rattle.vs_setup.specs.Unprepared.{IsUnprepared, IsTextRefusal, IsDesignFault, IsStimulusFault, StimulusFails}
+use Rattle.vs_setup.specs.Unprepared.{IsUnprepared, IsTextRefusal, IsStimulusFault, StimulusFails}
 use Rattle.vs_top.specs.declared.outcome.Outcome.{Outcome}
 use Rattle.vs_top.specs.declared.outcome.Outcome.TheVariants.{Done, Ordered, Refused, ReadFault, WriteFault, Memory}
 use Rattle.vs_top.specs.Answers.{stimulus_outcome, setup_outcome, stop_outcome}
@@ -47,10 +47,20 @@ placed r place way (path ∷ paths) =
     let later = placed (with_place r place way path) (suc place) way paths in
     record { faults = later.faults; losses = later.losses }
 
+designs : (r : Register) (design : List ℕ) (others : List (List ℕ)) → Quiet r (with_design r design others)
+designs r design others =
+    let all = placed (with_place r design_place Read design) (other_place 0) Read others in
+    record { faults = all.faults; losses = all.losses }
+
+files : (r : Register) (job : Job) (n : ℕ) → Quiet r (with_files r job n)
+files r job zero = quiet r
+files r job (suc i) = designs r job.design (take i job.others)
+
 texts : (r : Register) (job : Job) (stimuli : List (List ℕ)) → Quiet r (with_texts r job stimuli)
 texts r job stimuli =
-    let all = placed (with_design r job.design) (stimulus_place 0) Read stimuli in
-    record { faults = all.faults; losses = all.losses }
+    let first = designs r job.design job.others in
+    let all = placed (with_design r job.design job.others) (stimulus_place 0) Read stimuli in
+    record { faults = all.faults ∙ first.faults; losses = all.losses ∙ first.losses }
 
 waves : (r : Register) (job : Job) (paths : List (List ℕ)) → Quiet r (with_waves r job paths)
 waves r job paths =
@@ -124,28 +134,33 @@ stop_ends old mid new (R.Refused i e) q h = refusal_ends old new i e (line_refus
 stop_ends old mid new (R.ReadFault i) q h = read_ends old mid new (stimulus_place i) mid.asked q (λ e. omega arith) h
 stop_ends old mid new (R.WriteFault i) q h = write_ends old mid new (wave_place i) mid.asked q (λ e. omega arith) h
 
+file_is_other : (n : ℕ) → file_place n ≢ 0
+file_is_other zero = λ e. omega arith
+file_is_other (suc i) = λ e. omega arith
+
 design_ends : {tells : Bool} (job : Job) (old new : Told tells) (place : ℕ) → IsDesignFault job old new place → Ends old.register new.register (ReadFault place)
 design_ends job old new place h = subst (λ (p : ℕ). Ends old.register new.register (ReadFault p)) (sym h.place_is) (by h.fails)
   where
-    by : DesignFails old new job.head job.design → Ends old.register new.register (ReadFault 1)
-    by (inl f) = read_ends old.register old.register new.register 1 job.design (quiet old.register) (λ e. omega arith) f
-    by (inr f) = read_ends old.register (with_design old.register job.design) new.register 1 old.register.asked (placed old.register 1 Read (job.design ∷ [])) (λ e. omega arith) f.0
+    by : DesignFails job old new h.file → Ends old.register new.register (ReadFault (file_place h.file))
+    by (inl f) = read_ends old.register (with_files old.register job h.file) new.register (file_place h.file) (file_path job h.file) (files old.register job h.file) (file_is_other h.file) f
+    by (inr f) = read_ends old.register (with_files old.register job (suc h.file)) new.register (file_place h.file) old.register.asked (files old.register job (suc h.file)) (file_is_other h.file) f.0
 
 stimulus_ends : {tells : Bool} (job : Job) (old new : Told tells) (place : ℕ) → IsStimulusFault job old new place → Ends old.register new.register (ReadFault place)
 stimulus_ends job old new place h = subst (λ (p : ℕ). Ends old.register new.register (ReadFault p)) (sym h.place_is) (by h.fails)
   where
-    by : StimulusFails job.stimuli (with_design old.register job.design) old new h.lane → Ends old.register new.register (ReadFault (stimulus_place h.lane))
+    by : StimulusFails job.stimuli (with_design old.register job.design job.others) old new h.lane → Ends old.register new.register (ReadFault (stimulus_place h.lane))
     by (inl f) = read_ends old.register (with_texts old.register job (take h.lane job.stimuli)) new.register (stimulus_place h.lane) (path_at job.stimuli h.lane) (texts old.register job (take h.lane job.stimuli)) (λ e. omega arith) f
-    by (inr f) = read_ends old.register (with_texts old.register job (take (h.lane + 1) job.stimuli)) new.register (stimulus_place h.lane) old.register.asked (texts old.register job (take (h.lane + 1) job.stimuli)) (λ e. omega arith) f.0
+    by (inr f) = read_ends old.register (with_texts old.register job (take (h.lane + 1) job.stimuli)) new.register (stimulus_place h.lane) (with_design old.register job.design job.others).asked (texts old.register job (take (h.lane + 1) job.stimuli)) (λ e. omega arith) f.0
 
 setup_ends : {tells : Bool} (job : Job) (old new : Told tells) (e : SetupError) → IsUnprepared job old new e → Ends old.register new.register (setup_outcome e)
-setup_ends job old new S.TooLong h = let q = quiet_at old.register (with_design old.register job.design) new.register (placed old.register 1 Read (job.design ∷ [])) h.0 in record { fault = q.faults; losses = q.losses }
-setup_ends job old new (S.Refused r) h = let q = quiet_at old.register (with_design old.register job.design) new.register (placed old.register 1 Read (job.design ∷ [])) h.0 in record { fault = q.faults; losses = q.losses }
+setup_ends job old new S.TooLong h = let q = quiet_at old.register (with_files old.register job (suc h.0)) new.register (files old.register job (suc h.0)) h.2 in record { fault = q.faults; losses = q.losses }
+setup_ends job old new (S.Refused r) h =
+    let q = quiet_at old.register (with_design old.register job.design job.others) new.register (designs old.register job.design job.others) h.0 in record { fault = q.faults; losses = q.losses }
 setup_ends job old new (S.Stimulus i e) h =
     refusal_ends old.register new.register i e (text_refusal (demands job.mode) e h.1) (quiet_at old.register (with_texts old.register job (take (i + 1) job.stimuli)) new.register (texts old.register job (take (i + 1) job.stimuli)) h.2)
 setup_ends job old new (S.ReadFault place) (inl h) = design_ends job old new place h
 setup_ends job old new (S.ReadFault place) (inr h) = stimulus_ends job old new place h
-setup_ends job old new S.Memory (inl h) = let q = quiet_at old.register old.register new.register (quiet old.register) h in record { fault = q.faults; losses = q.losses }
+setup_ends job old new S.Memory (inl h) = let q = quiet_at old.register (with_files old.register job h.0) new.register (files old.register job h.0) h.2 in record { fault = q.faults; losses = q.losses }
 setup_ends job old new S.Memory (inr h) =
     let q = quiet_at old.register (with_texts old.register job (take h.0 job.stimuli)) new.register (texts old.register job (take h.0 job.stimuli)) h.2 in record { fault = q.faults; losses = q.losses }
 

@@ -18,9 +18,9 @@ use Rattle.vs_rounds.specs.Stops.{IsLaneOf, IsOfStimulus, HasCause}
 use Rattle.vs_rounds.specs.Verdicts.{AreChecked, IsCheckStop}
 use Rattle.vs_job.specs.declared.job.Job.{Job}
 use Rattle.vs_job.specs.declared.job.Mode.TheVariants as modes
-use Rattle.vs_setup.specs.DesignText.{design_text}
+use Rattle.vs_setup.specs.DesignText.{AreTextsKept, design_text}
 use Rattle.vs_setup.specs.Ports.{ports_of}
-use Rattle.vs_setup.specs.Prepared.{AreTextsKept, run_of}
+use Rattle.vs_setup.specs.Prepared.{run_of}
 use Rattle.vs_top.specs.declared.outcome.Summary.{Summary}
 use Rattle.vs_top.specs.declared.outcome.Outcome.{Outcome}
 use Rattle.vs_top.specs.declared.outcome.Outcome.TheVariants.{Done}
@@ -64,7 +64,7 @@ whole_checked lane every_run some_run vectors job old now new m size found s bef
       accepted = accepted_as job.top job.clock p.design (job.head ++ p.file) (design_text job old.contents) (ap (λ (file : List ℕ). job.head ++ file) (p.file_is t)) p.accepted;
       lanes = λ i h. lane_checked every_run some_run vectors p.design job.clock p.accepted.accepted run.ports (are_data_inputs p.design clock p.all_ports.inputs) (run.texts i) (found_at found i) (done.valid i h) (done.found i h);
       found_are = r.lanes ∙ lanes;
-      design_taken = (r.others t).before 1 (omega arith) ∙ (b.others t).before 1 (omega arith) ∙ p.taken t;
+      design_taken = (r.others t).before 1 (omega arith) ∙ (b.others t).before 1 (omega arith) ∙ (p.taken t).design;
       stimuli_taken = λ i h. done.taken i h;
       lanes_are = lanes_are;
       counted = counted;

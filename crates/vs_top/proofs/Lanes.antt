@@ -22,7 +22,7 @@ use Rattle.vs_rounds.specs.Lanes.{Simulation}
 use Rattle.vs_rounds.specs.Checked.{Checking, IsFound}
 use Rattle.vs_job.specs.declared.job.Job.{Job}
 use Rattle.vs_rounds.specs.Inputs.{data_inputs}
-use Rattle.vs_setup.specs.DesignText.{design_text}
+use Rattle.vs_setup.specs.DesignText.{design_text, joined_files}
 use Rattle.vs_setup.specs.Ports.{ports_of}
 use Rattle.vs_setup.specs.Prepared.{IsPrepared, IsCheckPrepared, run_of}
 use Rattle.vs_top.specs.Headline.{IsRunOn, IsLaneWritten}
@@ -118,7 +118,7 @@ accepted_as top clock d text other e a = record {
 }
 
 -- an accepted text and headers make the run of the job
-pub run_as : (job : Job) (old : Contents) (d : Design) (file : List ℕ) → file ≡ old.files job.design → (a : IsAcceptedText (job.head ++ file) job.top job.clock d)
+pub run_as : (job : Job) (old : Contents) (d : Design) (file : List ℕ) → file ≡ joined_files old.files job.design job.others → (a : IsAcceptedText (job.head ++ file) job.top job.clock d)
     → HaveHeaders (ports_of job.mode a) old.files job.stimuli (length job.stimuli) → IsRunOf job old (run_of job old.files d a.accepted.clock.first (ports_of job.mode a))
 run_as job old d file e a headers = record {
   design = d;

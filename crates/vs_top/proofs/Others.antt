@@ -1,9 +1,10 @@
 -- Places below those of stimuli, other than the design's, are attached as they were, whatever a job comes to.
-use Rattle.std.proofs.Common.{◌≡◌, ◌≢◌, ◌⊎◌, ℕ, ◌+◌, ◌<◌, ◌==◌, Bool, false, List, ◌++◌, take, Option, refl, ap, ◌∙◌, inl, inr, arith}
+use Rattle.std.proofs.Common.{◌≡◌, ◌≢◌, ◌⊎◌, ℕ, zero, suc, ◌+◌, ◌<◌, ◌==◌, Bool, false, List, ◌++◌, take, Option, refl, ap, ◌∙◌, inl, inr, arith}
 use Rattle.std.proofs.lemmas.Bool.{ne_eqb}
 use Rattle.vs_desk.specs.declared.desk.Way.TheVariants.{Read, Write}
-use Rattle.vs_desk.specs.Desk.{Register, Told, Fails, Attachment}
+use Rattle.vs_desk.specs.Desk.{Register, Told, Fails, Attachment, with_place}
 use Rattle.vs_desk.specs.Laws.{OtherPlacesStay}
+use Rattle.vs_desk.specs.Places.{design_place}
 use Rattle.vs_feed.specs.Opened.{with_lanes}
 use Rattle.vs_job.specs.declared.job.Job.{Job}
 use Rattle.vs_rounds.specs.declared.stop.Stop.{Stop}
@@ -11,7 +12,7 @@ use Rattle.vs_rounds.specs.declared.stop.Stop.TheVariants as stop
 use Rattle.vs_rounds.specs.Stops.{HasCause}
 use Rattle.vs_setup.specs.declared.error.SetupError.{SetupError}
 use Rattle.vs_setup.specs.declared.error.SetupError.TheVariants as setup
-use Rattle.vs_setup.specs.DesignText.{with_design, DesignFails}
+use Rattle.vs_setup.specs.DesignText.{with_design, with_files, DesignFails}
 use Rattle.vs_setup.specs.Places.{with_texts}
 use Rattle.vs_setup.specs.Unprepared.{IsUnprepared, StimulusFails}
 use Rattle.vs_top.specs.declared.outcome.Outcome.{Outcome}
@@ -38,14 +39,20 @@ same p w old new e = ap (λ (r : Register). r.attached p) e
 fails : (p : ℕ) → IsOther p → (old new : Register) (place : ℕ) (asked : List ℕ) → Fails old new place asked → IsLeft p old new
 fails p w old new place asked h = ap (λ (f : ℕ → Option Attachment). f p) h.attached
 
-designs : (p : ℕ) → IsOther p → (r : Register) (path : List ℕ) → IsLeft p r (with_design r path)
-designs p w r path = rw w.design refl
+designs : (p : ℕ) → IsOther p → OtherPlacesStay → (r : Register) (design : List ℕ) (others : List (List ℕ)) → IsLeft p r (with_design r design others)
+designs p w law r design others =
+    let first : (with_place r design_place Read design).attached p ≡ r.attached p = rw w.design refl in
+    law (with_place r design_place Read design) 3000 Read others p (inl (omega (arith, w.below))) ∙ first
+
+files : (p : ℕ) → IsOther p → OtherPlacesStay → (r : Register) (j : Job) (n : ℕ) → IsLeft p r (with_files r j n)
+files p w law r j zero = refl
+files p w law r j (suc i) = designs p w law r j.design (take i j.others)
 
 lanes : (p : ℕ) → IsOther p → OtherPlacesStay → (r : Register) (paths : List (List ℕ)) → IsLeft p r (with_lanes r paths)
 lanes p w law r paths = law r 1000 Read paths p (inl w.below)
 
 texts : (p : ℕ) → IsOther p → OtherPlacesStay → (r : Register) (j : Job) (stimuli : List (List ℕ)) → IsLeft p r (with_texts r j stimuli)
-texts p w law r j stimuli = lanes p w law (with_design r j.design) stimuli ∙ designs p w r j.design
+texts p w law r j stimuli = lanes p w law (with_design r j.design j.others) stimuli ∙ designs p w law r j.design j.others
 
 waves : (p : ℕ) → IsOther p → OtherPlacesStay → (r : Register) (j : Job) (paths : List (List ℕ)) → IsLeft p r (with_waves r j paths)
 waves p w law r j paths = law (with_texts r j j.stimuli) 2000 Write paths p (inl (omega (arith, w.below))) ∙ texts p w law r j j.stimuli
@@ -55,21 +62,21 @@ caused p w old new (stop.Refused lane error) h = same p w old new h.1
 caused p w old new (stop.ReadFault lane) h = fails p w old new _ _ h
 caused p w old new (stop.WriteFault lane) h = fails p w old new _ _ h
 
-design_fails : (p : ℕ) → IsOther p → {tells : Bool} (old new : Told tells) (head path : List ℕ) → DesignFails old new head path → IsLeft p old.register new.register
-design_fails p w old new head path (inl h) = fails p w old.register new.register _ _ h
-design_fails p w old new head path (inr h) = fails p w (with_design old.register path) new.register _ _ h.0 ∙ designs p w old.register path
+design_fails : (p : ℕ) → IsOther p → {tells : Bool} → OtherPlacesStay → (j : Job) (old new : Told tells) (n : ℕ) → DesignFails j old new n → IsLeft p old.register new.register
+design_fails p w law j old new n (inl h) = fails p w (with_files old.register j n) new.register _ _ h ∙ files p w law old.register j n
+design_fails p w law j old new n (inr h) = fails p w (with_files old.register j (suc n)) new.register _ _ h.0 ∙ files p w law old.register j (suc n)
 
 stimulus_fails : (p : ℕ) → IsOther p → {tells : Bool} → OtherPlacesStay → (stimuli : List (List ℕ)) (start : Register) (old new : Told tells) (lane : ℕ) → StimulusFails stimuli start old new lane → IsLeft p start new.register
 stimulus_fails p w law stimuli start old new lane (inl h) = fails p w (with_lanes start (take lane stimuli)) new.register _ _ h ∙ lanes p w law start (take lane stimuli)
 stimulus_fails p w law stimuli start old new lane (inr h) = fails p w (with_lanes start (take (lane + 1) stimuli)) new.register _ _ h.0 ∙ lanes p w law start (take (lane + 1) stimuli)
 
 unprepared : (p : ℕ) → IsOther p → {tells : Bool} → OtherPlacesStay → (j : Job) (old new : Told tells) (e : SetupError) → IsUnprepared j old new e → IsLeft p old.register new.register
-unprepared p w law j old new setup.TooLong h = same p w (with_design old.register j.design) new.register h.0 ∙ designs p w old.register j.design
-unprepared p w law j old new (setup.Refused r) h = same p w (with_design old.register j.design) new.register h.0 ∙ designs p w old.register j.design
+unprepared p w law j old new setup.TooLong h = same p w (with_files old.register j (suc h.0)) new.register h.2 ∙ files p w law old.register j (suc h.0)
+unprepared p w law j old new (setup.Refused r) h = same p w (with_design old.register j.design j.others) new.register h.0 ∙ designs p w law old.register j.design j.others
 unprepared p w law j old new (setup.Stimulus lane error) h = same p w (with_texts old.register j (take (lane + 1) j.stimuli)) new.register h.2 ∙ texts p w law old.register j (take (lane + 1) j.stimuli)
-unprepared p w law j old new (setup.ReadFault place) (inl h) = design_fails p w old new j.head j.design h.fails
-unprepared p w law j old new (setup.ReadFault place) (inr h) = stimulus_fails p w law j.stimuli (with_design old.register j.design) old new h.lane h.fails ∙ designs p w old.register j.design
-unprepared p w law j old new setup.Memory (inl e) = same p w old.register new.register e
+unprepared p w law j old new (setup.ReadFault place) (inl h) = design_fails p w law j old new h.file h.fails
+unprepared p w law j old new (setup.ReadFault place) (inr h) = stimulus_fails p w law j.stimuli (with_design old.register j.design j.others) old new h.lane h.fails ∙ designs p w law old.register j.design j.others
+unprepared p w law j old new setup.Memory (inl h) = same p w (with_files old.register j h.0) new.register h.2 ∙ files p w law old.register j h.0
 unprepared p w law j old new setup.Memory (inr h) = same p w (with_texts old.register j (take h.0 j.stimuli)) new.register h.2 ∙ texts p w law old.register j (take h.0 j.stimuli)
 
 stopped : (p : ℕ) → IsOther p → {tells : Bool} → OtherPlacesStay → (j : Job) (old new : Told tells) (o : Outcome) → IsRoundEnd j old new o → IsLeft p old.register new.register

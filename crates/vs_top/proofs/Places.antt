@@ -4,9 +4,9 @@ use Rattle.std.proofs.lemmas.Bool.{cases_lt, both_ways, ne_eqb, cond-false}
 use Rattle.std.proofs.lemmas.List.{get_or_past}
 use Rattle.vs_desk.specs.declared.desk.Way.{Way}
 use Rattle.vs_desk.specs.declared.desk.Way.TheVariants.{Read, Write}
-use Rattle.vs_desk.specs.Desk.{Attachment, Register, IsAttached}
+use Rattle.vs_desk.specs.Desk.{Attachment, Register, IsAttached, with_place}
 use Rattle.vs_desk.specs.Laws.{OtherPlacesStay, EachPlaceIsAttached}
-use Rattle.vs_desk.specs.Places.{most_lanes, with_places, design_place, waveform_place, stimulus_place}
+use Rattle.vs_desk.specs.Places.{most_lanes, with_places, design_place, other_place, waveform_place, stimulus_place}
 use Rattle.vs_stim.specs.Known.{Known}
 use Rattle.vs_feed.specs.Lanes.{lane_at, ended, AreLanes, AreAttached}
 use Rattle.vs_waves.specs.Puts.{wave_place}
@@ -43,4 +43,8 @@ still_attached law r paths ks lanes attached = record {
 pub still_free : OtherPlacesStay → (r : Register) (job : Job) (i : ℕ) → length job.stimuli ≤ most_lanes → AreFree r (length job.stimuli) → i < length job.stimuli → IsNone ((with_texts r job job.stimuli).attached (wave_place i))
 still_free law r job i few free h =
     let P : Option Attachment → Type 0 = λ o. IsNone o in
-    subst P (sym (law (with_design r job.design) (stimulus_place 0) Read job.stimuli (wave_place i) (inr (omega arith)) ∙ cond-false _ _ _ (ne_eqb (wave_place i) design_place (λ e. omega arith)))) (free i h)
+    let first = with_place r design_place Read job.design in
+    subst P
+    (sym (law (with_design r job.design job.others) (stimulus_place 0) Read job.stimuli (wave_place i) (inr (omega arith)) ∙ law first (other_place 0) Read job.others (wave_place i) (inl (omega arith))
+    ∙ cond-false _ _ _ (ne_eqb (wave_place i) design_place (λ e. omega arith))))
+    (free i h)

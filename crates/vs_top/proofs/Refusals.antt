@@ -51,7 +51,7 @@ same_refusal o r q a b = cc
 
 unprepared : {tells : Bool} (job : Job) (old new : Told tells) → IsTrue tells → same_paths job ≡ None
     → (error : SetupError) (r : Refusal) → IsUnprepared job old new error → Refused r ≡ setup_outcome error → IsRefusedJob job old.contents r
-unprepared job old new told d S.TooLong r c e = ByLength d (c.1 told).long (same_refusal (Refused (Bare TooLong)) r (Bare TooLong) e refl)
+unprepared job old new told d S.TooLong r c e = ByLength d (c.3 told).long (same_refusal (Refused (Bare TooLong)) r (Bare TooLong) e refl)
 unprepared job old new told d (S.Refused q) r c e =
     let h = c.2 told in
     subst (IsRefusedJob job old.contents) (same_refusal (Refused q) q r refl e) (ByDesign d h.short h.refused)

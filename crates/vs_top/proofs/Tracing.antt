@@ -30,9 +30,9 @@ use Rattle.vs_ordered.specs.Whole.{IsWhole, OnStop, IsMemory}
 use Rattle.vs_job.specs.declared.job.Job.{Job}
 use Rattle.vs_job.specs.declared.job.Mode.TheVariants as modes
 use Rattle.vs_job.specs.Places.{same_paths}
-use Rattle.vs_setup.specs.DesignText.{design_text}
+use Rattle.vs_setup.specs.DesignText.{AreTextsKept, design_text}
 use Rattle.vs_setup.specs.Places.{with_texts}
-use Rattle.vs_setup.specs.Prepared.{AreTextsKept, IsJobOpened, runs}
+use Rattle.vs_setup.specs.Prepared.{IsJobOpened, runs}
 use Rattle.vs_top.specs.declared.outcome.Course.{Course}
 use Rattle.vs_top.specs.declared.outcome.Outcome.{Outcome}
 use Rattle.vs_top.specs.declared.outcome.Outcome.TheVariants.{Memory}
@@ -204,7 +204,7 @@ traced_end some_run has_vector job order old now new a ports ks text c mode is_o
               lane = lane_ordered some_run has_vector job.share d job.clock l.loaded.accepted.accepted job.half run.ports (queue_free job.mode order l.loaded.accepted mode)
                   (are_data_inputs d clock (subst (λ (is : PortLists). All IsInput is.inputs) l.loaded.ports_are l.loaded.are_ports.inputs)) (run.texts 0) text r.whole r.every;
             };
-            design_taken = (others t).before 1 (omega arith) ∙ is_open.opened.taken t;
+            design_taken = (others t).before 1 (omega arith) ∙ (is_open.opened.taken t).design;
             stimulus_taken = r.taken;
             vectors_are = r.vectors_are;
             slots_are = r.slots_are;

@@ -7,11 +7,11 @@ use Rattle.vs_desk.specs.Desk.{Told, Register, Contents, Fails, FailsAlone, Stay
 use Rattle.vs_desk.specs.Places.{with_places, waveform_place}
 use Rattle.vs_feed.specs.Opened.{path_at}
 use Rattle.vs_waves.specs.Attached.{Empties, AreEmptied}
-use Rattle.vs_setup.specs.Prepared.{AreTextsKept}
 use Rattle.vs_waves.specs.Puts.{wave_place}
 use Rattle.vs_job.specs.declared.job.Job.{Job}
 use Rattle.vs_job.specs.declared.job.Mode.TheVariants as modes
 use Rattle.vs_job.specs.Places.{same_paths}
+use Rattle.vs_setup.specs.DesignText.{AreTextsKept}
 use Rattle.vs_top.specs.declared.outcome.Course.{Course}
 use Rattle.vs_top.specs.declared.outcome.Outcome.{Outcome}
 use Rattle.vs_top.specs.declared.outcome.Outcome.TheVariants.{Ordered, WriteFault}

@@ -33,7 +33,7 @@ pub record IsLaneChecked (d : Design) (clock : ℕ) (ports : PortLists) (text : 
   pub every : (values : List State) → IsRunOn d clock vectors values → found ≡ missed_of d ports text wanted values
   pub some : (values : List State) × IsRunOn d clock vectors values
 
--- The design's text is accepted behind the lines of the macros, this was found in the lanes, all texts were taken to their end, and the counts are those of
+-- The design's text is accepted behind the lines of the macros, this was found in the lanes, the design's first file and the stimuli were taken to their end, and the counts are those of
 -- the design, of the stimuli and of the lanes that missed something, where the desk had these contents before and after.
 pub record IsChecked (job : Job) (old new : Contents) (found : List (Option Found)) (s : Summary) : Type 0 where
   pub design : Design

@@ -16,10 +16,11 @@ use Rattle.vs_refusal.specs.declared.refusal.Refusal.TheVariants.{SamePath}
 use Rattle.vs_job.specs.declared.job.Job.{Job}
 use Rattle.vs_job.specs.declared.job.Mode.TheVariants as modes
 use Rattle.vs_job.specs.Places.{same_paths, vcd_path, queue_path}
+use Rattle.vs_setup.specs.DesignText.{AreTextsKept}
 use Rattle.vs_setup.specs.declared.error.SetupError.{SetupError}
 use Rattle.vs_setup.specs.Places.{IsFresh, with_texts}
 use Rattle.vs_setup.specs.Ports.{ports_of}
-use Rattle.vs_setup.specs.Prepared.{AreTextsKept, run_of}
+use Rattle.vs_setup.specs.Prepared.{run_of}
 use Rattle.vs_setup.specs.Unprepared.{IsUnprepared, IsDesignOf}
 use Rattle.vs_top.specs.declared.outcome.Summary.{Summary}
 use Rattle.vs_top.specs.declared.outcome.Course.{Course}
@@ -31,9 +32,9 @@ use Rattle.vs_top.specs.Verdicts.{misses_text, missed_lanes}
 use Rattle.vs_top.specs.Checked.{IsChecked}
 use Rattle.vs_top.specs.Answers.{setup_outcome, stop_outcome}
 
--- none of a job's places is attached, of so many lanes: those of the design and the stimuli, and those of the waveforms
-pub record IsUnused (register : Register) (lanes : ℕ) : Type 0 where
-  pub texts : IsFresh register lanes
+-- none of a job's places is attached, of so many lanes and further files of the design: those of the texts, and those of the waveforms
+pub record IsUnused (register : Register) (lanes others : ℕ) : Type 0 where
+  pub texts : IsFresh register lanes others
   pub waves : AreFree register lanes
 
 -- all texts of the job are attached, and the waveforms of its first lanes, with these paths
@@ -52,7 +53,7 @@ OthersAttached old new = (p : ℕ) → p < stimulus_place 0 → p ≢ design_pla
 abbrev pub OnlyWavesPut : ℕ → Contents → Contents → Type 0
 OnlyWavesPut lanes old new = (place : ℕ) → ((i : ℕ) → i < lanes → place ≢ wave_place i) → new.put place ≡ old.put place
 
--- The design's file is accepted, the run is that of the job on the stimuli's files, and none of these is refused up to its header.
+-- The design's files are accepted, the run is that of the job on the stimuli's files, and none of these is refused up to its header.
 pub record IsRunOf (job : Job) (old : Contents) (run : Run) : Type 0 where
   pub design : Design
   pub accepted : IsDesignOf job old design

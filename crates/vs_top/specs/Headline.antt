@@ -56,8 +56,8 @@ pub record AreStores (d : Design) (clock settlings operations : ℕ) : Type 0 wh
   pub settlings_are : settlings ≡ 2 * (later + 1)
   pub operations_are : operations ≡ first_stores program + later * fall_stores program + (later + 1) * rise_stores program
 
--- The design's text is accepted behind the lines of the macros, each lane is written, all texts were taken to their end, and the counts are those of the design and of the stimuli, where the desk had these
--- contents before and after.
+-- The design's text is accepted behind the lines of the macros, each lane is written, the design's first file and the stimuli were taken to their end, and the counts are those of the design and of the stimuli, where the desk had these
+-- contents before and after. (That the design's further files were is said where they are read: `AreTaken` of vs_setup.)
 pub record IsWritten (job : Job) (old new : Contents) (s : Summary) : Type 0 where
   pub design : Design
   pub accepted : IsAcceptedText (design_text job old) job.top job.clock design

@@ -28,7 +28,7 @@ pub record IsStepped (d : Design) (clock order : ℕ) (vectors : List Vector) (s
   pub vectors_are : vectors ≡ first ∷ later
   pub has_steps : HasSteps d clock order first later steps
 
--- This is that text, both texts were taken to their end, and the counts are those of the stimulus and of the run that the number chooses, where the desk had
+-- This is that text, the design's first file and the stimulus were taken to their end, and the counts are those of the stimulus and of the run that the number chooses, where the desk had
 -- these contents before and after.
 pub record IsCourseOf (job : Job) (old new : Contents) (text : List ℕ) (c : Course) : Type 0 where
   pub whole : IsOrderedText job old text

@@ -10,8 +10,8 @@ use Rattle.vs_waves.specs.Puts.{wave_place}
 use Rattle.vs_rounds.specs.Drives.{Vector}
 use Rattle.vs_ordered.specs.Traced.{AreValid, HasSteps, IsEveryDump}
 use Rattle.vs_job.specs.declared.job.Job.{Job}
+use Rattle.vs_setup.specs.DesignText.{AreTextsKept}
 use Rattle.vs_setup.specs.Places.{with_texts}
-use Rattle.vs_setup.specs.Prepared.{AreTextsKept}
 use Rattle.vs_top.specs.declared.outcome.Course.{Course}
 use Rattle.vs_top.specs.Ordered.{IsCourseOf}
 

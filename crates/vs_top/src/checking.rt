@@ -40,7 +40,7 @@ pub(crate) fn check_job<D: Desk, L: Ledger>(
 ) -> Answered
     requires mode { job.now.mode ≡ modes.Check }
     requires job { IsJob job.now }
-    requires unused { IsUnused (D.told desk.old).register (length job.now.stimuli) }
+    requires unused { IsUnused (D.told desk.old).register (length job.now.stimuli) (length job.now.others) }
     ensures operations { (s : Summary) → result.outcome ≡ Done s → (steps.new ≡ steps.old + s.operations) × (s.operations ≤ s.size * s.settlings) }
     ensures answered { IsAnswered D.told job.now desk.old desk.new result.outcome result.found.items }
     ensures few { length result.found.items ≤ most_lanes }
@@ -67,7 +67,7 @@ fn check_lanes<W: Lanes, D: Desk, L: Ledger>(
 ) -> Answered
     requires mode { job.now.mode ≡ modes.Check }
     requires job { IsJob job.now }
-    requires unused { IsUnused (D.told desk.old).register (length job.now.stimuli) }
+    requires unused { IsUnused (D.told desk.old).register (length job.now.stimuli) (length job.now.others) }
     requires width { W.LANES ≤ most_lanes }
     requires lanes { length job.now.stimuli ≤ W.LANES }
     ensures operations { (s : Summary) → result.outcome ≡ Done s → (steps.new ≡ steps.old + s.operations) × (s.operations ≤ s.size * s.settlings) }
@@ -92,7 +92,7 @@ fn begin_check<W: Lanes, D: Desk>(
     desk: &mut D,
 ) -> Result<PreparedCheck<W>, Outcome>
     requires job { IsJob job.now }
-    requires unused { IsUnused (D.told desk.old).register (length job.now.stimuli) }
+    requires unused { IsUnused (D.told desk.old).register (length job.now.stimuli) (length job.now.others) }
     requires lanes { length job.now.stimuli ≤ W.LANES }
     ensures unbegun { IfErr result (IsEnd job.now (D.told desk.old) (D.told desk.new) []) }
     ensures not_done { IfErr result IsStopped }

@@ -47,7 +47,7 @@ struct Traced {
 pub(crate) fn queue_job<D: Desk>(alloc: Global, job: &Job, order: u64, desk: &mut D) -> Outcome
     requires mode { job.now.mode ≡ modes.Queue order }
     requires job { IsJob job.now }
-    requires unused { IsUnused (D.told desk.old).register (length job.now.stimuli) }
+    requires unused { IsUnused (D.told desk.old).register (length job.now.stimuli) (length job.now.others) }
     ensures ended { IsEnd job.now (D.told desk.old) (D.told desk.new) [] result }
 {
     attach_law();
@@ -71,7 +71,7 @@ pub(crate) fn queue_job<D: Desk>(alloc: Global, job: &Job, order: u64, desk: &mu
 fn trace_job<D: Desk>(alloc: Global, job: &Job, order: u64, desk: &mut D) -> Result<Traced, Outcome>
     requires mode { job.now.mode ≡ modes.Queue order }
     requires job { IsJob job.now }
-    requires unused { IsUnused (D.told desk.old).register (length job.now.stimuli) }
+    requires unused { IsUnused (D.told desk.old).register (length job.now.stimuli) (length job.now.others) }
     ensures traced { IfOk result (λ t. IsTraced job.now (D.told desk.old) (D.told desk.new) t.text.items t.course) }
     ensures order { IfOk result (λ t. t.course.order ≡ order) }
     ensures paths { IfOk result (λ t. map string_bytes t.paths.items ≡ queue_paths job.now) }

@@ -1,7 +1,7 @@
 //! The run of a job, and of the words that call for it.
 
 ghost use Rattle.std.specs.Prelude.{◌≡◌, ◌≢◌, ◌+◌, ◌*◌, ◌≤◌, ◌⊎◌, None, Some, IsTrue, length, map, string_bytes};
-ghost use Rattle.vs_desk.specs.Places.{most_lanes};
+ghost use Rattle.vs_desk.specs.Places.{most_lanes, most_others};
 ghost use Rattle.vs_job.specs.declared.job.Job.{Job};
 ghost use Rattle.vs_job.specs.declared.bench.Bench.{Bench};
 ghost use Rattle.vs_job.specs.Bench.{bench};
@@ -40,7 +40,7 @@ use vs_refusal::{BareName, Refusal};
 
 /// Runs a job or checks it, by its mode, and puts its report on place 0 of the desk.
 ///
-/// The design is read at place 1, behind the lines of the job's macros, and the stimulus of lane i at place 1000 + i. Of a run the waveform of
+/// The design is read at place 1, behind the lines of the job's macros, its further file i at place 3000 + i behind it, and the stimulus of lane i at place 1000 + i. Of a run the waveform of
 /// lane i is put at place 2000 + i; of a check nothing is put but its report: a line for each lane that missed something, by lane, and then
 /// the report line.
 pub fn simulate<D: Desk, L: Ledger>(
@@ -50,7 +50,7 @@ pub fn simulate<D: Desk, L: Ledger>(
     steps: &mut Steps<L>,
 ) -> Outcome
     requires job { IsJob job.now }
-    requires unused { IsUnused (D.told desk.old).register (length job.now.stimuli) }
+    requires unused { IsUnused (D.told desk.old).register (length job.now.stimuli) (length job.now.others) }
     ensures operations { (s : Summary) → result ≡ Done s → (steps.new ≡ steps.old + s.operations) × (s.operations ≤ s.size * s.settlings) }
     ensures ended { IsSimulated D.told job.now desk.old desk.new result }
     ensures causes { ShowsCause (D.told desk.old) (D.told desk.new) result }
@@ -78,7 +78,7 @@ fn answer_job<D: Desk, L: Ledger>(
     steps: &mut Steps<L>,
 ) -> Answered
     requires job { IsJob job.now }
-    requires unused { IsUnused (D.told desk.old).register (length job.now.stimuli) }
+    requires unused { IsUnused (D.told desk.old).register (length job.now.stimuli) (length job.now.others) }
     ensures operations { (s : Summary) → result.outcome ≡ Done s → (steps.new ≡ steps.old + s.operations) × (s.operations ≤ s.size * s.settlings) }
     ensures ended { IsSimulated D.told job.now desk.old desk.new result.outcome }
     ensures causes { ShowsCause (D.told desk.old) (D.told desk.new) result.outcome }
@@ -114,7 +114,7 @@ fn answer_run<D: Desk, L: Ledger>(
 ) -> Answered
     requires mode { job.now.mode ≡ modes.Run }
     requires job { IsJob job.now }
-    requires unused { IsUnused (D.told desk.old).register (length job.now.stimuli) }
+    requires unused { IsUnused (D.told desk.old).register (length job.now.stimuli) (length job.now.others) }
     ensures operations { (s : Summary) → result.outcome ≡ Done s → (steps.new ≡ steps.old + s.operations) × (s.operations ≤ s.size * s.settlings) }
     ensures answered { IsAnswered D.told job.now desk.old desk.new result.outcome result.found.items }
     ensures few { length result.found.items ≤ most_lanes }
@@ -126,7 +126,7 @@ fn answer_run<D: Desk, L: Ledger>(
 fn answer_queue<D: Desk>(alloc: Global, job: &Job, order: u64, desk: &mut D) -> Answered
     requires mode { job.now.mode ≡ modes.Queue order }
     requires job { IsJob job.now }
-    requires unused { IsUnused (D.told desk.old).register (length job.now.stimuli) }
+    requires unused { IsUnused (D.told desk.old).register (length job.now.stimuli) (length job.now.others) }
     ensures answered { IsAnswered D.told job.now desk.old desk.new result.outcome result.found.items }
     ensures few { length result.found.items ≤ most_lanes }
 {
@@ -143,7 +143,7 @@ fn run_and_report<D: Desk, L: Ledger>(
 ) -> Outcome
     requires mode { job.now.mode ≡ modes.Run }
     requires job { IsJob job.now }
-    requires unused { IsUnused (D.told desk.old).register (length job.now.stimuli) }
+    requires unused { IsUnused (D.told desk.old).register (length job.now.stimuli) (length job.now.others) }
     ensures operations { (s : Summary) → result ≡ Done s → (steps.new ≡ steps.old + s.operations) × (s.operations ≤ s.size * s.settlings) }
     ensures ended { IsSimulated D.told job.now desk.old desk.new result }
 {
@@ -153,8 +153,8 @@ fn run_and_report<D: Desk, L: Ledger>(
     }
 }
 
-/// Runs the job or the bench that the words of the command line call for, the program's own name first: `cyclesim run --top T [--clock C]
-/// [--half H] [--define NAME[=TEXT]].. [--share] DESIGN STIM..`, the same with `check` for `run`, or `cyclesim bench N [L]`.
+/// Runs the job or the bench that the words of the command line call for, the program's own name first: `cyclesim run [--top T] [--clock C]
+/// [--half H] [--define NAME[=TEXT]].. [--with PATH].. [--share] DESIGN STIM..`, the same with `check` for `run`, or `cyclesim bench N [L]`.
 ///
 /// Where the words call for a job, the design is accepted behind the lines of the macros and every stimulus is valid, a run that ends `Done`
 /// has written, for each lane, exactly the VCD text of the slot-end values that every completed run of the event queue (IEEE 1364-2005,
@@ -166,7 +166,7 @@ pub fn run<D: Desk, L: Ledger>(
     desk: &mut D,
     steps: &mut Steps<L>,
 ) -> Outcome
-    requires unused { IsUnused (D.told desk.old).register most_lanes }
+    requires unused { IsUnused (D.told desk.old).register most_lanes most_others }
 
     // The headline, of a run, of a check and of a run of the queue.
     ensures written { IsTrue D.tells → (j : Job) → job (map string_bytes words.now) ≡ Some j → j.mode ≡ modes.Run → (s : Summary) → result ≡ Done s
@@ -208,7 +208,7 @@ pub fn answer<D: Desk, L: Ledger>(
     desk: &mut D,
     steps: &mut Steps<L>,
 ) -> Answered
-    requires unused { IsUnused (D.told desk.old).register most_lanes }
+    requires unused { IsUnused (D.told desk.old).register most_lanes most_others }
 
     // The headline, of a run, of a check and of a run of the queue.
     ensures written { IsTrue D.tells → (j : Job) → job (map string_bytes words.now) ≡ Some j → j.mode ≡ modes.Run → (s : Summary) → result.outcome ≡ Done s

@@ -35,7 +35,7 @@ pub(crate) fn run_job<D: Desk, L: Ledger>(
 ) -> Result<Summary, Outcome>
     requires mode { job.now.mode ≡ modes.Run }
     requires job { IsJob job.now }
-    requires unused { IsUnused (D.told desk.old).register (length job.now.stimuli) }
+    requires unused { IsUnused (D.told desk.old).register (length job.now.stimuli) (length job.now.others) }
     ensures done { IfOk result (λ s. IsEnd job.now (D.told desk.old) (D.told desk.new) [] (Done s)) }
     ensures stopped { IfErr result (IsEnd job.now (D.told desk.old) (D.told desk.new) []) }
     ensures not_done { IfErr result IsStopped }
@@ -61,7 +61,7 @@ fn run_rounds<D: Desk, L: Ledger>(
 ) -> Result<Result<Summary, Outcome>, Outcome>
     requires mode { job.now.mode ≡ modes.Run }
     requires job { IsJob job.now }
-    requires unused { IsUnused (D.told desk.old).register (length job.now.stimuli) }
+    requires unused { IsUnused (D.told desk.old).register (length job.now.stimuli) (length job.now.others) }
     ensures unbegun { IfErr result (IsEnd job.now (D.told desk.old) (D.told desk.new) []) }
     ensures not_done { IfErr result IsStopped }
     ensures different { OnOk result (same_paths job.now ≡ None) }
@@ -92,7 +92,7 @@ fn run_lanes<W: Lanes, D: Desk, L: Ledger>(
 ) -> Result<Result<Summary, Outcome>, Outcome>
     requires mode { job.now.mode ≡ modes.Run }
     requires job { IsJob job.now }
-    requires unused { IsUnused (D.told desk.old).register (length job.now.stimuli) }
+    requires unused { IsUnused (D.told desk.old).register (length job.now.stimuli) (length job.now.others) }
     requires width { W.LANES ≤ most_lanes }
     requires lanes { length job.now.stimuli ≤ W.LANES }
     ensures unbegun { IfErr result (IsEnd job.now (D.told desk.old) (D.told desk.new) []) }

@@ -54,6 +54,7 @@ pub(crate) fn binary_weight(op: BinaryOp, w: u64, m: u64, n: u64) -> u64
         | BinaryOp::ShiftRightArith => shift_weight(w, n),
         BinaryOp::Divide
         | BinaryOp::Remainder
+        | BinaryOp::Power
         | BinaryOp::BitAnd
         | BinaryOp::BitOr
         | BinaryOp::BitXor
@@ -74,7 +75,7 @@ pub(crate) fn operand_width(op: UnaryOp, w: u64, n: u64) -> u64
 {
     match op.way() {
         Way::Own => n,
-        Way::InContext | Way::Compared | Way::Shifted => w,
+        Way::InContext | Way::Compared | Way::Shifted | Way::Raised => w,
     }
 }
 
@@ -87,6 +88,6 @@ pub(crate) fn operand_widths(op: BinaryOp, w: u64, m: u64, n: u64) -> (u64, u64)
         Way::InContext => (w, w),
         Way::Own => (m, n),
         Way::Compared => (m.max(n), m.max(n)),
-        Way::Shifted => (w, n),
+        Way::Shifted | Way::Raised => (w, n),
     }
 }

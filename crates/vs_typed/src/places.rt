@@ -37,7 +37,7 @@ pub(crate) fn lesser(best: Option<u32>, at: u32) -> Option<u32>
 fn is_division(op: BinaryOp) -> bool
     ensures { result ≡ F.is_division op }
 {
-    matches!(op, BinaryOp::Divide | BinaryOp::Remainder)
+    matches!(op, BinaryOp::Divide | BinaryOp::Remainder | BinaryOp::Power)
 }
 
 /// The least place so far, and that of expression e itself where it is over 64 bits.

@@ -9,7 +9,7 @@ use Rattle.vs_four.specs.Lengths.{last_or, extend_with}
 use Rattle.vs_four.specs.declared.Bit4.{Bit4}
 use Rattle.vs_four.specs.declared.Bit4.TheVariants.{X}
 use Rattle.vs_net.specs.Network as N
-use Rattle.vs_design.specs.Expressions.{BinaryOp, ShiftLeft, ShiftRight, ShiftLeftArith, ShiftRightArith, is_constant, Expression, Literal, Binary, Way, InContext, Own, Compared, Shifted, way, binary_length, width, sign}
+use Rattle.vs_design.specs.Expressions.{BinaryOp, ShiftLeft, ShiftRight, ShiftLeftArith, ShiftRightArith, is_constant, Expression, Literal, Binary, Way, InContext, Own, Compared, Shifted, Raised, way, binary_length, width, sign}
 use Rattle.vs_design.specs.Sizes.{is_shift}
 use Rattle.vs_design.specs.Footprints.{read_bits}
 use Rattle.vs_design.specs.TreeLaws.{ValueLength}
@@ -35,44 +35,41 @@ left_same InContext w m n p q h k = sym h
 left_same Own w m n p q h k = refl
 left_same Compared w m n p q h k = omega arith
 left_same Shifted w m n p q h k = sym h
+left_same Raised w m n p q h k = sym h
 
 right_same : (y : Way) (w m n p q : ℕ) → p ≡ left_width y w m n → q ≡ right_width y w m n → right_width y w p q ≡ q
 right_same InContext w m n p q h k = sym k
 right_same Own w m n p q h k = refl
 right_same Compared w m n p q h k = omega arith
 right_same Shifted w m n p q h k = refl
+right_same Raised w m n p q h k = refl
 
 still_wide : (y : Way) (w m n p q : ℕ) → binary_length y m n ≤ w → p ≡ left_width y w m n → q ≡ right_width y w m n → binary_length y p q ≤ w
 still_wide InContext w m n p q l h k = omega arith
 still_wide Own w m n p q l h k = l
 still_wide Compared w m n p q l h k = l
 still_wide Shifted w m n p q l h k = omega arith
-
-sign_same : (y : Way) (s : Bool) → left_sign y s s s ≡ s
-sign_same InContext s = refl
-sign_same Own s = refl
-sign_same Compared true = refl
-sign_same Compared false = refl
-sign_same Shifted s = refl
+still_wide Raised w m n p q l h k = omega arith
 
 pub long_is : (a : BitList) (fill : Bit4) (w : ℕ) → length (extend_with fill w a) ≡ w → length a ≤ w
 long_is a fill w h = omega (arith, length-append a (replicate (w - length a) fill))
 
-pub apply_length : ValueLength → (op : BinaryOp) (s : Bool) (w m n : ℕ) (x y : BitList) → binary_length (way op) m n ≤ w
-    → length x ≡ left_width (way op) w m n → length y ≡ right_width (way op) w m n → length (apply_binary op s x y) ≤ w
-apply_length law op s w m n x y l h k =
+pub apply_length : ValueLength → (op : BinaryOp) (g s u : Bool) (w m n : ℕ) (x y : BitList) → binary_length (way op) m n ≤ w
+    → length x ≡ left_width (way op) w m n → length y ≡ right_width (way op) w m n → length (apply_binary op (left_sign (way op) g s u) (right_sign (way op) g s u) x y) ≤ w
+apply_length law op g s u w m n x y l h k =
     let a = Literal x s true in
-    let b = Literal y s true in
+    let b = Literal y u true in
     let state : N.State = λ bit. X in
+    let ls = left_sign (way op) g s u in
+    let rs = right_sign (way op) g s u in
     let lw = left_same (way op) w m n (length x) (length y) h k in
     let rw = right_same (way op) w m n (length x) (length y) h k in
-    let is_a : value a (left_width (way op) w (length x) (length y)) (left_sign (way op) s s s) state ≡ x = same_length x _ (left_width (way op) w (length x) (length y)) (sym lw) in
-    let is_b : value b (right_width (way op) w (length x) (length y)) (right_sign (way op) s s s) state ≡ y = same_length y _ (right_width (way op) w (length x) (length y)) (sym rw) in
-    let long = law (Binary op a b) w s state (still_wide (way op) w m n (length x) (length y) l h k) in
-    let inner = long_is (apply_binary op (left_sign (way op) s s s) (value a (left_width (way op) w (length x) (length y)) (left_sign (way op) s s s) state) (value b (right_width (way op) w (length x) (length y)) (right_sign (way op) s s s) state)) _ w long in
-    subst (λ (v : BitList). length (apply_binary op s x v) ≤ w) is_b
-    (subst (λ (v : BitList). length (apply_binary op s v (value b (right_width (way op) w (length x) (length y)) (right_sign (way op) s s s) state)) ≤ w) is_a
-    (subst (λ (g : Bool). length (apply_binary op g (value a (left_width (way op) w (length x) (length y)) (left_sign (way op) s s s) state) (value b (right_width (way op) w (length x) (length y)) (right_sign (way op) s s s) state)) ≤ w) (sign_same (way op) s) inner))
+    let is_a : value a (left_width (way op) w (length x) (length y)) ls state ≡ x = same_length x _ (left_width (way op) w (length x) (length y)) (sym lw) in
+    let is_b : value b (right_width (way op) w (length x) (length y)) rs state ≡ y = same_length y _ (right_width (way op) w (length x) (length y)) (sym rw) in
+    let long = law (Binary op a b) w g state (still_wide (way op) w m n (length x) (length y) l h k) in
+    let inner = long_is (apply_binary op ls rs (value a (left_width (way op) w (length x) (length y)) ls state) (value b (right_width (way op) w (length x) (length y)) rs state)) _ w long in
+    subst (λ (v : BitList). length (apply_binary op ls rs x v) ≤ w) is_b
+    (subst (λ (v : BitList). length (apply_binary op ls rs v (value b (right_width (way op) w (length x) (length y)) rs state)) ≤ w) is_a inner)
 
 -- ---- both operands
 
@@ -116,14 +113,15 @@ short_is env code code1 code2 op a b w s ls ta tb o =
       most_b = omega (arith, r.1, o.right.value.length);
     }
 
-pub returns_folded : ValueLength → (env : List ℕ) (code code1 code2 : Coding) (op : BinaryOp) (a b : Expression) (w : ℕ) (s ls : Bool) (ta tb to : List ℕ) → Operands env code code1 code2 op a b w s ls ta tb
-    → AreConstant ta → AreConstant tb → to ≡ extended_slots w s (constant_slots (apply_binary op ls (constant_bits ta) (constant_bits tb)))
+pub returns_folded : ValueLength → (env : List ℕ) (code code1 code2 : Coding) (op : BinaryOp) (a b : Expression) (w : ℕ) (s ls rs : Bool) (ta tb to : List ℕ) → Operands env code code1 code2 op a b w s ls ta tb
+    → rs ≡ right_sign (way op) s (sign a) (sign b)
+    → AreConstant ta → AreConstant tb → to ≡ extended_slots w s (constant_slots (apply_binary op ls rs (constant_bits ta) (constant_bits tb)))
     → AddsValue env code.calls code.next code2.calls code2.next (Binary op a b) w s to
-returns_folded law env code code1 code2 op a b w s ls ta tb to o ca cb is =
-    let g = left_sign (way op) s (sign a) (sign b) in
+returns_folded law env code code1 code2 op a b w s ls rs ta tb to o other ca cb is =
     adds_folded env code code1 code2 op a b w s ta tb to o.ready o.left o.right ca cb
-    (apply_length law op g w (width a) (width b) (constant_bits ta) (constant_bits tb) o.ready.wide (length-map ta constant_bit ∙ o.left.value.length) (length-map tb constant_bit ∙ o.right.value.length))
-    (is ∙ ap (λ (x : Bool). extended_slots w s (constant_slots (apply_binary op x (constant_bits ta) (constant_bits tb)))) o.sign_is)
+    (apply_length law op s (sign a) (sign b) w (width a) (width b) (constant_bits ta) (constant_bits tb) o.ready.wide (length-map ta constant_bit ∙ o.left.value.length) (length-map tb constant_bit ∙ o.right.value.length))
+    (is ∙ ap (λ (x : Bool). extended_slots w s (constant_slots (apply_binary op x rs (constant_bits ta) (constant_bits tb)))) o.sign_is
+    ∙ ap (λ (x : Bool). extended_slots w s (constant_slots (apply_binary op (left_sign (way op) s (sign a) (sign b)) x (constant_bits ta) (constant_bits tb)))) other)
 
 pub call_is : (env : List ℕ) (code code1 code2 : Coding) (op : BinaryOp) (a b : Expression) (w : ℕ) (s ls : Bool) (ta tb : List ℕ) → Operands env code code1 code2 op a b w s ls ta tb
     → (AreConstant ta → AreConstant tb → ⊥) → (is_shift (way op) ≡ true → AreConstant tb → ⊥) → CanCall code2 op w ls ta tb
@@ -200,6 +198,7 @@ shift_width InContext w m n h = refl
 shift_width Own w m n h = absurd (true≢false (sym h))
 shift_width Compared w m n h = absurd (true≢false (sym h))
 shift_width Shifted w m n h = refl
+shift_width Raised w m n h = refl
 
 pub returns_moved : (env : List ℕ) (code code1 code2 : Coding) (op : BinaryOp) (a b : Expression) (w : ℕ) (s ls : Bool) (ta tb to : List ℕ) → Operands env code code1 code2 op a b w s ls ta tb
     → is_shift (way op) ≡ true → AreConstant tb → to ≡ extended_slots w s (shifted_slots op ls ta (constant_bits tb))
@@ -212,7 +211,7 @@ returns_moved env code code1 code2 op a b w s ls ta tb to o shift cb is =
     let source = IsSource env code.next (read_bits a ++ read_bits b) in
     adds_moved env code code1 code2 op a b w s ta tb r to o.ready o.left o.right
     (omega (arith, shifted_long op g ta amount shift, o.left.value.length, shift_width (way op) w (width a) (width b) shift))
-    (λ slots h. shifted_are op g slots ta amount shift h ∙ ap (apply_binary op g (map slots ta)) (sym (bits_are slots tb h cb)))
+    (λ slots h. shifted_are op g (right_sign (way op) s (sign a) (sign b)) slots ta amount shift h ∙ ap (apply_binary op g (right_sign (way op) s (sign a) (sign b)) (map slots ta)) (sym (bits_are slots tb h cb)))
     (shifted_all (λ slot. slot < code2.next) op g ta amount shift (omega arith) (omega arith)
     (All-weaker (λ slot. slot < code1.next) (λ slot. slot < code2.next) (λ slot l. omega (arith, o.right.value.values.added.grown)) ta (All-head (λ t. All (λ slot. slot < code1.next) t) ta [] o.left.value.values.below)))
     (λ h. shifted_all (λ slot. slot < 4) op g ta amount shift (omega arith) (omega arith) (o.left.value.constant (both_true (is_constant a) (is_constant b) h).0))

@@ -11,7 +11,7 @@ use Rattle.vs_four.specs.Numbers.{if_known}
 use Rattle.vs_four.specs.Shifts.{move_up, move_down, distance, shift_left}
 use Rattle.vs_four.specs.Selects.{Part, range_length, at_place, places, select}
 use Rattle.vs_base.specs.Applied.{HasLengths}
-use Rattle.vs_design.specs.Expressions.{Way, InContext, Own, Compared, Shifted, OfSignal, OfConstant, BinaryOp, ShiftLeft, ShiftRight, ShiftLeftArith, ShiftRightArith, Expression, Literal, Name, Select, Word, Unary, Binary, Choice, Join, Repeat, At, Call, way, unary_way, width, is_constant}
+use Rattle.vs_design.specs.Expressions.{Way, InContext, Own, Compared, Shifted, Raised, OfSignal, OfConstant, BinaryOp, ShiftLeft, ShiftRight, ShiftLeftArith, ShiftRightArith, Expression, Literal, Name, Select, Word, Unary, Binary, Choice, Join, Repeat, At, Call, way, unary_way, width, is_constant}
 use Rattle.vs_design.specs.Values.{apply_binary, left_width, right_width}
 use Rattle.vs_design.specs.Sizes.{weight, is_shift, unary_weight, binary_weight}
 use Rattle.vs_code.specs.Calls.{State}
@@ -135,14 +135,14 @@ down slots to amount fill bit h e =
     (moved_down slots fill (distance (length to) amount) to ∙ ap (λ b. move_down b (distance (length to) amount) (map slots to)) e ∙ ap (λ n. move_down bit (distance n amount) (map slots to)) (sym long))
     long
 
-pub shifted_are : (op : BinaryOp) (signed : Bool) (slots : State) (to : List ℕ) (amount : BitList) → is_shift (way op) ≡ true → HasConstants slots
-    → map slots (shifted_slots op signed to amount) ≡ apply_binary op signed (map slots to) amount
-shifted_are ShiftLeft signed slots to amount s h = left slots to amount h
-shifted_are ShiftLeftArith signed slots to amount s h = left slots to amount h
-shifted_are ShiftRight signed slots to amount s h = down slots to amount 0 Zero h h.zero
-shifted_are ShiftRightArith true slots to amount s h = down slots to amount (last_or 0 to) (last_or Zero (map slots to)) h (shift_fill slots to true h)
-shifted_are ShiftRightArith false slots to amount s h = down slots to amount 0 Zero h h.zero
-shifted_are _ signed slots to amount s h = absurd (true≢false (sym s))
+pub shifted_are : (op : BinaryOp) (signed other : Bool) (slots : State) (to : List ℕ) (amount : BitList) → is_shift (way op) ≡ true → HasConstants slots
+    → map slots (shifted_slots op signed to amount) ≡ apply_binary op signed other (map slots to) amount
+shifted_are ShiftLeft signed other slots to amount s h = left slots to amount h
+shifted_are ShiftLeftArith signed other slots to amount s h = left slots to amount h
+shifted_are ShiftRight signed other slots to amount s h = down slots to amount 0 Zero h h.zero
+shifted_are ShiftRightArith true other slots to amount s h = down slots to amount (last_or 0 to) (last_or Zero (map slots to)) h (shift_fill slots to true h)
+shifted_are ShiftRightArith false other slots to amount s h = down slots to amount 0 Zero h h.zero
+shifted_are _ signed other slots to amount s h = absurd (true≢false (sym s))
 
 -- ---- selects by a constant index
 
@@ -168,8 +168,9 @@ selected_are part signed slots from index h = places_are slots from (places part
 pub has_lengths : (op : BinaryOp) (a b : BitList) → (way op ≡ InContext → length a ≡ length b) → (way op ≡ Compared → length a ≡ length b) → HasLengths op a b
 has_lengths op a b alike compared = of (way op) alike compared
   where
-    of : (w : Way) → (w ≡ InContext → length a ≡ length b) → (w ≡ Compared → length a ≡ length b) → elim w as (λ x. Type 0) [ InContext ↦ length a ≡ length b | Own ↦ Unit {0} | Compared ↦ length a ≡ length b | Shifted ↦ Unit {0} ]
+    of : (w : Way) → (w ≡ InContext → length a ≡ length b) → (w ≡ Compared → length a ≡ length b) → elim w as (λ x. Type 0) [ InContext ↦ length a ≡ length b | Own ↦ Unit {0} | Compared ↦ length a ≡ length b | Shifted ↦ Unit {0} | Raised ↦ Unit {0} ]
     of InContext f g = f refl
     of Own f g = tt
     of Compared f g = g refl
     of Shifted f g = tt
+    of Raised f g = tt

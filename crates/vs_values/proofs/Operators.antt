@@ -1,7 +1,7 @@
 -- The kernel of each operator computes it, takes its operands, and is paid for by its weight.
 use Rattle.std.proofs.Common.{◌≡◌, ℕ, ◌+◌, ◌*◌, ◌/◌, ◌≤◌, max, Bool, true, false, ◌&&◌, ◌==◌, nat_le, [], ◌∷◌, refl, arith, mul-le-mul_left}
 use Rattle.vs_four.specs.Logic.{BitList}
-use Rattle.vs_design.specs.Expressions.{UnaryOp, Plus, Minus, BitNot, LogicalNot, ReduceAnd, ReduceNand, ReduceOr, ReduceNor, ReduceXor, ReduceXnor, Signed, Unsigned, BinaryOp, Add, Subtract, Multiply, Divide, Remainder, BitAnd, BitOr, BitXor, BitXnor, Less, LessEqual, Greater, GreaterEqual, Equal, NotEqual, CaseEqual, CaseNotEqual, LogicalAnd, LogicalOr, ShiftLeft, ShiftRight, ShiftLeftArith, ShiftRightArith, way, unary_way}
+use Rattle.vs_design.specs.Expressions.{UnaryOp, Plus, Minus, BitNot, LogicalNot, ReduceAnd, ReduceNand, ReduceOr, ReduceNor, ReduceXor, ReduceXnor, Signed, Unsigned, BinaryOp, Add, Subtract, Multiply, Divide, Remainder, BitAnd, BitOr, BitXor, BitXnor, Less, LessEqual, Greater, GreaterEqual, Equal, NotEqual, CaseEqual, CaseNotEqual, LogicalAnd, LogicalOr, ShiftLeft, ShiftRight, ShiftLeftArith, ShiftRightArith, Power, way, unary_way}
 use Rattle.vs_design.specs.Values.{apply_unary, apply_binary, left_width, right_width}
 use Rattle.vs_design.specs.Sizes.{unary_weight, binary_weight}
 use Rattle.vs_design.specs.Fits.{is_division}
@@ -49,6 +49,7 @@ binary_takes Subtract s w m n d h i j = three w h
 binary_takes Multiply s w m n d h i j = three w h
 binary_takes Divide s w m n d h i j = cc
 binary_takes Remainder s w m n d h i j = cc
+binary_takes Power s w m n d h i j = cc
 binary_takes BitAnd s w m n d h i j = three w h
 binary_takes BitOr s w m n d h i j = three w h
 binary_takes BitXor s w m n d h i j = three w h
@@ -71,31 +72,32 @@ binary_takes ShiftRightArith false w m n d h i j = shift w n h j
 
 -- ---- values
 
-pub binary_operator : (op : BinaryOp) (s : Bool) (k : ℕ) (a b : BitList) → is_division op ≡ false → operator_of (binary_kernel op s) k (a ∷ b ∷ []) ≡ apply_binary op s a b
-binary_operator Add s k a b d = refl
-binary_operator Subtract s k a b d = refl
-binary_operator Multiply s k a b d = refl
-binary_operator Divide s k a b d = cc
-binary_operator Remainder s k a b d = cc
-binary_operator BitAnd s k a b d = refl
-binary_operator BitOr s k a b d = refl
-binary_operator BitXor s k a b d = refl
-binary_operator BitXnor s k a b d = refl
-binary_operator Less s k a b d = refl
-binary_operator LessEqual s k a b d = refl
-binary_operator Greater s k a b d = refl
-binary_operator GreaterEqual s k a b d = refl
-binary_operator Equal s k a b d = refl
-binary_operator NotEqual s k a b d = refl
-binary_operator CaseEqual s k a b d = refl
-binary_operator CaseNotEqual s k a b d = refl
-binary_operator LogicalAnd s k a b d = refl
-binary_operator LogicalOr s k a b d = refl
-binary_operator ShiftLeft s k a b d = refl
-binary_operator ShiftLeftArith s k a b d = refl
-binary_operator ShiftRight s k a b d = refl
-binary_operator ShiftRightArith true k a b d = refl
-binary_operator ShiftRightArith false k a b d = refl
+pub binary_operator : (op : BinaryOp) (s u : Bool) (k : ℕ) (a b : BitList) → is_division op ≡ false → operator_of (binary_kernel op s) k (a ∷ b ∷ []) ≡ apply_binary op s u a b
+binary_operator Add s u k a b d = refl
+binary_operator Subtract s u k a b d = refl
+binary_operator Multiply s u k a b d = refl
+binary_operator Divide s u k a b d = cc
+binary_operator Remainder s u k a b d = cc
+binary_operator Power s u k a b d = cc
+binary_operator BitAnd s u k a b d = refl
+binary_operator BitOr s u k a b d = refl
+binary_operator BitXor s u k a b d = refl
+binary_operator BitXnor s u k a b d = refl
+binary_operator Less s u k a b d = refl
+binary_operator LessEqual s u k a b d = refl
+binary_operator Greater s u k a b d = refl
+binary_operator GreaterEqual s u k a b d = refl
+binary_operator Equal s u k a b d = refl
+binary_operator NotEqual s u k a b d = refl
+binary_operator CaseEqual s u k a b d = refl
+binary_operator CaseNotEqual s u k a b d = refl
+binary_operator LogicalAnd s u k a b d = refl
+binary_operator LogicalOr s u k a b d = refl
+binary_operator ShiftLeft s u k a b d = refl
+binary_operator ShiftLeftArith s u k a b d = refl
+binary_operator ShiftRight s u k a b d = refl
+binary_operator ShiftRightArith true u k a b d = refl
+binary_operator ShiftRightArith false u k a b d = refl
 
 -- ---- costs
 
@@ -115,6 +117,7 @@ binary_cost Subtract s w m n d h i j = omega arith
 binary_cost Multiply s w m n d h i j = product w h
 binary_cost Divide s w m n d h i j = cc
 binary_cost Remainder s w m n d h i j = cc
+binary_cost Power s w m n d h i j = cc
 binary_cost BitAnd s w m n d h i j = omega arith
 binary_cost BitOr s w m n d h i j = omega arith
 binary_cost BitXor s w m n d h i j = omega arith
@@ -142,6 +145,7 @@ pub binary_room : (op : BinaryOp) (s : Bool) (w m n : ℕ) → is_division op �
 binary_room Multiply s w m n d h = omega arith
 binary_room Divide s w m n d h = cc
 binary_room Remainder s w m n d h = cc
+binary_room Power s w m n d h = cc
 binary_room ShiftRightArith true w m n d h = omega arith
 binary_room ShiftRightArith false w m n d h = omega arith
 binary_room Add s w m n d h = omega arith
@@ -230,6 +234,7 @@ scratch_is Subtract s w m n = refl
 scratch_is Multiply s w m n = refl
 scratch_is Divide s w m n = refl
 scratch_is Remainder s w m n = refl
+scratch_is Power s w m n = refl
 scratch_is BitAnd s w m n = refl
 scratch_is BitOr s w m n = refl
 scratch_is BitXor s w m n = refl

@@ -106,7 +106,7 @@ pub binary_without : (env : List ℕ) (m : ℕ) (op : BinaryOp) (a b : Expressio
     → IsEnv env m → length r ≤ w
     → IsValue env m a (left_width (way op) w (width a) (width b)) (left_sign (way op) s (sign a) (sign b)) c ta n
     → IsValue env n b (right_width (way op) w (width a) (width b)) (right_sign (way op) s (sign a) (sign b)) d tb p
-    → ((slots : State) → HasConstants slots → map slots r ≡ apply_binary op (left_sign (way op) s (sign a) (sign b)) (map slots ta) (map slots tb))
+    → ((slots : State) → HasConstants slots → map slots r ≡ apply_binary op (left_sign (way op) s (sign a) (sign b)) (right_sign (way op) s (sign a) (sign b)) (map slots ta) (map slots tb))
     → All (λ slot. slot < p) r → ((is_constant a && is_constant b) ≡ true → AreConstant r) → All (IsSource env m (read_bits a ++ read_bits b)) r
     → IsValue env m (Binary op a b) w s (c ++ d) (extended_slots w s r) p
 binary_without env m op a b w s c ta n d tb p r e long va vb is below constant sources =
@@ -116,13 +116,13 @@ binary_without env m op a b w s c ta n d tb p r e long va vb is below constant s
     let rw = right_width (way op) w (width a) (width b) in
     let parts = values_more env m c (ta ∷ []) n (weight a lw) (λ state. value a lw ls state ∷ []) d (tb ∷ []) p (weight b rw) (λ state. value b rw rs state ∷ []) e va.values vb.values in
     let moved = values_as env m (c ++ d) (ta ∷ tb ∷ []) p (weight a lw + weight b rw) (λ state. value a lw ls state ∷ value b rw rs state ∷ []) (r ∷ []) (weight a lw + weight b rw)
-    (λ state. apply_binary op ls (value a lw ls state) (value b rw rs state) ∷ []) e parts (omega arith)
+    (λ state. apply_binary op ls rs (value a lw ls state) (value b rw rs state) ∷ []) e parts (omega arith)
     (one_more (λ to. All (λ slot. slot < p) to) r below)
     (λ slots state constants same.
     let q = two_lists (map slots ta) (map slots tb) (value a lw ls state) (value b rw rs state) same in
-    ap (λ (x : BitList). x ∷ []) (is slots constants ∙ ap (λ (x : BitList). apply_binary op ls x (map slots tb)) q.0 ∙ ap (apply_binary op ls (value a lw ls state)) q.1)) in
+    ap (λ (x : BitList). x ∷ []) (is slots constants ∙ ap (λ (x : BitList). apply_binary op ls rs x (map slots tb)) q.0 ∙ ap (apply_binary op ls rs (value a lw ls state)) q.1)) in
     record {
-      values = extended_values env m (c ++ d) r p (weight a lw + weight b rw) (weight (Binary op a b) w) (λ state. apply_binary op ls (value a lw ls state) (value b rw rs state)) (λ state. apply_binary op ls (value a lw ls state) (value b rw rs state)) w s e
+      values = extended_values env m (c ++ d) r p (weight a lw + weight b rw) (weight (Binary op a b) w) (λ state. apply_binary op ls rs (value a lw ls state) (value b rw rs state)) (λ state. apply_binary op ls rs (value a lw ls state) (value b rw rs state)) w s e
           (omega arith) (λ state. refl) moved;
       length = length-extended w s r long;
       constant = λ h. extended_all (λ slot. slot < 4) w s r (omega arith) (constant h);

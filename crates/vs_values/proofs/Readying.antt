@@ -5,7 +5,7 @@ use Rattle.std.proofs.lemmas.List.{length-map}
 use Rattle.std.proofs.lemmas.List.Sums.{sum_by-append}
 use Rattle.std.proofs.lemmas.List.Elements.{All-nil, All-cons, All-weaker, All-head}
 use Rattle.vs_four.specs.Logic.{BitList}
-use Rattle.vs_design.specs.Expressions.{signal_length, word_length, BinaryOp, Expression, Literal, Name, Select, Word, Unary, Binary, Choice, Join, Repeat, At, Way, InContext, Own, Compared, Shifted, way, unary_length, UnaryOp, binary_length, width, sign, is_constant}
+use Rattle.vs_design.specs.Expressions.{signal_length, word_length, BinaryOp, Expression, Literal, Name, Select, Word, Unary, Binary, Choice, Join, Repeat, At, Way, InContext, Own, Compared, Shifted, Raised, way, unary_length, UnaryOp, binary_length, width, sign, is_constant}
 use Rattle.vs_design.specs.Expressions as E
 use Rattle.vs_design.specs.Fits.{fits_64, fits_signal, fits, fit_items, fits_statement, is_division, divides_constants, is_fit}
 use Rattle.vs_design.specs.Sizes.{weight, is_shift}
@@ -45,6 +45,7 @@ binary_long InContext m n h k = (omega arith, omega arith)
 binary_long Own m n h k = (omega arith, omega arith)
 binary_long Compared m n h k = (omega arith, omega arith)
 binary_long Shifted m n h k = (omega arith, omega arith)
+binary_long Raised m n h k = (omega arith, omega arith)
 
 -- an expression that fits has 1 to 64 bits
 pub fits_length : (e : Expression) → fits e ≡ true → (1 ≤ width e) × (width e ≤ 64)
@@ -104,12 +105,14 @@ left_within InContext w m n h i j k = (omega arith, omega arith)
 left_within Own w m n h i j k = (omega arith, omega arith)
 left_within Compared w m n h i j k = (omega arith, omega arith)
 left_within Shifted w m n h i j k = (omega arith, omega arith)
+left_within Raised w m n h i j k = (omega arith, omega arith)
 
 pub right_within : (y : Way) (w m n : ℕ) → binary_length y m n ≤ w → w ≤ 64 → m ≤ 64 → n ≤ 64 → (n ≤ right_width y w m n) × (right_width y w m n ≤ 64)
 right_within InContext w m n h i j k = (omega arith, omega arith)
 right_within Own w m n h i j k = (omega arith, omega arith)
 right_within Compared w m n h i j k = (omega arith, omega arith)
 right_within Shifted w m n h i j k = (omega arith, omega arith)
+right_within Raised w m n h i j k = (omega arith, omega arith)
 
 operands_weigh : (op : BinaryOp) (a b : Expression) (w : ℕ) → weight a (left_width (way op) w (width a) (width b)) + weight b (right_width (way op) w (width a) (width b)) ≤ weight (Binary op a b) w
 operands_weigh op a b w = omega arith
@@ -173,6 +176,7 @@ short_lengths op w m n h i j some =
     result_short Own w h i = omega arith
     result_short Compared w h i = omega arith
     result_short Shifted w h i = omega arith
+    result_short Raised w h i = omega arith
 
 pub some_width : (op : BinaryOp) (a b : Expression) (w : ℕ) → IsFitBinary op a b → width (Binary op a b) ≤ w → 1 ≤ w
 some_width op a b w f h = let l = binary_long (way op) (width a) (width b) f.left_long f.right_long in omega (arith, l.0)
@@ -271,7 +275,7 @@ pub adds_moved : (env : List ℕ) (code code1 code2 : Coding) (op : BinaryOp) (a
     → AddsValue env code.calls code.next code1.calls code1.next a (left_width (way op) w (width a) (width b)) (left_sign (way op) s (sign a) (sign b)) ta
     → AddsValue env code1.calls code1.next code2.calls code2.next b (right_width (way op) w (width a) (width b)) (right_sign (way op) s (sign a) (sign b)) tb
     → length r ≤ w
-    → ((slots : State) → HasConstants slots → map slots r ≡ apply_binary op (left_sign (way op) s (sign a) (sign b)) (map slots ta) (map slots tb))
+    → ((slots : State) → HasConstants slots → map slots r ≡ apply_binary op (left_sign (way op) s (sign a) (sign b)) (right_sign (way op) s (sign a) (sign b)) (map slots ta) (map slots tb))
     → All (λ slot. slot < code2.next) r → ((is_constant a && is_constant b) ≡ true → AreConstant r) → All (IsSource env code.next (read_bits a ++ read_bits b)) r
     → to ≡ extended_slots w s r
     → AddsValue env code.calls code.next code2.calls code2.next (Binary op a b) w s to
@@ -289,16 +293,17 @@ pub adds_folded : (env : List ℕ) (code code1 code2 : Coding) (op : BinaryOp) (
     → AddsValue env code.calls code.next code1.calls code1.next a (left_width (way op) w (width a) (width b)) (left_sign (way op) s (sign a) (sign b)) ta
     → AddsValue env code1.calls code1.next code2.calls code2.next b (right_width (way op) w (width a) (width b)) (right_sign (way op) s (sign a) (sign b)) tb
     → AreConstant ta → AreConstant tb
-    → length (apply_binary op (left_sign (way op) s (sign a) (sign b)) (constant_bits ta) (constant_bits tb)) ≤ w
-    → to ≡ extended_slots w s (constant_slots (apply_binary op (left_sign (way op) s (sign a) (sign b)) (constant_bits ta) (constant_bits tb)))
+    → length (apply_binary op (left_sign (way op) s (sign a) (sign b)) (right_sign (way op) s (sign a) (sign b)) (constant_bits ta) (constant_bits tb)) ≤ w
+    → to ≡ extended_slots w s (constant_slots (apply_binary op (left_sign (way op) s (sign a) (sign b)) (right_sign (way op) s (sign a) (sign b)) (constant_bits ta) (constant_bits tb)))
     → AddsValue env code.calls code.next code2.calls code2.next (Binary op a b) w s to
 adds_folded env code code1 code2 op a b w s ta tb to ready va vb ca cb long to_is =
     let ls = left_sign (way op) s (sign a) (sign b) in
-    let v = apply_binary op ls (constant_bits ta) (constant_bits tb) in
+    let rs = right_sign (way op) s (sign a) (sign b) in
+    let v = apply_binary op ls rs (constant_bits ta) (constant_bits tb) in
     let r = constant_slots v in
     let least : 4 ≤ code2.next = omega (arith, ready.is_env.constants, va.value.values.added.grown, vb.value.values.added.grown) in
     adds_moved env code code1 code2 op a b w s ta tb r to ready va vb (omega (arith, length-map v constant_slot, long))
-    (λ slots h. constants_are slots v h ∙ ap (λ (x : BitList). apply_binary op ls x (constant_bits tb)) (sym (bits_are slots ta h ca)) ∙ ap (apply_binary op ls (map slots ta)) (sym (bits_are slots tb h cb)))
+    (λ slots h. constants_are slots v h ∙ ap (λ (x : BitList). apply_binary op ls rs x (constant_bits tb)) (sym (bits_are slots ta h ca)) ∙ ap (apply_binary op ls rs (map slots ta)) (sym (bits_are slots tb h cb)))
     (All-weaker (λ slot. slot < 4) (λ slot. slot < code2.next) (λ slot l. omega arith) r (all_constant v))
     (λ h. all_constant v)
     (All-weaker (λ slot. slot < 4) (IsSource env code.next (read_bits a ++ read_bits b)) (λ slot l. inl l) r (all_constant v))

@@ -154,8 +154,8 @@ binary_is env m op a b w s c ta n d tb p e divides some wide_a wide_b both shift
     parts is (omega (arith, cost, kept, binary_room op ls w (width a) (width b) divides some)) (omega (arith, cost, binary_cost op ls w (width a) (width b) divides some wide_a wide_b)) in
     record {
       values = extended_values env m ((c ++ d) ++ call ∷ []) (range_with_len p k) (p + k) (weight a lw + weight b rw + binary_weight op w (width a) (width b)) (weight (Binary op a b) w)
-          (λ state. operator_of kernel k (value a lw ls state ∷ value b rw rs state ∷ [])) (λ state. apply_binary op ls (value a lw ls state) (value b rw rs state)) w s e
-          (omega (arith, weight_of_binary op a b w both shifted)) (λ state. binary_operator op ls k (value a lw ls state) (value b rw rs state) divides) done;
+          (λ state. operator_of kernel k (value a lw ls state ∷ value b rw rs state ∷ [])) (λ state. apply_binary op ls rs (value a lw ls state) (value b rw rs state)) w s e
+          (omega (arith, weight_of_binary op a b w both shifted)) (λ state. binary_operator op ls rs k (value a lw ls state) (value b rw rs state) divides) done;
       length = length-extended w s (range_with_len p k) (omega (arith, length-range_with_len p k, result_within (way op) w some));
       constant = λ h. absurd (true≢false (sym h ∙ both));
       sources = extended_all (IsSource env m (read_bits (Binary op a b))) w s (range_with_len p k) (inl (omega arith))

@@ -1,6 +1,6 @@
 -- Which kernel computes each operator, and how long its value is.
 use Rattle.std.specs.Prelude.{ℕ, Bool, true, false, List, [], ◌∷◌}
-use Rattle.vs_design.specs.Expressions.{UnaryOp, Plus, Minus, BitNot, LogicalNot, ReduceAnd, ReduceNand, ReduceOr, ReduceNor, ReduceXor, ReduceXnor, Signed, Unsigned, BinaryOp, Add, Subtract, Multiply, BitAnd, BitOr, BitXor, BitXnor, Less, LessEqual, Greater, GreaterEqual, Equal, NotEqual, CaseEqual, CaseNotEqual, LogicalAnd, LogicalOr, ShiftLeft, ShiftRight, ShiftLeftArith, ShiftRightArith, Way, InContext, Shifted, way}
+use Rattle.vs_design.specs.Expressions.{UnaryOp, Plus, Minus, BitNot, LogicalNot, ReduceAnd, ReduceNand, ReduceOr, ReduceNor, ReduceXor, ReduceXnor, Signed, Unsigned, BinaryOp, Add, Subtract, Multiply, BitAnd, BitOr, BitXor, BitXnor, Less, LessEqual, Greater, GreaterEqual, Equal, NotEqual, CaseEqual, CaseNotEqual, LogicalAnd, LogicalOr, ShiftLeft, ShiftRight, ShiftLeftArith, ShiftRightArith, Way, InContext, Shifted, Raised, way}
 use Rattle.vs_design.specs.Values.{left_width, right_width}
 use Rattle.vs_kern_logic.specs.declared.costs.Kernel.TheVariants as L
 use Rattle.vs_kern_arith.specs.declared.costs.Kernel.TheVariants as A
@@ -62,6 +62,7 @@ unary_result _ w = 1
 abbrev pub result_of_way : Way → ℕ → ℕ
 result_of_way InContext w = w
 result_of_way Shifted w = w
+result_of_way Raised w = w
 result_of_way _ w = 1
 
 -- the lengths that the kernel of two operands of these lengths is called with

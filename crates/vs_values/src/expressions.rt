@@ -74,7 +74,7 @@ pub(crate) fn binary_kernel(op: BinaryOp, signed: bool) -> AnyKernel
                 AnyKernel::Select(vs_kern_select::Kernel::ShiftRight)
             }
         }
-        BinaryOp::BitAnd | BinaryOp::Divide | BinaryOp::Remainder => {
+        BinaryOp::BitAnd | BinaryOp::Divide | BinaryOp::Remainder | BinaryOp::Power => {
             AnyKernel::Logic(vs_kern_logic::Kernel::And)
         }
     }
@@ -85,7 +85,7 @@ fn result_width(op: BinaryOp, width: u32) -> u32
     ensures { result ≡ result_of_way (E.way op) width }
 {
     match op.way() {
-        Way::InContext | Way::Shifted => width,
+        Way::InContext | Way::Shifted | Way::Raised => width,
         Way::Own | Way::Compared => 1,
     }
 }
@@ -111,6 +111,7 @@ fn folded(
     alloc: Global,
     op: BinaryOp,
     signed: bool,
+    other_signed: bool,
     a: &[u32],
     b: &[u32],
     context: Context,
@@ -121,11 +122,11 @@ fn folded(
     requires most_b { length b.now ≤ 64 }
     requires alike { E.way op ≡ E.InContext → length a.now ≡ length b.now }
     requires compared { E.way op ≡ E.Compared → length a.now ≡ length b.now }
-    ensures { IfOk result (λ to. to.items ≡ extended_slots context.width context.signed (constant_slots (apply_binary op signed (constant_bits a.now) (constant_bits b.now)))) }
+    ensures { IfOk result (λ to. to.items ≡ extended_slots context.width context.signed (constant_slots (apply_binary op signed other_signed (constant_bits a.now) (constant_bits b.now)))) }
 {
     let a = constant_bits(alloc, a)?;
     let b = constant_bits(alloc, b)?;
-    let value = op.apply(signed, a, b);
+    let value = op.apply(signed, other_signed, a, b);
     extended(constant_slots(alloc, value)?, context.width, context.signed)
 }
 
@@ -195,7 +196,15 @@ fn binary(
     let q = lower(alloc, templates, env, b, r, code)?;
     value_law();
     match route_of(op, p.as_slice(), q.as_slice()) {
-        Route::Folded => folded(alloc, op, l.signed, p.as_slice(), q.as_slice(), context),
+        Route::Folded => folded(
+            alloc,
+            op,
+            l.signed,
+            r.signed,
+            p.as_slice(),
+            q.as_slice(),
+            context,
+        ),
         Route::Moved => shifted(alloc, op, l.signed, p.as_slice(), q.as_slice(), context),
         Route::Summed => summed(alloc, p.as_slice(), q.as_slice(), code),
         Route::Called => called(alloc, op, l.signed, p, q, context, code),

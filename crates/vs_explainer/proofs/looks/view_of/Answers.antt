@@ -9,7 +9,7 @@ returns-clause-view c =
     let draws = c.args.draws in
     let drawn = c.in_ok-drawing.drawing in (
       drawn,
-      subst (λ (t : Option (List ℕ)). MatchBool draws (IsDrawing c.args.text.items t drawn) (drawn ≡ None)) c.top_bytes.ensures
+      subst (λ (t : Option (List ℕ)). MatchBool draws (IsDrawing c.args.joined.text.items t drawn) (drawn ≡ None)) c.top_bytes.ensures
           (subst (λ (t : List ℕ). MatchBool draws (IsDrawing t (option_map (λ n. n.now) c.top_bytes.result) drawn) (drawn ≡ None)) c.as_slice.ensures.value c.in_ok-drawing.ensures),
-      as_long _ _ _ drawn None None (ap (λ (t : List ℕ). length t) c.as_bytes.ensures),
+      as_long _ _ _ _ drawn None None (ap (λ (t : List ℕ). length t) c.as_bytes.ensures),
     )

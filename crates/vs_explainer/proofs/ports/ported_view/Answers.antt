@@ -7,8 +7,8 @@ pub returns-clause-view : goal.returns-clause-view
 returns-clause-view c =
     let ports = c.in_ok-ports.ports in (
       ports,
-      subst (λ (t : Option (List ℕ)). TellsPorts false c.args.text.items t c.args.job.now.clock ports) c.top_bytes.ensures
-          (subst (λ (t : Option (List ℕ)). TellsPorts false c.args.text.items (option_map (λ n. n.now) c.top_bytes.result) t ports) c.clock_bytes.ensures
+      subst (λ (t : Option (List ℕ)). TellsPorts false c.args.joined.text.items t c.args.job.now.clock ports) c.top_bytes.ensures
+          (subst (λ (t : Option (List ℕ)). TellsPorts false c.args.joined.text.items (option_map (λ n. n.now) c.top_bytes.result) t ports) c.clock_bytes.ensures
           (subst (λ (t : List ℕ). TellsPorts false t (option_map (λ n. n.now) c.top_bytes.result) (option_map (λ n. n.now) c.clock_bytes.result) ports) c.as_slice.ensures.value c.in_ok-ports.ensures)),
-      as_long _ _ _ None None ports (ap (λ (t : List ℕ). length t) c.as_bytes.ensures),
+      as_long _ _ _ _ None None ports (ap (λ (t : List ℕ). length t) c.as_bytes.ensures),
     )

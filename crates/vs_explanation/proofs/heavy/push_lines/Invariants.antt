@@ -4,4 +4,4 @@ use Rattle.vs_explanation.specs.Seen.{seen_of}
 use Rattle.vs_explanation.proofs.heavy.push_lines.Given as goal
 
 abbrev pub invariant-loop-heavy : goal.invariant-loop-heavy
-invariant-loop-heavy l = l.page ≡ l.initial.page ++ spec.heavy_lines l.path (seen_of l.seen) (take l.heavy-index l.processes)
+invariant-loop-heavy l = l.page ≡ l.initial.page ++ spec.heavy_lines l.job (seen_of l.seen) (take l.heavy-index l.processes)

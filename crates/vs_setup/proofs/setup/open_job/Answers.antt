@@ -1,6 +1,7 @@
 use Rattle.std.proofs.Common.{Err, length, sym, subst, ap, ◌∙◌, arith}
 use Rattle.std.proofs.lemmas.Result.{err_from_is_err_and}
 use Rattle.vs_desk.specs.Desk.{Register}
+use Rattle.vs_desk.specs.Places.{other_place}
 use Rattle.vs_feed.specs.Opened.{AreFree, with_lanes}
 use Rattle.vs_setup.specs.DesignText.{with_design}
 use Rattle.vs_setup.specs.Unprepared.{IsUnprepared, IsUnopened}
@@ -17,7 +18,8 @@ open_stimuli-requires-clause-ports g c = c.in_ok-loaded.ensures.loaded.loaded.ar
 pub open_stimuli-requires-clause-free : goal.open_stimuli-requires-clause-free
 open_stimuli-requires-clause-free g c =
     subst (λ (r : Register). AreFree r (length c.args.job.now.stimuli)) (sym c.in_ok-loaded.ensures.register)
-    (free_behind (g.D.Desk.told c.args.desk.now).register c.args.job.now.design (length c.args.job.now.stimuli) c.requires.fresh)
+    (free_behind c.attach_law.ensures.others (g.D.Desk.told c.args.desk.now).register c.args.job.now.design c.args.job.now.others (length c.args.job.now.stimuli) (length c.args.job.now.others) c.requires.job.few
+    c.requires.fresh)
 
 pub returns-in_err-drive-clause-unprepared : goal.returns-in_err-drive-clause-unprepared
 returns-in_err-drive-clause-unprepared g c =
@@ -28,11 +30,11 @@ returns-in_err-drive-clause-unprepared g c =
     let l = c.in_ok-loaded.loaded in
     let e = c.in_err-drive.field-0.0 in
     let unopened : IsUnopened l.ports job.stimuli mid new e = c.in_err-drive.ensures.unopened in
-    let behind : IsUnopened l.ports job.stimuli (record mid { register = with_design old.register job.design }) new e =
+    let behind : IsUnopened l.ports job.stimuli (record mid { register = with_design old.register job.design job.others }) new e =
     subst (λ (r : Register). IsUnopened l.ports job.stimuli (record mid { register = r }) new e) c.in_ok-loaded.ensures.register
     unopened in
     err_is (IsUnprepared job old new) c.from_residual-in_err-drive.result e (let p = err_from_is_err_and c.from_residual-in_err-drive.result c.from_residual-in_err-drive.ensures.1 in p.1 ∙ ap Err p.2)
-    (unprepared job old mid new l.accepted l.ports c.in_ok-loaded.ensures.loaded (λ t. (c.in_ok-loaded.ensures.only t).files) e behind)
+    (unprepared job old mid new l.accepted l.ports c.in_ok-loaded.ensures.loaded (λ t. (c.in_ok-loaded.ensures.kept t).files) e behind)
 
 pub returns-clause-opened : goal.returns-clause-opened
 returns-clause-opened g c =
@@ -45,13 +47,16 @@ returns-clause-opened g c =
     let ks = c.in_ok-drive.drive in
     let lanes : HasLanes tells job old mid new l.accepted l.ports ks = record {
       loaded = c.in_ok-loaded.ensures.loaded;
-      files = λ t. (c.in_ok-loaded.ensures.only t).files;
+      files = λ t. (c.in_ok-loaded.ensures.kept t).files;
       opened = c.in_ok-drive.ensures.opened;
       numbered = c.in_ok-drive.ensures.numbered;
     } in
     record {
       loaded = lanes.loaded;
-      taken = λ t. (c.in_ok-drive.ensures.others t).before 1 (omega arith) ∙ c.in_ok-loaded.ensures.taken t;
+      taken = λ t. record {
+        design = (c.in_ok-drive.ensures.others t).before 1 (omega arith) ∙ (c.in_ok-loaded.ensures.taken t).design;
+        others = λ i lt. (c.in_ok-drive.ensures.others t).behind (other_place i) (omega (arith, c.requires.job.few)) ∙ (c.in_ok-loaded.ensures.taken t).others i lt;
+      };
       middle = mid;
       files = lanes.files;
       opened = lanes.opened;
@@ -66,12 +71,12 @@ returns-clause-register g c = c.in_ok-drive.ensures.register ∙ ap (λ (r : Reg
 
 pub returns-clause-kept : goal.returns-clause-kept
 returns-clause-kept g c = λ t. record {
-  files = (c.in_ok-drive.ensures.others t).files ∙ (c.in_ok-loaded.ensures.only t).files;
-  put = (c.in_ok-drive.ensures.others t).put ∙ (c.in_ok-loaded.ensures.only t).put;
+  files = (c.in_ok-drive.ensures.others t).files ∙ (c.in_ok-loaded.ensures.kept t).files;
+  put = (c.in_ok-drive.ensures.others t).put ∙ (c.in_ok-loaded.ensures.kept t).put;
 }
 
 pub returns-in_err-drive-clause-kept : goal.returns-in_err-drive-clause-kept
 returns-in_err-drive-clause-kept g c = λ t. record {
-  files = (c.open_stimuli.ensures.others t).files ∙ (c.in_ok-loaded.ensures.only t).files;
-  put = (c.open_stimuli.ensures.others t).put ∙ (c.in_ok-loaded.ensures.only t).put;
+  files = (c.open_stimuli.ensures.others t).files ∙ (c.in_ok-loaded.ensures.kept t).files;
+  put = (c.open_stimuli.ensures.others t).put ∙ (c.in_ok-loaded.ensures.kept t).put;
 }

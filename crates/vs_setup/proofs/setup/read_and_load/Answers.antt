@@ -1,14 +1,11 @@
-use Rattle.std.proofs.Common.{rules, ◌≡◌, ◌≤◌, ℕ, List, length, Err, ap, sym, subst}
+use Rattle.std.proofs.Common.{◌≤◌, ℕ, List, length, sym, subst}
 use Rattle.std.proofs.lemmas.Result.{err_from_is_err_and}
-use Rattle.std.specs.Prelude.{string_bytes}
-use Rattle.vs_desk.specs.Places.{design_place}
 use Rattle.vs_accept.specs.Accepted.{most_bytes}
-use Rattle.vs_setup.specs.DesignText.{with_design, IsBehind, IsTooLong, DesignFails}
+use Rattle.vs_setup.specs.DesignText.{IsBehind, joined_files}
 use Rattle.vs_setup.specs.Loaded.{IsLoaded}
 use Rattle.vs_setup.specs.Ports.{demands}
 use Rattle.vs_setup.specs.Prepared.{IsDesignLoaded}
 use Rattle.vs_setup.specs.Unprepared.{IsLoadError, IsUnprepared}
-use Rattle.vs_setup.specs.declared.design_text.DesignError.{DesignError}
 use Rattle.vs_setup.proofs.Opening.{on_ok, on_err, IsWhole, loaded_behind, unloaded, undesigned}
 use Rattle.vs_setup.proofs.setup.read_and_load.Goals as goal
 
@@ -17,10 +14,8 @@ returns-clause-loaded g c =
     let old = (g.D.Desk.told c.args.desk.now).contents in
     let tells = g.D.Desk.tells in
     let job = c.args.job.now in
-    let path : string_bytes c.in_ok-path.path ≡ job.design = search rules in
     let slice = c.as_slice.result.now in
-    let behind : IsBehind tells job.head (old.files job.design) slice = rw c.as_slice.ensures.value
-    (rw (c.as_bytes.ensures, path) at c.in_ok-text.ensures.text) in
+    let behind : IsBehind tells job.head (joined_files old.files job.design job.others) slice = rw c.as_slice.ensures.value c.in_ok-text.ensures.text in
     on_ok (λ l. IsLoaded (demands job.mode) slice job.top job.clock l.accepted l.ports) (λ l. IsDesignLoaded tells job old l.accepted l.ports) c.load_text.result c.load_text.ensures.loaded
     (λ l h. loaded_behind tells job old slice l.accepted l.ports behind h)
 
@@ -30,29 +25,19 @@ returns-clause-unprepared g c =
     let new = g.D.Desk.told c.read_design.new.desk in
     let tells = g.D.Desk.tells in
     let job = c.args.job.now in
-    let attached : new.register ≡ with_design old.register job.design = search rules in
-    let path : string_bytes c.in_ok-path.path ≡ job.design = search rules in
     let slice = c.as_slice.result.now in
-    let behind : IsBehind tells job.head (old.contents.files job.design) slice = rw c.as_slice.ensures.value
-    (rw (c.as_bytes.ensures, path) at c.in_ok-text.ensures.text) in
+    let behind : IsBehind tells job.head (joined_files old.contents.files job.design job.others) slice = rw c.as_slice.ensures.value c.in_ok-text.ensures.text in
     let whole : IsWhole tells job old.contents new.contents slice = record {
       behind = behind;
       short = subst (λ (xs : List ℕ). length xs ≤ most_bytes) (sym c.as_slice.ensures.value) c.in_ok-text.ensures.short;
       taken = c.in_ok-text.ensures.end;
     } in
     on_err (IsLoadError (length job.head) slice job.top job.clock) (IsUnprepared job old new) c.load_text.result c.load_text.ensures.refused
-    (λ e load_error. unloaded job old new slice e load_error attached whole)
+    (λ e load_error. unloaded job old new slice e load_error c.in_ok-text.ensures.register whole)
 
 pub returns-in_err-text-clause-unprepared : goal.returns-in_err-text-clause-unprepared
 returns-in_err-text-clause-unprepared g c =
-    let p = err_from_is_err_and c.from_residual-in_err-text.result c.from_residual-in_err-text.ensures.1 in
-    let path : string_bytes c.in_ok-path.path ≡ c.args.job.now.design = search rules in
+    let p = err_from_is_err_and c.from_residual.result c.from_residual.ensures.1 in
     let old = g.D.Desk.told c.args.desk.now in
     let new = g.D.Desk.told c.read_design.new.desk in
-    let head = c.args.job.now.head in
-    let h = c.in_err-text.ensures in
-    let bytes = string_bytes c.in_ok-path.path in
-    rw (p.1, p.2) (undesigned c.args.job.now old new bytes c.in_err-text.field-0.0 path
-    (λ e t. subst (λ (xs : List ℕ). IsTooLong xs (old.contents.files bytes) (new.contents.left design_place)) c.as_bytes.ensures (h.long t (ap (λ (x : DesignError). Err x) e)))
-    (λ ne. h.attached (λ e. ne (cc)))
-    (λ e. subst (λ (xs : List ℕ). DesignFails old new xs bytes) c.as_bytes.ensures (h.failed (ap (λ (x : DesignError). Err x) e))))
+    rw (p.1, p.2) (undesigned c.args.job.now old new c.in_err-text.field-0.0 c.in_err-text.ensures.unread)

@@ -1,7 +1,7 @@
 use Rattle.std.proofs.Common.{Bool, ◌||◌, ◌&&◌, not, max, map, slice_index, Vec, Global, true, ◌≡◌, ◌∙◌, ◌<◌, ℕ, List, [], ◌∷◌, length, sym, ap, subst, subst₂, refl, arith, ◌⊎◌}
 use Rattle.std.proofs.lemmas.Result.{IfOk-weaker}
 use Rattle.vs_design.specs.Expressions as E
-use Rattle.vs_design.specs.Values.{left_width, right_width}
+use Rattle.vs_design.specs.Values.{left_width, right_width, right_sign}
 use Rattle.vs_design.specs.Sizes.{is_shift}
 use Rattle.vs_design.specs.Values.{apply_binary}
 use Rattle.vs_flat.specs.declared.expressions.Node.TheVariants as N
@@ -22,7 +22,7 @@ use Rattle.vs_flat.specs.DesignOf.{arena_trees}
 use Rattle.vs_flat.specs.Trees.{tree_at}
 use Rattle.vs_values.specs.Valued.{AddsValue}
 use Rattle.vs_values.proofs.Readying.{ready_left, ready_right}
-use Rattle.vs_values.proofs.Binary.{context_is, adds_at, ready_at, operands_of, short_is, returns_folded, returns_moved, call_is, returns_called, both_ok}
+use Rattle.vs_values.proofs.Binary.{context_is, sign_context, adds_at, ready_at, operands_of, short_is, returns_folded, returns_moved, call_is, returns_called, both_ok}
 use Rattle.vs_values.specs.Made.{IsCallable, IsUnary, IsChoice, IsSelect, IsWord, source_slots, word_kernel}
 use Rattle.vs_values.specs.Products.{IsCheap, HasRoom, AddsProduct, product_cost}
 use Rattle.vs_values.proofs.Summing.{summable, returns_summed}
@@ -228,15 +228,17 @@ binary-returns-in-Folded t c =
     let q = c.in_ok-q.q.items in
     let o = operands_of env code c.lower.new.code c.lower-2.new.code op a b w s c.left-l.result.width ls c.right-r.result.width c.right-r.result.signed c.own_of-own_a.result.width c.own_of-own_b.result.width c.own_of-own_a.result.signed c.own_of-own_b.result.signed p q
     c.left-l.ensures.width c.left-l.ensures.signed c.right-r.ensures.width c.right-r.ensures.signed c.own_of-own_a.ensures.width c.own_of-own_b.ensures.width c.own_of-own_a.ensures.signed c.own_of-own_b.ensures.signed c.requires.ready c.in_ok-p.ensures c.in_ok-q.ensures in
+    let rs = c.right-r.result.signed in
     let both = c.in-Folded.ensures.folded refl in
     let slots_p = c.as_slice-in-Folded.ensures.value in
     let slots_q = c.as_slice-in-Folded-2.ensures.value in
     IfOk-weaker c.folded.result
-    (λ (to : Vec ℕ Global). to.items ≡ extended_slots w s (constant_slots (apply_binary op ls (constant_bits c.as_slice-in-Folded.result.now) (constant_bits c.as_slice-in-Folded-2.result.now))))
+    (λ (to : Vec ℕ Global). to.items ≡ extended_slots w s (constant_slots (apply_binary op ls rs (constant_bits c.as_slice-in-Folded.result.now) (constant_bits c.as_slice-in-Folded-2.result.now))))
     (λ (to : Vec ℕ Global). AddsValue env code.calls code.next c.lower-2.new.code.calls c.lower-2.new.code.next (E.Binary op a b) w s to.items)
-    (λ to is. returns_folded c.value_law.ensures.length env code c.lower.new.code c.lower-2.new.code op a b w s ls p q to.items o
+    (λ to is. returns_folded c.value_law.ensures.length env code c.lower.new.code c.lower-2.new.code op a b w s ls rs p q to.items o
+    (sign_context (right_sign (E.way op) s) rs c.own_of-own_a.result.signed c.own_of-own_b.result.signed (E.sign a) (E.sign b) c.right-r.ensures.signed c.own_of-own_a.ensures.signed c.own_of-own_b.ensures.signed)
     (subst AreConstant c.as_slice.ensures.value both.0) (subst AreConstant c.as_slice-2.ensures.value both.1)
-    (is ∙ ap (λ (x : List ℕ). extended_slots w s (constant_slots (apply_binary op ls (constant_bits x) (constant_bits c.as_slice-in-Folded-2.result.now)))) slots_p ∙ ap (λ (x : List ℕ). extended_slots w s (constant_slots (apply_binary op ls (constant_bits p) (constant_bits x)))) slots_q))
+    (is ∙ ap (λ (x : List ℕ). extended_slots w s (constant_slots (apply_binary op ls rs (constant_bits x) (constant_bits c.as_slice-in-Folded-2.result.now)))) slots_p ∙ ap (λ (x : List ℕ). extended_slots w s (constant_slots (apply_binary op ls rs (constant_bits p) (constant_bits x)))) slots_q))
     c.folded.ensures
 
 pub binary-returns-in-Moved : goal.binary-returns-in-Moved
