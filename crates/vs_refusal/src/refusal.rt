@@ -36,7 +36,7 @@ pub enum Refusal {
         signal: u32,
         at: u32,
     },
-    /// Two processes write the bit, or an assign's target has it twice.
+    /// Two processes write the bit, initial ones among them, or an assign's target has it twice.
     TwoDrivers {
         bit: u32,
         first: u32,
