@@ -1,6 +1,7 @@
 -- Marks of bits, process after process.
 use Rattle.std.proofs.Common.{◌≡◌, ℕ, zero, suc, ◌+◌, ◌<◌, ◌≤◌, ◌≢◌, Bool, true, false, List, [], ◌∷◌, ◌++◌, ◌||◌, ◌&&◌, ◌==◌, if◌then◌else◌, refl, sym, ap, ap₂, ◌∙◌, subst, eqb-true, get_or, set, take, length, arith, Some, nat_lt, get_or-set_same, get_or-set_other, length-append}
 use Rattle.std.specs.Prelude.{slice_get}
+use Rattle.std.proofs.lemmas.Bool.{lt-ltb}
 use Rattle.std.proofs.lemmas.List.{take_more, take_all, length-set}
 use Rattle.std.proofs.lemmas.Option.{slice_get_within, get_or_from_slice_get}
 use Rattle.vs_design.specs.Statements.{Statement, Empty, Assignment, Then, If, Case, Arms, Arm, Default}
@@ -138,7 +139,7 @@ gathered_same bits all none more xs k x marks at empty so b = gathered_next bits
 
 -- ---- how many initial processes write a bit
 
-one_if : Bool → ℕ
+abbrev one_if : Bool → ℕ
 one_if c = if c then 1 else 0
 
 length_one : (c : Bool) (k : ℕ) → length (if c then (k ∷ []) else []) ≡ one_if c
@@ -148,13 +149,19 @@ length_one false k = refl
 starters_more : (k : ℕ) (is : List Initial) (i : Initial) (b : ℕ) → length (starters_from k (is ++ i ∷ []) b) ≡ length (starters_from k is b) + one_if (contains (statement_bits i.statement) b)
 starters_more k [] i b =
     let c = contains (statement_bits i.statement) b in
-    let l = length-append (if c then (k ∷ []) else []) [] in
-    let o = length_one c k in omega (arith, l, o)
+    length-append (if c then (k ∷ []) else []) [] ∙ ap (λ (n : ℕ). n + 0) (length_one c k) ∙ turned (one_if c)
+  where
+    turned : (n : ℕ) → n + 0 ≡ 0 + n
+    turned n = omega arith
 starters_more k (j ∷ is) i b =
     let here = if contains (statement_bits j.statement) b then (k ∷ []) else [] in
-    let l = length-append here (starters_from (suc k) (is ++ i ∷ []) b) in
-    let m = length-append here (starters_from (suc k) is b) in
-    let h = starters_more (suc k) is i b in omega (arith, l, m, h)
+    let one = one_if (contains (statement_bits i.statement) b) in
+    let rest = starters_from (suc k) is b in
+    length-append here (starters_from (suc k) (is ++ i ∷ []) b) ∙ ap (λ (n : ℕ). length here + n) (starters_more (suc k) is i b)
+    ∙ joined (length here) (length rest) one ∙ ap (λ (n : ℕ). n + one) (sym (length-append here rest))
+  where
+    joined : (l m n : ℕ) → l + (m + n) ≡ (l + m) + n
+    joined l m n = omega arith
 
 -- one at least exactly where the bit is one of theirs
 pub started_is : (k : ℕ) (is : List Initial) (b : ℕ) → contains (initial_bits is) b ≡ nat_lt 0 (length (starters_from k is b))
@@ -167,7 +174,7 @@ started_is k (i ∷ is) b =
     rest = starters_from (suc k) is b
 
     by_head : (c : Bool) → (c || nat_lt 0 (length rest)) ≡ nat_lt 0 (length ((if c then (k ∷ []) else []) ++ rest))
-    by_head true = refl
+    by_head true = sym (lt-ltb 0 (suc (length rest)) (omega arith))
     by_head false = refl
 
 two_or_more : (n : ℕ) (c : Bool) → nat_lt 1 (n + one_if c) ≡ (nat_lt 1 n || (nat_lt 0 n && c))
@@ -175,8 +182,7 @@ two_or_more zero true = refl
 two_or_more zero false = refl
 two_or_more (suc zero) true = refl
 two_or_more (suc zero) false = refl
-two_or_more (suc (suc n)) true = ap (nat_lt 1) (let e : suc (suc n) + 1 ≡ suc (suc (suc n)) = omega arith in e)
-two_or_more (suc (suc n)) false = ap (nat_lt 1) (let e : suc (suc n) + 0 ≡ suc (suc n) = omega arith in e)
+two_or_more (suc (suc n)) c = lt-ltb 1 (suc (suc n) + one_if c) (omega arith) ∙ sym (ap (λ t. t || (nat_lt 0 (suc (suc n)) && c)) (lt-ltb 1 (suc (suc n)) (omega arith)))
 
 pub twice_next : (is : List Initial) (k : ℕ) (i : Initial) (once twice after : List Bool) (written : List ℕ) → slice_get is k ≡ Some i → written ≡ statement_bits i.statement → MarkedAgain once twice after written
     → ((b : ℕ) → is_marked once b ≡ contains (initial_bits (take k is)) b) → ((b : ℕ) → is_marked twice b ≡ nat_lt 1 (length (starters_from 0 (take k is) b))) → (b : ℕ) → is_marked after b ≡ nat_lt 1 (length (starters_from 0 (take (k + 1) is) b))

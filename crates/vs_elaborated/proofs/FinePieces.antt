@@ -339,7 +339,7 @@ pub survey_pieces : (d : Design) (limits : Limits) (source : Source) (k : Task) 
     → Each (λ (s : Signal). is_signal d s ≡ true) (survey limits source k t).signals → (survey limits source k t).faults ≡ [] → AreFinePieces d (survey limits source k t).pieces
 survey_pieces d limits source k t x s b i h =
     let around = around_in limits k t in
-    let frames = (survey_names d limits source k t s.frames s.overrides s.shaped b i h, s.frames) in
+    let frames : AreSoundFrames d false (around_in limits k t).env.frames = (survey_names d limits source k t s.frames s.overrides s.shaped b i h, s.frames) in
     let first = header_said around.env k.contents in
     let items = items_said limits source around (loops_in limits k t) (items_of k.contents) (made_in limits k t) in
     let n = both_nil first.faults items.faults (faultless limits source k t h).said in

@@ -82,11 +82,11 @@ alone_is d flags bits i told is =
 
 some_filter : (f : ℕ → Bool) (xs : List ℕ) → is_some_of (filter f xs) ≡ list_any f xs
 some_filter f [] = refl
-some_filter f (x ∷ xs) = go (f x)
+some_filter f (x ∷ xs) = go (some_filter f xs) (f x)
   where
-    go : (c : Bool) → is_some_of (cond c (x ∷ filter f xs) (filter f xs)) ≡ (c || list_any f xs)
-    go true = refl
-    go false = some_filter f xs
+    go : is_some_of (filter f xs) ≡ list_any f xs → (c : Bool) → is_some_of (cond c (x ∷ filter f xs) (filter f xs)) ≡ (c || list_any f xs)
+    go later true = refl
+    go later false = later
 
 any_initial : (f : ℕ → Bool) (is : List Initial) → list_any f (initial_bits is) ≡ list_any (λ (i : Initial). list_any f (statement_bits i.statement)) is
 any_initial f [] = refl

@@ -36,7 +36,7 @@ module _ (d : Design) (c : Clocked) (b : IsAcceptedBy d c) where
   pub made_in : BitsOfDesign → AcceptedIsLawful → (p : ℕ) (s : State) → AreInside (value_count d c.bit) (made (n.process p) s)
   made_in bits lawful p s = subst (λ k. AreInside (value_count d k) (made ((network_of d k).process p) s)) (sym (bit_is d c b)) (within bits lawful d b.name b.accepted p s).made_in
 
-  pub count_is : n.count ≡ length d.processes + (length (top_inputs d) + spare_count d c.bit)
+  pub count_is : n.count ≡ length d.processes + (length (top_inputs d) + (spare_count d c.bit + keeper_count d))
   count_is = network_count d c.bit
 
   module _ (e : Events) (r : IsRunning d c.bit e) where

@@ -1,9 +1,9 @@
 -- What initial processes write, driven in parts.
-use Rattle.std.proofs.Common.{◌≡◌, ℕ, zero, suc, ◌+◌, ◌<◌, Bool, true, false, not, ◌&&◌, ◌||◌, ◌==◌, cond, if◌then◌else◌, List, [], ◌∷◌, ◌++◌, map, filter, drop, length, get_or, append-nil, append_assoc, eq-eqb, refl, sym, ap, ap₂, ◌∙◌, subst, arith, Option, Some}
+use Rattle.std.proofs.Common.{◌≡◌, ℕ, zero, suc, ◌+◌, ◌-◌, ◌<◌, Bool, true, false, not, ◌&&◌, ◌||◌, ◌==◌, cond, if◌then◌else◌, List, [], ◌∷◌, ◌++◌, map, filter, take, drop, length, get_or, append-nil, append_assoc, eq-eqb, refl, sym, ap, ap₂, ◌∙◌, subst, arith, Option, Some}
 use Rattle.std.specs.Prelude.{slice_get, Result, Ok, Err, IfOk}
 use Rattle.std.specs.List.{flat_map, list_all, list_any, All}
 use Rattle.std.proofs.lemmas.Bool.{eqb-true}
-use Rattle.std.proofs.lemmas.List.{drop_more}
+use Rattle.std.proofs.lemmas.List.{drop_more, length-drop, take_all}
 use Rattle.vs_four.specs.declared.Bit4.TheVariants.{X}
 use Rattle.vs_net.specs.Network.{State, Write, Update, Effect, is_written, flatten}
 use Rattle.vs_design.specs.Expressions.{Signal}
@@ -28,7 +28,6 @@ use Rattle.vs_events.specs.Held.{Events, after_drive, after_activate}
 use Rattle.vs_events.specs.Beginning.{Drive, after_drives, drives_of}
 use Rattle.vs_queue.specs.Initially.{AllDriven, owner, is_own, is_own_write, parts, parts_of, AreOwners, HasBegun}
 use Rattle.vs_queue.proofs.Drives.{both_of, join_driven}
-use Rattle.vs_queue.proofs.Flags.{any_default}
 use Rattle.vs_queue.proofs.Inputs.{both_drives}
 
 -- ---- good results
@@ -52,7 +51,7 @@ module _ (owners : List ℕ) (all : List Write) where
 
   pub parts_drives : (ws : List Write) (p : ℕ) → drives_of (parts owners all ws) p ≡ part_of (list_any (is_own_write owners p) ws) (own p ∷ [])
   parts_drives [] p = refl
-  parts_drives (w ∷ ws) p = go (list_any (is_own_write owners q) ws) (p == q) refl refl
+  parts_drives (w ∷ ws) p = go (parts_drives ws p) (list_any (is_own_write owners q) ws) (p == q) refl refl
     where
       q : ℕ
       q = owner owners w.bit
@@ -60,19 +59,16 @@ module _ (owners : List ℕ) (all : List Write) where
       rest : List Drive
       rest = parts owners all ws
 
-      later : drives_of rest p ≡ part_of (list_any (is_own_write owners p) ws) (own p ∷ [])
-      later = parts_drives ws p
-
       same_any : (c : Bool) → list_any (is_own_write owners q) ws ≡ c → (p == q) ≡ true → list_any (is_own_write owners p) ws ≡ c
       same_any c h e = ap (λ r. list_any (is_own_write owners r) ws) (eqb-true p q e) ∙ h
 
-      go : (c e : Bool) → list_any (is_own_write owners q) ws ≡ c → (p == q) ≡ e → drives_of (if c then rest else (record { process = q; update = own q } ∷ rest)) p ≡ part_of (e || list_any (is_own_write owners p) ws) (own p ∷ [])
-      go true true h k = later ∙ ap (λ c. part_of c (own p ∷ [])) (same_any true h k)
-      go true false h k = later
-      go false true h k =
+      go : drives_of rest p ≡ part_of (list_any (is_own_write owners p) ws) (own p ∷ []) → (c e : Bool) → list_any (is_own_write owners q) ws ≡ c → (p == q) ≡ e → drives_of (if c then rest else (record { process = q; update = own q } ∷ rest)) p ≡ part_of (e || list_any (is_own_write owners p) ws) (own p ∷ [])
+      go later true true h k = later ∙ ap (λ c. part_of c (own p ∷ [])) (same_any true h k)
+      go later true false h k = later
+      go later false true h k =
           ap (λ c. if c then (own q ∷ drives_of rest p) else drives_of rest p) k
           ∙ ap₂ (λ (u : Update) (us : List Update). u ∷ us) (ap own (sym (eqb-true p q k))) (later ∙ ap (λ c. part_of c (own p ∷ [])) (same_any false h k))
-      go false false h k = ap (λ c. if c then (own q ∷ drives_of rest p) else drives_of rest p) k ∙ later
+      go later false false h k = ap (λ c. if c then (own q ∷ drives_of rest p) else drives_of rest p) k ∙ later
 
 has_some : List Write → Bool
 has_some [] = false
@@ -81,11 +77,11 @@ has_some (w ∷ ws) = true
 any_has : (f : Write → Bool) (ws : List Write) → list_any f ws ≡ has_some (filter f ws)
 unfolding has_some
 any_has f [] = refl
-any_has f (w ∷ ws) = go (f w)
+any_has f (w ∷ ws) = go (any_has f ws) (f w)
   where
-    go : (c : Bool) → (c || list_any f ws) ≡ has_some (cond c (w ∷ filter f ws) (filter f ws))
-    go true = refl
-    go false = any_has f ws
+    go : list_any f ws ≡ has_some (filter f ws) → (c : Bool) → (c || list_any f ws) ≡ has_some (cond c (w ∷ filter f ws) (filter f ws))
+    go later true = refl
+    go later false = later
 
 as_update : (ws : List Write) → part_of (has_some ws) (ws ∷ []) ≡ update_of ws
 unfolding has_some
@@ -105,15 +101,15 @@ parts_of_drives owners (u ∷ us) p =
 written_in_all : (f : Write → Bool) (ws : List Write) (b : ℕ) → is_written (filter f ws) b ≡ true → is_written ws b ≡ true
 unfolding is_written
 written_in_all f [] b h = cc
-written_in_all f (w ∷ ws) b h = go (f w) h
+written_in_all f (w ∷ ws) b h = go (written_in_all f ws b) (f w) h
   where
-    one : (c : Bool) → (c || is_written (filter f ws) b) ≡ true → (c || is_written ws b) ≡ true
-    one true k = refl
-    one false k = written_in_all f ws b k
+    one : (is_written (filter f ws) b ≡ true → is_written ws b ≡ true) → (c : Bool) → (c || is_written (filter f ws) b) ≡ true → (c || is_written ws b) ≡ true
+    one later true k = refl
+    one later false k = later k
 
-    go : (c : Bool) → is_written (cond c (w ∷ filter f ws) (filter f ws)) b ≡ true → ((b == w.bit) || is_written ws b) ≡ true
-    go true k = one (b == w.bit) k
-    go false k = or_right (b == w.bit) (is_written ws b) (written_in_all f ws b k)
+    go : (is_written (filter f ws) b ≡ true → is_written ws b ≡ true) → (c : Bool) → is_written (cond c (w ∷ filter f ws) (filter f ws)) b ≡ true → ((b == w.bit) || is_written ws b) ≡ true
+    go later true k = one later (b == w.bit) k
+    go later false k = or_right (b == w.bit) (is_written ws b) (later k)
 
 written_head : (w : Write) (ws : List Write) → is_written (w ∷ ws) w.bit ≡ true
 unfolding is_written
@@ -137,14 +133,11 @@ module _ (count bits : ℕ) (owners : List ℕ) where
 
   parts_there : (all ws : List Write) → ((b : ℕ) → is_written all b ≡ true → Is b) → ((b : ℕ) → is_written ws b ≡ true → Is b) → AllDriven count bits (parts owners all ws)
   parts_there all [] h k = tt
-  parts_there all (w ∷ ws) h k = go (list_any (is_own_write owners (owner owners w.bit)) ws)
+  parts_there all (w ∷ ws) h k = go (parts_there all ws h (λ b e. k b (written_tail w ws b e))) (list_any (is_own_write owners (owner owners w.bit)) ws)
     where
-      rest : AllDriven count bits (parts owners all ws)
-      rest = parts_there all ws h (λ b e. k b (written_tail w ws b e))
-
-      go : (c : Bool) → AllDriven count bits (if c then parts owners all ws else (record { process = owner owners w.bit; update = filter (is_own_write owners (owner owners w.bit)) all } ∷ parts owners all ws))
-      go true = rest
-      go false = ((k w.bit (written_head w ws)).0, (λ b e. (h b (written_in_all (is_own_write owners (owner owners w.bit)) all b e)).1), rest)
+      go : AllDriven count bits (parts owners all ws) → (c : Bool) → AllDriven count bits (if c then parts owners all ws else (record { process = owner owners w.bit; update = filter (is_own_write owners (owner owners w.bit)) all } ∷ parts owners all ws))
+      go rest true = rest
+      go rest false = ((k w.bit (written_head w ws)).0, (λ b e. (h b (written_in_all (is_own_write owners (owner owners w.bit)) all b e)).1), rest)
 
   pub parts_of_there : (us : List Update) → ((b : ℕ) → is_written (flatten us) b ≡ true → Is b) → AllDriven count bits (parts_of owners us)
   parts_of_there [] h = tt
@@ -239,6 +232,10 @@ all_drop P xs zero h = h
 all_drop P [] (suc k) h = h
 all_drop P (x ∷ xs) (suc k) h = all_drop P xs k (λ j d l. h (suc j) d (omega (arith, l)))
 
+-- the rest of a list is all of what is left of it
+pub rest_is : {A : Type 0} (xs : List A) (m : ℕ) → take (length xs - m) (drop m xs) ≡ drop m xs
+rest_is xs m = let l = length-drop m xs in take_all (length xs - m) (drop m xs) (omega (arith, l))
+
 -- ---- part after part
 
 module _ (owners : List ℕ) (all : List Write) (e : Events) (w : Write) (ws : List Write) where
@@ -255,11 +252,8 @@ module _ (owners : List ℕ) (all : List Write) (e : Events) (w : Write) (ws : L
   part_left h = ap with_part (sym h)
 
 -- who keeps the bit of write n of these
-pub owner_is : (owners : List ℕ) (all : List Write) (n b q : ℕ) (w : Write) → n < length all → All (λ x. x.bit < length owners) all → w ≡ get_or all n w → b ≡ w.bit → q ≡ get_or owners b q → q ≡ owner owners (get_or all n w).bit
-owner_is owners all n b q w l inside is at got =
-    let bit : b ≡ (get_or all n w).bit = at ∙ ap (λ (x : Write). x.bit) is in
-    let below : b < length owners = subst (λ k. k < length owners) (sym bit) (inside n w l) in
-    got ∙ any_default owners b q 0 below ∙ ap (owner owners) bit
+pub owner_is : (owners : List ℕ) (all : List Write) (n b : ℕ) (w : Write) → w ≡ get_or all n w → b ≡ w.bit → owner owners b ≡ owner owners (get_or all n w).bit
+owner_is owners all n b w is at = ap (owner owners) (at ∙ ap (λ (x : Write). x.bit) is)
 
 -- where it is this process
 module _ (owners : List ℕ) (all : List Write) (e : Events) (n q : ℕ) (w : Write) (l : n < length all) (is : q ≡ owner owners (get_or all n w).bit) where
@@ -270,13 +264,13 @@ module _ (owners : List ℕ) (all : List Write) (e : Events) (n q : ℕ) (w : Wr
   later = drop (n + 1) all
 
   pub part_none : (c : Bool) → c ≡ list_any (is_own_write owners q) later → c ≡ true → after_drives e (parts owners all later) ≡ after_drives e (parts owners all (drop n all))
-  part_none c told yes =
-      part_left owners all e here later (ap (λ r. list_any (is_own_write owners r) later) (sym is) ∙ sym told ∙ yes) ∙ ap (λ ws. after_drives e (parts owners all ws)) (sym (drop_more all n w l))
+  part_none c told any =
+      part_left owners all e here later (ap (λ r. list_any (is_own_write owners r) later) (sym is) ∙ sym told ∙ any) ∙ ap (λ ws. after_drives e (parts owners all ws)) (sym (drop_more all n w l))
 
   pub part_after : (now : Events) (u : Update) (c : Bool) → c ≡ list_any (is_own_write owners q) later → c ≡ false → u ≡ filter (is_own_write owners q) all → now ≡ after_drive e q u → after_drives now (parts owners all later) ≡ after_drives e (parts owners all (drop n all))
-  part_after now u c told no own_is driven =
+  part_after now u c told none own_is driven =
       ap (λ (x : Events). after_drives x (parts owners all later)) (driven ∙ ap (after_drive e q) own_is ∙ ap (λ r. after_drive e r (filter (is_own_write owners r) all)) is)
-      ∙ part_driven owners all e here later (ap (λ r. list_any (is_own_write owners r) later) (sym is) ∙ sym told ∙ no) ∙ ap (λ ws. after_drives e (parts owners all ws)) (sym (drop_more all n w l))
+      ∙ part_driven owners all e here later (ap (λ r. list_any (is_own_write owners r) later) (sym is) ∙ sym told ∙ none) ∙ ap (λ ws. after_drives e (parts owners all ws)) (sym (drop_more all n w l))
 
 pub update_driven : (owners : List ℕ) (u : Update) (us : List Update) (e now : Events) → now ≡ after_drives e (parts owners u u) → after_drives now (parts_of owners us) ≡ after_drives e (parts_of owners (u ∷ us))
 update_driven owners u us e now is = ap (λ (x : Events). after_drives x (parts_of owners us)) is ∙ sym (both_drives (parts owners u u) (parts_of owners us) e)
@@ -300,7 +294,7 @@ assigns_stay (d ∷ ds) e = assigns_stay ds (after_drive e d.process d.update)
 drop_here : {A : Type 0} (xs : List A) (k : ℕ) (x : A) → slice_get xs k ≡ Some x → drop k xs ≡ x ∷ drop (k + 1) xs
 drop_here [] k x at = cc
 drop_here (y ∷ ys) zero x at = let same : y ≡ x = cc in ap (λ z. z ∷ ys) same
-drop_here (y ∷ ys) (suc k) x at = drop_here ys k x at
+drop_here (y ∷ ys) (suc k) x at = drop_here ys k x at ∙ ap (λ j. x ∷ drop j (y ∷ ys)) (let e : suc (k + 1) ≡ suc k + 1 = omega arith in e)
 
 pub firsts_next : (owners : List ℕ) (is : List Initial) (k : ℕ) (i : Initial) (e now start : Events) → slice_get is k ≡ Some i → now ≡ after_drives e (parts owners (initial_writes i) (initial_writes i))
     → after_drives e (parts_of owners (map initial_writes (drop k is))) ≡ start → after_drives now (parts_of owners (map initial_writes (drop (k + 1) is))) ≡ start

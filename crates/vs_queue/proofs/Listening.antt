@@ -111,15 +111,15 @@ with_entry d clock c = after_listens (replicate (value_count d clock) []) (liste
 
 pub keeper_listened : (d : D.Design) (clock : ℕ) (wiring now : List (List Listener)) (keeper : Bool) (bit process : ℕ) → keeper ≡ has_keeper d → keeper ≡ true → bit ≡ clock → process ≡ keeper_at d clock
     → wiring ≡ after_listens (replicate (value_count d clock) []) (listens_from (D.bit_count d) 0 d.processes) → now ≡ after_listen wiring (record { bit = bit; listener = record { process = process; change = C.Pos } }) → now ≡ listeners_of d clock
-keeper_listened d clock wiring now keeper bit process told yes b p is listened =
+keeper_listened d clock wiring now keeper bit process told there b p is listened =
     listened ∙ ap₂ (λ (x y : ℕ). after_listen wiring (record { bit = x; listener = record { process = y; change = C.Pos } })) b p
     ∙ ap (λ (w : List (List Listener)). after_listen w (keeper_entry d clock)) is
     ∙ sym (both_listen (listens_from (D.bit_count d) 0 d.processes) (keeper_entry d clock ∷ []) (replicate (value_count d clock) []))
-    ∙ ap (with_entry d clock) (sym yes ∙ told)
+    ∙ ap (with_entry d clock) (sym there ∙ told)
 
 pub keeper_unheard : (d : D.Design) (clock : ℕ) (wiring : List (List Listener)) (keeper : Bool) → keeper ≡ has_keeper d → keeper ≡ false → wiring ≡ after_listens (replicate (value_count d clock) []) (listens_from (D.bit_count d) 0 d.processes) → wiring ≡ listeners_of d clock
-keeper_unheard d clock wiring keeper told no is =
-    is ∙ ap (after_listens (replicate (value_count d clock) [])) (sym (append-nil (listens_from (D.bit_count d) 0 d.processes))) ∙ ap (with_entry d clock) (sym no ∙ told)
+keeper_unheard d clock wiring keeper told none is =
+    is ∙ ap (after_listens (replicate (value_count d clock) [])) (sym (append-nil (listens_from (D.bit_count d) 0 d.processes))) ∙ ap (with_entry d clock) (sym none ∙ told)
 
 -- what a process listens to is there, and is told
 module _ (trees : EachProcess) (law : EachIsOfItsProcess) (a : Arena) (p : ℕ) (q : Process) (at : slice_get a.processes p ≡ Some q) (wiring : List (List Listener)) where

@@ -76,13 +76,13 @@ kind_clocked signal tree statement place (K.Block star events s) = edges_are sig
 module _ (d : Design) (p keeper : ℕ) (x : Process) (at : slice_get d.processes p ≡ Some x) where
   -- where this one isn't a clocked block that writes the bit
   one_more : (b o : ℕ) → (is_clocked x && contains (writes_of x) b) ≡ false → IsKeptBy d p keeper b o → IsKeptBy d (p + 1) keeper b o
-  one_more b o no (inl k) = inl k
-  one_more b o no (inr k) = inr (k.0, λ q y l there. by_number q y l there (q == p) refl)
+  one_more b o other (inl k) = inl k
+  one_more b o other (inr k) = inr (k.0, λ q y l there. by_number q y l there (q == p) refl)
     where
       by_number : (q : ℕ) (y : Process) → q < p + 1 → slice_get d.processes q ≡ Some y → (c : Bool) → (q == p) ≡ c → (is_clocked y && contains (writes_of y) b) ≡ false
       by_number q y l there true e =
           let same : x ≡ y = some_is x y (sym at ∙ sym (ap (slice_get d.processes) (eqb-true q p e)) ∙ there) in
-          subst (λ (z : Process). (is_clocked z && contains (writes_of z) b) ≡ false) same no
+          subst (λ (z : Process). (is_clocked z && contains (writes_of z) b) ≡ false) same other
       by_number q y l there false e = k.1 q y (less q p l (not_same q p e)) there
 
   and_false : (c : Bool) → (c && false) ≡ false

@@ -63,6 +63,7 @@ next_start : (is : List Initial) (k : ℕ) (i : Initial) → slice_get is k ≡ 
 next_start is k i h = take_more is k i (slice_get_within is k i h) ∙ ap (λ j. take k is ++ j ∷ []) (get_or_from_slice_get is k i i h)
 
 flatten_append : (us vs : List Update) → flatten (us ++ vs) ≡ flatten us ++ flatten vs
+unfolding flatten
 flatten_append [] vs = refl
 flatten_append (u ∷ us) vs = ap (λ ws. u ++ ws) (flatten_append us vs) ∙ sym (append_assoc u (flatten us) (flatten vs))
   where
@@ -71,6 +72,7 @@ flatten_append (u ∷ us) vs = ap (λ ws. u ++ ws) (flatten_append us vs) ∙ sy
     append_assoc (x ∷ xs) ys zs = ap (λ ws. x ∷ ws) (append_assoc xs ys zs)
 
 flatten_one : (u : Update) → flatten (u ∷ []) ≡ u
+unfolding flatten
 flatten_one u = nil u
   where
     nil : (xs : List Write) → xs ++ [] ≡ xs
@@ -118,6 +120,7 @@ abbrev pub StartedTo : Bool → Design → State → ℕ → State → Type 0
 StartedTo at_once d first k s = s ≡ started at_once (take k d.initials) first
 
 pub none_started : (at_once : Bool) (d : Design) (s : State) → StartedTo at_once d s 0 s
+unfolding write_all flatten
 none_started true d s = refl
 none_started false d s = refl
 

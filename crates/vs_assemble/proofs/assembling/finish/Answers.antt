@@ -1,4 +1,4 @@
-use Rattle.std.proofs.Common.{sym, ap, ◌∙◌, subst, refl, arith, length}
+use Rattle.std.proofs.Common.{sym, ◌∙◌, subst, refl, arith}
 use Rattle.vs_program.specs.Phases.{calls_of_runs}
 use Rattle.vs_program.specs.Compiled.{IsProgramOf}
 use Rattle.vs_assemble.proofs.Finished.{bits_below, finished_by}

@@ -7,6 +7,12 @@ use Rattle.vs_driver.proofs.marks.mark_again.Goals as goal
 pub loop-bit-init : goal.loop-bit-init
 loop-bit-init c = record { told = none_again c.args.marks.now c.args.again.now.items; long = refl }
 
+pub bounds-marks-bit : goal.bounds-marks-bit
+bounds-marks-bit c =
+    let l = c.requires.below (get_or c.args.bits.now c.loop-bit.bit-index 0) (member_at c.args.bits.now c.loop-bit.bit-index c.loop-bit-test.true) in
+    let m = c.requires.both in
+    omega (arith, l, m)
+
 pub mark_if-requires : goal.mark_if-requires
 mark_if-requires c =
     let l = c.requires.below (get_or c.args.bits.now c.loop-bit.bit-index 0) (member_at c.args.bits.now c.loop-bit.bit-index c.loop-bit-test.true) in

@@ -28,7 +28,7 @@ tell-requires-clause-least c =
 pub tell-requires-clause-started : goal.tell-requires-clause-started
 tell-requires-clause-started c =
     let d = design_of c.args.typed.now in
-    c.is_marked-started.ensures ∙ ap (λ ms. is_marked ms c.loop-bit.bit) c.as_slice-2.ensures.value ∙ started_at d c.in_ok-starts.starts c.in_ok-starts.ensures c.loop-bit.bit
+    c.is_marked-started.ensures ∙ ap (λ ms. is_marked ms c.loop-bit.bit) c.as_slice-in-loop-bit.ensures.value ∙ started_at d c.in_ok-starts.starts c.in_ok-starts.ensures c.loop-bit.bit
 
 pub tell-requires-clause-drivers : goal.tell-requires-clause-drivers
 tell-requires-clause-drivers c =

@@ -4,4 +4,4 @@ use Rattle.vs_driver.proofs.Writing.{AddsEach}
 use Rattle.vs_driver.proofs.writers.with_each.Given as goal
 
 abbrev pub invariant-loop-other : goal.invariant-loop-other
-invariant-loop-other l = AddsEach l.so_far l.writers l.x (times l.bit (take l.other-index l.bits))
+invariant-loop-other l = AddsEach l.fn.so_far l.writers l.x (times l.bit (take l.other-index l.bits))

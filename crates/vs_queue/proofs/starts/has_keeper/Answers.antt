@@ -11,8 +11,8 @@ loop-k-init c = refl
 
 pub has_unflagged-requires : goal.has_unflagged-requires
 has_unflagged-requires c =
-    all_below c.as_slice-2.result.now (length c.as_slice.result.now) (λ b h.
-    let below = c.in_ok-bits.ensures.below b (ap (λ bs. contains bs b) (sym c.as_slice-2.ensures.value) ∙ h) in
+    all_below c.as_slice-in-loop-k.result.now (length c.as_slice.result.now) (λ b h.
+    let below = c.in_ok-bits.ensures.below b (ap (λ bs. contains bs b) (sym c.as_slice-in-loop-k.ensures.value) ∙ h) in
     let long = ap length c.as_slice.ensures.value ∙ c.in_ok-written.ensures.count in
     omega (arith, below, long))
 
@@ -25,7 +25,7 @@ returns-then-has_unflagged c =
     let k = (c.trees_law.ensures.counts c.args.typed.now).initials in
     one_alone d c.loop-k.k (omega (arith, l, m, n, k))
     (λ i at.
-    sym (alone_is d c.as_slice.result.now c.as_slice-2.result.now i (λ b. ap (λ fs. flag_at fs b) c.as_slice.ensures.value ∙ c.in_ok-written.ensures.flags b) (c.as_slice-2.ensures.value ∙ c.in_ok-bits.ensures.bits i at))
+    sym (alone_is d c.as_slice.result.now c.as_slice-in-loop-k.result.now i (λ b. ap (λ fs. flag_at fs b) c.as_slice.ensures.value ∙ c.in_ok-written.ensures.flags b) (c.as_slice-in-loop-k.ensures.value ∙ c.in_ok-bits.ensures.bits i at))
     ∙ sym c.has_unflagged.ensures ∙ c.if-has_unflagged.true)
 
 pub loop-k-preserved : goal.loop-k-preserved
@@ -37,7 +37,7 @@ loop-k-preserved c =
     let k = (c.trees_law.ensures.counts c.args.typed.now).initials in
     none_alone d c.loop-k.k (omega (arith, l, m, n, k))
     (λ i at.
-    sym (alone_is d c.as_slice.result.now c.as_slice-2.result.now i (λ b. ap (λ fs. flag_at fs b) c.as_slice.ensures.value ∙ c.in_ok-written.ensures.flags b) (c.as_slice-2.ensures.value ∙ c.in_ok-bits.ensures.bits i at))
+    sym (alone_is d c.as_slice.result.now c.as_slice-in-loop-k.result.now i (λ b. ap (λ fs. flag_at fs b) c.as_slice.ensures.value ∙ c.in_ok-written.ensures.flags b) (c.as_slice-in-loop-k.ensures.value ∙ c.in_ok-bits.ensures.bits i at))
     ∙ sym c.has_unflagged.ensures ∙ c.if-has_unflagged.false) c.loop-k.invariant
 
 pub returns : goal.returns

@@ -1,4 +1,4 @@
-use Rattle.std.proofs.Common.{◌<◌, ◌≤◌, length, sym, ap, ◌∙◌, arith}
+use Rattle.std.proofs.Common.{length, sym, ap, ◌∙◌, arith}
 use Rattle.vs_flat.specs.Arena.{Arena}
 use Rattle.vs_writes.specs.Held.{state_of}
 use Rattle.vs_queue.proofs.Executed.{on_ok}

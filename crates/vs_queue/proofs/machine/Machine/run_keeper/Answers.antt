@@ -1,4 +1,4 @@
-use Rattle.std.proofs.Common.{◌≡◌, ◌<◌, ℕ, true, List, [], length, get_or, sym, ap, ap₂, ◌∙◌, subst}
+use Rattle.std.proofs.Common.{◌≡◌, ℕ, true, List, [], length, get_or, sym, ap, ap₂, ◌∙◌, subst}
 use Rattle.vs_net.specs.Network.{is_written}
 use Rattle.vs_flat.specs.DesignOf.{design_of}
 use Rattle.vs_events.specs.declared.choice.Step.TheVariants as S

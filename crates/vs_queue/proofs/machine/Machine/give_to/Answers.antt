@@ -8,7 +8,7 @@ use Rattle.vs_design.specs.Initials.{initial_updates}
 use Rattle.vs_queue.specs.Initially.{parts_of}
 use Rattle.vs_queue.proofs.Executed.{on_ok}
 use Rattle.vs_queue.proofs.Giving.{assigns_stay, have_begun}
-use Rattle.vs_queue.proofs.starts.Machine.give_to.Goals as goal
+use Rattle.vs_queue.proofs.machine.Machine.give_to.Goals as goal
 
 pub drive_lates-requires-clause-values : goal.drive_lates-requires-clause-values
 drive_lates-requires-clause-values c = let l = c.requires.values in let m = c.drive_firsts.auto.values in omega (arith, l, m)

@@ -7,7 +7,7 @@ use Rattle.vs_queue.specs.Spare.{keeper_at}
 use Rattle.vs_queue.proofs.Giving.{if_ok2}
 use Rattle.vs_queue.proofs.Owners.{are_owners}
 use Rattle.vs_queue.proofs.Told.{bit_is}
-use Rattle.vs_queue.proofs.starts.Machine.owners.Goals as goal
+use Rattle.vs_queue.proofs.machine.Machine.owners.Goals as goal
 
 pub keeper_at-keeper-requires : goal.keeper_at-keeper-requires
 keeper_at-keeper-requires c = subst IsLawful (sym c.flat.ensures.same) c.flat.ensures.lawful

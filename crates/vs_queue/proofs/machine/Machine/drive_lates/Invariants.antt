@@ -4,7 +4,7 @@ use Rattle.vs_design.specs.Initials.{initial_updates}
 use Rattle.vs_flat.specs.DesignOf.{design_of}
 use Rattle.vs_events.specs.Beginning.{after_drives}
 use Rattle.vs_queue.specs.Initially.{parts_of}
-use Rattle.vs_queue.proofs.starts.Machine.drive_lates.Given as goal
+use Rattle.vs_queue.proofs.machine.Machine.drive_lates.Given as goal
 
 abbrev pub invariant-loop-k : goal.invariant-loop-k
 invariant-loop-k l =

@@ -7,7 +7,7 @@ use Rattle.vs_flat.specs.DesignOf.{design_of}
 use Rattle.std.specs.Prelude.{slice_get, Some}
 use Rattle.vs_writes.specs.Held.{state_of}
 use Rattle.vs_queue.proofs.Giving.{if_ok, initial_body}
-use Rattle.vs_queue.proofs.starts.Machine.run_initial.Goals as goal
+use Rattle.vs_queue.proofs.machine.Machine.run_initial.Goals as goal
 
 pub run_initial-requires-clause-there : goal.run_initial-requires-clause-there
 run_initial-requires-clause-there c =

@@ -3,7 +3,7 @@ use Rattle.std.proofs.lemmas.List.{length-replicate}
 use Rattle.vs_four.specs.declared.Bit4.TheVariants.{X}
 use Rattle.vs_flat.specs.DesignOf.{design_of}
 use Rattle.vs_queue.specs.Initially.{AreOwners}
-use Rattle.vs_queue.proofs.starts.Machine.give_initial.Goals as goal
+use Rattle.vs_queue.proofs.machine.Machine.give_initial.Goals as goal
 
 pub give_to-requires-clause-owners : goal.give_to-requires-clause-owners
 give_to-requires-clause-owners c = subst (AreOwners (design_of c.args.self.now.typed.now) c.args.self.now.clocks.now.bit) (sym c.as_slice.ensures.value) c.in_ok-owners.ensures
