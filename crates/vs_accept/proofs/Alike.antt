@@ -49,12 +49,12 @@ alike_trees one byte tokens (OutOfDepth j) (OutOfGrammar k) r q f g is also = bo
 alike_trees one byte tokens (OutOfDepth j) (OutOfDepth k) r q f g is also = both_open name.TooDeep name.TooDeep (byte j) (byte k) r q refl is also
 
 pub one_refusal : OneSource → SpelledHasNoFault → OneFaultOfTokens → ((d : Design) → IsDecided d) → OneRefusal
-one_refusal one no_fault one_fault decided text top clock r q x y = go x y
+one_refusal one no_fault one_fault decided text top clocks r q x y = go x y
   where
     Answer : Type 0
     Answer = AreAlike r q
 
-    go : IsRefusedText text top clock r → IsRefusedText text top clock q → Answer
+    go : IsRefusedText text top clocks r → IsRefusedText text top clocks q → Answer
     go (ByTokens e cut told) (ByTokens f dut also) = inl (same_told (ap token_refusal (same_err cut dut)) told also)
     go (ByTokens e cut told) (ByMacros others f dut faulty also) = absurd (ok_or_err dut cut)
     go (ByTokens e cut told) (ByTree others x reads fault also) = absurd (ok_or_err reads.cut cut)
@@ -83,5 +83,5 @@ one_refusal one no_fault one_fault decided text top clock r q x y = go x y
     go (ByRule tokens source d z read elaborates broken told) (ByElaboration others other g reading breaks also) = absurd (not_of_both (same_result one text top tokens others source other read reading) elaborates breaks)
     go (ByRule tokens source d z read elaborates broken told) (ByRule others other e w reading elaborated_too breaks also) =
         alike_told (byte_of text tokens) z w r q
-        (alike_of_design decided d clock z w broken (subst (λ (c : Design). IsRefusedBy c clock w) (of_design (same_result one text top others tokens other source reading read) elaborated_too elaborates) breaks))
+        (alike_of_design decided d clocks z w broken (subst (λ (c : Design). IsRefusedBy c clocks w) (of_design (same_result one text top others tokens other source reading read) elaborated_too elaborates) breaks))
         told (subst (λ (ts : List Token). design_refusal (byte_of text ts) w ≡ q) (same_read text others tokens reading.reads read.reads) also)

@@ -19,13 +19,13 @@ pub data AreAlikeRefusals (x y : DesignRefusal) : Type 0 where
   Same : x ≡ y → AreAlikeRefusals x y
   Cycles : (ps qs : List ℕ) (at by : ℕ) → x ≡ Cycle ps at → y ≡ Cycle qs by → AreAlikeRefusals x y
 
-pub alike_of_design : ((d : Design) → IsDecided d) → (d : Design) (clock : Option (List ℕ)) (x y : DesignRefusal) → IsRefusedBy d clock x → IsRefusedBy d clock y → AreAlikeRefusals x y
-alike_of_design decided d clock x y h k = go x y h k
+pub alike_of_design : ((d : Design) → IsDecided d) → (d : Design) (clocks : List (List ℕ)) (x y : DesignRefusal) → IsRefusedBy d clocks x → IsRefusedBy d clocks y → AreAlikeRefusals x y
+alike_of_design decided d clocks x y h k = go x y h k
   where
     cyclic : {B : Type 0} (ps : List ℕ) → has_no_cycle d ≡ true → IsCycle d ps → B
     cyclic ps h c = absurd ((decided d).none (level_order d) h ps c)
 
-    go : (x y : DesignRefusal) → IsRefusedBy d clock x → IsRefusedBy d clock y → AreAlikeRefusals x y
+    go : (x y : DesignRefusal) → IsRefusedBy d clocks x → IsRefusedBy d clocks y → AreAlikeRefusals x y
     go (OfWidth a) (OfWidth b) h k = Same (ap OfWidth (same h k))
     go (OfWidth a) (OfBlock b) h k = apart k.0 h
     go (OfWidth a) (OfDriver b) h k = apart k.0 h

@@ -63,7 +63,7 @@ pub same_result : OneSource → (text : List ℕ) (top : Option (List ℕ)) (tok
 same_result one text top tokens others source other r s = subst (λ (z : Source). elaborated_from source top ≡ elaborated_from z top) (same_source one text tokens others source other r s) refl
 
 pub one_design : OneSource → OneDesign
-one_design one text top clock d e a b =
+one_design one text top clocks d e a b =
     let same = same_result one text top a.tokens b.tokens a.source b.source a.read b.read in
     of same a.elaborates b.elaborates
   where
@@ -92,12 +92,12 @@ pub no_fault_read : SpelledHasNoFault → (text : List ℕ) (tokens others : Lis
 no_fault_read none text tokens others source read reads x f = no_fault_of none text others source (spelled_by text tokens others source read reads) x f
 
 pub not_both : OneSource → SpelledHasNoFault → D.NotBoth → NotBoth
-not_both one none judged text top clock d r a refused = go refused
+not_both one none judged text top clocks d r a refused = go refused
   where
-    go : IsRefusedText text top clock r → ⊥
+    go : IsRefusedText text top clocks r → ⊥
     go (ByTokens e cut told) = ok_or_err a.read.reads.cut cut
     go (ByMacros written e cut faulty told) = read_or_fault text a.tokens written e a.read.reads cut faulty
     go (ByTree tokens x reads fault told) = no_fault_read none text a.tokens tokens a.source a.read reads x fault
     go (ByElaboration tokens source f read broken told) = not_of_both (same_result one text top a.tokens tokens a.source source a.read read) a.elaborates broken
     go (ByRule tokens source e x read elaborates broken told) =
-        judged d clock a.accepted x (subst (λ (z : Design). IsRefusedBy z clock x) (of_design (same_result one text top tokens a.tokens source a.source read a.read) elaborates a.elaborates) broken)
+        judged d clocks a.accepted x (subst (λ (z : Design). IsRefusedBy z clocks x) (of_design (same_result one text top tokens a.tokens source a.source read a.read) elaborates a.elaborates) broken)

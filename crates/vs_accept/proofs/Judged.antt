@@ -24,9 +24,9 @@ use Rattle.vs_accept.specs.Outputs.{top_outputs, HaveOutputs}
 use Rattle.vs_accept.proofs.Told.{by_rule}
 
 -- no rule refuses it
-pub accepted : AcceptedExactly → (d : Design) (clock : Option (List ℕ)) → IsLawfulDesign d → KeepsClock d clock → has_no_cycle d ≡ true → race_refusal d ≡ None → zero_refusal d clock ≡ None → IsAcceptedDesign d clock
-accepted exactly d clock lawful kept acyclic raceless none =
-    (exactly d clock lawful).1 (record { widths = kept.0; blocks = kept.1; drivers = kept.2; clocks = kept.3; no_cycle = acyclic; races = raceless; zero = none })
+pub accepted : AcceptedExactly → (d : Design) (clocks : List (List ℕ)) → IsLawfulDesign d → KeepsClock d clocks → has_no_cycle d ≡ true → race_refusal d ≡ None → zero_refusal d clocks ≡ None → IsAcceptedDesign d clocks
+accepted exactly d clocks lawful kept acyclic raceless none =
+    (exactly d clocks lawful).1 (record { widths = kept.0; blocks = kept.1; drivers = kept.2; clocks = kept.3; no_cycle = acyclic; races = raceless; zero = none })
 
 -- ---- errors that are handed on
 
@@ -41,17 +41,17 @@ passed_on Q r e h q = turned Q r h (λ y is. subst Q (sym is) q)
 -- ---- the answer to a text
 
 -- what is judged of the design is said of the text
-pub accepted_text : (text : List ℕ) (top clock : Option (List ℕ)) (tokens : List Token) (source : Source) (flat : Arena) (answer : Result Acceptance AcceptError) → length text ≤ most_bytes → IsRead text tokens source
-    → elaborated_from source top ≡ Ok (design_of flat) → IfOk answer (λ (a : Acceptance). a.flat ≡ flat) → IfOk answer (λ (a : Acceptance). IsAcceptedDesign (design_of flat) clock)
-    → IfOk answer (λ (a : Acceptance). IsAcceptedText text top clock (design_of a.flat))
-accepted_text text top clock tokens source flat (Ok a) short read elaborates same judged =
-    subst (λ (b : Arena). IsAcceptedText text top clock (design_of b)) (sym same) (record { short = short; tokens = tokens; source = source; read = read; elaborates = elaborates; accepted = judged })
-accepted_text text top clock tokens source flat (Err e) short read elaborates same judged = tt
+pub accepted_text : (text : List ℕ) (top : Option (List ℕ)) (clocks : List (List ℕ)) (tokens : List Token) (source : Source) (flat : Arena) (answer : Result Acceptance AcceptError) → length text ≤ most_bytes → IsRead text tokens source
+    → elaborated_from source top ≡ Ok (design_of flat) → IfOk answer (λ (a : Acceptance). a.flat ≡ flat) → IfOk answer (λ (a : Acceptance). IsAcceptedDesign (design_of flat) clocks)
+    → IfOk answer (λ (a : Acceptance). IsAcceptedText text top clocks (design_of a.flat))
+accepted_text text top clocks tokens source flat (Ok a) short read elaborates same judged =
+    subst (λ (b : Arena). IsAcceptedText text top clocks (design_of b)) (sym same) (record { short = short; tokens = tokens; source = source; read = read; elaborates = elaborates; accepted = judged })
+accepted_text text top clocks tokens source flat (Err e) short read elaborates same judged = tt
 
-pub refused_text : {A : Type 0} (text : List ℕ) (top clock : Option (List ℕ)) (tokens : List Token) (source : Source) (d : Design) (answer : Result A AcceptError) → IsRead text tokens source → elaborated_from source top ≡ Ok d
-    → IfErr answer (IsVerdict (byte_of text tokens) d clock) → IfErr answer (IsRefusalOf text top clock)
-refused_text text top clock tokens source d (Ok a) read elaborates v = tt
-refused_text text top clock tokens source d (Err e) read elaborates v = by_rule text top clock tokens source d e read elaborates v
+pub refused_text : {A : Type 0} (text : List ℕ) (top : Option (List ℕ)) (clocks : List (List ℕ)) (tokens : List Token) (source : Source) (d : Design) (answer : Result A AcceptError) → IsRead text tokens source → elaborated_from source top ≡ Ok d
+    → IfErr answer (IsVerdict (byte_of text tokens) d clocks) → IfErr answer (IsRefusalOf text top clocks)
+refused_text text top clocks tokens source d (Ok a) read elaborates v = tt
+refused_text text top clocks tokens source d (Err e) read elaborates v = by_rule text top clocks tokens source d e read elaborates v
 
 -- the names of the outputs of the top are handed on
 pub with_outputs : (text : List ℕ) (top : Option (List ℕ)) (tokens : List Token) (source : Source) (names : List (List ℕ)) (answer : Result Acceptance AcceptError) → IsRead text tokens source
@@ -60,15 +60,15 @@ with_outputs text top tokens source names (Ok a) read h e = record { tokens = to
 with_outputs text top tokens source names (Err x) read h e = tt
 
 -- where the text is accepted
-pub kept : {A : Type 0} → OneDesign → NotBoth → (design : A → Design) (text : List ℕ) (top clock : Option (List ℕ)) (d : Design) (answer : Result A AcceptError) → IfOk answer (λ (a : A). IsAcceptedText text top clock (design a))
-    → IfErr answer (IsRefusalOf text top clock) → IsAcceptedText text top clock d → MatchResult answer (λ (a : A). design a ≡ d) (λ (e : AcceptError). e ≡ Memory)
-kept one not_both design text top clock d (Ok a) ok err h = one text top clock (design a) d ok h
-kept one not_both design text top clock d (Err (Refused r)) ok err h = absurd (not_both text top clock d r h err)
-kept one not_both design text top clock d (Err Memory) ok err h = refl
+pub kept : {A : Type 0} → OneDesign → NotBoth → (design : A → Design) (text : List ℕ) (top : Option (List ℕ)) (clocks : List (List ℕ)) (d : Design) (answer : Result A AcceptError) → IfOk answer (λ (a : A). IsAcceptedText text top clocks (design a))
+    → IfErr answer (IsRefusalOf text top clocks) → IsAcceptedText text top clocks d → MatchResult answer (λ (a : A). design a ≡ d) (λ (e : AcceptError). e ≡ Memory)
+kept one not_both design text top clocks d (Ok a) ok err h = one text top clocks (design a) d ok h
+kept one not_both design text top clocks d (Err (Refused r)) ok err h = absurd (not_both text top clocks d r h err)
+kept one not_both design text top clocks d (Err Memory) ok err h = refl
 
 -- where the text is refused
-pub told : {A : Type 0} → NotBoth → OneRefusal → (design : A → Design) (text : List ℕ) (top clock : Option (List ℕ)) (q : Refusal) (answer : Result A AcceptError) → IfOk answer (λ (a : A). IsAcceptedText text top clock (design a))
-    → IfErr answer (IsRefusalOf text top clock) → IsRefusedText text top clock q → IsErrAnd answer (TellsLike q)
-told not_both alike design text top clock q (Ok a) ok err h = absurd (not_both text top clock (design a) q ok h)
-told not_both alike design text top clock q (Err (Refused r)) ok err h = alike text top clock r q err h
-told not_both alike design text top clock q (Err Memory) ok err h = tt
+pub told : {A : Type 0} → NotBoth → OneRefusal → (design : A → Design) (text : List ℕ) (top : Option (List ℕ)) (clocks : List (List ℕ)) (q : Refusal) (answer : Result A AcceptError) → IfOk answer (λ (a : A). IsAcceptedText text top clocks (design a))
+    → IfErr answer (IsRefusalOf text top clocks) → IsRefusedText text top clocks q → IsErrAnd answer (TellsLike q)
+told not_both alike design text top clocks q (Ok a) ok err h = absurd (not_both text top clocks (design a) q ok h)
+told not_both alike design text top clocks q (Err (Refused r)) ok err h = alike text top clocks r q err h
+told not_both alike design text top clocks q (Err Memory) ok err h = tt

@@ -30,21 +30,21 @@ some_none : {A : Type 0} {a : A} {x : Option A} → Some a ≡ x → x ≡ None 
 some_none p q = none_some q (sym p)
 
 -- a text that isn't cut
-pub uncut : (text : List ℕ) (top clock : Option (List ℕ)) (l : LexError) (e : AcceptError) → (cut_text text ≡ Err l) ⊎ (l ≡ lexer.Memory) → refusal_in e ≡ token_refusal l → IsRefusalOf text top clock e
-uncut text top clock l (Refused r) (inl cut) told = ByTokens l cut (sym told)
-uncut text top clock l (Refused r) (inr out) told = absurd (some_none told (ap token_refusal out))
-uncut text top clock l Memory h told = tt
+pub uncut : (text : List ℕ) (top : Option (List ℕ)) (clocks : List (List ℕ)) (l : LexError) (e : AcceptError) → (cut_text text ≡ Err l) ⊎ (l ≡ lexer.Memory) → refusal_in e ≡ token_refusal l → IsRefusalOf text top clocks e
+uncut text top clocks l (Refused r) (inl cut) told = ByTokens l cut (sym told)
+uncut text top clocks l (Refused r) (inr out) told = absurd (some_none told (ap token_refusal out))
+uncut text top clocks l Memory h told = tt
 
 -- macros or conditional parts that aren't resolved
-pub unresolved : (text : List ℕ) (top clock : Option (List ℕ)) (written : List Token) (p : PreError) (e : AcceptError) → cut_text text ≡ Ok written → (pre text written ≡ Err p) ⊎ (p ≡ macro.Memory) → refusal_in e ≡ macro_refusal p → IsRefusalOf text top clock e
-unresolved text top clock written p (Refused r) cut (inl faulty) told = ByMacros written p cut faulty (sym told)
-unresolved text top clock written p (Refused r) cut (inr out) told = absurd (some_none told (ap macro_refusal out))
-unresolved text top clock written p Memory cut h told = tt
+pub unresolved : (text : List ℕ) (top : Option (List ℕ)) (clocks : List (List ℕ)) (written : List Token) (p : PreError) (e : AcceptError) → cut_text text ≡ Ok written → (pre text written ≡ Err p) ⊎ (p ≡ macro.Memory) → refusal_in e ≡ macro_refusal p → IsRefusalOf text top clocks e
+unresolved text top clocks written p (Refused r) cut (inl faulty) told = ByMacros written p cut faulty (sym told)
+unresolved text top clocks written p (Refused r) cut (inr out) told = absurd (some_none told (ap macro_refusal out))
+unresolved text top clocks written p Memory cut h told = tt
 
 -- tokens that spell no tree
-pub unspelled : (text : List ℕ) (top clock : Option (List ℕ)) (tokens : List Token) (x : TreeFault) (e : AcceptError) → ReadsAs text tokens → IsTreeFault tokens x
-    → e ≡ Refused (tree_refusal (byte_of text tokens) x) → IsRefusalOf text top clock e
-unspelled text top clock tokens x e reads fault is = subst (IsRefusalOf text top clock) (sym is) (ByTree tokens x reads fault refl)
+pub unspelled : (text : List ℕ) (top : Option (List ℕ)) (clocks : List (List ℕ)) (tokens : List Token) (x : TreeFault) (e : AcceptError) → ReadsAs text tokens → IsTreeFault tokens x
+    → e ≡ Refused (tree_refusal (byte_of text tokens) x) → IsRefusalOf text top clocks e
+unspelled text top clocks tokens x e reads fault is = subst (IsRefusalOf text top clocks) (sym is) (ByTree tokens x reads fault refl)
 
 -- a text is read as tokens of it
 pub tokens_are : TokensStand → KeptAreTokens → (text : List ℕ) (tokens : List Token) → ReadsAs text tokens → AreTokens text tokens
@@ -57,18 +57,18 @@ read_by text tokens source reads s = record { reads = reads; spelled = s }
 -- ---- elaboration
 
 -- a tree that doesn't elaborate
-pub unelaborated : (text : List ℕ) (top clock : Option (List ℕ)) (tokens : List Token) (source : Source) (f : Fault) (e : AcceptError) → IsRead text tokens source → elaborated_from source top ≡ Err f
-    → e ≡ Refused (fault_refusal (byte_of text tokens) f) → IsRefusalOf text top clock e
-unelaborated text top clock tokens source f e read broken is = subst (IsRefusalOf text top clock) (sym is) (ByElaboration tokens source f read broken refl)
+pub unelaborated : (text : List ℕ) (top : Option (List ℕ)) (clocks : List (List ℕ)) (tokens : List Token) (source : Source) (f : Fault) (e : AcceptError) → IsRead text tokens source → elaborated_from source top ≡ Err f
+    → e ≡ Refused (fault_refusal (byte_of text tokens) f) → IsRefusalOf text top clocks e
+unelaborated text top clocks tokens source f e read broken is = subst (IsRefusalOf text top clocks) (sym is) (ByElaboration tokens source f read broken refl)
 
 -- ---- the design
 
 -- a design that breaks a rule
-pub verdict : (byte : ℕ → ℕ) (d : Design) (clock : Option (List ℕ)) (x : DesignRefusal) (e : AcceptError) → IsRefusedBy d clock x → e ≡ Refused (design_refusal byte x) → IsVerdict byte d clock e
-verdict byte d clock x e refused is = subst (IsVerdict byte d clock) (sym is) (record { breaks = x; refused = refused; told = refl })
+pub verdict : (byte : ℕ → ℕ) (d : Design) (clocks : List (List ℕ)) (x : DesignRefusal) (e : AcceptError) → IsRefusedBy d clocks x → e ≡ Refused (design_refusal byte x) → IsVerdict byte d clocks e
+verdict byte d clocks x e refused is = subst (IsVerdict byte d clocks) (sym is) (record { breaks = x; refused = refused; told = refl })
 
 -- what is told of the design is told of the text
-pub by_rule : (text : List ℕ) (top clock : Option (List ℕ)) (tokens : List Token) (source : Source) (d : Design) (e : AcceptError) → IsRead text tokens source → elaborated_from source top ≡ Ok d
-    → IsVerdict (byte_of text tokens) d clock e → IsRefusalOf text top clock e
-by_rule text top clock tokens source d (Refused r) read elaborates v = ByRule tokens source d v.breaks read elaborates v.refused v.told
-by_rule text top clock tokens source d Memory read elaborates v = tt
+pub by_rule : (text : List ℕ) (top : Option (List ℕ)) (clocks : List (List ℕ)) (tokens : List Token) (source : Source) (d : Design) (e : AcceptError) → IsRead text tokens source → elaborated_from source top ≡ Ok d
+    → IsVerdict (byte_of text tokens) d clocks e → IsRefusalOf text top clocks e
+by_rule text top clocks tokens source d (Refused r) read elaborates v = ByRule tokens source d v.breaks read elaborates v.refused v.told
+by_rule text top clocks tokens source d Memory read elaborates v = tt

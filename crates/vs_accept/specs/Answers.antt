@@ -18,9 +18,9 @@ refusal_in (Refused r) = Some r
 refusal_in Memory = None
 
 -- the text is refused so
-abbrev pub IsRefusalOf : (text : List ℕ) (top clock : Option (List ℕ)) → AcceptError → Type 0
-IsRefusalOf text top clock (Refused r) = IsRefusedText text top clock r
-IsRefusalOf text top clock Memory = Unit {0}
+abbrev pub IsRefusalOf : (text : List ℕ) (top : Option (List ℕ)) (clocks : List (List ℕ)) → AcceptError → Type 0
+IsRefusalOf text top clocks (Refused r) = IsRefusedText text top clocks r
+IsRefusalOf text top clocks Memory = Unit {0}
 
 -- it tells the same refusal as this one, but for what is left open
 abbrev pub TellsLike : Refusal → AcceptError → Type 0
@@ -36,16 +36,16 @@ IsElabError elaborated e = Tells e (λ (f : Fault). elaborated ≡ Err f)
 -- ---- the elaborated design
 
 -- the design breaks a rule, and this tells it with the bytes of its places
-pub record IsToldBy (byte : ℕ → ℕ) (d : Design) (clock : Option (List ℕ)) (r : Refusal) : Type 0 where
+pub record IsToldBy (byte : ℕ → ℕ) (d : Design) (clocks : List (List ℕ)) (r : Refusal) : Type 0 where
   pub breaks : DesignRefusal
-  pub refused : IsRefusedBy d clock breaks
+  pub refused : IsRefusedBy d clocks breaks
   pub told : design_refusal byte breaks ≡ r
 
 abbrev pub IsVerdict : (byte : ℕ → ℕ) → Design → Option (List ℕ) → AcceptError → Type 0
-IsVerdict byte d clock (Refused r) = IsToldBy byte d clock r
-IsVerdict byte d clock Memory = Unit {0}
+IsVerdict byte d clocks (Refused r) = IsToldBy byte d clocks r
+IsVerdict byte d clocks Memory = Unit {0}
 
--- no rule on lengths and blocks refuses the design, nor one on drivers, nor one on the clock
+-- no rule on lengths and blocks refuses the design, nor one on drivers, nor one on the clocks
 abbrev pub KeepsBlocks : Design → Type 0
 KeepsBlocks d = (width_refusal d ≡ None) × (block_refusal d ≡ None)
 
@@ -53,4 +53,4 @@ abbrev pub KeepsDrivers : Design → Type 0
 KeepsDrivers d = (width_refusal d ≡ None) × (block_refusal d ≡ None) × (driver_refusal d ≡ None)
 
 abbrev pub KeepsClock : Design → Option (List ℕ) → Type 0
-KeepsClock d clock = (width_refusal d ≡ None) × (block_refusal d ≡ None) × (driver_refusal d ≡ None) × (clock_refusal d clock ≡ None)
+KeepsClock d clocks = (width_refusal d ≡ None) × (block_refusal d ≡ None) × (driver_refusal d ≡ None) × (clock_refusal d clocks ≡ None)

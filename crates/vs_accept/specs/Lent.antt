@@ -1,13 +1,13 @@
 -- What is lent of the design of an accepted text.
-use Rattle.std.specs.Prelude.{◌≡◌, ℕ, true, List, Option}
+use Rattle.std.specs.Prelude.{◌≡◌, ℕ, true, List}
 use Rattle.vs_design.specs.Levels.{is_level_order}
 use Rattle.vs_flat.specs.Arena.{Arena}
 use Rattle.vs_flat.specs.DesignOf.{design_of}
 use Rattle.vs_flat.specs.Lawful.{IsLawful}
 use Rattle.vs_reads.specs.Footprint.{Footprint, footprints_of}
-use Rattle.vs_clock.specs.Clocked.{Clocked, IsClockOf, AreResets}
+use Rattle.vs_clock.specs.Clocked.{Clocked, AreClocksOf, AreResets}
 
--- the flat design, the bits that each of its processes reads, writes and waits on, what is told of its clock, an order of its processes, and the names
+-- the flat design, the bits that each of its processes reads, writes and waits on, what is told of its clocks, an order of its processes, and the names
 -- of the outputs of the text's top
 pub record Acceptance : Type 0 where
   pub flat : Arena
@@ -16,10 +16,10 @@ pub record Acceptance : Type 0 where
   pub order : List ℕ
   pub outputs : List (List ℕ)
 
--- the flat design is lawful, and the rest is told of it, by this name of its clock
-pub record IsAcceptance (clock : Option (List ℕ)) (a : Acceptance) : Type 0 where
+-- the flat design is lawful, and the rest is told of it, by these names of its clocks
+pub record IsAcceptance (clocks : List (List ℕ)) (a : Acceptance) : Type 0 where
   pub lawful : IsLawful a.flat
   pub footprints_are : a.footprints ≡ footprints_of (design_of a.flat)
-  pub clock_is : IsClockOf (design_of a.flat) clock a.clocks
+  pub clocks_are : AreClocksOf (design_of a.flat) clocks a.clocks
   pub resets_are : AreResets a.flat a.clocks
   pub in_order : is_level_order (design_of a.flat) a.order ≡ true

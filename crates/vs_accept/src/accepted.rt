@@ -28,7 +28,7 @@ impl Model for Accepted {
 }
 
 impl Accepted {
-    /// A design with its footprints, its clock, an order of its processes, and the names of its top's outputs.
+    /// A design with its footprints, its clocks, an order of its processes, and the names of its top's outputs.
     pub(crate) fn of(
         typed: Typed,
         footprints: Footprints,
@@ -61,7 +61,7 @@ impl Accepted {
         &self.footprints
     }
 
-    /// The clock, its nets and the resets.
+    /// The clocks, their nets and the resets.
     pub fn clocks(&self) -> &Clocks
         ensures { result.now ≡ self.now.clocks }
     {

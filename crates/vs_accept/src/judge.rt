@@ -1,6 +1,6 @@
 //! The rules on an elaborated design.
 
-ghost use Rattle.std.specs.Prelude.{◌≡◌, IfOk, IfErr, OnOk, ℕ, List, option_map, Option};
+ghost use Rattle.std.specs.Prelude.{◌≡◌, IfOk, IfErr, OnOk, ℕ, List, map};
 ghost use Rattle.vs_design.specs.Accepted.{IsAcceptedDesign};
 ghost use Rattle.vs_flat.specs.DesignOf.{design_of};
 ghost use Rattle.vs_flat.specs.Lawful.{IsLawful};
@@ -38,7 +38,7 @@ fn check_writers(
 ) -> Result<(), AcceptError>
     requires { footprints.now ≡ footprints_of (design_of typed.now) }
     ensures kept { OnOk result (KeepsDrivers (design_of typed.now)) }
-    ensures refused { (clock : Option (List ℕ)) → IfErr result (IsVerdict (byte_of places.now.text.now places.now.tokens.now) (design_of typed.now) clock) }
+    ensures refused { (clocks : List (List ℕ)) → IfErr result (IsVerdict (byte_of places.now.text.now places.now.tokens.now) (design_of typed.now) clocks) }
 {
     let _flat = typed.flat();
     if let Err(error) = block_forms(alloc, typed, footprints) {
@@ -56,20 +56,20 @@ fn judge_typed(
     places: &Places<'_>,
     typed: Typed,
     outputs: Vec<Text>,
-    clock: Option<&[u8]>,
+    clocks: &[&[u8]],
 ) -> Result<Accepted, AcceptError>
     ensures same { IfOk result (λ a. a.flat ≡ typed) }
     ensures outputs { IfOk result (λ a. a.outputs ≡ outputs.items) }
-    ensures accepted { IfOk result (λ a. IsAcceptedDesign (design_of typed) (option_map (λ c. c.now) clock.entry)) }
-    ensures lent { IfOk result (IsAcceptance (option_map (λ c. c.now) clock.entry)) }
-    ensures refused { IfErr result (IsVerdict (byte_of places.now.text.now places.now.tokens.now) (design_of typed) (option_map (λ c. c.now) clock.entry)) }
+    ensures accepted { IfOk result (λ a. IsAcceptedDesign (design_of typed) (map (λ c. c.now) clocks.now)) }
+    ensures lent { IfOk result (IsAcceptance (map (λ c. c.now) clocks.now)) }
+    ensures refused { IfErr result (IsVerdict (byte_of places.now.text.now places.now.tokens.now) (design_of typed) (map (λ c. c.now) clocks.now)) }
 {
     accepted_law();
     let _flat = typed.flat();
     let footprints = prints_of(alloc, &typed)?;
     check_writers(alloc, places, &typed, &footprints)?;
-    let clocks = match vs_clock::check(alloc, &typed, &footprints, clock) {
-        Ok(clocks) => clocks,
+    let found = match vs_clock::check(alloc, &typed, &footprints, clocks) {
+        Ok(found) => found,
         Err(error) => return Err(places.clock_error(error)),
     };
     let order = match vs_level::order(alloc, &typed, &footprints) {
@@ -79,30 +79,30 @@ fn judge_typed(
     if let Err(error) = races(alloc, &typed, &footprints, &order) {
         return Err(places.race_error(error));
     }
-    match vs_zero::check(alloc, &typed, &footprints, &clocks, &order) {
-        Ok(()) => Ok(Accepted::of(typed, footprints, clocks, order, outputs)),
+    match vs_zero::check(alloc, &typed, &footprints, &found, &order) {
+        Ok(()) => Ok(Accepted::of(typed, footprints, found, order, outputs)),
         Err(error) => Err(places.zero_error(error)),
     }
 }
 
-/// Judges an elaborated design by all rules, in their order: the first one that it breaks is told. `clock` is the name of the clock input, if there is one, and its top's
+/// Judges an elaborated design by all rules, in their order: the first one that it breaks is told. `clocks` are the names of the clock inputs, if there are any, and its top's
 /// outputs have these names, which go with it.
 pub(crate) fn judge(
     alloc: Global,
     places: &Places<'_>,
     flat: Flat,
     outputs: Vec<Text>,
-    clock: Option<&[u8]>,
+    clocks: &[&[u8]],
 ) -> Result<Accepted, AcceptError>
     requires { IsLawful flat }
     ensures same { IfOk result (λ a. a.flat ≡ flat) }
     ensures outputs { IfOk result (λ a. a.outputs ≡ outputs.items) }
-    ensures accepted { IfOk result (λ a. IsAcceptedDesign (design_of flat) (option_map (λ c. c.now) clock.entry)) }
-    ensures lent { IfOk result (IsAcceptance (option_map (λ c. c.now) clock.entry)) }
-    ensures refused { IfErr result (IsVerdict (byte_of places.now.text.now places.now.tokens.now) (design_of flat) (option_map (λ c. c.now) clock.entry)) }
+    ensures accepted { IfOk result (λ a. IsAcceptedDesign (design_of flat) (map (λ c. c.now) clocks.now)) }
+    ensures lent { IfOk result (IsAcceptance (map (λ c. c.now) clocks.now)) }
+    ensures refused { IfErr result (IsVerdict (byte_of places.now.text.now places.now.tokens.now) (design_of flat) (map (λ c. c.now) clocks.now)) }
 {
     match type_design(alloc, flat) {
-        Ok(typed) => judge_typed(alloc, places, typed, outputs, clock),
+        Ok(typed) => judge_typed(alloc, places, typed, outputs, clocks),
         Err(error) => Err(places.width_error(error)),
     }
 }

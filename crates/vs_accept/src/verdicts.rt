@@ -67,7 +67,7 @@ fn rule_name(rule: Rule) -> Option<AtName>
 impl Places<'_> {
     /// The tokens spell no tree.
     pub(crate) fn tree_error(&self, error: ParseError) -> AcceptError
-        ensures { (top clock : Option (List ℕ)) → ReadsAs self.now.text.now self.now.tokens.now → TreeFault self.now.tokens.now error → IsRefusalOf self.now.text.now top clock result }
+        ensures { (top : Option (List ℕ)) (clocks : List (List ℕ)) → ReadsAs self.now.text.now self.now.tokens.now → TreeFault self.now.tokens.now error → IsRefusalOf self.now.text.now top clocks result }
     {
         match error {
             ParseError::LeftOut(token) => self.refused_at(AtName::LeftOut, token),
@@ -79,7 +79,7 @@ impl Places<'_> {
 
     /// The tree doesn't elaborate.
     pub(crate) fn elab_error(&self, error: ElabError) -> AcceptError
-        ensures { (source : Source) (top clock : Option (List ℕ)) → IsRead self.now.text.now self.now.tokens.now source → IsElabError (elaborated_from source top) error → IsRefusalOf self.now.text.now top clock result }
+        ensures { (source : Source) (top : Option (List ℕ)) (clocks : List (List ℕ)) → IsRead self.now.text.now self.now.tokens.now source → IsElabError (elaborated_from source top) error → IsRefusalOf self.now.text.now top clocks result }
     {
         match error {
             ElabError::Broken(fault) => self.fault_error(fault),
@@ -99,7 +99,7 @@ impl Places<'_> {
 
     /// A length or a division is refused, or the size.
     pub(crate) fn width_error(&self, error: WidthError) -> AcceptError
-        ensures { (d : Design) (clock : Option (List ℕ)) → IsWidthError d error → IsVerdict (byte_of self.now.text.now self.now.tokens.now) d clock result }
+        ensures { (d : Design) (clocks : List (List ℕ)) → IsWidthError d error → IsVerdict (byte_of self.now.text.now self.now.tokens.now) d clocks result }
     {
         match error {
             WidthError::TooWide { at } => self.refused_at(AtName::TooWide, at),
@@ -111,7 +111,7 @@ impl Places<'_> {
 
     /// A function or a block is refused.
     pub(crate) fn block_error(&self, error: BlockError) -> AcceptError
-        ensures { (d : Design) (clock : Option (List ℕ)) → width_refusal d ≡ None → IsBlockError d error → IsVerdict (byte_of self.now.text.now self.now.tokens.now) d clock result }
+        ensures { (d : Design) (clocks : List (List ℕ)) → width_refusal d ≡ None → IsBlockError d error → IsVerdict (byte_of self.now.text.now self.now.tokens.now) d clocks result }
     {
         match error {
             BlockError::FunctionLatch { at } => self.refused_at(AtName::FunctionLatch, at),
@@ -136,7 +136,7 @@ impl Places<'_> {
 
     /// A bit has two drivers.
     pub(crate) fn driver_error(&self, error: DriverError) -> AcceptError
-        ensures { (d : Design) (clock : Option (List ℕ)) → KeepsBlocks d → IsDriverError d error → IsVerdict (byte_of self.now.text.now self.now.tokens.now) d clock result }
+        ensures { (d : Design) (clocks : List (List ℕ)) → KeepsBlocks d → IsDriverError d error → IsVerdict (byte_of self.now.text.now self.now.tokens.now) d clocks result }
     {
         match error {
             DriverError::TwoDrivers {
@@ -156,7 +156,7 @@ impl Places<'_> {
 
     /// The clock is refused, or a reset.
     pub(crate) fn clock_error(&self, error: ClockError) -> AcceptError
-        ensures { (d : Design) (clock : Option (List ℕ)) → KeepsDrivers d → IsClockError d clock error → IsVerdict (byte_of self.now.text.now self.now.tokens.now) d clock result }
+        ensures { (d : Design) (clocks : List (List ℕ)) → KeepsDrivers d → IsClockError d clocks error → IsVerdict (byte_of self.now.text.now self.now.tokens.now) d clocks result }
     {
         match error {
             ClockError::NoClock => AcceptError::Refused(Refusal::Bare(BareName::NoClock)),
@@ -175,7 +175,7 @@ impl Places<'_> {
 
     /// Processes feed one another in a circle.
     pub(crate) fn level_error(&self, error: LevelError) -> AcceptError
-        ensures { (d : Design) (clock : Option (List ℕ)) → KeepsClock d clock → IsLevelError d error → IsVerdict (byte_of self.now.text.now self.now.tokens.now) d clock result }
+        ensures { (d : Design) (clocks : List (List ℕ)) → KeepsClock d clocks → IsLevelError d error → IsVerdict (byte_of self.now.text.now self.now.tokens.now) d clocks result }
     {
         match error {
             LevelError::Cycle { processes, at } => AcceptError::Refused(Refusal::Cycle {
@@ -188,7 +188,7 @@ impl Places<'_> {
 
     /// A clocked block reads what another one stirs.
     pub(crate) fn race_error(&self, error: RaceError) -> AcceptError
-        ensures { (d : Design) (clock : Option (List ℕ)) → KeepsClock d clock → has_no_cycle d ≡ true → IsRaceError d error → IsVerdict (byte_of self.now.text.now self.now.tokens.now) d clock result }
+        ensures { (d : Design) (clocks : List (List ℕ)) → KeepsClock d clocks → has_no_cycle d ≡ true → IsRaceError d error → IsVerdict (byte_of self.now.text.now self.now.tokens.now) d clocks result }
     {
         match error {
             RaceError::Race { process, bit, at } => AcceptError::Refused(Refusal::Race {
@@ -202,7 +202,7 @@ impl Places<'_> {
 
     /// A block is refused at time zero.
     pub(crate) fn zero_error(&self, error: ZeroError) -> AcceptError
-        ensures { (d : Design) (clock : Option (List ℕ)) → KeepsClock d clock → has_no_cycle d ≡ true → race_refusal d ≡ None → IsZeroError d clock error → IsVerdict (byte_of self.now.text.now self.now.tokens.now) d clock result }
+        ensures { (d : Design) (clocks : List (List ℕ)) → KeepsClock d clocks → has_no_cycle d ≡ true → race_refusal d ≡ None → IsZeroError d clocks error → IsVerdict (byte_of self.now.text.now self.now.tokens.now) d clocks result }
     {
         match error {
             ZeroError::TimeZero { process, at } => {

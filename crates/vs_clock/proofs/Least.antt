@@ -16,7 +16,7 @@ use Rattle.vs_design.specs.Laws.{BitsOfDesign, ClockNetsAre}
 use Rattle.vs_clock.specs.Ports.{bit_of, both_bits, port_bits, is_copy, copies, AreTargets}
 use Rattle.vs_clock.specs.Roots.{AreAllTargets, root_among, AreRoots}
 use Rattle.vs_clock.specs.Spread.{targets_at, label_at, has_label, IsClosedSet, Spreads}
-use Rattle.vs_reads.proofs.Tests.{by_test, either_way, or_left, or_right, and_both, and_true, contains-append}
+use Rattle.vs_reads.proofs.Tests.{by_test, either_way, or_left, or_right, and_both, and_true, contains-append, contains_head}
 use Rattle.vs_clock.proofs.Copies.{copy_below}
 
 or_nothing : (a : Bool) → (a || false) ≡ a
@@ -113,18 +113,18 @@ leads nets (x ∷ ps) b t h k =
 
 -- ---- nets are the least closed set
 
-nets_least : (d : Design) (targets : List (List ℕ)) (root : ℕ) (set : ℕ → Bool) → AreAllTargets d targets → IsClosedSet targets set → set root ≡ true → (n b : ℕ) → contains (nets_within n d.processes root) b ≡ true → set b ≡ true
+nets_least : (d : Design) (targets : List (List ℕ)) (root : ℕ) (set : ℕ → Bool) → AreAllTargets d targets → IsClosedSet targets set → set root ≡ true → (n b : ℕ) → contains (nets_within n d.processes (root ∷ [])) b ≡ true → set b ≡ true
 nets_least d targets root set a c r zero b h = subst (λ m. set m ≡ true) (sym (eqb-true b root (sym (or_nothing (b == root)) ∙ h))) r
 nets_least d targets root set a c r (suc n) b h =
     by_test (b == root)
     (λ e. subst (λ m. set m ≡ true) (sym (eqb-true b root e)) r)
-    (λ e. let k = led (nets_within n d.processes root) d.processes b (subst (λ z. (z || contains (port_targets (nets_within n d.processes root) d.processes) b) ≡ true) e h) in c k.0 b (nets_least d targets root set a c r n k.0 k.1) (a k.0 b ∙ k.2))
+    (λ e. let k = led (nets_within n d.processes (root ∷ [])) d.processes b (subst (λ z. (z || contains (port_targets (nets_within n d.processes (root ∷ [])) d.processes) b) ≡ true) e h) in c k.0 b (nets_least d targets root set a c r n k.0 k.1) (a k.0 b ∙ k.2))
 
-nets_closed : ClockNetsAre → (d : Design) (targets : List (List ℕ)) (root : ℕ) → AreAllTargets d targets → IsClosedSet targets (contains (clock_nets d root))
-nets_closed law d targets root a b t h k = (law d root t).1 (inr (leads (clock_nets d root) d.processes b t h (sym (a b t) ∙ k)))
+nets_closed : ClockNetsAre → (d : Design) (targets : List (List ℕ)) (root : ℕ) → AreAllTargets d targets → IsClosedSet targets (contains (clock_nets d (root ∷ [])))
+nets_closed law d targets root a b t h k = (law d (root ∷ []) t).1 (inr (leads (clock_nets d (root ∷ [])) d.processes b t h (sym (a b t) ∙ k)))
 
-root_in : ClockNetsAre → (d : Design) (root : ℕ) → contains (clock_nets d root) root ≡ true
-root_in law d root = (law d root root).1 (inl refl)
+root_in : ClockNetsAre → (d : Design) (root : ℕ) → contains (clock_nets d (root ∷ [])) root ≡ true
+root_in law d root = (law d (root ∷ []) root).1 (inl (contains_head root []))
 
 -- ---- the labels
 
@@ -144,7 +144,7 @@ find-append f (y ∷ ys) x = by_test (f y) (λ e. rw e refl) (λ e. rw e (find-a
 pub roots_more : ClockNetsAre → (d : Design) (targets : List (List ℕ)) (roots : List ℕ) (i : ℕ) (old new : List (Option ℕ)) → AreAllTargets d targets → i < length roots → Spreads targets (get_or roots i 0) old new [] → AreRoots d (take i roots) old → AreRoots d (take (i + 1) roots) new
 roots_more law d targets roots i old new a l s h b =
     step (root_among d (take i roots) b) refl
-    ∙ sym (ap (find (λ i. contains (clock_nets d i) b)) (take_more roots i 0 l) ∙ find-append (λ i. contains (clock_nets d i) b) (take i roots) root)
+    ∙ sym (ap (find (λ i. contains (clock_nets d (i ∷ [])) b)) (take_more roots i 0 l) ∙ find-append (λ i. contains (clock_nets d (i ∷ [])) b) (take i roots) root)
   where
     root : ℕ
     root = get_or roots i 0
@@ -155,12 +155,12 @@ roots_more law d targets roots i old new a l s h b =
     all : IsClosedSet targets now
     all b t k m = s.closed b t k refl m
 
-    step : (o : Option ℕ) → root_among d (take i roots) b ≡ o → label_at new b ≡ (elim o as (λ (o : Option ℕ). Option ℕ) [ None ↦ (if contains (clock_nets d root) b then Some root else None) | Some v ↦ Some v ])
+    step : (o : Option ℕ) → root_among d (take i roots) b ≡ o → label_at new b ≡ (elim o as (λ (o : Option ℕ). Option ℕ) [ None ↦ (if contains (clock_nets d (root ∷ [])) b then Some root else None) | Some v ↦ Some v ])
     step (Some v) e = s.kept b v (h b ∙ e)
     step None e =
-        by_test (contains (clock_nets d root) b)
+        by_test (contains (clock_nets d (root ∷ [])) b)
         (λ k. rw k (labelled (nets_least d targets root now a all s.rooted (length d.processes) b k)))
-        (λ k. rw k (none_is (label_at new b) (by_test (has_label new b) (λ m. either_way (contains (clock_nets d root) b) (s.reached (contains (clock_nets d root)) (nets_closed law d targets root a) (root_in law d root) b (h b ∙ e) m) k) (λ m. m))))
+        (λ k. rw k (none_is (label_at new b) (by_test (has_label new b) (λ m. either_way (contains (clock_nets d (root ∷ [])) b) (s.reached (contains (clock_nets d (root ∷ []))) (nets_closed law d targets root a) (root_in law d root) b (h b ∙ e) m) k) (λ m. m))))
       where
         labelled : has_label new b ≡ true → label_at new b ≡ Some root
         labelled m = by_label (label_at new b) (λ n. either_way (has_label new b) m (ap is_some n)) (λ v n. n ∙ ap Some (s.fresh b v (h b ∙ e) n))
@@ -175,9 +175,9 @@ roots_closed law d targets roots labels a h b t k m = ap is_some (h t) ∙ go ro
     go : (xs : List ℕ) → is_some (root_among d xs b) ≡ true → is_some (root_among d xs t) ≡ true
     go [] e = cc
     go (x ∷ xs) e =
-        by_test (contains (clock_nets d x) t)
+        by_test (contains (clock_nets d (x ∷ [])) t)
         (λ f. rw f refl)
-        (λ f. rw f (go xs (by_test (contains (clock_nets d x) b) (λ g. either_way (contains (clock_nets d x) t) (nets_closed law d targets x a b t g m) f) (λ g. sym (ap {B = Bool} (λ z. is_some (if z then Some x else root_among d xs b)) g) ∙ e))))
+        (λ f. rw f (go xs (by_test (contains (clock_nets d (x ∷ [])) b) (λ g. either_way (contains (clock_nets d (x ∷ [])) t) (nets_closed law d targets x a b t g m) f) (λ g. sym (ap {B = Bool} (λ z. is_some (if z then Some x else root_among d xs b)) g) ∙ e))))
 
 -- a slice of a whole list is the list
 pub seam : (n : ℕ) (xs ys : List (Option ℕ)) → n ≡ length xs → take n (xs ++ ys) ≡ xs

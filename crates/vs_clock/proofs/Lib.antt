@@ -4,6 +4,7 @@ pub mod Wholes
 pub mod Spreading
 pub mod ByKind
 pub mod Least
+pub mod Naming
 pub mod Finding
 pub mod Ruled
 pub mod Branches

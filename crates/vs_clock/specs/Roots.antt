@@ -1,5 +1,5 @@
 -- Labels of bits by the inputs that they copy.
-use Rattle.std.specs.Prelude.{◌≡◌, ℕ, List, find, Option}
+use Rattle.std.specs.Prelude.{◌≡◌, ℕ, List, [], ◌∷◌, find, Option}
 use Rattle.vs_design.specs.Designs.{Design}
 use Rattle.vs_design.specs.Footprints.{contains}
 use Rattle.vs_design.specs.Clocks.{clock_nets}
@@ -12,7 +12,7 @@ AreAllTargets d targets = (b t : ℕ) → contains (targets_at targets b) t ≡ 
 
 -- the first of these bits whose nets have the bit
 abbrev pub root_among : Design → List ℕ → ℕ → Option ℕ
-root_among d roots b = find (λ i. contains (clock_nets d i) b) roots
+root_among d roots b = find (λ i. contains (clock_nets d (i ∷ [])) b) roots
 
 -- each bit is labelled by the first of the roots that it copies
 abbrev pub AreRoots : Design → List ℕ → List (Option ℕ) → Type 0

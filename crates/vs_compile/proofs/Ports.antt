@@ -60,8 +60,8 @@ port_needs nets (Continuous place way target_place (Both high low) e) h = cc
 port_needs nets (Always place star events statement) h = cc
 
 -- where no other process reads or waits on one
-pub needs_tell : (nets : List ℕ) (x : Process) → reads_clock nets x ≡ false → list_any (contains nets) (needs x) ≡ is_clock_port nets x
+pub needs_tell : (nets : List ℕ) (x : Process) → reads_clocks nets x ≡ false → list_any (contains nets) (needs x) ≡ is_clock_port nets x
 needs_tell nets x unread =
     by_test (is_clock_port nets x)
     (λ e. port_needs nets x e ∙ sym e)
-    (λ e. let here : reads_clock nets x ≡ list_any (contains nets) (needs x) = ap (λ c. not c && list_any (contains nets) (needs x)) e in sym here ∙ unread ∙ sym e)
+    (λ e. let here : reads_clocks nets x ≡ list_any (contains nets) (needs x) = ap (λ c. not c && list_any (contains nets) (needs x)) e in sym here ∙ unread ∙ sym e)

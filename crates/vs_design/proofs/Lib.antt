@@ -61,6 +61,7 @@ pub mod Decided
 pub mod Weights
 pub mod Bounded
 pub mod ClosedNets
+pub mod EachClock
 pub mod ExampleLaws
 pub mod ExampleBlocking
 pub mod ExampleInitials

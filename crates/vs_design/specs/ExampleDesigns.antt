@@ -1,5 +1,5 @@
 -- Worked designs: their sizes, that they are accepted, and the values at the end of each slot.
-use Rattle.std.specs.Prelude.{◌≡◌, ℕ, true, false, [], ◌∷◌, None, Some, codes, map, drop, replicate}
+use Rattle.std.specs.Prelude.{◌≡◌, ℕ, true, false, List, [], ◌∷◌, None, Some, codes, map, drop, replicate}
 use Rattle.vs_four.specs.declared.Bit4.TheVariants.{Zero, One, X}
 use Rattle.vs_four.specs.Selects.{one_bit}
 use Rattle.vs_design.specs.Expressions.{Signal, BitNot, LogicalNot, Add, Multiply, BitAnd, BitOr, BitXor, Name, Unary, Binary, Choice, At}
@@ -12,7 +12,7 @@ use Rattle.vs_design.specs.Clocks.{clock_nets, root_of}
 use Rattle.vs_design.specs.Sets.{only, union, known_set}
 use Rattle.vs_design.specs.TimeZero.{families}
 use Rattle.vs_design.specs.Accepted.{IsAcceptedDesign}
-use Rattle.vs_design.specs.ExampleParts.{input_of, wire_of, reg_of, range_of, to_zero, clk, clk_signal, dec, plain, bit, blocking, nonblocking, assign, on_posedge, on_star, top_scope, design_of, slot_ends, free_ends}
+use Rattle.vs_design.specs.ExampleParts.{input_of, wire_of, reg_of, range_of, to_zero, clk, clk_signal, dec, plain, bit, blocking, nonblocking, assign, on_posedge, on_star, top_scope, design_of, slot_ends_by, slot_ends, free_ends}
 
 -- inputs and registers of one bit that several examples have
 abbrev pub a1 : Signal
@@ -268,10 +268,27 @@ reset_alias = design_of (clk_signal ∷ r1 ∷ d2_input ∷ q3_register ∷ c4_n
     (assign 69 (Whole e5_net) (Name c4_net) ∷ assign 83 (Whole c4_net) (Name clk_signal) ∷ assign 99 (Whole s6_net) (Name r1)
     ∷ Always 113 false (record { signal = e5_net; edge = Posedge } ∷ record { signal = s6_net; edge = Posedge } ∷ []) (If (Name s6_net) (nonblocking 153 q3_register (dec 1 0)) (nonblocking 169 q3_register (Name d2_input))) ∷ [])
 
+-- `module top(input c, input e, input d, output reg p, output reg q); always @(posedge c) p <= d; always @(posedge e) q <= p; endmodule`, whose clocks are c and e
+abbrev pub c0 : Signal
+c0 = input_of (codes "c") 0 None 0
+
+abbrev pub p3 : Signal
+p3 = reg_of (codes "p") 3 None 3
+
+abbrev pub q4 : Signal
+q4 = reg_of (codes "q") 4 None 4
+
+abbrev pub two_clocks : Design
+two_clocks = design_of (c0 ∷ e1 ∷ d2_input ∷ p3 ∷ q4 ∷ []) (on_posedge 67 c0 (nonblocking 87 p3 (Name d2_input)) ∷ on_posedge 95 e1 (nonblocking 115 q4 (Name p3)) ∷ [])
+
+-- the names of both
+abbrev pub c_and_e : List (List ℕ)
+c_and_e = codes "c" ∷ codes "e" ∷ []
+
 pub record DesignsComputed : Type 0 where
   -- a reset by a falling edge, through a port: bits clk, r, d, y of the top, clk, r, d and q within it
   pub reset_through_port_accepted : IsAcceptedDesign reset_through_port clk
-  pub reset_through_port_late : (families reset_through_port 0 (level_order reset_through_port)).late 7 ≡ union (only One) (only X)
+  pub reset_through_port_late : (families reset_through_port (0 ∷ []) (level_order reset_through_port)).late 7 ≡ union (only One) (only X)
   pub reset_through_port_ends : map (drop 3) (slot_ends reset_through_port (Zero ∷ One ∷ Zero ∷ []) ((Zero ∷ Zero ∷ Zero ∷ []) ∷ [])) ≡
       ((X ∷ Zero ∷ One ∷ Zero ∷ X ∷ []) ∷ (Zero ∷ One ∷ One ∷ Zero ∷ Zero ∷ []) ∷ (One ∷ Zero ∷ Zero ∷ Zero ∷ One ∷ []) ∷ (One ∷ One ∷ Zero ∷ Zero ∷ One ∷ []) ∷ [])
   -- a block that sleeps until the register is known: bits clk, e, d, q, y
@@ -297,11 +314,11 @@ pub record DesignsComputed : Type 0 where
       ((Zero ∷ One ∷ Zero ∷ Zero ∷ []) ∷ (One ∷ One ∷ Zero ∷ Zero ∷ []) ∷ (Zero ∷ One ∷ One ∷ One ∷ []) ∷ (One ∷ One ∷ One ∷ One ∷ []) ∷ [])
   -- the same without a clock: bits a, b, y. No clock is named, and both inputs are data
   pub free_gate_size : size free_gate ≡ 4
-  pub free_gate_accepted : IsAcceptedDesign free_gate None
+  pub free_gate_accepted : IsAcceptedDesign free_gate []
   pub free_gate_ends : free_ends free_gate (One ∷ Zero ∷ []) ((One ∷ One ∷ []) ∷ []) ≡
       ((One ∷ Zero ∷ Zero ∷ []) ∷ (One ∷ Zero ∷ Zero ∷ []) ∷ (One ∷ One ∷ One ∷ []) ∷ (One ∷ One ∷ One ∷ []) ∷ [])
   -- an input `clk` that nothing reads may stand there and be data
-  pub and_gate_free : IsAcceptedDesign and_gate None
+  pub and_gate_free : IsAcceptedDesign and_gate []
   -- a counter that `rst` clears: bits clk, rst and the four of q
   pub counter_size : size counter ≡ 39
   pub counter_accepted : IsAcceptedDesign counter clk
@@ -354,20 +371,26 @@ pub record DesignsComputed : Type 0 where
   -- a register in an instance, on a clock net of its own: bits clk, d, y of the top, c, d and q within it
   pub clocked_instance_size : size clocked_instance ≡ 8
   pub clocked_instance_accepted : IsAcceptedDesign clocked_instance clk
-  pub clocked_instance_nets : clock_nets clocked_instance 0 ≡ 0 ∷ 3 ∷ []
+  pub clocked_instance_nets : clock_nets clocked_instance (0 ∷ []) ≡ 0 ∷ 3 ∷ []
   pub clocked_instance_ends : slot_ends clocked_instance (Zero ∷ One ∷ []) ((Zero ∷ Zero ∷ []) ∷ []) ≡
       ((Zero ∷ One ∷ X ∷ Zero ∷ One ∷ X ∷ []) ∷ (One ∷ One ∷ One ∷ One ∷ One ∷ One ∷ []) ∷ (Zero ∷ Zero ∷ One ∷ Zero ∷ Zero ∷ One ∷ []) ∷ (One ∷ Zero ∷ Zero ∷ One ∷ Zero ∷ Zero ∷ []) ∷ [])
   -- a register on an assign's copy of the clock: bits clk, d, q, c
   pub clock_alias_size : size clock_alias ≡ 6
   pub clock_alias_accepted : IsAcceptedDesign clock_alias clk
-  pub clock_alias_nets : clock_nets clock_alias 0 ≡ 0 ∷ 3 ∷ []
+  pub clock_alias_nets : clock_nets clock_alias (0 ∷ []) ≡ 0 ∷ 3 ∷ []
   pub clock_alias_ends : slot_ends clock_alias (Zero ∷ One ∷ []) ((Zero ∷ Zero ∷ []) ∷ []) ≡
       ((Zero ∷ One ∷ X ∷ Zero ∷ []) ∷ (One ∷ One ∷ One ∷ One ∷ []) ∷ (Zero ∷ Zero ∷ One ∷ Zero ∷ []) ∷ (One ∷ Zero ∷ Zero ∷ One ∷ []) ∷ [])
+  -- two clocks in step, where q takes what p was: bits c, e, d, p, q
+  pub two_clocks_size : size two_clocks ≡ 9
+  pub two_clocks_accepted : IsAcceptedDesign two_clocks c_and_e
+  pub two_clocks_nets : clock_nets two_clocks (0 ∷ 1 ∷ []) ≡ 0 ∷ 1 ∷ []
+  pub two_clocks_ends : slot_ends_by two_clocks (0 ∷ 1 ∷ []) (Zero ∷ Zero ∷ One ∷ []) ((Zero ∷ Zero ∷ Zero ∷ []) ∷ []) ≡
+      ((Zero ∷ Zero ∷ One ∷ X ∷ X ∷ []) ∷ (One ∷ One ∷ One ∷ One ∷ X ∷ []) ∷ (Zero ∷ Zero ∷ Zero ∷ One ∷ X ∷ []) ∷ (One ∷ One ∷ Zero ∷ Zero ∷ One ∷ []) ∷ [])
   -- copies of a copy, and of a reset: bits clk, r, d, q, c, e, s
   pub reset_alias_size : size reset_alias ≡ 12
   pub reset_alias_accepted : IsAcceptedDesign reset_alias clk
-  pub reset_alias_nets : clock_nets reset_alias 0 ≡ 0 ∷ 5 ∷ 4 ∷ []
-  pub reset_alias_root : root_of reset_alias 0 6 ≡ Some 1
+  pub reset_alias_nets : clock_nets reset_alias (0 ∷ []) ≡ 0 ∷ 5 ∷ 4 ∷ []
+  pub reset_alias_root : root_of reset_alias (0 ∷ []) 6 ≡ Some 1
   pub reset_alias_ends : slot_ends reset_alias (Zero ∷ Zero ∷ One ∷ []) ((Zero ∷ One ∷ One ∷ []) ∷ (Zero ∷ Zero ∷ One ∷ []) ∷ []) ≡
       ((Zero ∷ Zero ∷ One ∷ X ∷ Zero ∷ Zero ∷ Zero ∷ []) ∷ (One ∷ Zero ∷ One ∷ One ∷ One ∷ One ∷ Zero ∷ []) ∷ (Zero ∷ One ∷ One ∷ Zero ∷ Zero ∷ Zero ∷ One ∷ []) ∷ (One ∷ One ∷ One ∷ Zero ∷ One ∷ One ∷ One ∷ []) ∷ (Zero ∷ Zero ∷ One ∷ Zero ∷ Zero ∷ Zero ∷ Zero ∷ []) ∷ (One ∷ Zero ∷ One ∷ One ∷ One ∷ One ∷ Zero ∷ []) ∷ [])
   -- an x bit of one operand makes the whole sum x, and a known vector gives the sum: bits clk, a, b, y
@@ -376,8 +399,8 @@ pub record DesignsComputed : Type 0 where
   pub sum_ends : slot_ends sum (Zero ∷ Zero ∷ Zero ∷ Zero ∷ Zero ∷ One ∷ Zero ∷ Zero ∷ Zero ∷ []) ((Zero ∷ One ∷ Zero ∷ X ∷ Zero ∷ One ∷ Zero ∷ Zero ∷ Zero ∷ []) ∷ (Zero ∷ One ∷ Zero ∷ One ∷ Zero ∷ One ∷ Zero ∷ Zero ∷ Zero ∷ []) ∷ []) ≡
       ((Zero ∷ Zero ∷ Zero ∷ Zero ∷ Zero ∷ One ∷ Zero ∷ Zero ∷ Zero ∷ One ∷ Zero ∷ Zero ∷ Zero ∷ []) ∷ (One ∷ Zero ∷ Zero ∷ Zero ∷ Zero ∷ One ∷ Zero ∷ Zero ∷ Zero ∷ One ∷ Zero ∷ Zero ∷ Zero ∷ []) ∷ (Zero ∷ One ∷ Zero ∷ X ∷ Zero ∷ One ∷ Zero ∷ Zero ∷ Zero ∷ X ∷ X ∷ X ∷ X ∷ []) ∷ (One ∷ One ∷ Zero ∷ X ∷ Zero ∷ One ∷ Zero ∷ Zero ∷ Zero ∷ X ∷ X ∷ X ∷ X ∷ []) ∷ (Zero ∷ One ∷ Zero ∷ One ∷ Zero ∷ One ∷ Zero ∷ Zero ∷ Zero ∷ Zero ∷ One ∷ One ∷ Zero ∷ []) ∷ (One ∷ One ∷ Zero ∷ One ∷ Zero ∷ One ∷ Zero ∷ Zero ∷ Zero ∷ Zero ∷ One ∷ One ∷ Zero ∷ []) ∷ [])
   -- sets at time zero: a register that a quiet block reads, and what the block writes; a net that is 0
-  pub quiet_register : (families quiet 0 (level_order quiet)).early 2 ≡ only X
-  pub quiet_block : (families quiet 0 (level_order quiet)).early 3 ≡ only X
-  pub woken_input : (families woken 0 (level_order woken)).late 1 ≡ known_set
-  pub woken_net : (families woken 0 (level_order woken)).early 3 ≡ only Zero
+  pub quiet_register : (families quiet (0 ∷ []) (level_order quiet)).early 2 ≡ only X
+  pub quiet_block : (families quiet (0 ∷ []) (level_order quiet)).early 3 ≡ only X
+  pub woken_input : (families woken (0 ∷ []) (level_order woken)).late 1 ≡ known_set
+  pub woken_net : (families woken (0 ∷ []) (level_order woken)).early 3 ≡ only Zero
   pub product_ends : map (drop 129) (slot_ends product (Zero ∷ replicate 128 One) []) ≡ (One ∷ replicate 63 Zero) ∷ (One ∷ replicate 63 Zero) ∷ []

@@ -16,7 +16,7 @@ ghost use Rattle.vs_design.specs.ExampleSets.{SetsComputed};
 ghost use Rattle.vs_design.specs.ExampleSizes.{SizesComputed};
 ghost use Rattle.vs_design.specs.ExampleTogether.{TogetherComputed};
 ghost use Rattle.vs_design.specs.ExampleValues.{ValuesComputed};
-ghost use Rattle.vs_design.specs.Laws.{AcceptedExactly, AcceptedIsLawful, AscendingHas, AscendingRises, BeginningIs, BitsOfDesign, BoundOfDesign, ClockNetsAre, EveryOrderOfDesign, LevelOrderIs, LevelRunOfDesign, OneFamilies, OnePassOfDesign, OneSolutionOfDesign, OrderOrCycle, RaceByAnyOrder, RunsEndOfDesign, SleepersOfDesign, SleepingIs, SpareClockIs, StarMissesNone, StirredBitsAre};
+ghost use Rattle.vs_design.specs.Laws.{AcceptedExactly, AcceptedIsLawful, AscendingHas, AscendingRises, BeginningIs, BitsOfDesign, BoundOfDesign, ClockNetsAre, EveryOrderOfDesign, LevelOrderIs, LevelRunOfDesign, NetsOfEach, OneFamilies, OnePassOfDesign, OneSolutionOfDesign, OrderOrCycle, RaceByAnyOrder, RunsEndOfDesign, SleepersOfDesign, SleepingIs, SpareClockIs, StarMissesNone, StirredBitsAre};
 ghost use Rattle.vs_design.specs.Memories.{WordsAre};
 ghost use Rattle.vs_design.specs.Paths.{LatchBitsAre};
 ghost use Rattle.vs_design.specs.PlaceLaws.{ItemPlacesAgree, StatementFits, StatementPlacesAgree};
@@ -61,9 +61,14 @@ pub fn sets_law()
     ensures body_reads { BodySetsRead }
 {}
 
-/// The clock nets are the clock input and each net that assigns of a name alone lead to from it.
+/// The clock nets are the clock inputs and each net that assigns of a name alone lead to from them.
 pub fn clock_law()
     ensures { ClockNetsAre }
+{}
+
+/// The nets of several clocks are those of each of them.
+pub fn clocks_law()
+    ensures { NetsOfEach }
 {}
 
 /// Without a clock the design has no clock net, and each clocked block breaks the rule NotTheClock.
@@ -113,7 +118,7 @@ pub fn latch_law()
     ensures { LatchBitsAre }
 {}
 
-/// A design that elaboration gives is accepted exactly where nothing refuses it: no refusal of a length, a block, a driver or the clock, no cycle, no race, and none at time zero. Any other is refused, by the first rule that it breaks.
+/// A design that elaboration gives is accepted exactly where nothing refuses it: no refusal of a length, a block, a driver or a clock, no cycle, no race, and none at time zero. Any other is refused, by the first rule that it breaks.
 pub fn accepted_law()
     ensures exactly { AcceptedExactly }
     ensures either { AcceptedOrRefused }

@@ -11,7 +11,7 @@ pub enum BareName {
     TooLong,
     /// There is no module of the top's name.
     NoTop,
-    /// The top has no one-bit input of the clock's name.
+    /// The top has no one-bit input of a clock's name, or two clocks have one name.
     NoClock,
 }
 

@@ -1,6 +1,6 @@
 //! The set-up of a check.
 
-ghost use Rattle.std.specs.Prelude.{◌≡◌, ◌≤◌, ℕ, None, IsTrue, IfOk, IfErr, length};
+ghost use Rattle.std.specs.Prelude.{◌≡◌, ◌≤◌, ℕ, None, IsTrue, IfOk, IfErr, length, List};
 ghost use Rattle.vs_flat.specs.DesignOf.{design_of};
 ghost use Rattle.vs_design.specs.Designs.{Design};
 ghost use Rattle.vs_design.specs.Sizes.{size as size_of};
@@ -65,7 +65,7 @@ fn assemble_check<W: Lanes>(
     ensures engine { IfOk result (λ p. p.checker.engine ≡ engine) }
     ensures outputs { IfOk result (λ p. p.checker.misses.outputs ≡ watched opened.accepted) }
     ensures none { IfOk result (λ p. (i : ℕ) → found_at p.checker.misses.found i ≡ None) }
-    ensures ready { (d : Design) (clock : ℕ) → AreCheckParts d clock opened.drive engine.program (watched opened.accepted)
+    ensures ready { (d : Design) (clocks : List ℕ) → AreCheckParts d clocks opened.drive engine.program (watched opened.accepted)
         → IfOk result (λ p. IsCheckable p.checker) }
     ensures size { IfOk result (λ p. p.size ≡ size_of (design_of opened.accepted.flat)) }
 {

@@ -48,7 +48,7 @@ pub struct Prepared<W: Lanes> {
 pub struct Opened {
     /// The design.
     pub accepted: Accepted,
-    /// The inputs of the top but the clock, if there is one, and its outputs, in order of declaration.
+    /// The inputs of the top but the clocks, if there are any, and its outputs, in order of declaration.
     pub ports: Ports,
     /// The stimuli by lane, each about to give its first vector.
     pub drive: Drive,
@@ -114,11 +114,12 @@ fn read_and_load<D: Desk>(alloc: Global, job: &Job, desk: &mut D) -> Result<Load
 fn load_text(alloc: Global, job: &Job, text: &[u8]) -> Result<Loaded, SetupError>
     requires text { length text.now ≤ most_bytes }
     requires head { length job.now.head ≤ most_head }
-    ensures loaded { IfOk result (λ l. IsLoaded (demands job.now.mode) text.now job.now.top job.now.clock l.accepted l.ports) }
-    ensures refused { IfErr result (IsLoadError (length job.now.head) text.now job.now.top job.now.clock) }
+    ensures loaded { IfOk result (λ l. IsLoaded (demands job.now.mode) text.now job.now.top job.now.clocks l.accepted l.ports) }
+    ensures refused { IfErr result (IsLoadError (length job.now.head) text.now job.now.top job.now.clocks) }
 {
     let demanded = demands(job.mode);
-    match load(alloc, text, job.top_bytes(), job.clock_bytes(), demanded) {
+    let names = job.clock_names(alloc)?;
+    match load(alloc, text, job.top_bytes(), names.as_slice(), demanded) {
         Ok(loaded) => Ok(loaded),
         Err(error) => Err(SetupError::unaccepted(error, job.head.as_bytes().len() as u32)),
     }

@@ -6,4 +6,4 @@ use Rattle.vs_clock.specs.Tests.{NoneBefore}
 use Rattle.vs_clock.proofs.first.first_other.Given as goal
 
 abbrev pub invariant-loop-p : goal.invariant-loop-p
-invariant-loop-p l = (c : ℕ) → AreNets (design_of l.flat) c l.nets → NoneBefore (design_of l.flat) (has_other_clock (clock_nets (design_of l.flat) c) (root_of (design_of l.flat) c)) l.p
+invariant-loop-p l = (c : List ℕ) → AreNets (design_of l.flat) c l.nets → NoneBefore (design_of l.flat) (has_other_clock (clock_nets (design_of l.flat) c) (root_of (design_of l.flat) c)) l.p

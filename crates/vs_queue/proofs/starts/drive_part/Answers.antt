@@ -11,20 +11,20 @@ pub drive-requires : goal.drive-requires
 drive-requires c =
     let w = c.index-writes-n.result in
     let q = c.index-owners-bit.result in
-    let is = owner_is c.args.owners.now c.args.writes.now c.args.n c.bit.result q w c.requires.within c.requires.inside c.index-writes-n.is c.bit.ensures c.index-owners-bit.is in
+    let is = owner_is c.args.owners.now c.args.writes.now c.args.n c.bits.result q w c.requires.within c.requires.inside c.index-writes-n.is c.bits.ensures c.index-owners-bit.is in
     subst (λ k. k < length c.args.events.now.assigns) (sym is) (c.requires.there c.args.n w c.requires.within)
 
 pub returns-then-has_own-clause-driven : goal.returns-then-has_own-clause-driven
 returns-then-has_own-clause-driven c =
     let w = c.index-writes-n.result in
     let q = c.index-owners-bit.result in
-    let is = owner_is c.args.owners.now c.args.writes.now c.args.n c.bit.result q w c.requires.within c.requires.inside c.index-writes-n.is c.bit.ensures c.index-owners-bit.is in
+    let is = owner_is c.args.owners.now c.args.writes.now c.args.n c.bits.result q w c.requires.within c.requires.inside c.index-writes-n.is c.bits.ensures c.index-owners-bit.is in
     part_none c.args.owners.now c.args.writes.now c.args.events.now c.args.n q w c.requires.within is c.has_own.result c.has_own.ensures c.if-has_own.true
 
 pub returns-clause-driven : goal.returns-clause-driven
 returns-clause-driven c =
     let w = c.index-writes-n.result in
     let q = c.index-owners-bit.result in
-    let is = owner_is c.args.owners.now c.args.writes.now c.args.n c.bit.result q w c.requires.within c.requires.inside c.index-writes-n.is c.bit.ensures c.index-owners-bit.is in
+    let is = owner_is c.args.owners.now c.args.writes.now c.args.n c.bits.result q w c.requires.within c.requires.inside c.index-writes-n.is c.bits.ensures c.index-owners-bit.is in
     on_ok c.drive.result c.drive.ensures (λ h.
     part_after c.args.owners.now c.args.writes.now c.args.events.now c.args.n q w c.requires.within is c.drive.new.self c.in_ok-own.own c.has_own.result c.has_own.ensures c.if-has_own.false c.in_ok-own.ensures h)

@@ -9,4 +9,4 @@ use Rattle.vs_accept.proofs.Told.{verdict}
 use Rattle.vs_accept.proofs.places.Places.driver_error.Goals as goal
 
 pub returns-in-TwoDrivers : goal.returns-in-TwoDrivers
-returns-in-TwoDrivers c = λ d clock k h. let s = c.in-TwoDrivers in verdict (byte_of c.args.self.now.text.now c.args.self.now.tokens.now) d clock (OfDriver (rule.TwoDrivers s.bit s.first s.second s.at)) _ (k.0, k.1, subst (IsDriverError d) s.is h) (ap (λ (n : ℕ). Refused (refusal.TwoDrivers s.bit s.first s.second n)) c.byte.ensures)
+returns-in-TwoDrivers c = λ d clocks k h. let s = c.in-TwoDrivers in verdict (byte_of c.args.self.now.text.now c.args.self.now.tokens.now) d clocks (OfDriver (rule.TwoDrivers s.bit s.first s.second s.at)) _ (k.0, k.1, subst (IsDriverError d) s.is h) (ap (λ (n : ℕ). Refused (refusal.TwoDrivers s.bit s.first s.second n)) c.byte.ensures)

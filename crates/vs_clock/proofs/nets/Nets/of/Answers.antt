@@ -5,4 +5,4 @@ use Rattle.vs_clock.proofs.Finding.{reset_below}
 use Rattle.vs_clock.proofs.nets.Nets.of.Goals as goal
 
 pub roots_of-requires-clause-roots : goal.roots_of-requires-clause-roots
-roots_of-requires-clause-roots c = λ b h. subst (λ n. b < n) (sym c.in_ok-targets.ensures.count) (reset_below (design_of c.args.flat.now) c.requires.lawful.design c.args.clock b (sym (ap (λ (zs : List ℕ). contains zs b) (c.as_slice.ensures.value ∙ c.in_ok-inputs.ensures)) ∙ h))
+roots_of-requires-clause-roots c = λ b h. subst (λ n. b < n) (sym c.in_ok-targets.ensures.count) (reset_below (design_of c.args.flat.now) c.requires.lawful.design c.args.clocks.now b (sym (ap (λ (zs : List ℕ). contains zs b) (c.as_slice.ensures.value ∙ c.in_ok-inputs.ensures)) ∙ h))

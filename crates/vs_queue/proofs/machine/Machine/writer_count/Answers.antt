@@ -1,4 +1,4 @@
-use Rattle.std.proofs.Common.{ℕ, length, sym, ap₂, ◌∙◌, subst, arith}
+use Rattle.std.proofs.Common.{List, ℕ, length, sym, ap₂, ◌∙◌, subst, arith}
 use Rattle.vs_design.specs.Designs.{top_inputs}
 use Rattle.vs_flat.specs.Arena.{Arena}
 use Rattle.vs_flat.specs.DesignOf.{design_of}
@@ -16,17 +16,17 @@ overflow_add-result c = let m = c.keeper_at-others.ensures.most in omega (arith,
 pub returns-then-keeper : goal.returns-then-keeper
 returns-then-keeper c =
     let d = design_of c.args.self.now.typed.now in
-    let clock = c.args.self.now.clocks.now.bit in
-    let others = c.keeper_at-others.ensures.is ∙ ap₂ (λ (z : Arena) (b : ℕ). keeper_at (design_of z) b) c.flat.ensures.same c.bit.ensures in
+    let clocks = c.args.self.now.clocks.now.bits in
+    let others = c.keeper_at-others.ensures.is ∙ ap₂ (λ (z : Arena) (b : List ℕ). keeper_at (design_of z) b) c.flat.ensures.same c.bits.ensures in
     let one = keeper_one d (sym c.requires.machine.keeper_is ∙ c.if-keeper.true) in
-    let count = network_count d clock in
+    let count = network_count d clocks in
     omega (arith, others, one, count)
 
 pub returns : goal.returns
 returns c =
     let d = design_of c.args.self.now.typed.now in
-    let clock = c.args.self.now.clocks.now.bit in
-    let others = c.keeper_at-others.ensures.is ∙ ap₂ (λ (z : Arena) (b : ℕ). keeper_at (design_of z) b) c.flat.ensures.same c.bit.ensures in
+    let clocks = c.args.self.now.clocks.now.bits in
+    let others = c.keeper_at-others.ensures.is ∙ ap₂ (λ (z : Arena) (b : List ℕ). keeper_at (design_of z) b) c.flat.ensures.same c.bits.ensures in
     let none = keeper_none d (sym c.requires.machine.keeper_is ∙ c.if-keeper.false) in
-    let count = network_count d clock in
+    let count = network_count d clocks in
     omega (arith, others, none, count)
