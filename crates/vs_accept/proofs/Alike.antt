@@ -19,9 +19,9 @@ two : {A B C : Type 0} (f : A → B → C) {a b : A} {c d : B} → a ≡ b → c
 two f p q = cc
 
 -- told with the bytes of their places
-alike_told : (byte : ℕ → ℕ) (x y : DesignRefusal) (r q : Refusal) → AreAlikeRefusals x y → design_refusal byte x ≡ r → design_refusal byte y ≡ q → AreAlike r q
-alike_told byte x y r q (Same h) is also = inl (sym is ∙ ap (design_refusal byte) h ∙ also)
-alike_told byte x y r q (Cycles ps qs at by h k) is also = inr (two is_open (sym is ∙ ap (design_refusal byte) h) (sym also ∙ ap (design_refusal byte) k))
+alike_told : (byte : ℕ → ℕ) (d : Design) (x y : DesignRefusal) (r q : Refusal) → AreAlikeRefusals x y → design_refusal byte d x ≡ r → design_refusal byte d y ≡ q → AreAlike r q
+alike_told byte d x y r q (Same h) is also = inl (sym is ∙ ap (design_refusal byte d) h ∙ also)
+alike_told byte d x y r q (Cycles ps qs at by h k) is also = inr (two is_open (sym is ∙ ap (design_refusal byte d) h) (sym also ∙ ap (design_refusal byte d) k))
 
 same_told : {e f : Option Refusal} {r q : Refusal} → e ≡ f → e ≡ Some r → f ≡ Some q → r ≡ q
 same_told p h k = cc
@@ -82,6 +82,7 @@ one_refusal one no_fault one_fault decided text top clock r q x y = go x y
     go (ByRule tokens source d z read elaborates broken told) (ByTree others x reads fault also) = absurd (no_fault_read no_fault text tokens others source read reads x fault)
     go (ByRule tokens source d z read elaborates broken told) (ByElaboration others other g reading breaks also) = absurd (not_of_both (same_result one text top tokens others source other read reading) elaborates breaks)
     go (ByRule tokens source d z read elaborates broken told) (ByRule others other e w reading elaborated_too breaks also) =
-        alike_told (byte_of text tokens) z w r q
-        (alike_of_design decided d clock z w broken (subst (λ (c : Design). IsRefusedBy c clock w) (of_design (same_result one text top others tokens other source reading read) elaborated_too elaborates) breaks))
-        told (subst (λ (ts : List Token). design_refusal (byte_of text ts) w ≡ q) (same_read text others tokens reading.reads read.reads) also)
+        let same : e ≡ d = of_design (same_result one text top others tokens other source reading read) elaborated_too elaborates in
+        alike_told (byte_of text tokens) d z w r q
+        (alike_of_design decided d clock z w broken (subst (λ (c : Design). IsRefusedBy c clock w) same breaks))
+        told (two (λ (ts : List Token) (c : Design). design_refusal (byte_of text ts) c w) (same_read text tokens others read.reads reading.reads) (sym same) ∙ also)

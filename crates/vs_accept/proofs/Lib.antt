@@ -1,4 +1,6 @@
 mod Answered
+mod Numbered
+mod Ordered
 mod AlikeDesign
 mod Alike
 mod Told

@@ -1,5 +1,5 @@
 -- How each stage's refusal is told.
-use Rattle.std.proofs.Common.{◌≡◌, ℕ, List, refl, sym, ap, subst, ◌⊎◌, inl, inr, Option, Some, None}
+use Rattle.std.proofs.Common.{◌≡◌, ℕ, List, refl, sym, ap, ◌∙◌, subst, ◌⊎◌, inl, inr, Option, Some, None}
 use Rattle.std.specs.Prelude.{Ok, Err}
 use Rattle.vs_lexer.specs.declared.token.Token.{Token}
 use Rattle.vs_lexer.specs.declared.token.LexError.{LexError}
@@ -15,13 +15,18 @@ use Rattle.vs_grammar.specs.Trees.{Source}
 use Rattle.vs_grammar.specs.Spelled.{SpelledBy}
 use Rattle.vs_const.specs.declared.faults.Fault.{Fault}
 use Rattle.vs_tops.specs.Designs.{elaborated_from}
-use Rattle.vs_design.specs.Designs.{Design}
-use Rattle.vs_design.specs.Answers.{DesignRefusal, IsRefusedBy}
+use Rattle.vs_design.specs.Designs.{Design, AnyProcess}
+use Rattle.vs_design.specs.Answers.{DesignRefusal, OfDriver, IsRefusedBy}
+use Rattle.vs_design.specs.Refusals as rule
+use Rattle.vs_flat.specs.declared.processes.AnyProcess as F
+use Rattle.vs_flat.specs.TextOrder.{any_of}
+use Rattle.vs_refusal.specs.declared.refusal.Refusal.TheVariants as refusal
 use Rattle.vs_accept.specs.declared.error.AcceptError.{AcceptError}
 use Rattle.vs_accept.specs.declared.error.AcceptError.TheVariants.{Refused, Memory}
 use Rattle.vs_accept.specs.Accepted.{IsRead, ByTokens, ByMacros, ByTree, ByElaboration, ByRule}
 use Rattle.vs_accept.specs.Refused.{byte_of, token_refusal, macro_refusal, TreeFault, IsTreeFault, tree_refusal, fault_refusal, design_refusal}
-use Rattle.vs_accept.specs.Answers.{refusal_in, IsRefusalOf, IsVerdict}
+use Rattle.vs_accept.specs.Answers.{refusal_in, IsRefusalOf, TellsJust, IsVerdict}
+use Rattle.vs_accept.specs.Numbers.{number_of, begin_of}
 use Rattle.vs_accept.proofs.Answered.{none_some}
 
 -- ---- tokens and tree
@@ -64,7 +69,7 @@ unelaborated text top clock tokens source f e read broken is = subst (IsRefusalO
 -- ---- the design
 
 -- a design that breaks a rule
-pub verdict : (byte : ℕ → ℕ) (d : Design) (clock : Option (List ℕ)) (x : DesignRefusal) (e : AcceptError) → IsRefusedBy d clock x → e ≡ Refused (design_refusal byte x) → IsVerdict byte d clock e
+pub verdict : (byte : ℕ → ℕ) (d : Design) (clock : Option (List ℕ)) (x : DesignRefusal) (e : AcceptError) → IsRefusedBy d clock x → e ≡ Refused (design_refusal byte d x) → IsVerdict byte d clock e
 verdict byte d clock x e refused is = subst (IsVerdict byte d clock) (sym is) (record { breaks = x; refused = refused; told = refl })
 
 -- what is told of the design is told of the text
@@ -72,3 +77,16 @@ pub by_rule : (text : List ℕ) (top clock : Option (List ℕ)) (tokens : List T
     → IsVerdict (byte_of text tokens) d clock e → IsRefusalOf text top clock e
 by_rule text top clock tokens source d (Refused r) read elaborates v = ByRule tokens source d v.breaks read elaborates v.refused v.told
 by_rule text top clock tokens source d Memory read elaborates v = tt
+
+-- the same of what may have found no memory
+pub verdict_or : (byte : ℕ → ℕ) (d : Design) (clock : Option (List ℕ)) (x : DesignRefusal) (e : AcceptError) → IsRefusedBy d clock x → TellsJust (design_refusal byte d x) e → IsVerdict byte d clock e
+verdict_or byte d clock x (Refused r) refused is = record { breaks = x; refused = refused; told = sym is }
+verdict_or byte d clock x Memory refused is = tt
+
+-- two writers
+pub two_told : (byte : ℕ → ℕ) (d : Design) (bit : ℕ) (first second : F.AnyProcess) (one other : AnyProcess) (at : ℕ) (e : AcceptError) → any_of one ≡ first → any_of other ≡ second → at ≡ begin_of d second
+    → e ≡ Refused (refusal.TwoDrivers bit (number_of d first) (number_of d second) (byte at)) → e ≡ Refused (design_refusal byte d (OfDriver (rule.TwoWriters bit one other)))
+two_told byte d bit first second one other at e a b begins is =
+    is ∙ (ap (λ (x : F.AnyProcess). Refused (refusal.TwoDrivers bit (number_of d x) (number_of d second) (byte at))) (sym a)
+    ∙ (ap (λ (x : F.AnyProcess). Refused (refusal.TwoDrivers bit (number_of d (any_of one)) (number_of d x) (byte at))) (sym b)
+    ∙ ap (λ (n : ℕ). Refused (refusal.TwoDrivers bit (number_of d (any_of one)) (number_of d (any_of other)) (byte n))) (begins ∙ ap (begin_of d) (sym b))))

@@ -51,7 +51,7 @@ pub data IsRefusedText (text : List ℕ) (top clock : Option (List ℕ)) (r : Re
       → fault_refusal (byte_of text tokens) f ≡ r → IsRefusedText text top clock r
   -- its design breaks a rule
   ByRule : (tokens : List Token) (source : Source) (d : Design) (x : DesignRefusal) → IsRead text tokens source → elaborated_from source top ≡ Ok d → IsRefusedBy d clock x
-      → design_refusal (byte_of text tokens) x ≡ r → IsRefusedText text top clock r
+      → design_refusal (byte_of text tokens) d x ≡ r → IsRefusedText text top clock r
 
 -- ---- what holds of every text
 

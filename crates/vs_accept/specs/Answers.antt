@@ -27,6 +27,11 @@ abbrev pub TellsLike : Refusal → AcceptError → Type 0
 TellsLike q (Refused r) = AreAlike r q
 TellsLike q Memory = Unit {0}
 
+-- it tells just this refusal
+abbrev pub TellsJust : Refusal → AcceptError → Type 0
+TellsJust q (Refused r) = r ≡ q
+TellsJust q Memory = Unit {0}
+
 -- ---- elaboration
 
 -- the fault by which a tree doesn't elaborate
@@ -35,11 +40,11 @@ IsElabError elaborated e = Tells e (λ (f : Fault). elaborated ≡ Err f)
 
 -- ---- the elaborated design
 
--- the design breaks a rule, and this tells it with the bytes of its places
+-- the design breaks a rule, and this tells it with the bytes of its places and the numbers of its processes in the text
 pub record IsToldBy (byte : ℕ → ℕ) (d : Design) (clock : Option (List ℕ)) (r : Refusal) : Type 0 where
   pub breaks : DesignRefusal
   pub refused : IsRefusedBy d clock breaks
-  pub told : design_refusal byte breaks ≡ r
+  pub told : design_refusal byte d breaks ≡ r
 
 abbrev pub IsVerdict : (byte : ℕ → ℕ) → Design → Option (List ℕ) → AcceptError → Type 0
 IsVerdict byte d clock (Refused r) = IsToldBy byte d clock r

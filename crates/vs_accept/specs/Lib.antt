@@ -1,3 +1,4 @@
+pub mod Numbers
 pub mod Refused
 pub mod Accepted
 pub mod Answers

@@ -1,6 +1,6 @@
 -- Which refusal tells that a rule is broken. The stages tell a place by the number of its token; a refusal tells the byte at which a reader of the text
--- finds that token.
-use Rattle.std.specs.Prelude.{ℕ, List, length, slice_get, Option, Some, None}
+-- finds that token. They tell a process by its number among those of its kind; a refusal tells its number in the text.
+use Rattle.std.specs.Prelude.{ℕ, List, length, map, slice_get, Option, Some, None}
 use Rattle.vs_lexer.specs.declared.token.Token.{Token}
 use Rattle.vs_lexer.specs.declared.token.LexError.{LexError}
 use Rattle.vs_lexer.specs.declared.token.LexError.TheVariants as lexer
@@ -10,6 +10,7 @@ use Rattle.vs_grammar.specs.Spelled.{LeftOutAt, HasSyntaxFault, IsTooDeep}
 use Rattle.vs_const.specs.declared.faults.Fault.{Fault}
 use Rattle.vs_const.specs.declared.rules.Rule.{Rule}
 use Rattle.vs_const.specs.declared.rules.Rule.TheVariants as broken
+use Rattle.vs_design.specs.Designs.{Design}
 use Rattle.vs_design.specs.Answers.{DesignRefusal, OfWidth, OfBlock, OfDriver, OfClock, Cycle, OfRace, OfZero}
 use Rattle.vs_design.specs.Refusals as rule
 use Rattle.vs_refusal.specs.declared.names.BareName.TheVariants.{NoTop, NoClock}
@@ -18,6 +19,9 @@ use Rattle.vs_refusal.specs.declared.names.AtName.TheVariants as name
 use Rattle.vs_refusal.specs.declared.names.ProcessName.TheVariants as process
 use Rattle.vs_refusal.specs.declared.refusal.Refusal.{Refusal}
 use Rattle.vs_refusal.specs.declared.refusal.Refusal.TheVariants as refusal
+use Rattle.vs_flat.specs.declared.processes.AnyProcess.TheVariants as any
+use Rattle.vs_flat.specs.TextOrder.{any_of}
+use Rattle.vs_accept.specs.Numbers.{number_of, process_number, begin_of}
 
 -- where a token is found: where it begins, or, where a macro gave it, where the outermost use begins that it came from; behind the last one stands the
 -- end of the text
@@ -94,32 +98,35 @@ width_refusal byte (rule.TooWide at) = refusal.At name.TooWide (byte at)
 width_refusal byte (rule.Division at) = refusal.At name.Division (byte at)
 width_refusal byte (rule.TooLarge size) = refusal.TooLarge size
 
-abbrev pub block_refusal : (byte : ℕ → ℕ) → rule.BlockRefusal → Refusal
-block_refusal byte (rule.FunctionLatch at) = refusal.At name.FunctionLatch (byte at)
-block_refusal byte (rule.MixedAssign at) = refusal.At name.MixedAssign (byte at)
-block_refusal byte (rule.Sensitivity p signal at) = refusal.Sensitivity p signal (byte at)
-block_refusal byte (rule.Latch p bit at) = refusal.Latch p bit (byte at)
+abbrev pub block_refusal : (byte : ℕ → ℕ) → Design → rule.BlockRefusal → Refusal
+block_refusal byte d (rule.FunctionLatch at) = refusal.At name.FunctionLatch (byte at)
+block_refusal byte d (rule.InitialForm k at) = refusal.Process process.InitialForm (number_of d (any.Initial k)) (byte at)
+block_refusal byte d (rule.MixedAssign at) = refusal.At name.MixedAssign (byte at)
+block_refusal byte d (rule.Sensitivity p signal at) = refusal.Sensitivity (process_number d p) signal (byte at)
+block_refusal byte d (rule.Latch p bit at) = refusal.Latch (process_number d p) bit (byte at)
 
-abbrev pub driver_refusal : (byte : ℕ → ℕ) → rule.DriverRefusal → Refusal
-driver_refusal byte (rule.TwoDrivers bit first second at) = refusal.TwoDrivers bit first second (byte at)
+-- two writers are told as two drivers, at the second
+abbrev pub driver_refusal : (byte : ℕ → ℕ) → Design → rule.DriverRefusal → Refusal
+driver_refusal byte d (rule.TwoDrivers bit first second at) = refusal.TwoDrivers bit (process_number d first) (process_number d second) (byte at)
+driver_refusal byte d (rule.TwoWriters bit first second) = refusal.TwoDrivers bit (number_of d (any_of first)) (number_of d (any_of second)) (byte (begin_of d (any_of second)))
 
-abbrev pub clock_refusal : (byte : ℕ → ℕ) → rule.ClockRefusal → Refusal
-clock_refusal byte rule.NoClock = refusal.Bare NoClock
-clock_refusal byte (rule.ClockRead p at) = refusal.Process process.ClockRead p (byte at)
-clock_refusal byte (rule.NotTheClock p at) = refusal.Process process.NotTheClock p (byte at)
-clock_refusal byte (rule.ResetForm p at) = refusal.Process process.ResetForm p (byte at)
+abbrev pub clock_refusal : (byte : ℕ → ℕ) → Design → rule.ClockRefusal → Refusal
+clock_refusal byte d rule.NoClock = refusal.Bare NoClock
+clock_refusal byte d (rule.ClockRead p at) = refusal.Process process.ClockRead (process_number d p) (byte at)
+clock_refusal byte d (rule.NotTheClock p at) = refusal.Process process.NotTheClock (process_number d p) (byte at)
+clock_refusal byte d (rule.ResetForm p at) = refusal.Process process.ResetForm (process_number d p) (byte at)
 
-abbrev pub race_refusal : (byte : ℕ → ℕ) → rule.RaceRefusal → Refusal
-race_refusal byte (rule.Race p bit at) = refusal.Race p bit (byte at)
+abbrev pub race_refusal : (byte : ℕ → ℕ) → Design → rule.RaceRefusal → Refusal
+race_refusal byte d (rule.Race p bit at) = refusal.Race (process_number d p) bit (byte at)
 
-abbrev pub zero_refusal : (byte : ℕ → ℕ) → rule.ZeroRefusal → Refusal
-zero_refusal byte (rule.TimeZero p at) = refusal.Process process.TimeZero p (byte at)
+abbrev pub zero_refusal : (byte : ℕ → ℕ) → Design → rule.ZeroRefusal → Refusal
+zero_refusal byte d (rule.TimeZero p at) = refusal.Process process.TimeZero (process_number d p) (byte at)
 
-abbrev pub design_refusal : (byte : ℕ → ℕ) → DesignRefusal → Refusal
-design_refusal byte (OfWidth r) = width_refusal byte r
-design_refusal byte (OfBlock r) = block_refusal byte r
-design_refusal byte (OfDriver r) = driver_refusal byte r
-design_refusal byte (OfClock r) = clock_refusal byte r
-design_refusal byte (Cycle processes at) = refusal.Cycle processes (byte at)
-design_refusal byte (OfRace r) = race_refusal byte r
-design_refusal byte (OfZero r) = zero_refusal byte r
+abbrev pub design_refusal : (byte : ℕ → ℕ) → Design → DesignRefusal → Refusal
+design_refusal byte d (OfWidth r) = width_refusal byte r
+design_refusal byte d (OfBlock r) = block_refusal byte d r
+design_refusal byte d (OfDriver r) = driver_refusal byte d r
+design_refusal byte d (OfClock r) = clock_refusal byte d r
+design_refusal byte d (Cycle processes at) = refusal.Cycle (map (process_number d) processes) (byte at)
+design_refusal byte d (OfRace r) = race_refusal byte d r
+design_refusal byte d (OfZero r) = zero_refusal byte d r

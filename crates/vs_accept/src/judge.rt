@@ -42,11 +42,11 @@ fn check_writers(
 {
     let _flat = typed.flat();
     if let Err(error) = block_forms(alloc, typed, footprints) {
-        return Err(places.block_error(error));
+        return Err(places.block_error(typed, error));
     }
     match vs_driver::check(alloc, typed, footprints) {
         Ok(()) => Ok(()),
-        Err(error) => Err(places.driver_error(error)),
+        Err(error) => Err(places.driver_error(typed, error)),
     }
 }
 
@@ -70,18 +70,18 @@ fn judge_typed(
     check_writers(alloc, places, &typed, &footprints)?;
     let clocks = match vs_clock::check(alloc, &typed, &footprints, clock) {
         Ok(clocks) => clocks,
-        Err(error) => return Err(places.clock_error(error)),
+        Err(error) => return Err(places.clock_error(&typed, error)),
     };
     let order = match vs_level::order(alloc, &typed, &footprints) {
         Ok(order) => order,
-        Err(error) => return Err(places.level_error(error)),
+        Err(error) => return Err(places.level_error(alloc, &typed, error)),
     };
     if let Err(error) = races(alloc, &typed, &footprints, &order) {
-        return Err(places.race_error(error));
+        return Err(places.race_error(&typed, error));
     }
     match vs_zero::check(alloc, &typed, &footprints, &clocks, &order) {
         Ok(()) => Ok(Accepted::of(typed, footprints, clocks, order, outputs)),
-        Err(error) => Err(places.zero_error(error)),
+        Err(error) => Err(places.zero_error(&typed, error)),
     }
 }
 

@@ -6,6 +6,7 @@ mod accepted;
 mod error;
 mod judge;
 mod laws;
+mod numbers;
 mod outputs;
 mod places;
 mod verdicts;

@@ -15,6 +15,7 @@ ghost use Rattle.vs_level.specs.Level.{IsLevelError};
 ghost use Rattle.vs_race.specs.Refused.{IsRaceError};
 ghost use Rattle.vs_zero.specs.Refused.{IsZeroError};
 ghost use Rattle.vs_design.specs.Levels.{has_no_cycle};
+ghost use Rattle.vs_flat.specs.DesignOf.{design_of};
 ghost use Rattle.vs_accept.specs.declared.error.AcceptError.TheVariants.{Refused};
 ghost use Rattle.vs_accept.specs.Refused as spec;
 ghost use Rattle.vs_accept.specs.Refused.{byte_of, fault_refusal};
@@ -22,17 +23,20 @@ ghost use Rattle.vs_accept.specs.Accepted.{IsRead};
 ghost use Rattle.vs_accept.specs.Answers.{IsElabError, IsRefusalOf, IsVerdict, KeepsBlocks, KeepsDrivers, KeepsClock};
 
 use crate::AcceptError;
+use crate::numbers::{begin, number};
 use crate::places::Places;
+use std::alloc::Global;
 use vs_block::BlockError;
 use vs_clock::ClockError;
 use vs_const::{Fault, Rule};
 use vs_driver::DriverError;
 use vs_elab::ElabError;
+use vs_flat::AnyProcess;
 use vs_level::LevelError;
 use vs_parser::ParseError;
 use vs_race::RaceError;
-use vs_refusal::{AtName, BareName, ProcessName, Processes, Refusal};
-use vs_typed::WidthError;
+use vs_refusal::{AtName, BareName, ProcessName, Refusal};
+use vs_typed::{Typed, WidthError};
 use vs_zero::ZeroError;
 
 /// The name of a rule of elaboration; that there is no top is told without a place.
@@ -110,23 +114,24 @@ impl Places<'_> {
     }
 
     /// A function or a block is refused.
-    pub(crate) fn block_error(&self, error: BlockError) -> AcceptError
-        ensures { (d : Design) (clock : Option (List ℕ)) → width_refusal d ≡ None → IsBlockError d error → IsVerdict (byte_of self.now.text.now self.now.tokens.now) d clock result }
+    pub(crate) fn block_error(&self, typed: &Typed, error: BlockError) -> AcceptError
+        ensures { (clock : Option (List ℕ)) → width_refusal (design_of typed.now) ≡ None → IsBlockError (design_of typed.now) error → IsVerdict (byte_of self.now.text.now self.now.tokens.now) (design_of typed.now) clock result }
     {
         match error {
             BlockError::FunctionLatch { at } => self.refused_at(AtName::FunctionLatch, at),
+            BlockError::InitialForm { initial, at } => self.refused_initial(typed, initial, at),
             BlockError::MixedAssign { at } => self.refused_at(AtName::MixedAssign, at),
             BlockError::Sensitivity {
                 process,
                 signal,
                 at,
             } => AcceptError::Refused(Refusal::Sensitivity {
-                process,
+                process: number(typed, AnyProcess::Process(process)),
                 signal,
                 at: self.byte(at),
             }),
             BlockError::Latch { process, bit, at } => AcceptError::Refused(Refusal::Latch {
-                process,
+                process: number(typed, AnyProcess::Process(process)),
                 bit,
                 at: self.byte(at),
             }),
@@ -134,9 +139,9 @@ impl Places<'_> {
         }
     }
 
-    /// A bit has two drivers.
-    pub(crate) fn driver_error(&self, error: DriverError) -> AcceptError
-        ensures { (d : Design) (clock : Option (List ℕ)) → KeepsBlocks d → IsDriverError d error → IsVerdict (byte_of self.now.text.now self.now.tokens.now) d clock result }
+    /// A bit has two drivers, or two writers that may not share it.
+    pub(crate) fn driver_error(&self, typed: &Typed, error: DriverError) -> AcceptError
+        ensures { (clock : Option (List ℕ)) → KeepsBlocks (design_of typed.now) → IsDriverError (design_of typed.now) error → IsVerdict (byte_of self.now.text.now self.now.tokens.now) (design_of typed.now) clock result }
     {
         match error {
             DriverError::TwoDrivers {
@@ -144,55 +149,58 @@ impl Places<'_> {
                 first,
                 second,
                 at,
-            } => AcceptError::Refused(Refusal::TwoDrivers {
+            } => self.refused_two(
+                typed,
                 bit,
-                first,
-                second,
-                at: self.byte(at),
-            }),
+                AnyProcess::Process(first),
+                AnyProcess::Process(second),
+                at,
+            ),
+            DriverError::TwoWriters { bit, first, second } => {
+                self.refused_two(typed, bit, first, second, begin(typed, second))
+            }
             DriverError::Memory => AcceptError::Memory,
         }
     }
 
     /// The clock is refused, or a reset.
-    pub(crate) fn clock_error(&self, error: ClockError) -> AcceptError
-        ensures { (d : Design) (clock : Option (List ℕ)) → KeepsDrivers d → IsClockError d clock error → IsVerdict (byte_of self.now.text.now self.now.tokens.now) d clock result }
+    pub(crate) fn clock_error(&self, typed: &Typed, error: ClockError) -> AcceptError
+        ensures { (clock : Option (List ℕ)) → KeepsDrivers (design_of typed.now) → IsClockError (design_of typed.now) clock error → IsVerdict (byte_of self.now.text.now self.now.tokens.now) (design_of typed.now) clock result }
     {
         match error {
             ClockError::NoClock => AcceptError::Refused(Refusal::Bare(BareName::NoClock)),
             ClockError::ClockRead { process, at } => {
-                self.refused_process(ProcessName::ClockRead, process, at)
+                self.refused_process(typed, ProcessName::ClockRead, process, at)
             }
             ClockError::NotTheClock { process, at } => {
-                self.refused_process(ProcessName::NotTheClock, process, at)
+                self.refused_process(typed, ProcessName::NotTheClock, process, at)
             }
             ClockError::ResetForm { process, at } => {
-                self.refused_process(ProcessName::ResetForm, process, at)
+                self.refused_process(typed, ProcessName::ResetForm, process, at)
             }
             ClockError::Memory => AcceptError::Memory,
         }
     }
 
-    /// Processes feed one another in a circle.
-    pub(crate) fn level_error(&self, error: LevelError) -> AcceptError
-        ensures { (d : Design) (clock : Option (List ℕ)) → KeepsClock d clock → IsLevelError d error → IsVerdict (byte_of self.now.text.now self.now.tokens.now) d clock result }
+    /// Processes feed one another in a circle. There may be no memory for their numbers.
+    pub(crate) fn level_error(&self, alloc: Global, typed: &Typed, error: LevelError) -> AcceptError
+        ensures { (clock : Option (List ℕ)) → KeepsClock (design_of typed.now) clock → IsLevelError (design_of typed.now) error → IsVerdict (byte_of self.now.text.now self.now.tokens.now) (design_of typed.now) clock result }
     {
         match error {
-            LevelError::Cycle { processes, at } => AcceptError::Refused(Refusal::Cycle {
-                processes: Processes::new(processes),
-                at: self.byte(at),
-            }),
+            LevelError::Cycle { processes, at } => {
+                self.refused_cycle(alloc, typed, processes.as_slice(), at)
+            }
             LevelError::Memory => AcceptError::Memory,
         }
     }
 
     /// A clocked block reads what another one stirs.
-    pub(crate) fn race_error(&self, error: RaceError) -> AcceptError
-        ensures { (d : Design) (clock : Option (List ℕ)) → KeepsClock d clock → has_no_cycle d ≡ true → IsRaceError d error → IsVerdict (byte_of self.now.text.now self.now.tokens.now) d clock result }
+    pub(crate) fn race_error(&self, typed: &Typed, error: RaceError) -> AcceptError
+        ensures { (clock : Option (List ℕ)) → KeepsClock (design_of typed.now) clock → has_no_cycle (design_of typed.now) ≡ true → IsRaceError (design_of typed.now) error → IsVerdict (byte_of self.now.text.now self.now.tokens.now) (design_of typed.now) clock result }
     {
         match error {
             RaceError::Race { process, bit, at } => AcceptError::Refused(Refusal::Race {
-                process,
+                process: number(typed, AnyProcess::Process(process)),
                 bit,
                 at: self.byte(at),
             }),
@@ -201,12 +209,12 @@ impl Places<'_> {
     }
 
     /// A block is refused at time zero.
-    pub(crate) fn zero_error(&self, error: ZeroError) -> AcceptError
-        ensures { (d : Design) (clock : Option (List ℕ)) → KeepsClock d clock → has_no_cycle d ≡ true → race_refusal d ≡ None → IsZeroError d clock error → IsVerdict (byte_of self.now.text.now self.now.tokens.now) d clock result }
+    pub(crate) fn zero_error(&self, typed: &Typed, error: ZeroError) -> AcceptError
+        ensures { (clock : Option (List ℕ)) → KeepsClock (design_of typed.now) clock → has_no_cycle (design_of typed.now) ≡ true → race_refusal (design_of typed.now) ≡ None → IsZeroError (design_of typed.now) clock error → IsVerdict (byte_of self.now.text.now self.now.tokens.now) (design_of typed.now) clock result }
     {
         match error {
             ZeroError::TimeZero { process, at } => {
-                self.refused_process(ProcessName::TimeZero, process, at)
+                self.refused_process(typed, ProcessName::TimeZero, process, at)
             }
             ZeroError::Memory => AcceptError::Memory,
         }

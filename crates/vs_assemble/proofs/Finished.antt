@@ -19,9 +19,9 @@ use Rattle.vs_program.specs.Program.{Program, AreIn, IsInRange, values, initial_
 use Rattle.vs_program.specs.Compiled.{IsProgramOf, IsAcceptedAt}
 use Rattle.vs_program.specs.Made.{AreCallsOf, AreResetsOf, rise_processes, IsMadeOf, ProgramsAreMade, ProgramsAreInRange}
 use Rattle.vs_assemble.specs.declared.assembling.Lowered.{Lowered}
-use Rattle.vs_assemble.specs.Plans.{IsFrameOf, IsPlanOf, IsTightLayout, begin_bits}
+use Rattle.vs_assemble.specs.Plans.{AreStarts, IsFrameOf, IsPlanOf, IsTightLayout, begin_bits}
 use Rattle.vs_assemble.specs.Together.{ArePhasesOf, IsLoweredDesign}
-use Rattle.vs_assemble.proofs.Begins.{begin_length, constants_are, idle_is, masks_are}
+use Rattle.vs_assemble.proofs.Begins.{begin_length, constants_are, starts_are, masks_are}
 use Rattle.vs_assemble.proofs.Running.{runs_calls}
 
 -- ---- slots
@@ -62,8 +62,8 @@ count_within : (d : Design) (l : Layout) → IsTightLayout d l → (calls : List
 count_within d l tight calls n h k = let own = least_within (slots_of_design d) n (slots_of calls) h k in omega (arith, own, tight.first)
 
 -- the slots of the bits lie below the temporaries
-pub bits_below : (d : Design) (l : Layout) → IsTightLayout d l → length (begin_bits d) ≤ l.first_temp
-bits_below d l tight = let long = begin_length d in omega (arith, tight.first, long)
+pub bits_below : (d : Design) (l : Layout) → IsTightLayout d l → (begin : List Bit4) → ((starts : List Bit4) × AreStarts d starts × (begin ≡ begin_bits starts)) → length begin ≤ l.first_temp
+bits_below d l tight begin is = let long = begin_length d is.0 is.1 in let same = ap length is.2 in omega (arith, tight.first, long, same)
 
 -- ---- the program
 
@@ -80,19 +80,28 @@ finished makes ranges d clock at order ordered l tight settling blocks registers
     (λ made. (ranges d at.name at.accepted order ordered l tight.layout registers p made, makes d at.name at.accepted order ordered l tight.layout registers p made))
     made_of
   where
-    begins : p.initial ≡ begin_bits d ++ replicate (count - length (begin_bits d)) Zero
-    begins = initial ∙ ap (λ (bs : List Bit4). bs ++ replicate (count - length bs) Zero) frame.initial_is
+    starts : List Bit4
+    starts = frame.initial_is.0
 
-    slots_are : initial_slots p ≡ (λ slot. get_or (begin_bits d ++ replicate (count - length (begin_bits d)) Zero) slot X)
+    are : AreStarts d starts
+    are = frame.initial_is.1
+
+    pad : ℕ
+    pad = count - length (begin_bits starts)
+
+    begins : p.initial ≡ begin_bits starts ++ replicate pad Zero
+    begins = initial ∙ ap (λ (bs : List Bit4). bs ++ replicate (count - length bs) Zero) frame.initial_is.2
+
+    slots_are : initial_slots p ≡ (λ slot. get_or (begin_bits starts ++ replicate pad Zero) slot X)
     slots_are = ap (λ (bs : List Bit4). λ (slot : ℕ). get_or bs slot X) begins
 
     long : length p.initial ≡ count
     long =
-        let at_first = begin_length d in
-        let pad = length-replicate (count - length (begin_bits d)) Zero in
-        let both = length-append (begin_bits d) (replicate (count - length (begin_bits d)) Zero) in
-        let same : length p.initial ≡ length (begin_bits d ++ replicate (count - length (begin_bits d)) Zero) = ap length begins in
-        omega (arith, same, both, pad, temps, tight.first, at_first)
+        let at_first = begin_length d starts are in
+        let padding = length-replicate pad Zero in
+        let both = length-append (begin_bits starts) (replicate pad Zero) in
+        let same : length p.initial ≡ length (begin_bits starts ++ replicate pad Zero) = ap length begins in
+        omega (arith, same, both, padding, temps, tight.first, at_first)
 
     part_in : (runs : List Run) (calls : List Call) → calls ≡ calls_of_runs lowered.program runs → AreIn (length p.initial) calls
     part_in runs calls is = subst (λ n. AreIn n calls) (sym long) (subst (AreIn count) (sym is) (runs_in count lowered.program runs slots))
@@ -105,13 +114,13 @@ finished makes ranges d clock at order ordered l tight settling blocks registers
       clocks = frame.clocks_are;
       registers = plan.registers_are;
       signals = frame.signals_are;
-      constants = subst HasConstants (sym slots_are) (constants_are d at.accepted.lawful.bits_numbered (count - length (begin_bits d)));
-      idle = ap (values p.bits clock X) slots_are
-          ∙ ap (λ n. values n clock X (λ slot. get_or (begin_bits d ++ replicate (count - length (begin_bits d)) Zero) slot X)) frame.bits_are
-          ∙ idle_is d at.accepted.lawful.bits_numbered (count - length (begin_bits d)) clock;
+      constants = subst HasConstants (sym slots_are) (constants_are d starts are pad);
+      starts = ap (values p.bits clock X) slots_are
+          ∙ ap (λ n. values n clock X (λ slot. get_or (begin_bits starts ++ replicate pad Zero) slot X)) frame.bits_are
+          ∙ starts_are d starts are pad clock;
       masks = λ q h.
           ap (λ (bs : List Bit4). get_or bs (mask_of d q) X) begins
-          ∙ masks_are d at.accepted.lawful.bits_numbered (count - length (begin_bits d)) (let at_first = begin_length d in omega (arith, at_first, temps, tight.first)) q h;
+          ∙ masks_are d starts are pad (let at_first = begin_length d starts are in omega (arith, at_first, temps, tight.first)) q h;
       resets = calls_of_run lowered.program lowered.resets;
       resets_are = subst (λ ps. AreResetsOf d clock l ps (calls_of_run lowered.program lowered.resets)) plan.blocks_are low.resets_are;
       resets_again = calls_of_run lowered.program lowered.resets;

@@ -1,24 +1,21 @@
 -- What is made of a design's signals, one by one.
-use Rattle.std.proofs.Common.{◌≡◌, ℕ, zero, suc, ◌+◌, ◌<◌, ◌≤◌, Bool, true, false, not, List, [], ◌∷◌, ◌++◌, ◌&&◌, ◌||◌, ◌==◌, if◌then◌else◌, length, map, get_or, drop, replicate, Some, slice_get, sym, ap, ◌∙◌, refl, arith, append_assoc, append-nil, drop_of_length-le, eqb-true, eq-eqb, ne_eqb}
+use Rattle.std.proofs.Common.{◌≡◌, ℕ, zero, suc, ◌+◌, ◌<◌, ◌≤◌, Bool, true, false, not, List, [], ◌∷◌, ◌++◌, ◌&&◌, ◌||◌, ◌==◌, if◌then◌else◌, length, map, get_or, drop, Some, slice_get, sym, ap, ◌∙◌, refl, arith, append_assoc, append-nil, drop_of_length-le, eqb-true, eq-eqb, ne_eqb}
 use Rattle.std.specs.Prelude.{sum_by}
 use Rattle.std.specs.List.{filter}
 use Rattle.std.proofs.lemmas.Bool.{and_parts}
 use Rattle.std.proofs.lemmas.List.{length-map}
 use Rattle.std.proofs.lemmas.List.Elements.{filter-append}
 use Rattle.std.proofs.lemmas.List.Sums.{sum_by-cons}
-use Rattle.vs_four.specs.declared.Bit4.{Bit4}
-use Rattle.vs_four.specs.declared.Bit4.TheVariants.{X, Z}
 use Rattle.vs_design.specs.Expressions.{Signal, signal_length}
 use Rattle.vs_design.specs.Values.{count_from, bits_of_signal}
 use Rattle.vs_design.specs.Elaborated.{have_bits_from}
-use Rattle.vs_design.specs.Footprints.{contains, without, signals_bits, is_input, is_net, is_memory}
+use Rattle.vs_design.specs.Footprints.{contains, without, signals_bits, is_input, is_memory}
 use Rattle.vs_flat.specs.declared.processes.Signal as F
 use Rattle.vs_flat.specs.Arena.{Arena, bit_count, signal_length as bits_in}
 use Rattle.vs_flat.specs.Trees.{signal_of, signals_from}
 use Rattle.vs_flat.specs.DesignOf.{arena_signals}
 use Rattle.vs_program.specs.declared.compiled.Span.{Span}
 use Rattle.vs_program.specs.Compiled.{span_of}
-use Rattle.vs_assemble.specs.Plans.{idle_bits}
 use Rattle.vs_assemble.proofs.Lists.{by_test}
 use Rattle.vs_assemble.proofs.Planned.{count_next}
 
@@ -175,21 +172,6 @@ added_input clock n s so_far new span e is h =
 pub added_none : (clock n : ℕ) (s : F.Signal) (so_far : List ℕ) → s.input ≡ false → so_far ≡ so_far ++ added clock (signal_of n s)
 added_none clock n s so_far e =
     sym (append-nil so_far) ∙ sym (ap (λ (c : Bool). so_far ++ (if c then without (bits_of_signal (signal_of n s)) (clock ∷ []) else [])) e)
-
--- ---- what the bits begin with
-
-pub idle_more : (a : Arena) (n : ℕ) (s : F.Signal) (so_far new all : List Bit4) (bit : Bit4) (span : Span) → slice_get a.signals n ≡ Some s → span ≡ span_of (signal_of n s)
-    → bit ≡ (if s.net && not s.input then Z else X) → new ≡ so_far ++ replicate span.length bit
-    → so_far ++ idle_bits (drop n (arena_signals a)) ≡ all → new ++ idle_bits (drop (n + 1) (arena_signals a)) ≡ all
-idle_more a n s so_far new all bit span at is bit_is pushed h =
-    let t : Signal = signal_of n s in
-    let here : List Bit4 = replicate (signal_length t) (if is_net t then Z else X) in
-    let same : replicate span.length bit ≡ here = ap (λ (x : Span). replicate x.length bit) is ∙ ap (λ (b : Bit4). replicate (signal_length t) b) bit_is in
-    ap (λ (bs : List Bit4). bs ++ idle_bits (drop (n + 1) (arena_signals a))) (pushed ∙ ap (λ (bs : List Bit4). so_far ++ bs) same)
-    ∙ made_more idle_bits (arena_signals a) n t here so_far all (signal_there a n s at) (λ ys. refl) h
-
-pub idle_all : (a : Arena) (n count : ℕ) (so_far all : List Bit4) → count ≡ length a.signals → count ≤ n → so_far ++ idle_bits (drop n (arena_signals a)) ≡ all → so_far ≡ all
-idle_all a n count so_far all is past h = made_all idle_bits refl (arena_signals a) n so_far all (past_all a n count is past) h
 
 -- as many spans as signals
 pub spans_long : (a : Arena) (spans : List Span) → spans ≡ map span_of (arena_signals a) → length spans ≡ length a.signals

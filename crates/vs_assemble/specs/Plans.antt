@@ -1,10 +1,9 @@
 -- Which processes run in each kind of time slot, and what a program has besides their calls.
-use Rattle.std.specs.Prelude.{◌≡◌, ℕ, ◌+◌, ◌<◌, ◌≤◌, Bool, false, List, [], ◌∷◌, ◌++◌, map, length, replicate, if◌then◌else◌, Option, Some, None, slice_get, All}
+use Rattle.std.specs.Prelude.{◌≡◌, ℕ, ◌+◌, ◌<◌, ◌≤◌, Bool, false, List, [], ◌∷◌, ◌++◌, map, length, if◌then◌else◌, Option, Some, None, slice_get, slice_index_or, All}
 use Rattle.vs_four.specs.declared.Bit4.{Bit4}
 use Rattle.vs_four.specs.declared.Bit4.TheVariants.{Zero, One, X, Z}
-use Rattle.vs_design.specs.Expressions.{Signal, signal_length}
 use Rattle.vs_design.specs.Designs.{Process, is_clocked, Design, bit_count}
-use Rattle.vs_design.specs.Footprints.{is_net}
+use Rattle.vs_design.specs.Initials.{start_value}
 use Rattle.vs_design.specs.Sizes.{process_weight}
 use Rattle.vs_design.specs.Resets.{reset_of}
 use Rattle.vs_cone.specs.Given.{data_bits, bits_of_reset, fall_bits}
@@ -52,19 +51,19 @@ pub record IsPlanOf (d : Design) (clock : ℕ) (order settling blocks registers 
   pub registers_below : All (λ b. b < bit_count d) registers
   pub falling_are : HasBitsOf (bit_count d) falling (fall_bits d clock)
 
--- what each bit of the signals begins with: z in a net, and x in an input or a variable (4.2)
-abbrev pub idle_bits : List Signal → List Bit4
-idle_bits [] = []
-idle_bits (s ∷ ss) = replicate (signal_length s) (if is_net s then Z else X) ++ idle_bits ss
+-- these are the values that the bits have before slot 0: what initial processes leave in them (9.9.1), and else z in a net and x in an input or a variable (4.2)
+pub record AreStarts (d : Design) (starts : List Bit4) : Type 0 where
+  pub count : length starts ≡ bit_count d
+  pub values : (λ b. slice_index_or starts b X) ≡ start_value d
 
--- what the slots of the constants and of the bits begin with
-abbrev pub begin_bits : Design → List Bit4
-begin_bits d = (Zero ∷ One ∷ X ∷ Z ∷ []) ++ idle_bits d.signals
+-- what the slots of the constants and of the bits begin with, where the bits begin with these values
+abbrev pub begin_bits : List Bit4 → List Bit4
+begin_bits starts = (Zero ∷ One ∷ X ∷ Z ∷ []) ++ starts
 
 -- what a program has besides its calls: the design's bits, data inputs, clock nets and shown signals, and what the bits begin with
 pub record IsFrameOf (d : Design) (clock : ℕ) (bits : ℕ) (inputs clocks : List ℕ) (initial : List Bit4) (signals : List Span) : Type 0 where
   pub bits_are : bits ≡ bit_count d
   pub inputs_are : inputs ≡ data_bits d clock
   pub clocks_are : AreClockNets d clock clocks
-  pub initial_is : initial ≡ begin_bits d
+  pub initial_is : (starts : List Bit4) × AreStarts d starts × (initial ≡ begin_bits starts)
   pub signals_are : signals ≡ map span_of (shown_signals d)

@@ -1,6 +1,6 @@
 //! What a program has besides its calls, read off a flat design.
 
-ghost use Rattle.std.specs.Prelude.{◌≡◌, ℕ, ◌+◌, ◌<◌, ◌≤◌, ◌^◌, ◌∷◌, [], ◌++◌, ◌&&◌, not, if◌then◌else◌, length, map, replicate, IfOk, OnOk};
+ghost use Rattle.std.specs.Prelude.{◌≡◌, ℕ, ◌+◌, ◌<◌, ◌≤◌, ◌^◌, ◌∷◌, [], ◌++◌, not, length, map, IfOk, OnOk};
 ghost use Rattle.vs_design.specs.Footprints.{without};
 ghost use Rattle.vs_design.specs.Values.{count_from};
 ghost use Rattle.vs_cone.specs.Given.{data_bits};
@@ -8,26 +8,33 @@ ghost use Rattle.vs_flat.specs.DesignOf.{arena_signals, design_of};
 ghost use Rattle.vs_flat.specs.Lawful.{IsLawful};
 ghost use Rattle.vs_program.specs.Compiled.{shown_signals, span_of};
 ghost use Rattle.vs_program.specs.Made.{AreClockNets};
-ghost use Rattle.vs_assemble.specs.Plans.{IsFrameOf, begin_bits};
+ghost use Rattle.vs_assemble.specs.Plans.{AreStarts, IsFrameOf, begin_bits};
 
 use crate::Frame;
 use std::alloc::{AllocError, Global};
-use vs_flat::{Flat, Signal, bits_of, lawful_law};
+use vs_flat::{Flat, bits_of, lawful_law};
 use vs_four::Bit4;
 use vs_program::Span;
 
-/// What a program of a flat design has besides its calls, where its clock is this bit and these are the clock nets. The only error is that there is no memory.
-pub fn frame(alloc: Global, flat: &Flat, clock: u32, clocks: Vec<u32>) -> Result<Frame, AllocError>
+/// What a program of a flat design has besides its calls, where its clock is this bit, these are the clock nets, and `starts` has what each bit begins with. The only error is that there is no memory.
+pub fn frame(
+    alloc: Global,
+    flat: &Flat,
+    clock: u32,
+    clocks: Vec<u32>,
+    starts: &[Bit4],
+) -> Result<Frame, AllocError>
     requires lawful { IsLawful flat.now }
     requires clocks { AreClockNets (design_of flat.now) clock clocks.items }
+    requires starts { AreStarts (design_of flat.now) starts.now }
     ensures { IfOk result (λ f. IsFrameOf (design_of flat.now) clock f.bits f.inputs.items f.clocks.items f.initial.items f.signals.items) }
 {
     lawful_law();
     let spans = spans(alloc, flat)?;
     let signals = shown(alloc, flat, spans.as_slice())?;
     let inputs = data_inputs(alloc, flat, clock, spans.as_slice())?;
-    let initial = initial(alloc, flat, spans.as_slice())?;
-    let bits = (initial.len() - 4) as u32;
+    let initial = initial(alloc, starts)?;
+    let bits = starts.len() as u32;
     Ok(Frame {
         bits,
         inputs,
@@ -101,36 +108,11 @@ fn push_bits(bits: &mut Vec<u32>, span: Span, clock: u32) -> Result<(), AllocErr
     Ok(())
 }
 
-/// What the constants and the bits begin with: z in a net, and x in an input or a variable (IEEE 1364-2005, 4.2).
-fn initial(alloc: Global, flat: &Flat, spans: &[Span]) -> Result<Vec<Bit4>, AllocError>
-    requires { spans.now ≡ map span_of (design_of flat.now).signals }
-    ensures { IfOk result (λ v. v.items ≡ begin_bits (design_of flat.now)) }
+/// What the slots of the constants and of the bits begin with.
+fn initial(alloc: Global, starts: &[Bit4]) -> Result<Vec<Bit4>, AllocError>
+    ensures { IfOk result (λ v. v.items ≡ begin_bits starts.now) }
 {
     let mut bits = vec![in alloc; Bit4::Zero, Bit4::One, Bit4::X, Bit4::Z]?;
-    for n in 0..flat.signal_count() {
-        let bit = begin_bit(flat.signal(n));
-        push_copies(&mut bits, bit, spans[n as usize].length)?;
-    }
+    bits.extend_from_slice(starts)?;
     Ok(bits)
-}
-
-/// What each bit of a signal begins with.
-fn begin_bit(signal: &Signal) -> Bit4
-    ensures { result ≡ (if signal.now.net && not signal.now.input then Bit4.Z else Bit4.X) }
-{
-    if signal.net && !signal.input {
-        Bit4::Z
-    } else {
-        Bit4::X
-    }
-}
-
-/// Adds a bit so many times.
-fn push_copies(bits: &mut Vec<Bit4>, bit: Bit4, count: u32) -> Result<(), AllocError>
-    ensures { OnOk result (bits.new.items ≡ bits.old.items ++ replicate count bit) }
-{
-    for k in 0..count {
-        bits.push(bit)?;
-    }
-    Ok(())
 }

@@ -34,9 +34,10 @@ use Rattle.vs_ast.specs.declared.items.Connections.{Connections}
 use Rattle.vs_ast.specs.declared.items.Connections.TheVariants.{Unconnected, ByOrder, ByName}
 use Rattle.vs_ast.specs.declared.items.Instance.{Instance}
 use Rattle.vs_ast.specs.declared.items.AlwaysBlock.{AlwaysBlock}
+use Rattle.vs_ast.specs.declared.items.InitialBlock.{InitialBlock}
 use Rattle.vs_ast.specs.declared.items.Instances.{Instances}
 use Rattle.vs_ast.specs.declared.items.Function.{Function}
-use Rattle.vs_ast.specs.declared.items.Item.{Item, Signals as SignalsItem, Parameters as ParametersItem, Assigns, Always, Genvars, Integers, Instances as InstancesItem, Function as FunctionItem, GenerateFor', GenerateIf', GenerateCase', Held-Item-GenerateIf-3, None' as NoOtherBlock, Some' as OtherBlock, Row_of-GenerateArm, end_of-GenerateArm, more_of-GenerateArm}
+use Rattle.vs_ast.specs.declared.items.Item.{Item, Signals as SignalsItem, Parameters as ParametersItem, Assigns, Always, Initial, Genvars, Integers, Instances as InstancesItem, Function as FunctionItem, GenerateFor', GenerateIf', GenerateCase', Held-Item-GenerateIf-3, None' as NoOtherBlock, Some' as OtherBlock, Row_of-GenerateArm, end_of-GenerateArm, more_of-GenerateArm}
 use Rattle.vs_ast.specs.declared.items.GenerateBlock.{GenerateBlock, Empty as EmptyBlock, Alone', Enclosed', Row_of-Item, end_of-Item, more_of-Item}
 use Rattle.vs_ast.specs.declared.items.GenerateArm.{GenerateArm}
 use Rattle.vs_ast.specs.declared.modules.Header.{Header}
@@ -215,6 +216,9 @@ instance i = record { name = name i.name; connections = connections i.connection
 abbrev pub always_block : AlwaysBlock → tree.AlwaysBlock
 always_block b = record { place = b.place; control = event_control b.control; statement = statement b.statement }
 
+abbrev pub initial_block : InitialBlock → tree.InitialBlock
+initial_block b = record { place = b.place; statement = statement b.statement }
+
 abbrev pub instances : Instances → tree.Instances
 instances i = record { of = name i.of; overrides = connections i.overrides; instances = map instance i.instances.items }
 
@@ -235,6 +239,7 @@ abbrev mutual
   item (ParametersItem p) = tree.ParametersItem (parameters p)
   item (Assigns place all) = tree.AssignsItem place (map assign all.items)
   item (Always b) = tree.AlwaysItem (always_block b)
+  item (Initial b) = tree.InitialItem (initial_block b)
   item (Genvars place names) = tree.GenvarsItem place (map name names.items)
   item (Integers place names) = tree.IntegersItem place (map name names.items)
   item (InstancesItem i) = tree.InstancesItem (instances i)

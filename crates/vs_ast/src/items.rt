@@ -24,7 +24,7 @@ pub enum SignalKind {
 }
 
 /// A declared name, the addresses of a memory or of an array of nets (4.9), and what a `wire` is assigned where it is declared
-/// (6.1.1).
+/// (6.1.1), or the initial value of a variable (6.2.1).
 #[derive(Drop)]
 pub struct Declarator {
     pub name: Name,
@@ -109,6 +109,13 @@ pub struct AlwaysBlock {
     pub statement: Statement,
 }
 
+/// An `initial` block (9.9.1).
+#[derive(Drop)]
+pub struct InitialBlock {
+    pub place: u32,
+    pub statement: Statement,
+}
+
 /// Instances of one module (12.1.2).
 #[derive(Drop)]
 pub struct Instances {
@@ -139,6 +146,7 @@ pub enum Item {
         assigns: Vec<Assign>,
     },
     Always(AlwaysBlock),
+    Initial(InitialBlock),
     Genvars {
         place: u32,
         names: Vec<Name>,

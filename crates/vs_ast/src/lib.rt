@@ -11,8 +11,8 @@ mod types;
 pub use expressions::{Expr, Select, SliceKind, SystemFunction};
 pub use items::{
     AlwaysBlock, Assign, Connections, Declarator, Event, EventControl, Function, GenerateArm,
-    GenerateBlock, Instance, Instances, Item, NamedConnection, Parameters, Setting, SignalKind,
-    Signals,
+    GenerateBlock, InitialBlock, Instance, Instances, Item, NamedConnection, Parameters, Setting,
+    SignalKind, Signals,
 };
 pub use modules::{Header, Module, Source};
 pub use names::{Literal, Name};

@@ -1,20 +1,21 @@
 -- The refusal of a block, by what is found of it.
-use Rattle.std.proofs.Common.{◌≡◌, ℕ, zero, suc, ◌+◌, ◌<◌, ◌≤◌, Bool, true, false, not, ◌||◌, ◌&&◌, if◌then◌else◌, List, [], ◌∷◌, map, length, nat_lt, refl, sym, ap, ◌∙◌, subst, arith, Option, Some, None, option_map}
-use Rattle.std.specs.Prelude.{slice_get, filter, Result, IfErr}
+use Rattle.std.proofs.Common.{◌≡◌, ℕ, zero, suc, ◌+◌, ◌<◌, ◌≤◌, Bool, true, false, not, ◌||◌, ◌&&◌, if◌then◌else◌, List, [], ◌∷◌, map, length, nat_lt, refl, sym, ap, ◌∙◌, subst, arith, eqb-true, Option, Some, None, option_map}
+use Rattle.std.specs.Prelude.{◌==◌, slice_get, filter, Result, IfErr}
 use Rattle.std.specs.Result.{IsErrAnd}
 use Rattle.std.proofs.lemmas.Result.{err_from_is_err_and}
 use Rattle.std.specs.List.{list_any, list_all}
 use Rattle.std.proofs.lemmas.Bool.{ltb-true}
 use Rattle.vs_design.specs.Expressions.{Signal}
 use Rattle.vs_design.specs.Designs as D
-use Rattle.vs_design.specs.Designs.{Always, Design, is_clocked, is_combinational}
+use Rattle.vs_design.specs.Designs.{Always, Design, OfInitial, in_text_order, is_clocked, is_combinational}
 use Rattle.vs_design.specs.Statements as T
 use Rattle.vs_design.specs.Fits.{fits_process}
 use Rattle.vs_design.specs.Footprints.{contains, without, all_reads, reads_of, writes_of, waits_of, wait_signals, signals_bits, statement_bits}
 use Rattle.vs_design.specs.Latches.{assigned_after, early_reads, latch_bits}
 use Rattle.vs_design.specs.Races.{nonblocking_bits}
+use Rattle.vs_design.specs.Resets.{is_fixed}
 use Rattle.vs_design.specs.Rules.{mixed_in, blocking_to, mixed_assigns, missing_bits, latches, function_latches}
-use Rattle.vs_design.specs.Refusals.{least, otherwise, first_found, signal_of, block_refusal_of, block_refusal, width_refusal}
+use Rattle.vs_design.specs.Refusals.{least, otherwise, first_in, where_true, signal_of, block_refusal_of, block_refusal_at, block_refusal, width_refusal}
 use Rattle.vs_design.specs.Refusals as R
 use Rattle.vs_flat.specs.declared.processes.Event.{Event}
 use Rattle.vs_flat.specs.DesignOf.{event_of, kind_of, arena_signals, design_of}
@@ -31,10 +32,10 @@ use Rattle.vs_shape.specs.Nodes.{tree_of}
 use Rattle.vs_shape.specs.Bodies.{body_of}
 use Rattle.vs_typed.specs.Laws.{EachProcessFits}
 use Rattle.vs_block.specs.declared.error.BlockError.{BlockError}
-use Rattle.vs_block.specs.declared.error.BlockError.TheVariants.{FunctionLatch, MixedAssign, Sensitivity, Latch, Memory}
+use Rattle.vs_block.specs.declared.error.BlockError.TheVariants.{FunctionLatch, InitialForm, MixedAssign, Sensitivity, Latch, Memory}
 use Rattle.vs_block.specs.Blocks.{IsBlock}
 use Rattle.vs_block.specs.Mixed.{mixed_by, later_of}
-use Rattle.vs_block.specs.Refused.{IsErrorOf, IsBlockError}
+use Rattle.vs_block.specs.Refused.{IsErrorAt, IsBlockError}
 use Rattle.vs_reads.specs.Laws.{HasBitsOf}
 use Rattle.vs_block.specs.Flags.{bit_at, is_set, AreUnset, AreSet}
 use Rattle.vs_block.specs.Walked.{IsWalked}
@@ -174,62 +175,78 @@ block_at each names fits a lawful narrow p r star events slice statement at is s
       fits = all_at fits_process (design_of a).processes p _ (fits (design_of a) lawful.design narrow) x;
     })
 
--- ---- the first process
+-- ---- the first in the text
 
-pub found_first : {A : Type 0} (find : ℕ → D.Process → Option A) (n : ℕ) (ps : List D.Process) (p : ℕ) (x : D.Process) (a : A) → slice_get ps p ≡ Some x → find (n + p) x ≡ Some a → ((q : ℕ) (y : D.Process) → q < p → slice_get ps q ≡ Some y → find (n + q) y ≡ None)
-    → first_found find n ps ≡ Some a
-found_first find n [] p x a at h none = cc
-found_first {A} find n (y ∷ ps) zero x a at h none =
-    let same : y ≡ x = cc in
-    let here : n + 0 ≡ n = omega arith in
-    ap (λ o. otherwise o (first_found find (suc n) ps)) (ap (find n) same ∙ ap (λ m. find m x) (sym here) ∙ h)
-found_first {A} find n (y ∷ ps) (suc p) x a at h none =
-    let here : n + 0 ≡ n = omega arith in
-    let next = λ (q : ℕ). let e : suc n + q ≡ n + suc q = omega arith in e in
-    ap (λ o. otherwise o (first_found find (suc n) ps)) (ap (λ m. find m y) (sym here) ∙ none 0 y (omega arith) refl)
-    ∙ found_first find (suc n) ps p x a at (ap (λ m. find m x) (next p) ∙ h) (λ q z l k. ap (λ m. find m z) (next q) ∙ none (suc q) z (omega (arith, l)) k)
+found_first : {A : Type 0} (find : D.AnyProcess → Option A) (xs : List D.AnyProcess) (n : ℕ) (x : D.AnyProcess) (a : A) → slice_get xs n ≡ Some x → find x ≡ Some a → ((m : ℕ) (y : D.AnyProcess) → m < n → slice_get xs m ≡ Some y → find y ≡ None) → first_in find xs ≡ Some a
+found_first find [] n x a at h none = cc
+found_first find (y ∷ xs) zero x a at h none = let same : y ≡ x = cc in ap (λ o. otherwise o (first_in find xs)) (ap find same ∙ h)
+found_first find (y ∷ xs) (suc n) x a at h none =
+    ap (λ o. otherwise o (first_in find xs)) (none 0 y (omega arith) refl) ∙ found_first find xs n x a at h (λ m z l k. none (suc m) z (omega (arith, l)) k)
 
-pub found_none : {A : Type 0} (find : ℕ → D.Process → Option A) (n : ℕ) (ps : List D.Process) → ((q : ℕ) (y : D.Process) → q < length ps → slice_get ps q ≡ Some y → find (n + q) y ≡ None) → first_found find n ps ≡ None
-found_none find n [] none = refl
-found_none find n (y ∷ ps) none =
-    let here : n + 0 ≡ n = omega arith in
-    let next = λ (q : ℕ). let e : suc n + q ≡ n + suc q = omega arith in e in
-    ap (λ o. otherwise o (first_found find (suc n) ps)) (ap (λ m. find m y) (sym here) ∙ none 0 y (omega arith) refl)
-    ∙ found_none find (suc n) ps (λ q z l k. ap (λ m. find m z) (next q) ∙ none (suc q) z (omega (arith, l)) k)
+found_none : {A : Type 0} (find : D.AnyProcess → Option A) (xs : List D.AnyProcess) → ((m : ℕ) (y : D.AnyProcess) → m < length xs → slice_get xs m ≡ Some y → find y ≡ None) → first_in find xs ≡ None
+found_none find [] none = refl
+found_none find (y ∷ xs) none =
+    ap (λ o. otherwise o (first_in find xs)) (none 0 y (omega arith) refl) ∙ found_none find xs (λ m z l k. none (suc m) z (omega (arith, l)) k)
 
 -- ---- the refusal of the design
 
--- a process of each number below the length
-pub process_there : (ps : List D.Process) (p : ℕ) → p < length ps → (x : D.Process) × (slice_get ps p ≡ Some x)
-process_there [] p h = absurd (omega (arith, h))
-process_there (x ∷ ps) zero h = (x, refl)
-process_there (x ∷ ps) (suc p) h = process_there ps p (omega (arith, h))
+-- there is one at each place below the length
+pub stands_there : (xs : List D.AnyProcess) (n : ℕ) → n < length xs → (x : D.AnyProcess) × (slice_get xs n ≡ Some x)
+stands_there [] n h = absurd (omega (arith, h))
+stands_there (x ∷ xs) zero h = (x, refl)
+stands_there (x ∷ xs) (suc n) h = stands_there xs n (omega (arith, h))
 
 -- where no function has a latch
-by_process : (d : Design) → least (function_latches d.functions) ≡ None → block_refusal d ≡ first_found (block_refusal_of d) 0 d.processes
-by_process d none = ap (λ o. otherwise (option_map R.FunctionLatch o) (first_found (block_refusal_of d) 0 d.processes)) none
+by_text : (d : Design) → least (function_latches d.functions) ≡ None → block_refusal d ≡ first_in (block_refusal_at d) (in_text_order d)
+by_text d none = ap (λ o. otherwise (option_map R.FunctionLatch o) (first_in (block_refusal_at d) (in_text_order d))) none
 
 -- and where one has
 pub function_refused : (d : Design) (at : ℕ) → least (function_latches d.functions) ≡ Some at → block_refusal d ≡ Some (R.FunctionLatch at)
-function_refused d at h = ap (λ o. otherwise (option_map R.FunctionLatch o) (first_found (block_refusal_of d) 0 d.processes)) h
+function_refused d at h = ap (λ o. otherwise (option_map R.FunctionLatch o) (first_in (block_refusal_at d) (in_text_order d))) h
 
--- what is found at a process, and at none before it, is found in the design
-first_of_all : (d : Design) → least (function_latches d.functions) ≡ None → (p : ℕ) (x : D.Process) (r : R.BlockRefusal) → slice_get d.processes p ≡ Some x → ((q : ℕ) (y : D.Process) → q < p → slice_get d.processes q ≡ Some y → block_refusal_of d q y ≡ None) → block_refusal_of d p x ≡ Some r → block_refusal d ≡ Some r
-first_of_all d plain p x r at none h =
-    let from = λ (q : ℕ). let e : 0 + q ≡ q = omega arith in e in
-    by_process d plain ∙ found_first (block_refusal_of d) 0 d.processes p x r at (ap (λ m. block_refusal_of d m x) (from p) ∙ h) (λ q y l k. ap (λ m. block_refusal_of d m y) (from q) ∙ none q y l k)
+-- nothing refuses those before this place
+abbrev pub NoneBefore : Design → ℕ → Type 0
+NoneBefore d n = (m : ℕ) (y : D.AnyProcess) → m < n → slice_get (in_text_order d) m ≡ Some y → block_refusal_at d y ≡ None
 
-pub first_refused : (d : Design) → least (function_latches d.functions) ≡ None → (p : ℕ) (x : D.Process) (e : BlockError) → slice_get d.processes p ≡ Some x → ((q : ℕ) (y : D.Process) → q < p → slice_get d.processes q ≡ Some y → block_refusal_of d q y ≡ None) → IsErrorOf d p x e → IsBlockError d e
-first_refused d plain p x (FunctionLatch at) there none h = absurd h
-first_refused d plain p x (MixedAssign at) there none h = first_of_all d plain p x (R.MixedAssign at) there none h
-first_refused d plain p x (Sensitivity process signal at) there none h = first_of_all d plain p x (R.Sensitivity process signal at) there none h
-first_refused d plain p x (Latch process bit at) there none h = first_of_all d plain p x (R.Latch process bit at) there none h
-first_refused d plain p x Memory there none h = tt
+-- what is found at a place in the text, and at none before it, is found in the design
+first_of_all : (d : Design) → least (function_latches d.functions) ≡ None → (n : ℕ) (x : D.AnyProcess) (r : R.BlockRefusal) → slice_get (in_text_order d) n ≡ Some x → NoneBefore d n → block_refusal_at d x ≡ Some r → block_refusal d ≡ Some r
+first_of_all d plain n x r at none h = by_text d plain ∙ found_first (block_refusal_at d) (in_text_order d) n x r at h none
 
-pub none_refused : (d : Design) → least (function_latches d.functions) ≡ None → (n : ℕ) → length d.processes ≤ n → ((q : ℕ) (y : D.Process) → q < n → slice_get d.processes q ≡ Some y → block_refusal_of d q y ≡ None) → block_refusal d ≡ None
-none_refused d plain n many none =
-    let from = λ (q : ℕ). let e : 0 + q ≡ q = omega arith in e in
-    by_process d plain ∙ found_none (block_refusal_of d) 0 d.processes (λ q y l k. ap (λ m. block_refusal_of d m y) (from q) ∙ none q y (omega (arith, l, many)) k)
+pub first_refused : (d : Design) → least (function_latches d.functions) ≡ None → (n : ℕ) (x : D.AnyProcess) (e : BlockError) → slice_get (in_text_order d) n ≡ Some x → NoneBefore d n → IsErrorAt d x e → IsBlockError d e
+first_refused d plain n x (FunctionLatch at) there none h = absurd h
+first_refused d plain n x (InitialForm initial at) there none h = first_of_all d plain n x (R.InitialForm initial at) there none h
+first_refused d plain n x (MixedAssign at) there none h = first_of_all d plain n x (R.MixedAssign at) there none h
+first_refused d plain n x (Sensitivity process signal at) there none h = first_of_all d plain n x (R.Sensitivity process signal at) there none h
+first_refused d plain n x (Latch process bit at) there none h = first_of_all d plain n x (R.Latch process bit at) there none h
+first_refused d plain n x Memory there none h = tt
+
+pub none_refused : (d : Design) → least (function_latches d.functions) ≡ None → (n : ℕ) → length (in_text_order d) ≤ n → NoneBefore d n → block_refusal d ≡ None
+none_refused d plain n many none = by_text d plain ∙ found_none (block_refusal_at d) (in_text_order d) (λ m y l k. none m y (omega (arith, l, many)) k)
+
+pub some_same : (x y : D.AnyProcess) → Some x ≡ Some y → x ≡ y
+some_same x y e = cc
+
+below_other : (m n : ℕ) → m < n + 1 → (m == n) ≡ false → m < n
+below_other m n l e = grind arith
+
+-- one more
+pub none_more : (d : Design) (n : ℕ) (x : D.AnyProcess) → slice_get (in_text_order d) n ≡ Some x → block_refusal_at d x ≡ None → NoneBefore d n → NoneBefore d (n + 1)
+none_more d n x at h none m y l k = go (m == n) refl
+  where
+    go : (c : Bool) → (m == n) ≡ c → block_refusal_at d y ≡ None
+    go true e =
+        let same : m ≡ n = eqb-true m n e in
+        let is : x ≡ y = some_same x y (sym at ∙ ap (slice_get (in_text_order d)) (sym same) ∙ k) in
+        ap (block_refusal_at d) (sym is) ∙ h
+    go false e = none m y (below_other m n l e) k
+
+-- ---- initial processes
+
+pub initial_kept : (d : Design) (k : ℕ) (i : D.Initial) → is_fixed i.statement ≡ true → block_refusal_at d (OfInitial k i) ≡ None
+initial_kept d k i h = ap (λ (c : Bool). where_true (not c) (R.InitialForm k i.place)) h
+
+pub initial_refused : (d : Design) (k : ℕ) (i : D.Initial) → is_fixed i.statement ≡ false → block_refusal_at d (OfInitial k i) ≡ Some (R.InitialForm k i.place)
+initial_refused d k i h = ap (λ (c : Bool). where_true (not c) (R.InitialForm k i.place)) h
 
 -- what `?` hands on
 pub refused_exit : {A : Type 0} (d : Design) (r : Result A BlockError) (e : BlockError) → IsErrAnd r (λ y. y ≡ e) → IsBlockError d e → IfErr r (IsBlockError d)

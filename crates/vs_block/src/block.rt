@@ -1,12 +1,14 @@
-//! The rules on blocks.
+//! The rules on blocks and initial processes.
 
 ghost use Rattle.std.specs.Prelude.{◌≡◌, ◌<◌, length, slice_get, IfErr, OnOk};
 ghost use Rattle.vs_design.specs.Designs as D;
-ghost use Rattle.vs_design.specs.Refusals.{block_refusal_of, block_refusal};
+ghost use Rattle.vs_design.specs.Designs.{OfInitial};
+ghost use Rattle.vs_design.specs.Refusals.{block_refusal_of, block_refusal_at, block_refusal};
 ghost use Rattle.vs_flat.specs.DesignOf.{design_of};
+ghost use Rattle.vs_flat.specs.TextOrder.{text_numbers};
 ghost use Rattle.vs_reads.specs.Footprint.{footprints_of};
 ghost use Rattle.vs_block.specs.Blocks.{IsBlock};
-ghost use Rattle.vs_block.specs.Refused.{IsBlockError, IsErrorOf};
+ghost use Rattle.vs_block.specs.Refused.{IsBlockError, IsErrorAt, IsErrorOf};
 
 use crate::BlockError;
 use crate::functions::first_latching;
@@ -14,9 +16,9 @@ use crate::latches::first_latch;
 use crate::missing::{first_missing, signal_with};
 use crate::mixed::first_mixed;
 use std::alloc::Global;
-use vs_flat::{Event, Kind, has_edge, names_law, trees_law};
+use vs_flat::{AnyProcess, Event, Kind, has_edge, names_law, text_law, text_order, trees_law};
 use vs_reads::{Footprints, footprint_law};
-use vs_typed::{Typed, fits_law};
+use vs_typed::{Typed, fits_law, is_fixed};
 
 /// Whether block p, which begins at token `at`, keeps the rules.
 fn check_block(
@@ -98,19 +100,59 @@ fn check_process(
     }
 }
 
-/// Whether every function and every block of a design keeps the rules. A function assigns what it writes before it reads it, on every path, and by its end; the first in the text that doesn't decides. Then a clocked block writes no bit by blocking and nonblocking assignments, any other has no nonblocking one, and a combinational one waits on all that it reads and keeps no bit; the first process that breaks a rule decides; within it a mixed assignment comes before a missing signal, and that before a latch.
+/// Whether initial process k names no signal but as a target, by constant selects, and calls no function (IEEE 1364-2005, 9.9.1).
+fn check_initial(typed: &Typed, k: u32) -> Result<(), BlockError>
+    requires { k < length typed.now.initials }
+    ensures kept { (i : D.Initial) → slice_get (design_of typed.now).initials k ≡ Some i → OnOk result (block_refusal_at (design_of typed.now) (OfInitial k i) ≡ None) }
+    ensures refused { (i : D.Initial) → slice_get (design_of typed.now).initials k ≡ Some i → IfErr result (IsErrorAt (design_of typed.now) (OfInitial k i)) }
+{
+    names_law();
+    trees_law();
+    let initial = typed.flat().initial(k);
+    if is_fixed(typed.shapes(), initial.statement) {
+        return Ok(());
+    }
+    Err(BlockError::InitialForm {
+        initial: k,
+        at: initial.at,
+    })
+}
+
+/// Whether the one of this place in the text keeps the rules.
+fn check_next(
+    alloc: Global,
+    typed: &Typed,
+    footprints: &Footprints,
+    order: &[AnyProcess],
+    n: usize,
+) -> Result<(), BlockError>
+    requires footprints { footprints.now ≡ footprints_of (design_of typed.now) }
+    requires order { order.now ≡ text_numbers (design_of typed.now) }
+    requires there { n < length order.now }
+    ensures kept { (x : D.AnyProcess) → slice_get (D.in_text_order (design_of typed.now)) n ≡ Some x → OnOk result (block_refusal_at (design_of typed.now) x ≡ None) }
+    ensures refused { (x : D.AnyProcess) → slice_get (D.in_text_order (design_of typed.now)) n ≡ Some x → IfErr result (IsErrorAt (design_of typed.now) x) }
+{
+    trees_law();
+    text_law();
+    match order[n] {
+        AnyProcess::Process(p) => check_process(alloc, typed, footprints, p),
+        AnyProcess::Initial(k) => check_initial(typed, k),
+    }
+}
+
+/// Whether every function, every block and every initial process of a design keeps the rules. A function assigns what it writes before it reads it, on every path, and by its end; the first in the text that doesn't decides. Then a clocked block writes no bit by blocking and nonblocking assignments, any other has no nonblocking one, and a combinational one waits on all that it reads and keeps no bit; an initial process names no signal but as a target, by constant selects, and calls no function. The first of them in the text that breaks a rule decides; within a process a mixed assignment comes before a missing signal, and that before a latch.
 pub fn block_forms(alloc: Global, typed: &Typed, footprints: &Footprints) -> Result<(), BlockError>
     requires { footprints.now ≡ footprints_of (design_of typed.now) }
     ensures unrefused { OnOk result (block_refusal (design_of typed.now) ≡ None) }
     ensures refused { IfErr result (IsBlockError (design_of typed.now)) }
 {
-    trees_law();
     let latching = first_latching(alloc, typed)?;
     if let Some(at) = latching {
         return Err(BlockError::FunctionLatch { at });
     }
-    for p in 0..typed.flat().process_count() {
-        check_process(alloc, typed, footprints, p)?;
+    let order = text_order(alloc, typed.flat())?;
+    for n in 0..order.len() {
+        check_next(alloc, typed, footprints, order.as_slice(), n)?;
     }
     Ok(())
 }

@@ -3,12 +3,15 @@
 use std::alloc::AllocError;
 use thiserror::Error;
 
-/// Why a function or a block of a design breaks a rule on blocks. Functions come first, and of several the first in the text. Of blocks the first process that breaks one decides; within it a mixed assignment comes first, then a missing signal, then a latch.
+/// Why a function or a block of a design breaks a rule on blocks. Functions come first, and of several the first in the text. Then the first process of the text that breaks one decides, or the first initial process that has another form; within a process a mixed assignment comes first, then a missing signal, then a latch.
 #[derive(Clone, Copy, PartialEq, Eq, Debug, Error)]
 pub enum BlockError {
     /// A function writes a variable of its own, or its result, and on some path reads it before it assigns it, or doesn't assign it (IEEE 1364-2005, 10.4). The function begins at token `at`.
     #[error("the function at {at} may keep a value")]
     FunctionLatch { at: u32 },
+    /// An initial process names a signal that isn't a target, or calls a function, or has a target by an index that isn't constant (IEEE 1364-2005, 9.9.1). It begins at token `at`.
+    #[error("initial process {initial} has another form")]
+    InitialForm { initial: u32, at: u32 },
     /// A clocked block has a blocking assignment to a bit that it may also write by a nonblocking one, or a combinational one has a nonblocking one (IEEE 1364-2005, 9.2). The first of these in the text begins at token `at`.
     #[error("a blocking and a nonblocking assignment are mixed at {at}")]
     MixedAssign { at: u32 },

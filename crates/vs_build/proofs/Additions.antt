@@ -1,6 +1,7 @@
 -- One more process, scope or signal, and the end: what makes the flat design lawful stays.
 use Rattle.std.proofs.Common.{◌≡◌, ℕ, zero, suc, ◌+◌, ◌-◌, ◌<◌, ◌≤◌, ◌^◌, true, Option, Some, None, slice_get, List, [], ◌∷◌, ◌++◌, length, map, refl, sym, ap, ◌∙◌, subst, arith, length-append}
 use Rattle.std.specs.List.{list_all, flat_map}
+use Rattle.std.proofs.lemmas.List.{map-append}
 use Rattle.vs_design.specs.Expressions as E
 use Rattle.vs_design.specs.Expressions.{Expression}
 use Rattle.vs_design.specs.Statements as T
@@ -9,20 +10,21 @@ use Rattle.vs_design.specs.Elaborated.{is_formed, is_formed_statement, is_formed
 use Rattle.vs_flat.specs.declared.placed.Placed.{Placed}
 use Rattle.vs_flat.specs.declared.expressions.Node.{Node}
 use Rattle.vs_flat.specs.declared.processes.Process.{Process}
+use Rattle.vs_flat.specs.declared.processes.Initial.{Initial}
 use Rattle.vs_flat.specs.declared.processes.Scope.{Scope}
 use Rattle.vs_flat.specs.declared.processes.Signal.{Signal}
 use Rattle.vs_flat.specs.declared.statements.Statement.{Statement}
 use Rattle.vs_flat.specs.declared.functions.Declared.{Declared}
-use Rattle.vs_flat.specs.Arena.{Arena, empty_arena, declared_at, with_process, with_scope, with_signal}
-use Rattle.vs_flat.specs.Named.{statement_expressions, statement_statements, kind_expressions, kind_statements, covers_process}
+use Rattle.vs_flat.specs.Arena.{Arena, empty_arena, declared_at, with_process, with_initial, with_scope, with_signal}
+use Rattle.vs_flat.specs.Named.{statement_expressions, statement_statements, kind_expressions, kind_statements, covers_process, covers_initial}
 use Rattle.vs_flat.specs.Trees.{tree_at, signal_at, statement_at, signal_of}
-use Rattle.vs_flat.specs.DesignOf.{header_in, scope_of, process_of, arena_signals, arena_trees, arena_statements, design_of}
+use Rattle.vs_flat.specs.DesignOf.{header_in, scope_of, process_of, initial_of, arena_signals, arena_trees, arena_statements, design_of}
 use Rattle.vs_flat.specs.Lawful.{node_names, named_expressions, named_statements, has_target, assigns_target, node_home, statement_home, at_home, node_design, statement_design, trees_formed, statements_formed, IsLawful}
 use Rattle.vs_flat.proofs.Agreeing.{and_true}
 use Rattle.vs_flat.proofs.Different.{once_different}
-use Rattle.vs_flat.proofs.Earlier.{names_empty, names_with_process, names_with_scope, names_with_signal}
-use Rattle.vs_flat.proofs.Growing.{length-arena_trees, length-arena_statements, process_added, scope_added, signal_added, trees_with_signal, statements_with_signal}
-use Rattle.vs_build.specs.Drafts.{Root, Body, home_in, and_process, and_scope, and_signal}
+use Rattle.vs_flat.proofs.Earlier.{names_empty, names_with_process, names_with_initial, names_with_scope, names_with_signal}
+use Rattle.vs_flat.proofs.Growing.{length-arena_trees, length-arena_statements, process_added, initial_added, scope_added, signal_added, trees_with_signal, statements_with_signal}
+use Rattle.vs_build.specs.Drafts.{Root, Body, Draft, home_in, and_process, and_scope, and_signal}
 use Rattle.vs_build.specs.Growth.{times, open_function, open_header, header_if, header_behind, header_at, first_node, first_statement, expression_header, statement_header, IsGrowing, node_levels, statement_levels, root_at, draft_of}
 use Rattle.vs_build.proofs.Counting.{times-append, times-flat, once_less, there_less, all_pushed, each_parts}
 use Rattle.vs_build.proofs.Homes.{home_wider, home_inside}
@@ -83,7 +85,15 @@ statements_named : (a : Arena) (p : Process) (k : ℕ) → times k (named_statem
 statements_named a p k =
     let first : List ℕ = flat_map (λ (s : Placed Statement). statement_statements s.item) a.statements in
     let f : Process → List ℕ = λ q. kind_statements q.kind in
-    omega (arith, times-append k first (flat_map f (a.processes ++ p ∷ [])), times-append k first (flat_map f a.processes), times-flat f a.processes p k)
+    let last : List ℕ = map (λ (i : Initial). i.statement) a.initials in
+    omega (
+      arith,
+      times-append k first (flat_map f (a.processes ++ p ∷ []) ++ last),
+      times-append k (flat_map f (a.processes ++ p ∷ [])) last,
+      times-append k first (flat_map f a.processes ++ last),
+      times-append k (flat_map f a.processes) last,
+      times-flat f a.processes p k,
+    )
 
 wider_process : (a : Arena) (p : Process) → IsWider (design_of a) (design_of (with_process a p))
 wider_process a p = same_signals (design_of a) (design_of (with_process a p)) (omega arith) refl
@@ -122,6 +132,63 @@ process_kept a rs bs p g covers target =
 pub process_draft : (a : Arena) (rs bs : List ℕ) (p : Process)
     → draft_of (with_process a p) rs bs ≡ and_process (draft_of a rs bs) (process_of (signal_at (arena_signals a)) (tree_at (arena_trees a)) (statement_at (arena_statements a)) p)
 process_draft a rs bs p = ap (λ d. record (draft_of a rs bs) { design = d }) (process_added a p)
+
+-- ---- initial processes
+
+initials_named : (a : Arena) (i : Initial) (k : ℕ) → times k (named_statements (with_initial a i)) ≡ times k (named_statements a) + times k (i.statement ∷ [])
+initials_named a i k =
+    let first : List ℕ = flat_map (λ (s : Placed Statement). statement_statements s.item) a.statements in
+    let next : List ℕ = flat_map (λ (p : Process). kind_statements p.kind) a.processes in
+    let f : Initial → ℕ = λ j. j.statement in
+    omega (
+      arith,
+      times-append k first (next ++ map f (a.initials ++ i ∷ [])),
+      times-append k next (map f (a.initials ++ i ∷ [])),
+      ap (times k) (map-append f a.initials (i ∷ [])),
+      times-append k (map f a.initials) (i.statement ∷ []),
+      times-append k first (next ++ map f a.initials),
+      times-append k next (map f a.initials),
+    )
+
+wider_initial : (a : Arena) (i : Initial) → IsWider (design_of a) (design_of (with_initial a i))
+wider_initial a i = same_signals (design_of a) (design_of (with_initial a i)) (omega arith) refl
+
+pub initial_kept : (a : Arena) (rs bs : List ℕ) (i : Initial) → IsGrowing a rs (bs ++ i.statement ∷ []) → covers_initial a i ≡ true → IsGrowing (with_initial a i) rs bs
+initial_kept a rs bs i g covers =
+    let b : Arena = with_initial a i in
+    record {
+      few_scopes = g.few_scopes;
+      few_nodes = g.few_nodes;
+      few_statements = g.few_statements;
+      names = names_with_initial a i g.names covers;
+      few_functions = g.few_functions;
+      open_one = g.open_one;
+      begun = g.begun;
+      locals = g.locals;
+      header = λ h e. header_wider (design_of a) (design_of b) (wider_initial a i) h (g.header h e);
+      functions = all_wider (is_formed_function (design_of a)) (is_formed_function (design_of b)) (design_of a).functions (function_wider (design_of a) (design_of b) (wider_initial a i)) g.functions;
+      expressions = λ e h. expression_wider (home_in (design_of a) (expression_header a e)) (home_in (design_of b) (expression_header a e)) (home_wider (design_of a) (design_of b) (expression_header a e) (wider_initial a i)) (tree_at (arena_trees a) e) (g.expressions e h);
+      statements =
+          λ s h. statement_wider (home_in (design_of a) (statement_header a s)) (home_in (design_of b) (statement_header a s)) (home_wider (design_of a) (design_of b) (statement_header a s) (wider_initial a i)) (statement_at (arena_statements a) s) (g.statements s h);
+      rooted = g.rooted;
+      embodied = (each_parts (λ n. statement_header a n ≡ open_header a) bs (i.statement ∷ []) g.embodied).0;
+      copies = g.copies;
+      assign_targets = g.assign_targets;
+      statement_targets = g.statement_targets;
+      expressions_once = g.expressions_once;
+      expressions_there = g.expressions_there;
+      statements_once = once_less bs (i.statement ∷ []) (λ k. times k (named_statements a)) (λ k. times k (named_statements b)) g.statements_once (initials_named a i);
+      statements_there = there_less (length a.statements) bs (i.statement ∷ []) (λ k. times k (named_statements a)) (λ k. times k (named_statements b)) g.statements_there (initials_named a i);
+      node_chains = g.node_chains;
+      statement_chains = g.statement_chains;
+    }
+
+-- with one initial process more, wherever it stands
+abbrev pub with_one : Draft → D.Initial → Draft
+with_one s i = record s { design = record s.design { initials = s.design.initials ++ i ∷ [] } }
+
+pub initial_draft : (a : Arena) (rs bs : List ℕ) (i : Initial) → draft_of (with_initial a i) rs bs ≡ with_one (draft_of a rs bs) (initial_of (statement_at (arena_statements a)) i)
+initial_draft a rs bs i = ap (λ d. record (draft_of a rs bs) { design = d }) (initial_added a i)
 
 -- ---- scopes and signals
 

@@ -1,5 +1,5 @@
 -- Always blocks without a fault, and the events that they wait for.
-use Rattle.std.proofs.Common.{◌≡◌, ℕ, zero, suc, ◌+◌, ◌<◌, ◌≤◌, Bool, true, false, ◌&&◌, nat_lt, List, [], ◌∷◌, ◌++◌, length, get_or, map, take, None, refl, sym, ap, ◌∙◌, subst, arith}
+use Rattle.std.proofs.Common.{◌≡◌, ℕ, zero, suc, ◌+◌, ◌^◌, ◌<◌, ◌≤◌, Bool, true, false, ◌&&◌, nat_lt, List, [], ◌∷◌, ◌++◌, length, get_or, map, take, None, refl, sym, ap, ◌∙◌, subst, arith}
 use Rattle.std.proofs.Math.Seq.{take-suc, take-length}
 use Rattle.std.proofs.lemmas.Bool.{lt-ltb}
 use Rattle.std.proofs.lemmas.List.{map-append}
@@ -156,6 +156,9 @@ block_ends s v t m h le = ends_in_parts s v [] (t ∷ []) m 0 1 (one_statement s
 
 pub same_signals : (s v : Draft) (t : T.Statement) (m : ℕ) → AddsStatement s v t m → s.design ≡ v.design
 same_signals s v t m h = sym (ap (λ (d : Draft). d.design) h.is)
+
+pub few_initials : (s v : Draft) (t : T.Statement) (m : ℕ) → AddsStatement s v t m → length s.design.initials < 2 ^ 16 → length v.design.initials < 2 ^ 16
+few_initials s v t m h few = subst (λ (d : Design). length d.initials < 2 ^ 16) (same_signals s v t m h) few
 
 pub star_block : (s : Draft) (find : Find) (b : tree.AlwaysBlock) (at : ℕ) (vs : List Event) (signal : ℕ → _) → vs ≡ [] → b.control ≡ tree.Star → at ≡ b.place
     → and_process s (D.Always at true (map (event_of signal) vs) (typed_statement b.statement (block_body b) find).statement) ≡ and_process s (block_process b find)

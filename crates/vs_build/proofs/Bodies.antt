@@ -8,6 +8,7 @@ use Rattle.vs_design.specs.Elaborated.{is_formed, is_formed_statement, is_formed
 use Rattle.vs_flat.specs.declared.placed.Placed.{Placed}
 use Rattle.vs_flat.specs.declared.expressions.Node.{Node}
 use Rattle.vs_flat.specs.declared.processes.Process.{Process}
+use Rattle.vs_flat.specs.declared.processes.Initial.{Initial}
 use Rattle.vs_flat.specs.declared.statements.Statement.{Statement}
 use Rattle.vs_flat.specs.Arena.{Arena, placed, with_statement}
 use Rattle.vs_flat.specs.Named.{all_below, statement_expressions, statement_statements, kind_expressions, kind_statements, covers_statement}
@@ -60,7 +61,7 @@ expressions_named a s at k =
 statements_named : (a : Arena) (s : Statement) (at k : ℕ) → times k (named_statements (with_statement a s at)) ≡ times k (named_statements a) + times k (statement_statements s)
 statements_named a s at k =
     let f : Placed Statement → List ℕ = λ m. statement_statements m.item in
-    let after : List ℕ = flat_map (λ (p : Process). kind_statements p.kind) a.processes in
+    let after : List ℕ = flat_map (λ (p : Process). kind_statements p.kind) a.processes ++ map (λ (i : Initial). i.statement) a.initials in
     omega (arith, times-append k (flat_map f (a.statements ++ placed s at ∷ [])) after, times-append k (flat_map f a.statements) after, times-flat f a.statements (placed s at) k)
 
 pub statement_kept : (a : Arena) (rs bs : List ℕ) (s : Statement) (at : ℕ) → IsGrowing a (rs ++ statement_expressions s) (bs ++ statement_statements s) → covers_statement a s ≡ true → length a.statements < 2 ^ 32 - 1

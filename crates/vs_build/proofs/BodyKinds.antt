@@ -16,18 +16,20 @@ use Rattle.vs_base.specs.declared.events.CaseKind.{CaseKind}
 use Rattle.vs_flat.specs.declared.statements.Statement.TheVariants as S
 use Rattle.vs_flat.specs.declared.processes.Event.{Event}
 use Rattle.vs_flat.specs.declared.processes.Process.{Process}
+use Rattle.vs_flat.specs.declared.processes.Initial.{Initial}
 use Rattle.vs_flat.specs.declared.processes.Kind.TheVariants as K
-use Rattle.vs_flat.specs.Arena.{Arena, with_process}
-use Rattle.vs_flat.specs.Named.{all_below, covers_process}
+use Rattle.vs_flat.specs.Arena.{Arena, with_process, with_initial}
+use Rattle.vs_flat.specs.Named.{all_below, covers_process, covers_initial}
 use Rattle.vs_flat.specs.Targets.{target_of, both_of}
 use Rattle.vs_flat.specs.Trees.{no_signal, tree_at, signal_at, statement_at, statement_tree, target_tree, branch, sequence, arms_tree}
 use Rattle.vs_flat.specs.DesignOf.{arena_signals, arena_trees, arena_statements, event_of}
 use Rattle.vs_flat.proofs.Agreeing.{and_both, and_true}
 use Rattle.vs_flat.proofs.Growing.{length-signals}
-use Rattle.vs_build.specs.Drafts.{Root, Draft, and_process, AddsStatement, Adds, writes_variables, Labelled, arms_with, total, EndsInParts, EndsInAssignment, EndsInCase}
+use Rattle.vs_flat.proofs.Counts.{counts}
+use Rattle.vs_build.specs.Drafts.{Root, Draft, and_process, and_initial, AddsStatement, Adds, writes_variables, Labelled, arms_with, total, EndsInParts, EndsInAssignment, EndsInCase}
 use Rattle.vs_build.specs.Growth.{current, Growing, IsGrowing, draft_of, draft}
 use Rattle.vs_build.specs.Cut.{cut}
-use Rattle.vs_build.proofs.Additions.{process_kept, process_draft}
+use Rattle.vs_build.proofs.Additions.{process_kept, process_draft, with_one, initial_kept, initial_draft}
 use Rattle.vs_build.proofs.Counting.{each_parts}
 use Rattle.vs_build.proofs.Steps.{last_one, last_two, AreFormed, used_formed}
 use Rattle.vs_build.proofs.NodeKinds.{nil_right}
@@ -480,3 +482,35 @@ block_draft a b rs bs after rest v star events x at s t m i e f view h =
     ∙ ap (made (signal_at (arena_signals a)) (statement_at (arena_statements a) x)) l.before
     ∙ ap (λ z. made (signal_at (arena_signals a)) z s) body
     ∙ ap (λ (w : Growing). made (signal_at (draft w).design.signals) t s) view
+
+-- an initial process of the last statement
+pub record IsInitial (a : Arena) (rs bs brest : List ℕ) (x : ℕ) : Type 0 where
+  pub growing : IsGrowing a rs bs
+  pub is : bs ≡ brest ++ x ∷ []
+  pub covers : (at behind : ℕ) → covers_initial a (record { at = at; behind = behind; statement = x }) ≡ true
+
+pub initial_is : (a : Arena) (rs bs : List ℕ) (v : Growing) (len x : ℕ) → IsGrowing a rs bs → (let w : Growing = record { arena = a; roots = rs; bodies = bs } in w) ≡ v → EndsInParts 0 1 (draft v) → len ≡ length bs → x ≡ get_or bs (len - 1) x
+    → IsInitial a rs bs (take (len - 1) bs) x
+initial_is a rs bs v len x g view h e f =
+    let is : bs ≡ take (len - 1) bs ++ x ∷ [] = last_one bs x (sequence_enough a rs bs v 1 view h) (f ∙ ap (λ n. get_or bs (n - 1) x) e) ∙ ap (λ n. take (n - 1) bs ++ x ∷ []) (sym e) in
+    record { growing = g; is = is; covers = λ at behind. (and_both (nat_lt x (length a.statements)) true (used_bodies_below a rs bs (take (len - 1) bs) (x ∷ []) g is)).0 }
+
+pub initial_grows : (a b : Arena) (rs bs after rest : List ℕ) (x at behind : ℕ) → IsInitial a rs bs rest x → b ≡ with_initial a (record { at = at; behind = behind; statement = x }) → after ≡ rest → IsGrowing b rs after
+initial_grows a b rs bs after rest x at behind s e f =
+    subst (λ c. IsGrowing c rs after) (sym e)
+    (subst (λ xs. IsGrowing (with_initial a (record { at = at; behind = behind; statement = x })) rs xs) (sym f)
+    (initial_kept a rs rest (record { at = at; behind = behind; statement = x }) (subst (λ xs. IsGrowing a rs xs) s.is s.growing) (s.covers at behind)))
+
+pub initial_drafted : (a b : Arena) (rs bs after rest : List ℕ) (v : Growing) (x at behind : ℕ) (s : Draft) (t : T.Statement) (m : ℕ) → IsInitial a rs bs rest x
+    → b ≡ with_initial a (record { at = at; behind = behind; statement = x }) → after ≡ rest → (let w : Growing = record { arena = a; roots = rs; bodies = bs } in w) ≡ v → behind ≡ length a.processes → AddsStatement s (draft v) t m
+    → draft_of b rs after ≡ and_initial s at t
+initial_drafted a b rs bs after rest v x at behind s t m i e f view n h =
+    let l = are_last a rs bs rs [] rest (x ∷ []) s [] (t ∷ []) m (nil_right rs) i.is (adds_in a rs bs v s [] (t ∷ []) m view (statement_alone s (draft v) t m h)) refl refl in
+    let j : Initial = record { at = at; behind = behind; statement = x } in
+    let made : ℕ → T.Statement → Draft → Draft = λ k statement d. with_one d (record { place = at; behind = k; statement = statement }) in
+    let body : statement_at (arena_statements a) x ≡ t = first_is (statement_at (arena_statements a) x) t [] [] l.parts in
+    let count : behind ≡ length s.design.processes = n ∙ sym (counts a).processes ∙ ap (λ (d : Draft). length d.design.processes) l.before in
+    ap (λ c. draft_of c rs after) e ∙ ap (λ xs. draft_of (with_initial a j) rs xs) f ∙ initial_draft a rs rest j
+    ∙ ap (made behind (statement_at (arena_statements a) x)) l.before
+    ∙ ap (λ z. made behind z s) body
+    ∙ ap (λ k. made k t s) count

@@ -38,12 +38,12 @@ use Rattle.vs_elaborated.specs.Targets.{meant_signal, TypedTarget, is_wrong_targ
 use Rattle.vs_elaborated.specs.Statements.{Body as Within, TypedStatement, Local, is_integer, find_local, local_meaning, local_or, delayed_faults, word_faults, scope_locals, local_faults, scoped, not_there, typed_list, typed_fallback, typed_statement, typed_sequence, typed_arms}
 use Rattle.vs_build.specs.Drafts.{Root, Body, Draft, home, and_roots, and_bodies, most_body_levels, AddsExpression, AddsParts, AddsStatement, Adds, EndsInParts, EndsInAssignment, writes_variables, Labelled, total, arms_with, EndsInCase}
 use Rattle.vs_build.specs.Cut.{label_counts}
-use Rattle.vs_build.specs.Buildable.{IsBuildable, part_expressions, memory_of}
+use Rattle.vs_build.specs.Buildable.{IsBuildable, IsNameable, part_expressions, memory_of}
 use Rattle.vs_build.specs.Writable.{target_expression, IsWritable}
 use Rattle.vs_build.specs.Executable.{IsSoundBody, IsExecutable, AreExecutable, AreLabels, AreChoosable, part_statements, labelled}
 use Rattle.vs_build.proofs.Lists.{levels-append, taken_more}
 use Rattle.vs_build.proofs.Selects.{memory_is}
-use Rattle.vs_build.proofs.TargetFacts.{written, bit_target_is}
+use Rattle.vs_build.proofs.TargetFacts.{written, named_target, bit_target_is}
 use Rattle.vs_const.specs.declared.rules.Rule.TheVariants.{WrongKind, LoopVariable}
 
 -- ---- what was added one after the other
@@ -203,6 +203,10 @@ assigning d around find t e blocking x =
       target_is = record { shaped = x.shaped.0; sound = x.sound; numbered = x.numbered; clean = n.0; shallow = omega (arith, x.shallow) };
       value_is = record { shaped = x.shaped.1; sound = x.sound; numbered = x.numbered; clean = n.1; shallow = omega (arith, x.shallow) };
     }
+
+-- the name of a variable alone
+pub variable_name : (d : Design) (find : Find) (name : tree.Name) → IsWritable d find true (tree.NamedTarget name tree.Whole) → IsNameable d false name.place (find name.bytes)
+variable_name d find name w = record { sound = w.sound name.bytes; good = (named_target d find true name tree.Whole tt w.sound w.clean).good }
 
 pub value_after : (s v : Draft) (t : E.Expression) (m : ℕ) (find : Find) (needed : Bool) (e : tree.Expr) → AddsExpression s v t m → IsBuildable (home s) find needed e → IsBuildable (home v) find needed e
 value_after s v t m find needed e h b = subst (λ d. IsBuildable d find needed e) (same_home s v (t ∷ []) [] m (one_tree s v t m h)) b

@@ -14,15 +14,15 @@ use Rattle.vs_const.specs.CallDepths.{calls_in}
 use Rattle.vs_const.proofs.Formed.{both_nil}
 use Rattle.vs_elaborated.specs.Environments.{Env, inside_function, named}
 use Rattle.vs_elaborated.specs.Numbers.{IsNumbered, AreNumbered}
-use Rattle.vs_elaborated.specs.Pieces.{Own, all_said}
+use Rattle.vs_elaborated.specs.Pieces.{Own, Initially, all_said}
 use Rattle.vs_elaborated.specs.Statements.{TypedStatement, repeated_locals, typed_statement, unrolled_within, typed_control}
 use Rattle.vs_elaborated.specs.Heads.{shared_heads}
 use Rattle.vs_elaborated.specs.Functions.{declared_locals, LocalSignal, function_locals, all_locals, header_of, meaning_or, function_names, function_body, size_faults}
 use Rattle.vs_elaborated.specs.Functions.{signal_at as local_at}
-use Rattle.vs_elaborated.specs.Surveys.{assign_said, wire_said, block_body, block_statement, block_heads}
+use Rattle.vs_elaborated.specs.Surveys.{assign_said, declarator_said, block_body, block_statement, block_heads, initial_body, initial_statement, initial_heads}
 use Rattle.vs_build.specs.Drafts.{Draft, home_in, home}
 use Rattle.vs_build.specs.Writable.{IsAssignable, wire_assign, assign_process}
-use Rattle.vs_build.specs.Items.{and_processes, value_processes, wire_processes, IsAssigned, IsDeclared, AssignsAreFine, WiresAreFine, BlocksAreFine, FunctionsAreFine}
+use Rattle.vs_build.specs.Items.{and_processes, value_processes, wire_processes, IsAssigned, IsDeclared, AssignsAreFine, WiresAreFine, BlocksAreFine, InitialsAreFine, FunctionsAreFine}
 use Rattle.vs_build.proofs.Homes.{inside_home}
 use Rattle.vs_build.proofs.Sounder.{sound_wider, names_wider, numbers_stay, processes_wider, processes_functions}
 use Rattle.vs_build.proofs.Unrolled.{unrolled_is}
@@ -115,8 +115,8 @@ assigns_fine d env place (a ∷ rest) x sound numbered le h =
     ((first, r.0), ap (λ ps. Own (assign_process place a (named env)) ∷ ps) r.1)
 
 value_fine : (d : Design) (env : Env) (place : ℕ) (name : tree.Name) (addresses : Option tree.RangeTree) (o : Option tree.Expr) (shaped : IsDeclarator (record { name = name; addresses = addresses; value = o })) → AreSound d false (named env) → AreNumbered d (named env) → option_depth expr_depth o ≤ 253
-    → (let n : tree.Declarator = record { name = name; addresses = addresses; value = o } in (wire_said env place n).faults ≡ [])
-    → IsAssigned d (named env) name o × (let n : tree.Declarator = record { name = name; addresses = addresses; value = o } in (wire_said env place n).pieces ≡ map Own (value_processes place name o (named env)))
+    → (let n : tree.Declarator = record { name = name; addresses = addresses; value = o } in (declarator_said env place tree.Wire n).faults ≡ [])
+    → IsAssigned d (named env) name o × (let n : tree.Declarator = record { name = name; addresses = addresses; value = o } in (declarator_said env place tree.Wire n).pieces ≡ map Own (value_processes place name o (named env)))
 value_fine d env place name addresses None shaped sound numbered le h = (tt, refl)
 value_fine d env place name addresses (Some e) shaped sound numbered le h =
     let fine : IsAssignable d (named env) (wire_assign name e) = record { shaped = ((shaped.0, tt), shaped.1); sound = sound; numbered = numbered; clean = h; shallow = omega (arith, le) } in
@@ -125,11 +125,11 @@ value_fine d env place name addresses (Some e) shaped sound numbered le h =
 pub wires_fine : WiresAreFine
 wires_fine d env place [] x sound numbered le h = (tt, refl)
 wires_fine d env place (n ∷ rest) x sound numbered le h =
-    let m = both_nil (wire_said env place n).faults (all_said (wire_said env place) rest).faults h in
+    let m = both_nil (declarator_said env place tree.Wire n).faults (all_said (declarator_said env place tree.Wire) rest).faults h in
     let f = value_fine d env place n.name n.addresses n.value x.0 sound numbered (omega (arith, le)) m.0 in
     let r = wires_fine d env place rest x.1 sound numbered (omega (arith, le)) m.1 in (
       (f.0, r.0),
-      ap (λ ps. ps ++ (all_said (wire_said env place) rest).pieces) f.1 ∙ ap (λ ps. map Own (value_processes place n.name n.value (named env)) ++ ps) r.1
+      ap (λ ps. ps ++ (all_said (declarator_said env place tree.Wire) rest).pieces) f.1 ∙ ap (λ ps. map Own (value_processes place n.name n.value (named env)) ++ ps) r.1
           ∙ sym (map-append Own (value_processes place n.name n.value (named env)) (wire_processes place rest (named env))),
     )
 
@@ -142,6 +142,15 @@ blocks_fine d env limits loops b x sound numbered le h =
     let clean = (both_nil s.faults heads n.1).0 in
     let is : s ≡ typed_statement b.statement (block_body b) (named env) = unrolled_is (limits.copies - loops.copies) b.statement (block_body b) (named env) clean in
     (record { shaped = x; sound = sound; numbered = numbered; control = n.0; clean = sym (ap (λ (t : TypedStatement). t.faults) is) ∙ clean; shallow = le }, ap (λ (t : TypedStatement). Own (Always b.place c.star c.events t.statement) ∷ []) is)
+
+pub initials_fine : InitialsAreFine
+initials_fine d env limits loops b x sound numbered le h =
+    let s = initial_statement limits env loops b in
+    let clean = (both_nil s.faults (shared_heads loops.headed (initial_heads env b)) h).0 in
+    let is : s ≡ typed_statement b.statement initial_body (named env) = unrolled_is (limits.copies - loops.copies) b.statement initial_body (named env) clean in (
+      record { shaped = x; around = record { unrolls = refl; sound = λ place. tt; numbered = λ place. tt }; sound = sound; numbered = numbered; clean = sym (ap (λ (t : TypedStatement). t.faults) is) ∙ clean; shallow = le },
+      ap (λ (t : TypedStatement). Initially b.place t.statement ∷ []) is,
+    )
 
 -- the variables of its named blocks are no functions
 blocks_numbered : (d : Design) (o : Option LocalSignal) → IsNumbered d (meaning_or o)

@@ -32,7 +32,7 @@ pub record Draft : Type 0 where
 
 -- nothing was built
 abbrev pub no_design : Design
-no_design = record { scopes = []; signals = []; processes = []; functions = [] }
+no_design = record { scopes = []; signals = []; processes = []; initials = []; functions = [] }
 
 abbrev pub no_draft : Draft
 no_draft = record { design = no_design; function = None; expressions = []; statements = [] }
@@ -56,6 +56,10 @@ and_signal s x = record s { design = record s.design { signals = s.design.signal
 
 abbrev pub and_process : Draft → Process → Draft
 and_process s x = record s { design = record s.design { processes = s.design.processes ++ x ∷ [] } }
+
+-- an initial process that begins at this place, behind the processes so far
+abbrev pub and_initial : Draft → (place : ℕ) → Statement → Draft
+and_initial s place statement = record s { design = record s.design { initials = s.design.initials ++ record { place = place; behind = length s.design.processes; statement = statement } ∷ [] } }
 
 -- a function's statement is to be built, and it was
 abbrev pub in_function : Draft → Header → Draft

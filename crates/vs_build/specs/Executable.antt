@@ -15,7 +15,7 @@ use Rattle.vs_const.specs.Sound.{IsSound, AreSound}
 use Rattle.vs_elaborated.specs.Numbers.{IsNumbered, AreNumbered}
 use Rattle.vs_elaborated.specs.Targets.{meant_signal}
 use Rattle.vs_elaborated.specs.Statements.{Body, TypedStatement, typed_list, typed_statement, typed_sequence, typed_arms, not_there, typed_control, given, goes_on}
-use Rattle.vs_elaborated.specs.Surveys.{block_body}
+use Rattle.vs_elaborated.specs.Surveys.{block_body, initial_body}
 use Rattle.vs_build.specs.Drafts.{Labelled}
 
 -- the variables of named blocks mean something
@@ -97,6 +97,18 @@ pub record IsRunnable (d : Design) (find : Find) (b : tree.AlwaysBlock) : Type 0
 -- the process of a design that it is
 abbrev pub block_process : tree.AlwaysBlock → Find → Process
 block_process b find = Always b.place (typed_control b.control find).star (typed_control b.control find).events (typed_statement b.statement (block_body b) find).statement
+
+-- ---- initial blocks (9.9.1)
+
+-- `reg name = e` is `initial name = e` (6.2.1)
+abbrev pub value_assignment : tree.Name → tree.Expr → tree.Statement
+value_assignment name e = tree.Assignment (tree.NamedTarget name tree.Whole) e true
+
+-- the statement of a design that a statement is in an initial block
+abbrev pub begun : tree.Statement → Find → Statement
+begun s find = (typed_statement s initial_body find).statement
+
+-- ---- events
 
 -- what an event waits for: a signal, by its number, and an edge
 pub record Awaited : Type 0 where

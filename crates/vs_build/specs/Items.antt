@@ -1,7 +1,8 @@
--- What the items of a scope add to a design (IEEE 1364-2005, 6.1, 9.9.2 and 10.4): processes and functions.
+-- What the items of a scope add to a design (IEEE 1364-2005, 6.1, 9.9 and 10.4): processes, initial processes and functions.
 use Rattle.std.specs.Prelude.{◌≡◌, ◌≤◌, ℕ, false, List, [], ◌∷◌, ◌++◌, map, flat_map, Option, Some, None}
 use Rattle.vs_design.specs.Designs.{Process, Design}
 use Rattle.vs_grammar.specs.Trees as tree
+use Rattle.vs_grammar.specs.Trees.{Wire}
 use Rattle.vs_grammar.specs.Shapes.{IsAssign, IsDeclarator, IsStatement, IsFunction, Each}
 use Rattle.vs_grammar.specs.Depths.{deepest, assign_depth, declarator_depth, statement_depth}
 use Rattle.vs_const.specs.Meanings.{Find}
@@ -12,11 +13,11 @@ use Rattle.vs_elaborated.specs.Limits.{Limits}
 use Rattle.vs_elaborated.specs.Environments.{Env, inside_function, named}
 use Rattle.vs_elaborated.specs.Statements.{typed_statement}
 use Rattle.vs_elaborated.specs.Functions.{function_locals, header_of, function_names, function_body, said_function}
-use Rattle.vs_elaborated.specs.Pieces.{Own, all_said}
-use Rattle.vs_elaborated.specs.Surveys.{Loops, assign_said, wire_said, block_said}
+use Rattle.vs_elaborated.specs.Pieces.{Own, Initially, all_said}
+use Rattle.vs_elaborated.specs.Surveys.{Loops, assign_said, declarator_said, block_said, initial_body, initial_said}
 use Rattle.vs_build.specs.Drafts.{Draft, home_in}
 use Rattle.vs_build.specs.Writable.{IsAssignable, wire_assign, assign_process}
-use Rattle.vs_build.specs.Executable.{IsExecutable, IsRunnable, block_process}
+use Rattle.vs_build.specs.Executable.{IsExecutable, IsRunnable, block_process, begun}
 
 abbrev pub and_processes : Draft → List Process → Draft
 and_processes s ps = record s { design = record s.design { processes = s.design.processes ++ ps } }
@@ -30,7 +31,7 @@ abbrev pub value_processes : ℕ → tree.Name → Option tree.Expr → Find →
 value_processes place name None find = []
 value_processes place name (Some e) find = assign_process place (wire_assign name e) find ∷ []
 
--- the names of a declaration
+-- the names of a declaration of nets
 abbrev pub wire_processes : ℕ → List tree.Declarator → Find → List Process
 wire_processes place names find = flat_map (λ (d : tree.Declarator). value_processes place d.name d.value find) names
 
@@ -49,15 +50,20 @@ abbrev pub AssignsAreFine : Type 0
 AssignsAreFine = (d : Design) (env : Env) (place : ℕ) (assigns : List tree.Assign) → Each IsAssign assigns → AreSound d false (named env) → AreNumbered d (named env) → deepest assign_depth assigns ≤ 253 → (all_said (assign_said env place) assigns).faults ≡ []
     → Each (IsAssignable d (named env)) assigns × ((all_said (assign_said env place) assigns).pieces ≡ map Own (assign_processes place assigns (named env)))
 
--- of a declaration with values
+-- of a declaration of nets with values
 abbrev pub WiresAreFine : Type 0
-WiresAreFine = (d : Design) (env : Env) (place : ℕ) (names : List tree.Declarator) → Each IsDeclarator names → AreSound d false (named env) → AreNumbered d (named env) → deepest declarator_depth names ≤ 253 → (all_said (wire_said env place) names).faults ≡ []
-    → Each (IsDeclared d (named env)) names × ((all_said (wire_said env place) names).pieces ≡ map Own (wire_processes place names (named env)))
+WiresAreFine = (d : Design) (env : Env) (place : ℕ) (names : List tree.Declarator) → Each IsDeclarator names → AreSound d false (named env) → AreNumbered d (named env) → deepest declarator_depth names ≤ 253 → (all_said (declarator_said env place Wire) names).faults ≡ []
+    → Each (IsDeclared d (named env)) names × ((all_said (declarator_said env place Wire) names).pieces ≡ map Own (wire_processes place names (named env)))
 
 -- of an always block: its loops are unrolled
 abbrev pub BlocksAreFine : Type 0
 BlocksAreFine = (d : Design) (env : Env) (limits : Limits) (loops : Loops) (b : tree.AlwaysBlock) → IsStatement b.statement → AreSound d false (named env) → AreNumbered d (named env) → statement_depth b.statement ≤ 253
     → (block_said limits env loops b).faults ≡ [] → IsRunnable d (named env) b × ((block_said limits env loops b).pieces ≡ Own (block_process b (named env)) ∷ [])
+
+-- and of an initial block
+abbrev pub InitialsAreFine : Type 0
+InitialsAreFine = (d : Design) (env : Env) (limits : Limits) (loops : Loops) (b : tree.InitialBlock) → IsStatement b.statement → AreSound d false (named env) → AreNumbered d (named env) → statement_depth b.statement ≤ 253
+    → (initial_said limits env loops b).faults ≡ [] → IsExecutable d initial_body (named env) b.statement × ((initial_said limits env loops b).pieces ≡ Initially b.place (begun b.statement (named env)) ∷ [])
 
 -- what a function says: in it its statement can be built, which is that of its meaning
 pub record IsFineFunction (d : Design) (number most scope : ℕ) (env : Env) (f : tree.Function) : Type 0 where

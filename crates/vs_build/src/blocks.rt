@@ -1,24 +1,25 @@
-//! Always blocks of the text (IEEE 1364-2005, 9.9.2).
+//! Always and initial blocks of the text (IEEE 1364-2005, 9.9).
 
 ghost use Rattle.std.specs.Prelude.{◌≡◌, ◌<◌, ◌^◌, None, [], length, map, IfOk, OnOk};
 ghost use Rattle.vs_ast.specs.Views as view;
 ghost use Rattle.vs_elaborated.specs.Statements.{event_faults, typed_events};
 ghost use Rattle.vs_const.specs.Meanings.{Barred};
 ghost use Rattle.vs_const.specs.declared.rules.Rule.TheVariants.{WrongKind};
-ghost use Rattle.vs_build.specs.Drafts.{and_process, home};
+ghost use Rattle.vs_elaborated.specs.Surveys.{initial_body};
+ghost use Rattle.vs_build.specs.Drafts.{and_initial, and_process, home};
 ghost use Rattle.vs_build.specs.Growth.{draft};
-ghost use Rattle.vs_build.specs.Executable.{IsRunnable, awaited_of, awaited, block_process};
+ghost use Rattle.vs_build.specs.Executable.{IsExecutable, IsRunnable, awaited_of, awaited, begun, block_process};
 
 use crate::builder::Builder;
 use crate::statements::statement;
 use std::alloc::{AllocError, Global};
 use vs_ast as ast;
-use vs_ast::{AlwaysBlock, EventControl};
+use vs_ast::{AlwaysBlock, EventControl, InitialBlock};
 use vs_bodies::{BodyKind, Inner, Layers, Surroundings, is_clocked};
 use vs_const::{Env, Named, Rule};
 use vs_flat::Event;
 
-/// What is around an always block: no variable of a named block in it is taken.
+/// What is around a block: no variable of a named block in it is taken.
 #[derive(Clone, Copy)]
 struct Alone<'e, E> {
     env: &'e E,
@@ -97,4 +98,31 @@ pub fn always<E: Env>(
             builder.always(false, waited, block.place)
         }
     }
+}
+
+/// Builds an initial block that breaks no rule, with its loops unrolled, behind the processes so far (IEEE 1364-2005, 9.6 and 9.9.1). An error is want of
+/// memory; the builder is of no use then.
+pub fn initial<E: Env>(
+    builder: &mut Builder,
+    alloc: Global,
+    block: &InitialBlock,
+    env: &E,
+) -> Result<(), AllocError>
+    requires room { length (draft builder.old).design.initials < 2 ^ 16 }
+    requires outside { (draft builder.old).function ≡ None }
+    requires fine { IsExecutable (home (draft builder.old)) initial_body (E.names env.now) (view.initial_block block.now).statement }
+    ensures { OnOk result (draft builder.new ≡ and_initial (draft builder.old) block.now.place (begun (view.initial_block block.now).statement (E.names env.now))) }
+{
+    let around = Alone { env: &*env };
+    let layers = Layers::End;
+    let here = Inner {
+        around: &around,
+        layers: &layers,
+    };
+    let kind = BodyKind {
+        in_function: false,
+        clocked: true,
+    };
+    statement(builder, alloc, &block.statement, kind, &here)?;
+    builder.initial(block.place)
 }

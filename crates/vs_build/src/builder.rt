@@ -11,7 +11,9 @@ use std::alloc::{AllocError, Global};
 use std::marker::Model;
 use vs_ast::CaseArm;
 use vs_base::{BinaryOp, CaseKind, List, UnaryOp};
-use vs_flat::{Arm, Event, Flat, Function, Kind, Node, Port, Process, Scope, Signal, Statement};
+use vs_flat::{
+    Arm, Event, Flat, Function, Initial, Kind, Node, Port, Process, Scope, Signal, Statement,
+};
 use vs_four::{Bits, Range};
 
 /// A flat design that grows, with the expressions and statements that nothing in it names yet, in the order in which they were built. `in_function` says
@@ -36,7 +38,7 @@ impl Model for Builder {
 }
 
 impl Builder {
-    ghost use Rattle.vs_build.specs.Drafts.{no_draft, Draft, Root, AddsExpression, AddsParts, AddsStatement, Adds, Labelled, EndsWith, EndsInSelect, EndsInAssign, EndsInParts, EndsInAssignment, EndsInCase, EndsFunction, and_scope, and_signal, and_process, and_function, in_function, home, arms_with};
+    ghost use Rattle.vs_build.specs.Drafts.{no_draft, Draft, Root, AddsExpression, AddsParts, AddsStatement, Adds, Labelled, EndsWith, EndsInSelect, EndsInAssign, EndsInParts, EndsInAssignment, EndsInCase, EndsFunction, and_scope, and_signal, and_process, and_initial, and_function, in_function, home, arms_with};
     ghost use Rattle.vs_build.specs.Growth.{draft};
     ghost use Rattle.vs_design.specs.Expressions as E;
     ghost use Rattle.vs_design.specs.Statements as T;
@@ -520,6 +522,26 @@ impl Builder {
                 events: List::of(events),
                 statement,
             },
+        })?;
+        self.bodies.truncate(n - 1);
+        Ok(())
+    }
+
+    /// Builds an initial process (IEEE 1364-2005, 9.9.1) of the last statement, behind the processes so far.
+    pub(crate) fn initial(&mut self, at: u32) -> Result<(), AllocError>
+        requires room { length (draft self.old).design.initials < 2 ^ 16 }
+        requires outside { (draft self.old).function ≡ None }
+        requires ends { EndsInParts 0 1 (draft self.old) }
+        ensures { (s : Draft) (t : T.Statement) (m : ℕ) → AddsStatement s (draft self.old) t m
+            → OnOk result (draft self.new ≡ and_initial s at t) }
+    {
+        let n = self.bodies.len();
+        let statement = self.bodies[n - 1];
+        let behind = self.flat.process_count();
+        self.flat.add_initial(Initial {
+            at,
+            behind,
+            statement,
         })?;
         self.bodies.truncate(n - 1);
         Ok(())

@@ -14,11 +14,13 @@ mod outputs;
 mod statements;
 mod steady;
 mod targets;
+mod values;
 
 pub use assigns::{assign, input_port, wire};
-pub use blocks::always;
+pub use blocks::{always, initial};
 pub use builder::Builder;
 pub use functions::function;
 pub use items::{assign_each, wire_each};
 pub use laws::fine_law;
 pub use outputs::output_port;
+pub use values::value;

@@ -6,10 +6,8 @@ pub mod ByKind
 pub mod Least
 pub mod Finding
 pub mod Ruled
-pub mod Fixed
 pub mod Branches
 pub mod Comparing
 pub mod Refusing
 pub mod Resetting
-pub mod StillSteps
 pub mod Spared

@@ -11,4 +11,3 @@ pub mod Resets
 pub mod Roots
 pub mod Spread
 pub mod Tests
-pub mod Still

@@ -13,13 +13,12 @@ ghost use Rattle.vs_clock.specs.Forms.{if_branch};
 ghost use Rattle.vs_clock.specs.Ports.{bit_of};
 
 use crate::compared::is_comparison;
-use crate::constant::is_still;
 use crate::ports::named_bit;
 use vs_base::{Edge, UnaryOp};
 use vs_flat::{Flat, Node, Statement};
 use vs_four::Bit4;
 use vs_shape::{Shapes, node_of};
-use vs_typed::Typed;
+use vs_typed::{Typed, is_fixed};
 
 /// The bit whose name stands behind `!` or `~`.
 fn inverted_bit(flat: &Flat, e: u32) -> Option<u32>
@@ -69,7 +68,7 @@ fn is_fixed_branch(typed: &Typed, s: u32) -> bool
     requires { s < length typed.now.statements }
     ensures { result ≡ is_fixed (statement_at (arena_statements typed.now) s) }
 {
-    is_still(typed.shapes(), s)
+    is_fixed(typed.shapes(), s)
 }
 
 /// The first branch of a block's `if`, where its condition is that of a reset by this edge of this bit. `begin` and `end` round one statement alone are no matter.

@@ -4,7 +4,6 @@
 mod clocked;
 mod clocks;
 mod compared;
-mod constant;
 mod error;
 mod events;
 mod first;

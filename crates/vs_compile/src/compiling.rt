@@ -14,10 +14,12 @@ use crate::nets::nets_of;
 use std::alloc::{AllocError, Global};
 use vs_assemble::{assemble, frame};
 use vs_clock::Clocks;
+use vs_design::accepted_law;
 use vs_level::Order;
 use vs_program::Compiled;
 use vs_reads::Footprints;
 use vs_typed::Typed;
+use vs_zero::start_values;
 
 /// The program of an accepted design: straight programs over planes, one for each kind of time slot (IEEE 1364-2005, clause 11). The only error is that there is no memory.
 ///
@@ -35,9 +37,11 @@ pub fn compile(
     requires order { is_level_order (design_of typed.now) order.now ≡ true }
     ensures { IfOk result (IsProgramOf (design_of typed.now) clocks.now.bit) }
 {
+    accepted_law();
     let facts = Facts::of(alloc, typed, footprints, clocks)?;
     let lowerer = Lowerer::of(alloc, facts)?;
     let nets = nets_of(alloc, typed, clocks)?;
-    let frame = frame(alloc, typed.flat(), clocks.bit(), nets)?;
+    let starts = start_values(alloc, typed)?;
+    let frame = frame(alloc, typed.flat(), clocks.bit(), nets, starts.as_slice())?;
     assemble(alloc, &lowerer, clocks.bit(), order.list(), frame)
 }

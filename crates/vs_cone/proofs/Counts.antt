@@ -16,6 +16,7 @@ use Rattle.vs_design.specs.Sizes.{distinct, process_weight, register_bits, sleep
 use Rattle.vs_design.specs.Cycles.{AreApart}
 use Rattle.vs_design.specs.Networks.{network_of}
 use Rattle.vs_design.specs.Laws.{AcceptedIsLawful, LevelOrderIs}
+use Rattle.vs_design.proofs.Starts.{same_order}
 use Rattle.vs_cone.specs.Cones.{is_touched, writes_at, is_port_or, cone, but_ports}
 use Rattle.vs_cone.specs.Given.{data_bits}
 use Rattle.vs_cone.specs.Counts.{clocked_from, stores_of, AreWithin, StoresFit}
@@ -357,7 +358,7 @@ inputs_count d name s h = by_place (clock_place d name s h) (nat_lt s.first (bit
 
 pub stores_fit : AcceptedIsLawful → LevelOrderIs → StoresFit
 stores_fit lawful levels d name a order ordered stores resets within resetting =
-    let L : IsLawful (network_of d a.clock.first) = lawful d name a in
+    let L : IsLawful (network_of d a.clock.first) = lawful d name a d.initials (same_order d.initials) in
     let o = levels d order ordered in
     let own = but_fits d a.clock.first stores within order (λ p h. (o.members p).0 h) in
     let apart = sum_apart (own_stores d (clock_nets d a.clock.first)) d.processes order o.once in

@@ -1,71 +1,35 @@
 -- Each refusal says what it should.
-use Rattle.std.proofs.Common.{◌≡◌, ℕ, zero, suc, ◌+◌, ◌≤◌, ◌<◌, Bool, true, false, List, [], ◌∷◌, ◌++◌, ◌||◌, ◌&&◌, ◌==◌, not, if◌then◌else◌, ◌⊎◌, inl, inr, refl, sym, ap, ◌∙◌, subst, min, arith, nat_lt, eqb-true, eq-eqb, Option, Some, None}
+use Rattle.std.proofs.Common.{◌≡◌, ℕ, zero, suc, ◌+◌, ◌≤◌, ◌<◌, Bool, true, false, List, [], ◌∷◌, ◌++◌, ◌||◌, ◌&&◌, ◌==◌, not, if◌then◌else◌, ◌⊎◌, inl, inr, refl, sym, ap, ◌∙◌, subst, arith, nat_lt, eqb-true, Option, Some, None, append_assoc}
 use Rattle.std.specs.Prelude.{nat_le, slice_get, option_map}
-use Rattle.std.specs.List.{list_any}
+use Rattle.std.specs.List.{list_any, list_all}
 use Rattle.std.proofs.lemmas.Bool.{cases_lt}
+use Rattle.std.proofs.lemmas.List.Folds.{list_any-append}
 use Rattle.vs_design.specs.Expressions.{Signal, signal_length}
 use Rattle.vs_design.specs.Values.{bits_of_signal}
-use Rattle.vs_design.specs.Designs.{Process, process_place, Design, is_combinational}
+use Rattle.vs_design.specs.Designs.{Process, process_place, Initial, Design, is_combinational, AnyProcess, OfProcess, OfInitial, in_text_order}
 use Rattle.vs_design.specs.Footprints.{contains, writes_of, all_reads, waits_of, signals_bits, without, wait_signals}
-use Rattle.vs_design.specs.Fits.{fits_process}
-use Rattle.vs_design.specs.Elaborated.{is_formed_process, are_numbered, have_bits_from}
+use Rattle.vs_design.specs.Fits.{fits_process, fits_initial}
+use Rattle.vs_design.specs.Elaborated.{IsLawfulDesign, is_formed_process, are_numbered, have_bits_from}
 use Rattle.vs_design.specs.Sizes.{size}
 use Rattle.vs_design.specs.Rules.{function_latches, mixed_assigns, missing_bits, latches}
+use Rattle.vs_design.specs.Initials.{has_other_start}
 use Rattle.vs_design.specs.Clocks.{clock_input, clock_nets, root_of, reads_clock, has_other_clock}
 use Rattle.vs_design.specs.Resets.{has_other_form}
 use Rattle.vs_design.specs.Levels.{level_order}
 use Rattle.vs_design.specs.Races.{race_bits}
 use Rattle.vs_design.specs.TimeZero.{families, is_uncertain}
-use Rattle.vs_design.specs.Refusals.{least_with, least, otherwise, first_found, where_true, WidthRefusal, TooWide, Division, TooLarge, wide_in, divisions_in, earlier, judged_size, told_size, too_large, BlockRefusal, FunctionLatch, MixedAssign, Sensitivity, Latch, signal_of, block_refusal_of, ClockRefusal, NoClock, ClockRead, NotTheClock, ResetForm, clock_refusal_by, RaceRefusal, Race, race_refusal_of, ZeroRefusal, TimeZero, zero_refusal_by}
-use Rattle.vs_design.specs.RefusalLaws.{IsLeastOf, IsFirstOf, is_unfit, IsWidthRefusal, WidthRefusalIs, is_some_of, breaks_block, IsBlockRefusal, BlockRefusalIs, IsClockRefusal, ClockRefusalIs, IsRaceRefusal, RaceRefusalIs, IsZeroRefusal, ZeroRefusalIs}
-use Rattle.vs_design.proofs.Lists.{by_test, and_both, or_left, or_right, or_neither, or_false, contains-append, contains-left, contains_head, contains_filter}
+use Rattle.vs_design.specs.Refusals.{least, otherwise, first_found, first_in, where_true, WidthRefusal, TooWide, Division, TooLarge, wide_at, divisions_at, earlier, judged_size, told_size, too_large, BlockRefusal, FunctionLatch, InitialForm, MixedAssign, Sensitivity, Latch, signal_of, block_refusal_of, block_refusal_at, ClockRefusal, NoClock, ClockRead, NotTheClock, ResetForm, clock_refusal_by, RaceRefusal, Race, race_refusal_of, ZeroRefusal, TimeZero, zero_refusal_by}
+use Rattle.vs_design.specs.RefusalLaws.{IsLeastOf, IsFirstOf, IsFirstIn, is_unfit, IsWidthRefusal, WidthRefusalIs, is_some_of, breaks_block, IsBlockRefusal, BlockRefusalIs, IsClockRefusal, ClockRefusalIs, IsRaceRefusal, RaceRefusalIs, IsZeroRefusal, ZeroRefusalIs}
+use Rattle.vs_design.proofs.Lists.{by_test, and_both, or_neither, or_false, contains-append, contains-left, contains_filter}
 use Rattle.vs_design.proofs.Writes.{either_way}
-use Rattle.vs_design.proofs.Parts.{all_at}
 use Rattle.vs_design.proofs.Signals.{count_low, count_high}
-use Rattle.vs_design.proofs.Exactly.{least_none, earlier_none, any_none, true_where, block_clear, all_fit, small_judged}
+use Rattle.vs_design.proofs.Exactly.{earlier_none, none_earlier, any_none, true_where, block_clear, width_found, formed_any, fits_any, any_clear, any_narrow, any_undivided, formed_in_text, all_fit, small_judged}
+use Rattle.vs_design.proofs.Least.{least_none, none_least, least_is}
+use Rattle.vs_design.proofs.TextOrder.{processes_pass, initials_pass}
 use Rattle.vs_design.proofs.Drivers.{empty_is}
 use Rattle.vs_design.proofs.Named.{process_bits}
-use Rattle.vs_design.proofs.WidthExact.{process_clear, wide_none, divisions_none}
 
 -- ---- the least of a list
-
-least_more : (n k : ℕ) (ns : List ℕ) (m : ℕ) → IsLeastOf (min n k ∷ ns) m → IsLeastOf (n ∷ k ∷ ns) m
-least_more n k ns l r = record { there = in_more l r.there; least = lower }
-  where
-    in_more : (m : ℕ) → contains (min n k ∷ ns) m ≡ true → contains (n ∷ k ∷ ns) m ≡ true
-    in_more m h =
-        by_test (m == min n k)
-        (λ e. go (eqb-true m (min n k) e) (cases_lt n k))
-        (λ e. or_right (m == n) ((m == k) || contains ns m) (or_right (m == k) (contains ns m) (subst (λ x. (x || contains ns m) ≡ true) e h)))
-      where
-        go : m ≡ min n k → (n < k) ⊎ (k ≤ n) → contains (n ∷ k ∷ ns) m ≡ true
-        go e (inl l) = or_left (m == n) ((m == k) || contains ns m) (eq-eqb m n (omega arith))
-        go e (inr l) = or_right (m == n) ((m == k) || contains ns m) (or_left (m == k) (contains ns m) (eq-eqb m k (omega arith)))
-
-    lower : (m : ℕ) → contains (n ∷ k ∷ ns) m ≡ true → l ≤ m
-    lower m h =
-        let a = r.least (min n k) (contains_head (min n k) ns) in
-        by_test (m == n)
-        (λ e. let q = eqb-true m n e in omega (arith, a))
-        (λ e.
-        let h' : ((m == k) || contains ns m) ≡ true = subst (λ x. (x || ((m == k) || contains ns m)) ≡ true) e h in
-        by_test (m == k)
-        (λ f. let q = eqb-true m k f in omega (arith, a))
-        (λ f. r.least m (or_right (m == min n k) (contains ns m) (subst (λ x. (x || contains ns m) ≡ true) f h'))))
-
-only_one : (n m : ℕ) → contains (n ∷ []) m ≡ true → m ≡ n
-only_one n m h = by_test (m == n) (λ e. eqb-true m n e) (λ e. absurd (either_way ((m == n) || false) h (or_false (m == n) false e refl)))
-
-least_with_is : (n : ℕ) (ns : List ℕ) → IsLeastOf (n ∷ ns) (least_with n ns)
-least_with_is n [] = record { there = contains_head n []; least = λ m h. let e = only_one n m h in omega (arith, e) }
-least_with_is n (k ∷ ns) = least_more n k ns (least_with (min n k) ns) (least_with_is (min n k) ns)
-
-pub least_is : (ns : List ℕ) (n : ℕ) → least ns ≡ Some n → IsLeastOf ns n
-least_is [] n h = cc
-least_is (m ∷ ms) n h = subst (IsLeastOf (m ∷ ms)) (value (least_with m ms) n h) (least_with_is m ms)
-  where
-    value : (x y : ℕ) → Some x ≡ Some y → x ≡ y
-    value x y e = cc
 
 no_least : (ns : List ℕ) → least ns ≡ None → ns ≡ []
 no_least ns h = least_none ns h
@@ -115,6 +79,33 @@ found_first {A} d find breaks a none some h = go 0 d.processes (λ n x e. subst 
       where
         cases : (o : Option A) → find k x ≡ o → otherwise o (first_found find (suc k) ps) ≡ Some a → (find k x ≡ None → first_found find (suc k) ps ≡ Some a → Found_at d find breaks a) → Found_at d find breaks a
         cases (Some v) e h rest = record { number = k; process = x; first = record { is = here k x ps t; broken = some k x v (here k x ps t) e; before = b }; found = e ∙ h }
+        cases None e h rest = rest e h
+
+-- and the first in the order of the text
+record FirstFound {A : Type 0} (d : Design) (find : AnyProcess → Option A) (breaks : AnyProcess → Bool) (a : A) : Type 0 where
+  pub what : AnyProcess
+  pub first : IsFirstIn d breaks what
+  pub found : find what ≡ Some a
+  pub formed : formed_any d what ≡ true
+
+first_in_text : {A : Type 0} (d : Design) → IsLawfulDesign d → (find : AnyProcess → Option A) (breaks : AnyProcess → Bool) (a : A)
+    → ((x : AnyProcess) → formed_any d x ≡ true → find x ≡ None → breaks x ≡ false) → ((x : AnyProcess) (a : A) → find x ≡ Some a → breaks x ≡ true)
+    → first_in find (in_text_order d) ≡ Some a → FirstFound d find breaks a
+first_in_text {A} d l find breaks a none some h = go [] (in_text_order d) refl refl (formed_in_text d l) h
+  where
+    go : (earlier xs : List AnyProcess) → in_text_order d ≡ earlier ++ xs → list_any breaks earlier ≡ false → list_all (formed_any d) xs ≡ true → first_in find xs ≡ Some a → FirstFound d find breaks a
+    go earlier [] q b f h = cc
+    go earlier (x ∷ xs) q b f h =
+        let k = and_both (formed_any d x) (list_all (formed_any d) xs) f in
+        cases (find x) refl h (λ e g. go (earlier ++ (x ∷ [])) xs (q ∙ sym (append_assoc earlier (x ∷ []) xs)) (list_any-append breaks earlier (x ∷ []) ∙ or_false _ _ b (or_false _ _ (none x k.0 e) refl)) k.1 g)
+      where
+        cases : (o : Option A) → find x ≡ o → otherwise o (first_in find xs) ≡ Some a → (find x ≡ None → first_in find xs ≡ Some a → FirstFound d find breaks a) → FirstFound d find breaks a
+        cases (Some v) e h rest = record {
+          what = x;
+          first = record { earlier = earlier; rest = xs; is = q; broken = some x v e; before = b };
+          found = e ∙ h;
+          formed = (and_both (formed_any d x) (list_all (formed_any d) xs) f).0;
+        }
         cases None e h rest = rest e h
 
 -- ---- lengths
@@ -177,30 +168,28 @@ earlier_is ws vs r h = go (least ws) (least vs) refl refl r h
             (subst (IsLeastOf vs) q (least_is vs y f), λ n k. let m = w.least n k in omega (arith, m, q))
         division_first (TooLarge n) h l = cc
 
+unfit_is : (x : AnyProcess) → is_unfit x ≡ not (fits_any x)
+unfit_is (OfProcess p x) = refl
+unfit_is (OfInitial k i) = refl
+
 pub width_refusal_is : WidthRefusalIs
-width_refusal_is d l r h = go r (otherwise_some (first_found find 0 d.processes) (too_large d) r h)
+width_refusal_is d l r h = go r (otherwise_some (first_in width_found (in_text_order d)) (too_large d) r h)
   where
-    find : ℕ → Process → Option WidthRefusal
-    find p process = earlier (least (wide_in process)) (least (divisions_in process))
+    none : (x : AnyProcess) → formed_any d x ≡ true → width_found x ≡ None → is_unfit x ≡ false
+    none x f e =
+        let q = earlier_none (least (wide_at x)) (least (divisions_at x)) e in
+        unfit_is x ∙ ap not (any_clear d x f (least_none (wide_at x) q.0) (least_none (divisions_at x) q.1))
 
-    fit_none : (x : Process) → fits_process x ≡ true → earlier (least (wide_in x)) (least (divisions_in x)) ≡ None
-    fit_none x f = rw (wide_none x f, divisions_none x f) refl
-
-    none : (p : ℕ) (x : Process) → slice_get d.processes p ≡ Some x → find p x ≡ None → is_unfit x ≡ false
-    none p x i e =
-        let q = earlier_none (least (wide_in x)) (least (divisions_in x)) e in
-        ap not (process_clear d x (all_at (is_formed_process d) d.processes p x l.formed i) (least_none (wide_in x) q.0) (least_none (divisions_in x) q.1))
-
-    some : (p : ℕ) (x : Process) (a : WidthRefusal) → slice_get d.processes p ≡ Some x → find p x ≡ Some a → is_unfit x ≡ true
-    some p x a i e = by_test (fits_process x) (λ f. absurd (apart (fit_none x f) e)) (λ f. ap not f)
+    some : (x : AnyProcess) (a : WidthRefusal) → width_found x ≡ Some a → is_unfit x ≡ true
+    some x a e = by_test (fits_any x) (λ f. absurd (apart (none_earlier _ _ (none_least (wide_at x) (any_narrow x f)) (none_least (divisions_at x) (any_undivided x f))) e)) (λ f. unfit_is x ∙ ap not f)
       where
-        apart : earlier (least (wide_in x)) (least (divisions_in x)) ≡ None → earlier (least (wide_in x)) (least (divisions_in x)) ≡ Some a → ⊥
+        apart : width_found x ≡ None → width_found x ≡ Some a → ⊥
         apart e f = cc
 
-    by_process : (r : WidthRefusal) → Found_at d find is_unfit r → IsWidthRefusal d r
-    by_process (TooWide at) f = let q = earlier_is (wide_in f.process) (divisions_in f.process) (TooWide at) f.found in (f.number, f.process, f.first, q.0, q.1)
-    by_process (Division at) f = let q = earlier_is (wide_in f.process) (divisions_in f.process) (Division at) f.found in (f.number, f.process, f.first, q.0, q.1)
-    by_process (TooLarge n) f = absurd (earlier_is (wide_in f.process) (divisions_in f.process) (TooLarge n) f.found)
+    by_process : (r : WidthRefusal) → FirstFound d width_found is_unfit r → IsWidthRefusal d r
+    by_process (TooWide at) f = let q = earlier_is (wide_at f.what) (divisions_at f.what) (TooWide at) f.found in (f.what, f.first, q.0, q.1)
+    by_process (Division at) f = let q = earlier_is (wide_at f.what) (divisions_at f.what) (Division at) f.found in (f.what, f.first, q.0, q.1)
+    by_process (TooLarge n) f = absurd (earlier_is (wide_at f.what) (divisions_at f.what) (TooLarge n) f.found)
 
     large_is : (x y : ℕ) → Some (TooLarge x) ≡ Some (TooLarge y) → x ≡ y
     large_is x y e = cc
@@ -215,7 +204,7 @@ width_refusal_is d l r h = go r (otherwise_some (first_found find 0 d.processes)
         at (inl h) = h
         at (inr h) = absurd (judged (judged_size d) t (small_judged d h))
 
-    by_size : (r : WidthRefusal) → first_found find 0 d.processes ≡ None → too_large d ≡ Some r → IsWidthRefusal d r
+    by_size : (r : WidthRefusal) → first_in width_found (in_text_order d) ≡ None → too_large d ≡ Some r → IsWidthRefusal d r
     by_size r e f = by_test (nat_lt 16777216 (judged_size d)) (λ t. large r t (subst (λ (c : Bool). where_true c (TooLarge (told_size d)) ≡ Some r) t f)) (λ t. absurd (small r (subst (λ (c : Bool). where_true c (TooLarge (told_size d)) ≡ Some r) t f)))
       where
         small : (r : WidthRefusal) → where_true false (TooLarge (told_size d)) ≡ Some r → ⊥
@@ -224,10 +213,12 @@ width_refusal_is d l r h = go r (otherwise_some (first_found find 0 d.processes)
         large : (r : WidthRefusal) → nat_lt 16777216 (judged_size d) ≡ true → Some (TooLarge (told_size d)) ≡ Some r → IsWidthRefusal d r
         large (TooWide at) t h = cc
         large (Division at) t h = cc
-        large (TooLarge n) t h = (all_fit d 0 d.processes l.formed e, sym (large_is (told_size d) n h), over t)
+        large (TooLarge n) t h =
+            let fit = all_fit d l e in
+            (processes_pass d l fits_process fits_initial fit, initials_pass d l fits_process fits_initial fit, sym (large_is (told_size d) n h), over t)
 
-    go : (r : WidthRefusal) → (first_found find 0 d.processes ≡ Some r) ⊎ ((first_found find 0 d.processes ≡ None) × (too_large d ≡ Some r)) → IsWidthRefusal d r
-    go r (inl e) = by_process r (found_first d find is_unfit r none some e)
+    go : (r : WidthRefusal) → (first_in width_found (in_text_order d) ≡ Some r) ⊎ ((first_in width_found (in_text_order d) ≡ None) × (too_large d ≡ Some r)) → IsWidthRefusal d r
+    go r (inl e) = by_process r (first_in_text d l width_found is_unfit r none some e)
     go r (inr e) = by_size r e.0 e.1
 
 -- ---- blocks
@@ -289,22 +280,27 @@ bits_in_order k (x ∷ ss) (suc i) zero s t b c f h g m n l =
 bits_in_order k (x ∷ ss) (suc i) (suc j) s t b c f h g m n l =
     let r = bits_in_order (k + signal_length x) ss i j s t b c (and_both (x.first == k) (have_bits_from (k + signal_length x) ss) f).1 h g m n l in omega (arith, r)
 
+where_some : {A : Type 0} (c : Bool) (x y : A) → where_true c x ≡ Some y → (c ≡ true) × (x ≡ y)
+where_some true x y h = (refl, cc)
+where_some false x y h = cc
+
 pub block_refusal_is : BlockRefusalIs
-block_refusal_is d l r h = both r (otherwise_some (option_map FunctionLatch (least (function_latches d.functions))) (first_found (block_refusal_of d) 0 d.processes) r h)
+block_refusal_is d l r h = both r (otherwise_some (option_map FunctionLatch (least (function_latches d.functions))) (first_in (block_refusal_at d) (in_text_order d)) r h)
   where
     none_mapped : {A B : Type 0} (f : A → B) (o : Option A) → option_map f o ≡ None → o ≡ None
     none_mapped f None h = refl
     none_mapped f (Some x) h = cc
 
-    none : (p : ℕ) (x : Process) → slice_get d.processes p ≡ Some x → block_refusal_of d p x ≡ None → breaks_block x ≡ false
-    none p x i e =
+    none : (x : AnyProcess) → formed_any d x ≡ true → block_refusal_at d x ≡ None → breaks_block x ≡ false
+    none (OfProcess p x) f e =
         let q = block_clear d p x e in
         or_false _ _ (or_false _ _ (none_of (mixed_assigns x) (empty_is (mixed_assigns x) q.0)) (none_of (missing_bits x) (empty_is (missing_bits x) q.1))) (none_of (latches x) (empty_is (latches x) q.2))
+    none (OfInitial k i) f e = true_where (has_other_start i) (InitialForm k i.place) e
 
-    some : (p : ℕ) (x : Process) (a : BlockRefusal) → slice_get d.processes p ≡ Some x → block_refusal_of d p x ≡ Some a → breaks_block x ≡ true
-    some p x a i e = by_test (breaks_block x) (λ t. t) (λ t. absurd (apart (clear t) e))
+    some : (x : AnyProcess) (a : BlockRefusal) → block_refusal_at d x ≡ Some a → breaks_block x ≡ true
+    some (OfProcess p x) a e = by_test (breaks_block (OfProcess p x)) (λ t. t) (λ t. absurd (apart (clear t) e))
       where
-        clear : breaks_block x ≡ false → block_refusal_of d p x ≡ None
+        clear : breaks_block (OfProcess p x) ≡ false → block_refusal_of d p x ≡ None
         clear t =
             let q = or_neither (is_some_of (mixed_assigns x) || is_some_of (missing_bits x)) (is_some_of (latches x)) t in
             let w = or_neither (is_some_of (mixed_assigns x)) (is_some_of (missing_bits x)) q.0 in
@@ -312,6 +308,7 @@ block_refusal_is d l r h = both r (otherwise_some (option_map FunctionLatch (lea
 
         apart : block_refusal_of d p x ≡ None → block_refusal_of d p x ≡ Some a → ⊥
         apart e f = cc
+    some (OfInitial k i) a e = (where_some (has_other_start i) (InitialForm k i.place) a e).0
 
     -- which of the three it is
     three : (p : ℕ) (x : Process) (r : BlockRefusal) → block_refusal_of d p x ≡ Some r
@@ -354,27 +351,40 @@ block_refusal_is d l r h = both r (otherwise_some (option_map FunctionLatch (lea
     same_latch : (p s a q t b : ℕ) → Latch p s a ≡ Latch q t b → (p ≡ q) × (s ≡ t) × (a ≡ b)
     same_latch p s a q t b e = (cc, cc, cc)
 
-    go : (r : BlockRefusal) → function_latches d.functions ≡ [] → Found_at d (block_refusal_of d) breaks_block r → IsBlockRefusal d r
-    go r unlatched f = cases r f (three f.number f.process r f.found)
+    same_form : (k a j b : ℕ) → InitialForm k a ≡ InitialForm j b → (k ≡ j) × (a ≡ b)
+    same_form k a j b e = (cc, cc)
+
+    go : (r : BlockRefusal) → function_latches d.functions ≡ [] → FirstFound d (block_refusal_at d) breaks_block r → IsBlockRefusal d r
+    go r unlatched f = by_sort_of f.what f.first f.found f.formed
       where
-        cases : (r : BlockRefusal) (f : Found_at d (block_refusal_of d) breaks_block r)
-            → ((m : ℕ) × (least (mixed_assigns f.process) ≡ Some m) × (MixedAssign m ≡ r))
-            ⊎ (((m : ℕ) × (mixed_assigns f.process ≡ []) × (least (missing_bits f.process) ≡ Some m) × (Sensitivity f.number (signal_of d.signals m) (process_place f.process) ≡ r))
-            ⊎ ((m : ℕ) × (mixed_assigns f.process ≡ []) × (missing_bits f.process ≡ []) × (least (latches f.process) ≡ Some m) × (Latch f.number m (process_place f.process) ≡ r)))
+        by_form : (k : ℕ) (i : Initial) → IsFirstIn d breaks_block (OfInitial k i) → (r : BlockRefusal) → InitialForm k i.place ≡ r → IsBlockRefusal d r
+        by_form k i first (FunctionLatch at) e = cc
+        by_form k i first (InitialForm j at) e = let q = same_form k i.place j at e in (unlatched, i, subst (λ n. IsFirstIn d breaks_block (OfInitial n i)) q.0 first, sym q.1)
+        by_form k i first (MixedAssign at) e = cc
+        by_form k i first (Sensitivity p s at) e = cc
+        by_form k i first (Latch p b at) e = cc
+
+        cases : (r : BlockRefusal) (p : ℕ) (x : Process) → IsFirstIn d breaks_block (OfProcess p x) → is_formed_process d x ≡ true
+            → ((m : ℕ) × (least (mixed_assigns x) ≡ Some m) × (MixedAssign m ≡ r))
+            ⊎ (((m : ℕ) × (mixed_assigns x ≡ []) × (least (missing_bits x) ≡ Some m) × (Sensitivity p (signal_of d.signals m) (process_place x) ≡ r))
+            ⊎ ((m : ℕ) × (mixed_assigns x ≡ []) × (missing_bits x ≡ []) × (least (latches x) ≡ Some m) × (Latch p m (process_place x) ≡ r)))
             → IsBlockRefusal d r
-        cases (FunctionLatch at) f (inl m) = cc
-        cases (FunctionLatch at) f (inr (inl m)) = cc
-        cases (FunctionLatch at) f (inr (inr m)) = cc
-        cases (MixedAssign at) f (inl m) = (unlatched, f.number, f.process, f.first, subst (IsLeastOf (mixed_assigns f.process)) (same_mixed m.0 at m.2) (least_is (mixed_assigns f.process) m.0 m.1))
-        cases (MixedAssign at) f (inr (inl m)) = cc
-        cases (MixedAssign at) f (inr (inr m)) = cc
-        cases (Sensitivity p s at) f (inl m) = cc
-        cases (Sensitivity p s at) f (inr (inl m)) =
-            let q = same_sensitivity f.number (signal_of d.signals m.0) (process_place f.process) p s at m.3 in
-            let i = least_is (missing_bits f.process) m.0 m.2 in
-            let w = signal_found 0 0 d.signals m.0 l.numbered (process_bits d f.process m.0 (all_at (is_formed_process d) d.processes f.number f.process l.formed f.first.is) (missing_read f.process m.0 i.there)) in
+        cases (InitialForm k at) n x first formed (inl m) = cc
+        cases (InitialForm k at) n x first formed (inr (inl m)) = cc
+        cases (InitialForm k at) n x first formed (inr (inr m)) = cc
+        cases (FunctionLatch at) n x first formed (inl m) = cc
+        cases (FunctionLatch at) n x first formed (inr (inl m)) = cc
+        cases (FunctionLatch at) n x first formed (inr (inr m)) = cc
+        cases (MixedAssign at) n x first formed (inl m) = (unlatched, n, x, first, subst (IsLeastOf (mixed_assigns x)) (same_mixed m.0 at m.2) (least_is (mixed_assigns x) m.0 m.1))
+        cases (MixedAssign at) n x first formed (inr (inl m)) = cc
+        cases (MixedAssign at) n x first formed (inr (inr m)) = cc
+        cases (Sensitivity p s at) n x first formed (inl m) = cc
+        cases (Sensitivity p s at) n x first formed (inr (inl m)) =
+            let q = same_sensitivity n (signal_of d.signals m.0) (process_place x) p s at m.3 in
+            let i = least_is (missing_bits x) m.0 m.2 in
+            let w = signal_found 0 0 d.signals m.0 l.numbered (process_bits d x m.0 formed (missing_read x m.0 i.there)) in
             let at_signal : slice_get d.signals s ≡ Some w.1 = subst (λ n. slice_get d.signals n ≡ Some w.1) (let z = w.4 in let y = q.1 in omega (arith, z, y)) w.2 in
-            (unlatched, f.process, subst (λ n. IsFirstOf d breaks_block n f.process) q.0 f.first, sym q.2, m.1, (m.0, i, (w.1, at_signal, w.3)), λ j t b e c g. bits_in_order 0 d.signals s j w.1 t m.0 b l.bits_numbered at_signal e w.3 c (i.least b g))
+            (unlatched, x, subst (λ n. IsFirstIn d breaks_block (OfProcess n x)) q.0 first, sym q.2, m.1, (m.0, i, (w.1, at_signal, w.3)), λ j t b e c g. bits_in_order 0 d.signals s j w.1 t m.0 b l.bits_numbered at_signal e w.3 c (i.least b g))
           where
             missing_read : (x : Process) (b : ℕ) → contains (missing_bits x) b ≡ true → contains (all_reads x ++ (writes_of x ++ waits_of x)) b ≡ true
             missing_read x b h = contains-left (all_reads x) (writes_of x ++ waits_of x) b (is_read (is_combinational x) h)
@@ -385,16 +395,20 @@ block_refusal_is d l r h = both r (otherwise_some (option_map FunctionLatch (lea
                 is_read : (c : Bool) → contains (if c then without (if c then without (all_reads x) (writes_of x) else all_reads x) (signals_bits (wait_signals x)) else []) b ≡ true → contains (all_reads x) b ≡ true
                 is_read true h = without_in (all_reads x) (writes_of x) (without_in (without (all_reads x) (writes_of x)) (signals_bits (wait_signals x)) h)
                 is_read false h = absurd (either_way _ h refl)
-        cases (Sensitivity p s at) f (inr (inr m)) = cc
-        cases (Latch p b at) f (inl m) = cc
-        cases (Latch p b at) f (inr (inl m)) = cc
-        cases (Latch p b at) f (inr (inr m)) =
-            let q = same_latch f.number m.0 (process_place f.process) p b at m.4 in
-            (unlatched, f.process, subst (λ n. IsFirstOf d breaks_block n f.process) q.0 f.first, sym q.2, m.1, m.2, subst (IsLeastOf (latches f.process)) q.1 (least_is (latches f.process) m.0 m.3))
+        cases (Sensitivity p s at) n x first formed (inr (inr m)) = cc
+        cases (Latch p b at) n x first formed (inl m) = cc
+        cases (Latch p b at) n x first formed (inr (inl m)) = cc
+        cases (Latch p b at) n x first formed (inr (inr m)) =
+            let q = same_latch n m.0 (process_place x) p b at m.4 in
+            (unlatched, x, subst (λ n. IsFirstIn d breaks_block (OfProcess n x)) q.0 first, sym q.2, m.1, m.2, subst (IsLeastOf (latches x)) q.1 (least_is (latches x) m.0 m.3))
 
-    both : (r : BlockRefusal) → (option_map FunctionLatch (least (function_latches d.functions)) ≡ Some r) ⊎ ((option_map FunctionLatch (least (function_latches d.functions)) ≡ None) × (first_found (block_refusal_of d) 0 d.processes ≡ Some r)) → IsBlockRefusal d r
+        by_sort_of : (what : AnyProcess) → IsFirstIn d breaks_block what → block_refusal_at d what ≡ Some r → formed_any d what ≡ true → IsBlockRefusal d r
+        by_sort_of (OfProcess p x) first found formed = cases r p x first formed (three p x r found)
+        by_sort_of (OfInitial k i) first found formed = by_form k i first r (where_some (has_other_start i) (InitialForm k i.place) r found).1
+
+    both : (r : BlockRefusal) → (option_map FunctionLatch (least (function_latches d.functions)) ≡ Some r) ⊎ ((option_map FunctionLatch (least (function_latches d.functions)) ≡ None) × (first_in (block_refusal_at d) (in_text_order d) ≡ Some r)) → IsBlockRefusal d r
     both r (inl e) = let m = mapped_some FunctionLatch (least (function_latches d.functions)) r e in subst (IsBlockRefusal d) m.2 (least_is (function_latches d.functions) m.0 m.1)
-    both r (inr e) = go r (no_least (function_latches d.functions) (none_mapped FunctionLatch (least (function_latches d.functions)) e.0)) (found_first d (block_refusal_of d) breaks_block r none some e.1)
+    both r (inr e) = go r (no_least (function_latches d.functions) (none_mapped FunctionLatch (least (function_latches d.functions)) e.0)) (first_in_text d l (block_refusal_at d) breaks_block r none some e.1)
 
 -- ---- the clock, and time zero
 

@@ -1,5 +1,5 @@
 -- A body's writes and updates are within its bits, and on every path it writes what its statement assigns.
-use Rattle.std.proofs.Common.{◌≡◌, ℕ, Bool, true, false, cond, List, [], ◌∷◌, ◌++◌, ◌||◌, ◌&&◌, not, if◌then◌else◌, ◌⊎◌, inl, inr, refl, sym, ap, ◌∙◌, subst}
+use Rattle.std.proofs.Common.{◌≡◌, ℕ, Bool, true, false, cond, List, [], ◌∷◌, ◌++◌, ◌||◌, ◌&&◌, not, if◌then◌else◌, ◌⊎◌, inl, inr, refl, sym, ap, ◌∙◌, subst, append-nil}
 use Rattle.vs_net.specs.Network.{State, Write, Update, Effect, write_all, is_written, flatten}
 use Rattle.vs_four.specs.Logic.{BitList, truth}
 use Rattle.vs_four.specs.Tables.{is_one}
@@ -12,7 +12,7 @@ use Rattle.vs_design.specs.Latches.{assigns, common, assigned_after, assigned_in
 use Rattle.vs_design.specs.Rules.{mixed_in, mixed_in_arms}
 use Rattle.vs_design.specs.Fits.{fits_target, fits_statement, fits_arms, fit_items, is_fit}
 use Rattle.vs_design.proofs.Lists.{by_test, or_left, or_right, and_both, contains-append, contains-left, contains-right, contains_filter}
-use Rattle.vs_design.proofs.Writes.{written-append, assignment_within, assignment_assigns}
+use Rattle.vs_design.proofs.Writes.{HasParts, fit_parts, written-append, parts_within, assignment_assigns}
 
 pub cond_of : {A : Type 0} (P : A → Type 0) (b : Bool) (x y : A) → P x → P y → P (cond b x y)
 cond_of P true x y p q = p
@@ -43,27 +43,31 @@ flatten-append (u ∷ us) vs b h =
     go (inl k) = inl (written-append u (flatten us) b ∙ or_right _ _ k)
     go (inr k) = inr k
 
+pub one_flat : (ws : List Write) → flatten (ws ∷ []) ≡ ws
+unfolding flatten
+one_flat ws = append-nil ws
+
 -- what an effect writes or leaves to be written
-abbrev Within : List ℕ → Effect → Type 0
+abbrev pub Within : List ℕ → Effect → Type 0
 Within bits f = (b : ℕ) → (is_written f.writes b ≡ true) ⊎ (is_written (flatten f.updates) b ≡ true) → contains bits b ≡ true
 
-widen_left : (xs ys : List ℕ) (f : Effect) → Within xs f → Within (xs ++ ys) f
+pub widen_left : (xs ys : List ℕ) (f : Effect) → Within xs f → Within (xs ++ ys) f
 widen_left xs ys f h b k = contains-left xs ys b (h b k)
 
-widen_right : (xs ys : List ℕ) (f : Effect) → Within ys f → Within (xs ++ ys) f
+pub widen_right : (xs ys : List ℕ) (f : Effect) → Within ys f → Within (xs ++ ys) f
 widen_right xs ys f h b k = contains-right xs ys b (h b k)
 
-effect_within : (t : Target) (e : Expression) (s : State) (blocking : Bool) → fits_target t ≡ true → Within (target_bits t) (effect_of blocking (assignment_writes t e s))
+pub effect_within : (t : Target) (e : Expression) (s : State) (blocking : Bool) → HasParts t → Within (target_bits t) (effect_of blocking (assignment_writes t e s))
 unfolding flatten is_written
-effect_within t e s true f b (inl h) = assignment_within t e s b f h
+effect_within t e s true f b (inl h) = parts_within t e s b f h
 effect_within t e s true f b (inr h) = cc
 effect_within t e s false f b (inl h) = cc
-effect_within t e s false f b (inr h) = assignment_within t e s b f (no_more (assignment_writes t e s) b h)
+effect_within t e s false f b (inr h) = parts_within t e s b f (no_more (assignment_writes t e s) b h)
   where
     no_more : (ws : List Write) (b : ℕ) → is_written (ws ++ []) b ≡ true → is_written ws b ≡ true
     no_more ws b h = by_test (is_written ws b) (λ k. k) (λ k. cc (subst (λ c. (c || false) ≡ true) k (sym (written-append ws [] b) ∙ h)))
 
-both_within : (xs ys : List ℕ) (f g : Effect) → Within xs f → Within ys g → Within (xs ++ ys) (both_effects f g)
+pub both_within : (xs ys : List ℕ) (f g : Effect) → Within xs f → Within ys g → Within (xs ++ ys) (both_effects f g)
 both_within xs ys f g hf hg b (inl h) =
     by_test (is_written f.writes b)
     (λ e. contains-left xs ys b (hf b (inl e)))
@@ -74,7 +78,7 @@ both_within xs ys f g hf hg b (inr h) = go (flatten-append f.updates g.updates b
     go (inl k) = contains-left xs ys b (hf b (inr k))
     go (inr k) = contains-right xs ys b (hg b (inr k))
 
-nothing_within : (xs : List ℕ) → Within xs no_effect
+pub nothing_within : (xs : List ℕ) → Within xs no_effect
 unfolding is_written flatten
 nothing_within xs b (inl h) = cc
 nothing_within xs b (inr h) = cc
@@ -82,7 +86,7 @@ nothing_within xs b (inr h) = cc
 mutual
   pub body_within : (st : Statement) (s : State) → fits_statement st ≡ true → Within (statement_bits st) (body st s)
   body_within Empty s f = nothing_within []
-  body_within (Assignment place target e blocking) s f = effect_within target e s blocking (and_both (fits_target target) (is_fit e) f).0
+  body_within (Assignment place target e blocking) s f = effect_within target e s blocking (fit_parts target (and_both (fits_target target) (is_fit e) f).0)
   body_within (Then first rest) s f =
       let k = and_both (fits_statement first) (fits_statement rest) f in
       both_within (statement_bits first) (statement_bits rest) (body first s) (body rest (write_all s (body first s).writes)) (body_within first s k.0) (body_within rest (write_all s (body first s).writes) k.1)

@@ -13,9 +13,10 @@ use Rattle.vs_four.specs.Tables.{is_one}
 use Rattle.vs_design.specs.Values.{own_value, value}
 use Rattle.vs_design.specs.Statements.{CaseKind, Statement, Empty, Assignment, Then, If, Case, Arms, Arm, Default, case_width, case_sign}
 use Rattle.vs_design.specs.Bodies.{assignment_writes, effect_of, is_taken, body, arms_body}
-use Rattle.vs_design.specs.Designs.{Process, Continuous, Always, is_clocked, Design}
+use Rattle.vs_design.specs.Designs.{Process, Continuous, Always, is_clocked, Initial, Design}
 use Rattle.vs_design.specs.Footprints.{contains, target_reads, read_bits, waits_of, without, signals_bits, wait_signals, statement_bits}
-use Rattle.vs_design.specs.Networks.{network_of, process_of, block_process}
+use Rattle.vs_design.specs.Initials.{IsOrderOf}
+use Rattle.vs_design.specs.Networks.{network_in, process_of, block_process}
 use Rattle.vs_design.specs.Bounds.{assignments, arms_assignments, wakers, size_of, feeds_of}
 use Rattle.vs_design.specs.Accepted.{IsAcceptedDesign}
 use Rattle.vs_design.specs.Laws.{BoundOfDesign, RunsEndOfDesign}
@@ -75,12 +76,12 @@ any_of test (c ∷ bs) b h k =
     (λ e. or_left (test c) (list_any test bs) (subst (λ m. test m ≡ true) (eqb-true b c e) k))
     (λ e. or_right (test c) (list_any test bs) (any_of test bs b (subst (λ z. (z || contains bs b) ≡ true) e h) k))
 
-module _ (d : Design) (name : Option (List ℕ)) (a : IsAcceptedDesign d name) where
+module _ (d : Design) (name : Option (List ℕ)) (a : IsAcceptedDesign d name) (order : List Initial) (o : IsOrderOf d.initials order) where
   abbrev net_work : Network
-  net_work = network_of d a.clock.first
+  net_work = network_in d a.clock.first order
 
   L : IsLawful net_work
-  L = lawful d name a
+  L = lawful d name a order o
 
   fed : (p q b : ℕ) → listens (net_work.process p) b ≡ true → writes (net_work.process q) b ≡ true → feeds_of d a.clock.first q p ≡ true
   fed p q b = by_kind d a.clock.first (λ p x. listens x b ≡ true → writes (net_work.process q) b ≡ true → feeds_of d a.clock.first q p ≡ true) (record {
@@ -90,6 +91,7 @@ module _ (d : Design) (name : Option (List ℕ)) (a : IsAcceptedDesign d name) w
     inputs = λ p i s l e f g w. absurd (either_way false g refl);
     clock = λ p i s l e f g w. absurd (either_way false g refl);
     spare = λ p l f g w. absurd (either_way false g refl);
+    keeper = λ p l m bs e g w. absurd (either_way false g refl);
     none = λ p l w. absurd (either_way false l refl);
   }) p
 
@@ -116,6 +118,7 @@ module _ (d : Design) (name : Option (List ℕ)) (a : IsAcceptedDesign d name) w
     inputs = λ p i r l e f w. cc;
     clock = λ p i r l e f w. cc;
     spare = λ p l f w. cc;
+    keeper = λ p l m bs e w. omega arith;
     none = λ p w. cc;
   }) p
 
@@ -152,15 +155,15 @@ module _ (d : Design) (name : Option (List ℕ)) (a : IsAcceptedDesign d name) w
   seconded p r e = seconded_by p (reset_of (net_work.process p)) refl r e
 
 pub bound_of : BoundOfDesign
-bound_of d name a =
-    let n = network_of d a.clock.first in
-    let w = weight n (lawful d name a) (feeds_of d a.clock.first) (size_of d) (master d name a) (fed d name a) (fed_only d name a) (few d name a) (mastered d name a) (second d name a) (seconded d name a) in
-    let r = runs n (lawful d name a) (feeds_of d a.clock.first) (size_of d) (master d name a) (fed d name a) (fed_only d name a) (few d name a) (mastered d name a) (second d name a) (seconded d name a) in
-    let h = weighed n (lawful d name a) (feeds_of d a.clock.first) (size_of d) (master d name a) (fed d name a) (fed_only d name a) (few d name a) (mastered d name a) (second d name a) (seconded d name a) in
-    (w, r, h, slots_end n (lawful d name a) (feeds_of d a.clock.first) (size_of d) w r h)
+bound_of d name a order o =
+    let n = network_in d a.clock.first order in
+    let w = weight n (lawful d name a order o) (feeds_of d a.clock.first) (size_of d) (master d name a order o) (fed d name a order o) (fed_only d name a order o) (few d name a order o) (mastered d name a order o) (second d name a order o) (seconded d name a order o) in
+    let r = runs n (lawful d name a order o) (feeds_of d a.clock.first) (size_of d) (master d name a order o) (fed d name a order o) (fed_only d name a order o) (few d name a order o) (mastered d name a order o) (second d name a order o) (seconded d name a order o) in
+    let h = weighed n (lawful d name a order o) (feeds_of d a.clock.first) (size_of d) (master d name a order o) (fed d name a order o) (fed_only d name a order o) (few d name a order o) (mastered d name a order o) (second d name a order o) (seconded d name a order o) in
+    (w, r, h, slots_end n (lawful d name a order o) (feeds_of d a.clock.first) (size_of d) w r h)
 
 pub runs_end_of : RunsEndOfDesign
-runs_end_of d name a =
-    let n = network_of d a.clock.first in
-    let b = bound_of d name a in
-    runs_end n (lawful d name a) (feeds_of d a.clock.first) (size_of d) b.0 b.1 b.2
+runs_end_of d name a order o =
+    let n = network_in d a.clock.first order in
+    let b = bound_of d name a order o in
+    runs_end n (lawful d name a order o) (feeds_of d a.clock.first) (size_of d) b.0 b.1 b.2

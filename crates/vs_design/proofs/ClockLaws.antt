@@ -5,6 +5,7 @@ use Rattle.vs_design.specs.Races.{blocking_bits, at_once_bits, stirred}
 use Rattle.std.proofs.Common.{◌≡◌, ℕ, Bool, true, false, List, [], ◌∷◌, ◌++◌, ◌||◌, ◌&&◌, ◌==◌, eqb-true, eq-eqb, not, if◌then◌else◌, ◌⊎◌, inl, inr, refl, sym, ap, ◌∙◌, subst, length, Option, Some, None, ◌≢◌}
 use Rattle.std.specs.Prelude.{slice_get, is_some}
 use Rattle.std.specs.List.{list_any}
+use Rattle.vs_net.proofs.Basics.{unwritten_none}
 use Rattle.vs_net.specs.Network.{State, Update, Effect, Network, Kind, TheClock, AnAssign, AComb, AClocked, kind, writes, listens, clock_net, effects, made, is_written}
 use Rattle.vs_net.specs.Lawful.{IsClockPort, Settles}
 use Rattle.vs_design.specs.Expressions.{Expression}
@@ -61,6 +62,7 @@ module _ (d : Design) (name : Option (List ℕ)) (a : IsAcceptedDesign d name) w
         inputs = λ p i r l e f w. cc;
         clock = λ p i r l e f w. eq-eqb a.clock.first a.clock.first refl;
         spare = λ p l f w. eq-eqb a.clock.first a.clock.first refl;
+        keeper = λ p l m bs e w. cc;
         none = λ p w. cc;
       })
 
@@ -72,6 +74,7 @@ module _ (d : Design) (name : Option (List ℕ)) (a : IsAcceptedDesign d name) w
     inputs = λ p i r l e f w. cc;
     clock = λ p i r l e f w z. subst (λ m. contains nets m ≡ true) (sym (eqb-true b a.clock.first z)) (clock_in (length d.processes) d.processes a.clock.first);
     spare = λ p l f w z. subst (λ m. contains nets m ≡ true) (sym (eqb-true b a.clock.first z)) (clock_in (length d.processes) d.processes a.clock.first);
+    keeper = λ p l m bs e w. cc;
     none = λ p w. cc;
   }) p
 
@@ -113,6 +116,7 @@ module _ (d : Design) (name : Option (List ℕ)) (a : IsAcceptedDesign d name) w
     inputs = λ p i r l e f w. cc;
     clock = λ p i r l e f w. cc;
     spare = λ p l f w. cc;
+    keeper = λ p l m bs e w. clock_in (length d.processes) d.processes a.clock.first;
     none = λ p w. cc;
   }) p
 
@@ -179,6 +183,7 @@ module _ (d : Design) (name : Option (List ℕ)) (a : IsAcceptedDesign d name) w
     inputs = λ p i r l e f w n. refl;
     clock = λ p i r l e f w n. refl;
     spare = λ p l f w n. refl;
+    keeper = λ p l m bs e w n. refl;
     none = λ p w n. refl;
   }) p
 
@@ -190,6 +195,7 @@ module _ (d : Design) (name : Option (List ℕ)) (a : IsAcceptedDesign d name) w
     inputs = λ p i r l e f w z. refl;
     clock = λ p i r l e f w z. refl;
     spare = λ p l f w z. refl;
+    keeper = λ p l m bs e w z. refl;
     none = λ p w z. refl;
   }) p
     where
@@ -221,6 +227,7 @@ module _ (d : Design) (name : Option (List ℕ)) (a : IsAcceptedDesign d name) w
     inputs = λ p i r l e f w. cc;
     clock = λ p i r l e f w. cc;
     spare = λ p l f w. cc;
+    keeper = λ p l m bs e w z. absurd (either_way (is_written [] b) z (unwritten_none b));
     none = λ p w. cc;
   }) p
 
@@ -233,6 +240,7 @@ module _ (d : Design) (name : Option (List ℕ)) (a : IsAcceptedDesign d name) w
     inputs = λ r i s l e f m z w. absurd z;
     clock = λ r i s l e f m z w. absurd z;
     spare = λ r l f m z w. absurd z;
+    keeper = λ r l m bs e f z w. absurd z;
     none = λ r m z w. absurd z;
   }) r
     where
@@ -256,6 +264,7 @@ module _ (d : Design) (name : Option (List ℕ)) (a : IsAcceptedDesign d name) w
     inputs = λ p i r l e f w. cc;
     clock = λ p i r l e f w. cc;
     spare = λ p l f w. cc;
+    keeper = λ p l m bs e w. cc;
     none = λ p w. cc;
   }) p
     where

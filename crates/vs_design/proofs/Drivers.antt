@@ -17,7 +17,7 @@ pub times_some : (b : ℕ) (xs : List ℕ) → contains xs b ≡ true → 1 ≤ 
 times_some b [] h = cc
 times_some b (x ∷ xs) h = by_test (b == x) (λ e. rw e (omega arith)) (λ e. rw e (times_some b xs (subst (λ c. (c || contains xs b) ≡ true) e h)))
 
-driver_some : (k : ℕ) (x : Process) (b : ℕ) → contains (writes_of x) b ≡ true → 1 ≤ length (driver k x b)
+pub driver_some : (k : ℕ) (x : Process) (b : ℕ) → contains (writes_of x) b ≡ true → 1 ≤ length (driver k x b)
 driver_some k (Continuous place port target_place target e) b h = subst (λ n. 1 ≤ n) (sym (length-replicate (times b (target_bits target)) k)) (times_some b (target_bits target) h)
 driver_some k (Always place star events st) b h = rw h (omega arith)
 
@@ -54,7 +54,7 @@ one_driver k (z ∷ ps) (suc m) (suc n) x y b l e f g h =
     let s = length-append (driver k z b) (drivers_from (suc k) ps b) in
     ap suc (one_driver (suc k) ps m n x y b (omega (arith, s)) e f g h)
 
-written_some : (ps : List Process) (n : ℕ) (x : Process) (b : ℕ) → slice_get ps n ≡ Some x → contains (writes_of x) b ≡ true → contains (written_bits ps) b ≡ true
+pub written_some : (ps : List Process) (n : ℕ) (x : Process) (b : ℕ) → slice_get ps n ≡ Some x → contains (writes_of x) b ≡ true → contains (written_bits ps) b ≡ true
 written_some [] n x b e h = cc
 written_some (y ∷ ps) zero x b e h = contains-left (writes_of y) (written_bits ps) b (subst (λ z. contains (writes_of z) b ≡ true) (sym (some_is y x e)) h)
   where

@@ -12,14 +12,17 @@ use Rattle.vs_design.specs.ExampleRefusals.{RefusalsComputed, loop}
 
 and_gate_is_accepted : IsAcceptedDesign and_gate clk
 and_gate_is_accepted = record {
-  lawful = record { scopes = refl; numbered = refl; bits_numbered = refl; declared = refl; memories = refl; formed = refl; functions = refl; clocked_words = refl; few_bits = lit≤ tt; few_processes = lit≤ tt };
+  lawful = record { scopes = refl; numbered = refl; bits_numbered = refl; declared = refl; memories = refl; formed = refl; initials = refl; behind = refl; functions = refl; clocked_words = refl; few_bits = lit≤ tt; few_processes = lit≤ tt };
   fit = refl;
+  fit_initials = refl;
   small = lit≤ tt;
   unmixed = refl;
   sensitive = refl;
   no_function_latch = refl;
+  initial_form = refl;
   no_latch = refl;
   one_driver = refl;
+  no_clash = refl;
   clock = clk_signal;
   clock_found = refl;
   clock_unread = refl;
@@ -32,14 +35,17 @@ and_gate_is_accepted = record {
 
 free_gate_is_accepted : IsAcceptedDesign free_gate None
 free_gate_is_accepted = record {
-  lawful = record { scopes = refl; numbered = refl; bits_numbered = refl; declared = refl; memories = refl; formed = refl; functions = refl; clocked_words = refl; few_bits = lit≤ tt; few_processes = lit≤ tt };
+  lawful = record { scopes = refl; numbered = refl; bits_numbered = refl; declared = refl; memories = refl; formed = refl; initials = refl; behind = refl; functions = refl; clocked_words = refl; few_bits = lit≤ tt; few_processes = lit≤ tt };
   fit = refl;
+  fit_initials = refl;
   small = lit≤ tt;
   unmixed = refl;
   sensitive = refl;
   no_function_latch = refl;
+  initial_form = refl;
   no_latch = refl;
   one_driver = refl;
+  no_clash = refl;
   clock = spare_clock free_gate;
   clock_found = refl;
   clock_unread = refl;
@@ -52,14 +58,17 @@ free_gate_is_accepted = record {
 
 free_and_is_accepted : IsAcceptedDesign and_gate None
 free_and_is_accepted = record {
-  lawful = record { scopes = refl; numbered = refl; bits_numbered = refl; declared = refl; memories = refl; formed = refl; functions = refl; clocked_words = refl; few_bits = lit≤ tt; few_processes = lit≤ tt };
+  lawful = record { scopes = refl; numbered = refl; bits_numbered = refl; declared = refl; memories = refl; formed = refl; initials = refl; behind = refl; functions = refl; clocked_words = refl; few_bits = lit≤ tt; few_processes = lit≤ tt };
   fit = refl;
+  fit_initials = refl;
   small = lit≤ tt;
   unmixed = refl;
   sensitive = refl;
   no_function_latch = refl;
+  initial_form = refl;
   no_latch = refl;
   one_driver = refl;
+  no_clash = refl;
   clock = spare_clock and_gate;
   clock_found = refl;
   clock_unread = refl;
@@ -72,14 +81,17 @@ free_and_is_accepted = record {
 
 counter_is_accepted : IsAcceptedDesign counter clk
 counter_is_accepted = record {
-  lawful = record { scopes = refl; numbered = refl; bits_numbered = refl; declared = refl; memories = refl; formed = refl; functions = refl; clocked_words = refl; few_bits = lit≤ tt; few_processes = lit≤ tt };
+  lawful = record { scopes = refl; numbered = refl; bits_numbered = refl; declared = refl; memories = refl; formed = refl; initials = refl; behind = refl; functions = refl; clocked_words = refl; few_bits = lit≤ tt; few_processes = lit≤ tt };
   fit = refl;
+  fit_initials = refl;
   small = lit≤ tt;
   unmixed = refl;
   sensitive = refl;
   no_function_latch = refl;
+  initial_form = refl;
   no_latch = refl;
   one_driver = refl;
+  no_clash = refl;
   clock = clk_signal;
   clock_found = refl;
   clock_unread = refl;
@@ -91,15 +103,19 @@ counter_is_accepted = record {
 }
 
 if_and_choice_is_accepted : IsAcceptedDesign if_and_choice clk
+unfolding write_all flatten
 if_and_choice_is_accepted = record {
-  lawful = record { scopes = refl; numbered = refl; bits_numbered = refl; declared = refl; memories = refl; formed = refl; functions = refl; clocked_words = refl; few_bits = lit≤ tt; few_processes = lit≤ tt };
+  lawful = record { scopes = refl; numbered = refl; bits_numbered = refl; declared = refl; memories = refl; formed = refl; initials = refl; behind = refl; functions = refl; clocked_words = refl; few_bits = lit≤ tt; few_processes = lit≤ tt };
   fit = refl;
+  fit_initials = refl;
   small = lit≤ tt;
   unmixed = refl;
   sensitive = refl;
   no_function_latch = refl;
+  initial_form = refl;
   no_latch = refl;
   one_driver = refl;
+  no_clash = refl;
   clock = clk_signal;
   clock_found = refl;
   clock_unread = refl;
@@ -112,14 +128,17 @@ if_and_choice_is_accepted = record {
 
 three_registers_is_accepted : IsAcceptedDesign three_registers clk
 three_registers_is_accepted = record {
-  lawful = record { scopes = refl; numbered = refl; bits_numbered = refl; declared = refl; memories = refl; formed = refl; functions = refl; clocked_words = refl; few_bits = lit≤ tt; few_processes = lit≤ tt };
+  lawful = record { scopes = refl; numbered = refl; bits_numbered = refl; declared = refl; memories = refl; formed = refl; initials = refl; behind = refl; functions = refl; clocked_words = refl; few_bits = lit≤ tt; few_processes = lit≤ tt };
   fit = refl;
+  fit_initials = refl;
   small = lit≤ tt;
   unmixed = refl;
   sensitive = refl;
   no_function_latch = refl;
+  initial_form = refl;
   no_latch = refl;
   one_driver = refl;
+  no_clash = refl;
   clock = clk_signal;
   clock_found = refl;
   clock_unread = refl;
@@ -131,15 +150,19 @@ three_registers_is_accepted = record {
 }
 
 woken_is_accepted : IsAcceptedDesign woken clk
+unfolding write_all flatten
 woken_is_accepted = record {
-  lawful = record { scopes = refl; numbered = refl; bits_numbered = refl; declared = refl; memories = refl; formed = refl; functions = refl; clocked_words = refl; few_bits = lit≤ tt; few_processes = lit≤ tt };
+  lawful = record { scopes = refl; numbered = refl; bits_numbered = refl; declared = refl; memories = refl; formed = refl; initials = refl; behind = refl; functions = refl; clocked_words = refl; few_bits = lit≤ tt; few_processes = lit≤ tt };
   fit = refl;
+  fit_initials = refl;
   small = lit≤ tt;
   unmixed = refl;
   sensitive = refl;
   no_function_latch = refl;
+  initial_form = refl;
   no_latch = refl;
   one_driver = refl;
+  no_clash = refl;
   clock = clk_signal;
   clock_found = refl;
   clock_unread = refl;
@@ -152,14 +175,17 @@ woken_is_accepted = record {
 
 set_once_is_accepted : IsAcceptedDesign set_once clk
 set_once_is_accepted = record {
-  lawful = record { scopes = refl; numbered = refl; bits_numbered = refl; declared = refl; memories = refl; formed = refl; functions = refl; clocked_words = refl; few_bits = lit≤ tt; few_processes = lit≤ tt };
+  lawful = record { scopes = refl; numbered = refl; bits_numbered = refl; declared = refl; memories = refl; formed = refl; initials = refl; behind = refl; functions = refl; clocked_words = refl; few_bits = lit≤ tt; few_processes = lit≤ tt };
   fit = refl;
+  fit_initials = refl;
   small = lit≤ tt;
   unmixed = refl;
   sensitive = refl;
   no_function_latch = refl;
+  initial_form = refl;
   no_latch = refl;
   one_driver = refl;
+  no_clash = refl;
   clock = clk_signal;
   clock_found = refl;
   clock_unread = refl;
@@ -172,14 +198,17 @@ set_once_is_accepted = record {
 
 chain_is_accepted : IsAcceptedDesign chain clk
 chain_is_accepted = record {
-  lawful = record { scopes = refl; numbered = refl; bits_numbered = refl; declared = refl; memories = refl; formed = refl; functions = refl; clocked_words = refl; few_bits = lit≤ tt; few_processes = lit≤ tt };
+  lawful = record { scopes = refl; numbered = refl; bits_numbered = refl; declared = refl; memories = refl; formed = refl; initials = refl; behind = refl; functions = refl; clocked_words = refl; few_bits = lit≤ tt; few_processes = lit≤ tt };
   fit = refl;
+  fit_initials = refl;
   small = lit≤ tt;
   unmixed = refl;
   sensitive = refl;
   no_function_latch = refl;
+  initial_form = refl;
   no_latch = refl;
   one_driver = refl;
+  no_clash = refl;
   clock = clk_signal;
   clock_found = refl;
   clock_unread = refl;
@@ -192,14 +221,17 @@ chain_is_accepted = record {
 
 sleeper_is_accepted : IsAcceptedDesign sleeper clk
 sleeper_is_accepted = record {
-  lawful = record { scopes = refl; numbered = refl; bits_numbered = refl; declared = refl; memories = refl; formed = refl; functions = refl; clocked_words = refl; few_bits = lit≤ tt; few_processes = lit≤ tt };
+  lawful = record { scopes = refl; numbered = refl; bits_numbered = refl; declared = refl; memories = refl; formed = refl; initials = refl; behind = refl; functions = refl; clocked_words = refl; few_bits = lit≤ tt; few_processes = lit≤ tt };
   fit = refl;
+  fit_initials = refl;
   small = lit≤ tt;
   unmixed = refl;
   sensitive = refl;
   no_function_latch = refl;
+  initial_form = refl;
   no_latch = refl;
   one_driver = refl;
+  no_clash = refl;
   clock = clk_signal;
   clock_found = refl;
   clock_unread = refl;
@@ -212,14 +244,17 @@ sleeper_is_accepted = record {
 
 never_run_is_accepted : IsAcceptedDesign never_run clk
 never_run_is_accepted = record {
-  lawful = record { scopes = refl; numbered = refl; bits_numbered = refl; declared = refl; memories = refl; formed = refl; functions = refl; clocked_words = refl; few_bits = lit≤ tt; few_processes = lit≤ tt };
+  lawful = record { scopes = refl; numbered = refl; bits_numbered = refl; declared = refl; memories = refl; formed = refl; initials = refl; behind = refl; functions = refl; clocked_words = refl; few_bits = lit≤ tt; few_processes = lit≤ tt };
   fit = refl;
+  fit_initials = refl;
   small = lit≤ tt;
   unmixed = refl;
   sensitive = refl;
   no_function_latch = refl;
+  initial_form = refl;
   no_latch = refl;
   one_driver = refl;
+  no_clash = refl;
   clock = clk_signal;
   clock_found = refl;
   clock_unread = refl;
@@ -232,14 +267,17 @@ never_run_is_accepted = record {
 
 resettable_is_accepted : IsAcceptedDesign resettable clk
 resettable_is_accepted = record {
-  lawful = record { scopes = refl; numbered = refl; bits_numbered = refl; declared = refl; memories = refl; formed = refl; functions = refl; clocked_words = refl; few_bits = lit≤ tt; few_processes = lit≤ tt };
+  lawful = record { scopes = refl; numbered = refl; bits_numbered = refl; declared = refl; memories = refl; formed = refl; initials = refl; behind = refl; functions = refl; clocked_words = refl; few_bits = lit≤ tt; few_processes = lit≤ tt };
   fit = refl;
+  fit_initials = refl;
   small = lit≤ tt;
   unmixed = refl;
   sensitive = refl;
   no_function_latch = refl;
+  initial_form = refl;
   no_latch = refl;
   one_driver = refl;
+  no_clash = refl;
   clock = clk_signal;
   clock_found = refl;
   clock_unread = refl;
@@ -252,14 +290,17 @@ resettable_is_accepted = record {
 
 reset_through_port_is_accepted : IsAcceptedDesign reset_through_port clk
 reset_through_port_is_accepted = record {
-  lawful = record { scopes = refl; numbered = refl; bits_numbered = refl; declared = refl; memories = refl; formed = refl; functions = refl; clocked_words = refl; few_bits = lit≤ tt; few_processes = lit≤ tt };
+  lawful = record { scopes = refl; numbered = refl; bits_numbered = refl; declared = refl; memories = refl; formed = refl; initials = refl; behind = refl; functions = refl; clocked_words = refl; few_bits = lit≤ tt; few_processes = lit≤ tt };
   fit = refl;
+  fit_initials = refl;
   small = lit≤ tt;
   unmixed = refl;
   sensitive = refl;
   no_function_latch = refl;
+  initial_form = refl;
   no_latch = refl;
   one_driver = refl;
+  no_clash = refl;
   clock = clk_signal;
   clock_found = refl;
   clock_unread = refl;
@@ -271,15 +312,19 @@ reset_through_port_is_accepted = record {
 }
 
 quiet_is_accepted : IsAcceptedDesign quiet clk
+unfolding write_all flatten
 quiet_is_accepted = record {
-  lawful = record { scopes = refl; numbered = refl; bits_numbered = refl; declared = refl; memories = refl; formed = refl; functions = refl; clocked_words = refl; few_bits = lit≤ tt; few_processes = lit≤ tt };
+  lawful = record { scopes = refl; numbered = refl; bits_numbered = refl; declared = refl; memories = refl; formed = refl; initials = refl; behind = refl; functions = refl; clocked_words = refl; few_bits = lit≤ tt; few_processes = lit≤ tt };
   fit = refl;
+  fit_initials = refl;
   small = lit≤ tt;
   unmixed = refl;
   sensitive = refl;
   no_function_latch = refl;
+  initial_form = refl;
   no_latch = refl;
   one_driver = refl;
+  no_clash = refl;
   clock = clk_signal;
   clock_found = refl;
   clock_unread = refl;
@@ -292,14 +337,17 @@ quiet_is_accepted = record {
 
 port_is_accepted : IsAcceptedDesign port clk
 port_is_accepted = record {
-  lawful = record { scopes = refl; numbered = refl; bits_numbered = refl; declared = refl; memories = refl; formed = refl; functions = refl; clocked_words = refl; few_bits = lit≤ tt; few_processes = lit≤ tt };
+  lawful = record { scopes = refl; numbered = refl; bits_numbered = refl; declared = refl; memories = refl; formed = refl; initials = refl; behind = refl; functions = refl; clocked_words = refl; few_bits = lit≤ tt; few_processes = lit≤ tt };
   fit = refl;
+  fit_initials = refl;
   small = lit≤ tt;
   unmixed = refl;
   sensitive = refl;
   no_function_latch = refl;
+  initial_form = refl;
   no_latch = refl;
   one_driver = refl;
+  no_clash = refl;
   clock = clk_signal;
   clock_found = refl;
   clock_unread = refl;
@@ -312,14 +360,17 @@ port_is_accepted = record {
 
 adder_is_accepted : IsAcceptedDesign adder clk
 adder_is_accepted = record {
-  lawful = record { scopes = refl; numbered = refl; bits_numbered = refl; declared = refl; memories = refl; formed = refl; functions = refl; clocked_words = refl; few_bits = lit≤ tt; few_processes = lit≤ tt };
+  lawful = record { scopes = refl; numbered = refl; bits_numbered = refl; declared = refl; memories = refl; formed = refl; initials = refl; behind = refl; functions = refl; clocked_words = refl; few_bits = lit≤ tt; few_processes = lit≤ tt };
   fit = refl;
+  fit_initials = refl;
   small = lit≤ tt;
   unmixed = refl;
   sensitive = refl;
   no_function_latch = refl;
+  initial_form = refl;
   no_latch = refl;
   one_driver = refl;
+  no_clash = refl;
   clock = clk_signal;
   clock_found = refl;
   clock_unread = refl;
@@ -332,14 +383,17 @@ adder_is_accepted = record {
 
 clocked_instance_is_accepted : IsAcceptedDesign clocked_instance clk
 clocked_instance_is_accepted = record {
-  lawful = record { scopes = refl; numbered = refl; bits_numbered = refl; declared = refl; memories = refl; formed = refl; functions = refl; clocked_words = refl; few_bits = lit≤ tt; few_processes = lit≤ tt };
+  lawful = record { scopes = refl; numbered = refl; bits_numbered = refl; declared = refl; memories = refl; formed = refl; initials = refl; behind = refl; functions = refl; clocked_words = refl; few_bits = lit≤ tt; few_processes = lit≤ tt };
   fit = refl;
+  fit_initials = refl;
   small = lit≤ tt;
   unmixed = refl;
   sensitive = refl;
   no_function_latch = refl;
+  initial_form = refl;
   no_latch = refl;
   one_driver = refl;
+  no_clash = refl;
   clock = clk_signal;
   clock_found = refl;
   clock_unread = refl;
@@ -352,14 +406,17 @@ clocked_instance_is_accepted = record {
 
 clock_alias_is_accepted : IsAcceptedDesign clock_alias clk
 clock_alias_is_accepted = record {
-  lawful = record { scopes = refl; numbered = refl; bits_numbered = refl; declared = refl; memories = refl; formed = refl; functions = refl; clocked_words = refl; few_bits = lit≤ tt; few_processes = lit≤ tt };
+  lawful = record { scopes = refl; numbered = refl; bits_numbered = refl; declared = refl; memories = refl; formed = refl; initials = refl; behind = refl; functions = refl; clocked_words = refl; few_bits = lit≤ tt; few_processes = lit≤ tt };
   fit = refl;
+  fit_initials = refl;
   small = lit≤ tt;
   unmixed = refl;
   sensitive = refl;
   no_function_latch = refl;
+  initial_form = refl;
   no_latch = refl;
   one_driver = refl;
+  no_clash = refl;
   clock = clk_signal;
   clock_found = refl;
   clock_unread = refl;
@@ -372,14 +429,17 @@ clock_alias_is_accepted = record {
 
 reset_alias_is_accepted : IsAcceptedDesign reset_alias clk
 reset_alias_is_accepted = record {
-  lawful = record { scopes = refl; numbered = refl; bits_numbered = refl; declared = refl; memories = refl; formed = refl; functions = refl; clocked_words = refl; few_bits = lit≤ tt; few_processes = lit≤ tt };
+  lawful = record { scopes = refl; numbered = refl; bits_numbered = refl; declared = refl; memories = refl; formed = refl; initials = refl; behind = refl; functions = refl; clocked_words = refl; few_bits = lit≤ tt; few_processes = lit≤ tt };
   fit = refl;
+  fit_initials = refl;
   small = lit≤ tt;
   unmixed = refl;
   sensitive = refl;
   no_function_latch = refl;
+  initial_form = refl;
   no_latch = refl;
   one_driver = refl;
+  no_clash = refl;
   clock = clk_signal;
   clock_found = refl;
   clock_unread = refl;
@@ -392,14 +452,17 @@ reset_alias_is_accepted = record {
 
 sum_is_accepted : IsAcceptedDesign sum clk
 sum_is_accepted = record {
-  lawful = record { scopes = refl; numbered = refl; bits_numbered = refl; declared = refl; memories = refl; formed = refl; functions = refl; clocked_words = refl; few_bits = lit≤ tt; few_processes = lit≤ tt };
+  lawful = record { scopes = refl; numbered = refl; bits_numbered = refl; declared = refl; memories = refl; formed = refl; initials = refl; behind = refl; functions = refl; clocked_words = refl; few_bits = lit≤ tt; few_processes = lit≤ tt };
   fit = refl;
+  fit_initials = refl;
   small = lit≤ tt;
   unmixed = refl;
   sensitive = refl;
   no_function_latch = refl;
+  initial_form = refl;
   no_latch = refl;
   one_driver = refl;
+  no_clash = refl;
   clock = clk_signal;
   clock_found = refl;
   clock_unread = refl;
@@ -497,6 +560,7 @@ designs_computed = record {
 }
 
 pub refusals_computed : RefusalsComputed
+unfolding write_all flatten
 refusals_computed = record {
   too_large_refused = refl;
   unformed_refused = refl;
@@ -532,14 +596,17 @@ refusals_computed = record {
 
 greatest_is_accepted : IsAcceptedDesign greatest clk
 greatest_is_accepted = record {
-  lawful = record { scopes = refl; numbered = refl; bits_numbered = refl; declared = refl; memories = refl; formed = refl; functions = refl; clocked_words = refl; few_bits = lit≤ tt; few_processes = lit≤ tt };
+  lawful = record { scopes = refl; numbered = refl; bits_numbered = refl; declared = refl; memories = refl; formed = refl; initials = refl; behind = refl; functions = refl; clocked_words = refl; few_bits = lit≤ tt; few_processes = lit≤ tt };
   fit = refl;
+  fit_initials = refl;
   small = lit≤ tt;
   unmixed = refl;
   sensitive = refl;
   no_function_latch = refl;
+  initial_form = refl;
   no_latch = refl;
   one_driver = refl;
+  no_clash = refl;
   clock = clk_signal;
   clock_found = refl;
   clock_unread = refl;

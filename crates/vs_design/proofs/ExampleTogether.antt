@@ -9,14 +9,17 @@ use Rattle.vs_design.specs.ExampleTogether.{TogetherComputed, stored}
 stored_is_accepted : IsAcceptedDesign stored clk
 unfolding write_all is_written flatten
 stored_is_accepted = record {
-  lawful = record { scopes = refl; numbered = refl; bits_numbered = refl; declared = refl; memories = refl; formed = refl; functions = refl; clocked_words = refl; few_bits = lit≤ tt; few_processes = lit≤ tt };
+  lawful = record { scopes = refl; numbered = refl; bits_numbered = refl; declared = refl; memories = refl; formed = refl; initials = refl; behind = refl; functions = refl; clocked_words = refl; few_bits = lit≤ tt; few_processes = lit≤ tt };
   fit = refl;
+  fit_initials = refl;
   small = lit≤ tt;
   unmixed = refl;
   sensitive = refl;
   no_function_latch = refl;
+  initial_form = refl;
   no_latch = refl;
   one_driver = refl;
+  no_clash = refl;
   clock = clk_signal;
   clock_found = refl;
   clock_unread = refl;

@@ -3,7 +3,7 @@ use Rattle.vs_net.proofs.Beginning.{written_or}
 use Rattle.vs_net.proofs.Basics.{flat_cons}
 use Rattle.std.proofs.Common.{◌≡◌, ◌≢◌, ℕ, zero, suc, ◌+◌, ◌*◌, ◌≤◌, Bool, true, false, List, [], ◌++◌, ◌&&◌, ◌==◌, eqb-true, eq-eqb, not, inl, inr, refl, sym, ap, ◌∙◌, subst, length, Option, Some, None, arith, ◌∷◌, ◌⊎◌, ◌<◌}
 use Rattle.std.specs.Prelude.{slice_get}
-use Rattle.std.specs.List.{list_any, filter}
+use Rattle.std.specs.List.{list_any, list_all, filter}
 use Rattle.vs_four.specs.declared.Bit4.TheVariants.{X}
 use Rattle.vs_net.specs.Network.{State, Write, Effect, is_written, flatten, AnAssign, AComb, AClocked, kind, writes, listens, made, updates, effects, Update}
 use Rattle.vs_net.specs.Lawful.{Settles, IsUnknown}
@@ -13,18 +13,22 @@ use Rattle.vs_design.specs.Expressions.{Signal, range_or_one, words_length, sign
 use Rattle.vs_design.specs.Values.{count_from, bits_of_signal}
 use Rattle.vs_design.specs.Statements.{Target}
 use Rattle.vs_design.specs.Bodies.{assignment_writes, body}
-use Rattle.vs_design.specs.Designs.{Process, Continuous, Always, Design, top_inputs, bit_count}
-use Rattle.vs_design.specs.Footprints.{contains, read_bits, target_reads, target_bits, writes_of, net_bits, input_bits, variable_bits, signals_bits, is_input, is_net, is_variable}
+use Rattle.vs_design.specs.Designs.{Process, Continuous, Always, Initial, Design, top_inputs, bit_count}
+use Rattle.vs_design.specs.Footprints.{contains, read_bits, target_reads, target_bits, statement_bits, writes_of, net_bits, input_bits, variable_bits, signals_bits, is_input, is_net, is_variable}
 use Rattle.vs_design.specs.Levels.{level_order}
-use Rattle.vs_design.specs.Networks.{network_of, idle_value}
+use Rattle.vs_design.specs.Elaborated.{is_formed_initial}
+use Rattle.vs_design.specs.Rules.{written_bits}
+use Rattle.vs_design.specs.Initials.{initial_bits, sole_bits, idle_value}
+use Rattle.vs_design.specs.Networks.{spare_writers, network_of}
 use Rattle.vs_design.specs.Accepted.{IsAcceptedDesign}
-use Rattle.vs_design.proofs.Lists.{by_test, or_left, contains-left}
+use Rattle.vs_design.proofs.Lists.{by_test, and_both, or_left, contains-left, contains_filter}
 use Rattle.vs_design.proofs.Writes.{either_way, assignment_within, assignment_assigns}
 use Rattle.vs_design.proofs.BodyExact.{body_within, body_updates}
 use Rattle.vs_design.proofs.BodyLocal.{assignment_local}
 use Rattle.vs_design.proofs.Blocks.{block_writes, block_reads}
-use Rattle.vs_design.proofs.Drivers.{one_process}
-use Rattle.vs_design.proofs.Signals.{kinds_apart, member_bits, one_signal, filter_high}
+use Rattle.vs_design.proofs.Drivers.{one_process, written_some}
+use Rattle.vs_design.proofs.Formed.{statement_kind}
+use Rattle.vs_design.proofs.Signals.{split, kinds_apart, member_bits, one_signal, filter_high}
 use Rattle.vs_design.proofs.Order.{no_loop}
 use Rattle.vs_design.proofs.Along.{constant_assigns}
 use Rattle.vs_design.proofs.Parts.{by_kind}
@@ -33,6 +37,11 @@ use Rattle.vs_design.proofs.Facts.{assign_facts, block_facts, comb_facts}
 -- what a run gives is written at once or by an update
 given_within : (ws : List Write) (us : List Update) (b : ℕ) → is_written (flatten (ws ∷ us)) b ≡ true → (is_written ws b ≡ true) ⊎ (is_written (flatten us) b ≡ true)
 given_within ws us b h = written_or ws (flatten us) b (subst (λ (xs : List Write). is_written xs b ≡ true) (flat_cons ws us) h)
+
+-- a block that never writes gives nothing
+pub nothing_given : (b : ℕ) → is_written (flatten ([] ∷ [])) b ≡ true → ⊥
+unfolding flatten is_written
+nothing_given b h = cc
 
 pub assign_exact : (t : Target) (e : Expression) (s : State) (b : ℕ) → Rattle.vs_design.specs.Elaborated.has_constant_selects t ≡ true → Rattle.vs_design.specs.Fits.fits_target t ≡ true → is_written (assignment_writes t e s) b ≡ contains (target_bits t) b
 assign_exact t e s b c f =
@@ -53,6 +62,7 @@ module _ (d : Design) (name : Option (List ℕ)) (a : IsAcceptedDesign d name) (
     inputs = λ p i r l e f z. absurd z;
     clock = λ p i r l e f z. absurd z;
     spare = λ p l f z. absurd z;
+    keeper = λ p l m bs e z. absurd z;
     none = λ p z. absurd z;
   }) p
 
@@ -64,6 +74,7 @@ module _ (d : Design) (name : Option (List ℕ)) (a : IsAcceptedDesign d name) (
     inputs = λ p i r l e f z. absurd z;
     clock = λ p i r l e f z. absurd z;
     spare = λ p l f z. absurd z;
+    keeper = λ p l m bs e z. absurd z;
     none = λ p z. absurd z;
   }) p
 
@@ -78,6 +89,7 @@ module _ (d : Design) (name : Option (List ℕ)) (a : IsAcceptedDesign d name) (
     inputs = λ p i r l e f w. refl;
     clock = λ p i r l e f w. refl;
     spare = λ p l f w. refl;
+    keeper = λ p l m bs e w. refl;
     none = λ p w. refl;
   }) p
 
@@ -89,6 +101,7 @@ module _ (d : Design) (name : Option (List ℕ)) (a : IsAcceptedDesign d name) (
     inputs = λ p i r l e f w. refl;
     clock = λ p i r l e f w. refl;
     spare = λ p l f w. refl;
+    keeper = λ p l m bs e w. cc;
     none = λ p w. refl;
   }) p
 
@@ -100,6 +113,7 @@ module _ (d : Design) (name : Option (List ℕ)) (a : IsAcceptedDesign d name) (
     inputs = λ p i r l e f w. cc;
     clock = λ p i r l e f w. cc;
     spare = λ p l f w. cc;
+    keeper = λ p l m bs e w z. absurd (nothing_given b z);
     none = λ p w. cc;
   }) p
 
@@ -110,6 +124,7 @@ pub data Writer (d : Design) (c p b : ℕ) : Type 0 where
   by_process : (x : Process) → slice_get d.processes p ≡ Some x → contains (writes_of x) b ≡ true → Writer d c p b
   by_input : (i : ℕ) (s : Signal) → p ≡ length d.processes + i → slice_get (top_inputs d) i ≡ Some s → contains (bits_of_signal s) b ≡ true → Writer d c p b
   by_spare : p ≡ length d.processes + length (top_inputs d) → bit_count d ≤ b → Writer d c p b
+  by_keeper : p ≡ length d.processes + (length (top_inputs d) + length (spare_writers d c)) → contains (sole_bits d) b ≡ true → Writer d c p b
 
 pub listed : (bs : List ℕ) (b : ℕ) → list_any (λ c. b == c) bs ≡ true → contains bs b ≡ true
 listed bs b h = h
@@ -151,6 +166,7 @@ writer d c p b = by_kind d c (λ p x. writes x b ≡ true → Writer d c p b) (r
   inputs = λ p i s l e f w. by_input i s l e w;
   clock = λ p i s l e f w. by_input i s l e (subst (λ m. contains (bits_of_signal s) m ≡ true) (f ∙ sym (eqb-true b c w)) (first_bit s));
   spare = λ p l f w. by_spare l (let k = eqb-true b c w in omega (arith, f, k));
+  keeper = λ p l m bs e w. by_keeper l (subst (λ xs. contains xs b ≡ true) (sym e) w);
   none = λ p w. cc;
 }) p
 
@@ -183,6 +199,32 @@ module _ (d : Design) (name : Option (List ℕ)) (a : IsAcceptedDesign d name) (
   pub kind_below : (t : Signal → Bool) (b : ℕ) → contains (signals_bits (filter t d.signals)) b ≡ true → b < bit_count d
   kind_below t b h = let m = filter_high t 0 d.signals b a.lawful.bits_numbered h in omega (arith, m)
 
+  -- what initial processes write are variables' bits
+  pub initial_variable : (b : ℕ) → contains (initial_bits d.initials) b ≡ true → contains (variable_bits d) b ≡ true
+  initial_variable b = go d.initials a.lawful.initials
+    where
+      go : (is : List Initial) → list_all (is_formed_initial d) is ≡ true → contains (initial_bits is) b ≡ true → contains (variable_bits d) b ≡ true
+      go [] f h = cc
+      go (i ∷ is) f h =
+          let k = and_both (is_formed_initial d i) (list_all (is_formed_initial d) is) f in
+          split (statement_bits i.statement) (initial_bits is) b h (λ w. statement_kind d i.statement b k.0 w) (λ w. go is k.1 w)
+
+  -- and of these no process writes those that are theirs alone
+  pub sole_facts : (b : ℕ) → contains (sole_bits d) b ≡ true → (contains (initial_bits d.initials) b ≡ true) × (contains (written_bits d.processes) b ≡ false)
+  sole_facts b h =
+      let k = and_both (contains (initial_bits d.initials) b) (not (contains (written_bits d.processes) b)) (sym (contains_filter (λ b. not (contains (written_bits d.processes) b)) (initial_bits d.initials) b) ∙ h) in
+      (k.0, no_more (contains (written_bits d.processes) b) k.1)
+    where
+      no_more : (c : Bool) → not c ≡ true → c ≡ false
+      no_more true h = cc
+      no_more false h = refl
+
+  pub sole_variable : (b : ℕ) → contains (sole_bits d) b ≡ true → contains (variable_bits d) b ≡ true
+  sole_variable b h = initial_variable b (sole_facts b h).0
+
+  pub sole_unwritten : (b p : ℕ) (x : Process) → contains (sole_bits d) b ≡ true → slice_get d.processes p ≡ Some x → contains (writes_of x) b ≡ false
+  sole_unwritten b p x h e = by_test (contains (writes_of x) b) (λ w. absurd (either_way (contains (written_bits d.processes) b) (written_some d.processes p x b e w) (sole_facts b h).1)) (λ w. w)
+
   process_below : (p b : ℕ) (x : Process) → slice_get d.processes p ≡ Some x → contains (writes_of x) b ≡ true → b < bit_count d
   process_below p b (Continuous place port target_place target e) h w = kind_below is_net b ((assign_facts d name a p place port target_place target e h).nets b w)
   process_below p b (Always place star events st) h w = kind_below is_variable b ((block_facts d name a p place star events st h).variables b w)
@@ -204,6 +246,13 @@ module _ (d : Design) (name : Option (List ℕ)) (a : IsAcceptedDesign d name) (
       go (by_input i s l e w) (by_spare m f) = absurd (let k = kind_below is_input b (member_bits (top_inputs d) i s b e w) in omega (arith, k, f))
       go (by_spare l e) (by_input j r m f z) = absurd (let k = kind_below is_input b (member_bits (top_inputs d) j r b f z) in omega (arith, k, e))
       go (by_spare l e) (by_spare m f) = m ∙ sym l
+      go (by_keeper l e) (by_keeper m f) = m ∙ sym l
+      go (by_keeper l e) (by_process y f z) = absurd (either_way (contains (writes_of y) b) z (sole_unwritten b q y e f))
+      go (by_process x e w) (by_keeper m f) = absurd (either_way (contains (writes_of x) b) w (sole_unwritten b p x f e))
+      go (by_keeper l e) (by_input j r m f z) = absurd (variables_not_inputs b (sole_variable b e) (member_bits (top_inputs d) j r b f z))
+      go (by_input i s l e w) (by_keeper m f) = absurd (variables_not_inputs b (sole_variable b f) (member_bits (top_inputs d) i s b e w))
+      go (by_keeper l e) (by_spare m f) = absurd (let k = kind_below is_variable b (sole_variable b e) in omega (arith, k, f))
+      go (by_spare l e) (by_keeper m f) = absurd (let k = kind_below is_variable b (sole_variable b f) in omega (arith, k, e))
 
   idle_of : (b : ℕ) → contains (net_bits d) b ≡ false → idle_value d b ≡ X
   idle_of b h = rw h refl
@@ -218,6 +267,7 @@ module _ (d : Design) (name : Option (List ℕ)) (a : IsAcceptedDesign d name) (
     clocked = λ p place star events st h k w l. idle_of b (not_net b (variables_not_nets b ((block_facts d name a p place star events st h).variables b w)));
     inputs = λ p i s l e f w k. idle_of b (not_net b (λ n. nets_not_inputs b n (member_bits (top_inputs d) i s b e w)));
     spare = λ p l f w k. idle_of b (not_net b (λ n. let m = kind_below is_net b n in let o = eqb-true b c w in omega (arith, f, m, o)));
+    keeper = λ p l m bs e w k. idle_of b (not_net b (variables_not_nets b (sole_variable b (subst (λ xs. contains xs b ≡ true) (sym e) w))));
     clock = λ p i s l e f w k. idle_of b (not_net b (λ n. nets_not_inputs b n (member_bits (top_inputs d) i s b e (subst (λ m. contains (bits_of_signal s) m ≡ true) (f ∙ sym (eqb-true b c w)) (first_bit s)))));
     none = λ p w k. cc;
   }) p

@@ -23,8 +23,12 @@ pub mod Drivers
 pub mod Order
 pub mod Along
 pub mod Formed
+pub mod FormedWithin
+pub mod Starts
 pub mod Facts
 pub mod LawfulParts
+pub mod RaceLaws
+pub mod Begun
 pub mod ClockNets
 pub mod ClockLaws
 pub mod TimeBits
@@ -33,7 +37,9 @@ pub mod SleepLaws
 pub mod TimeLaws
 pub mod Lawful
 pub mod WidthExact
-pub mod RaceLaws
+pub mod TextOrder
+pub mod Least
+pub mod Sharing
 pub mod Exactly
 pub mod Named
 pub mod TreeFacts
@@ -57,6 +63,7 @@ pub mod Bounded
 pub mod ClosedNets
 pub mod ExampleLaws
 pub mod ExampleBlocking
+pub mod ExampleInitials
 pub mod ExampleMemoryLaws
 pub mod ExampleTogether
 pub mod SpareLaws

@@ -5,23 +5,22 @@ use Rattle.std.specs.List.{list_all}
 use Rattle.vs_four.specs.declared.Bit4.TheVariants.{X}
 use Rattle.vs_four.specs.Logic.{BitList}
 use Rattle.vs_four.specs.Tables.{same}
-use Rattle.vs_four.specs.Numbers.{all_x}
 use Rattle.vs_four.specs.Selects.{range_length}
 use Rattle.vs_net.specs.Network.{State, Write, Update, Effect, write_all, is_written, flatten, to_value}
 use Rattle.vs_net.specs.Network as N
 use Rattle.vs_net.specs.Queue.{Slot, Fall, Rise}
 use Rattle.vs_net.specs.Solution.{reset_effects, beginning, IsSlotEnd, IsSolution}
-use Rattle.vs_net.proofs.Beginning.{begins_none}
 use Rattle.vs_net.proofs.Basics.{write_all_at, write_all_covered, write_all_other, write_all-append}
-use Rattle.vs_design.specs.Expressions.{Signal, word_length, addresses}
-use Rattle.vs_design.specs.Values.{count_from, bits_of_signal, read}
+use Rattle.vs_design.specs.Expressions.{Signal, addresses}
+use Rattle.vs_design.specs.Values.{bits_of_signal, read}
 use Rattle.vs_design.specs.Statements.{Statement}
 use Rattle.vs_design.specs.Bodies.{body}
 use Rattle.vs_design.specs.Designs.{Event, Process, Continuous, Always, is_clocked, Design}
-use Rattle.vs_design.specs.Footprints.{contains, statement_bits, writes_of, net_bits, variable_bits, input_bits, is_memory, is_variable}
+use Rattle.vs_design.specs.Footprints.{contains, statement_bits, writes_of, variable_bits, input_bits, is_memory, is_variable}
 use Rattle.vs_design.specs.Clocks.{clock_nets, root_of, events_of}
 use Rattle.vs_design.specs.Resets.{reset_of}
-use Rattle.vs_design.specs.Networks.{network_of, idle_value}
+use Rattle.vs_design.specs.Initials.{start_value}
+use Rattle.vs_design.specs.Networks.{network_of}
 use Rattle.vs_design.specs.Elaborated.{are_lawful_words, is_lawful_memory, is_formed_process, is_formed_statement, are_formed_events, has_clocked_words, writes_no_word}
 use Rattle.vs_design.specs.Accepted.{IsAcceptedDesign}
 use Rattle.vs_design.specs.SlotValues.{register_value}
@@ -35,6 +34,8 @@ use Rattle.vs_design.proofs.Drivers.{one_process}
 use Rattle.vs_design.proofs.Formed.{filtered_bits}
 use Rattle.vs_design.proofs.Facts.{assign_facts, block_facts}
 use Rattle.vs_design.proofs.LawfulParts.{variables_not_inputs, variables_not_nets}
+use Rattle.vs_design.proofs.Starts.{same_order}
+use Rattle.vs_design.proofs.Begun.{begun}
 use Rattle.vs_design.proofs.TreeFacts.{body_within_bits}
 use Rattle.vs_design.proofs.ResetLaws.{given, reset_is}
 use Rattle.vs_design.proofs.SlotEnds.{slot_values_are}
@@ -311,22 +312,8 @@ module _ (d : Design) (name : Option (List ℕ)) (a : IsAcceptedDesign d name) w
           ap {B = List BitList} (λ r. r ∷ map (λ y. read y bits) xs) one
           ∙ ap {B = List BitList} (λ r. word_after (slot_effects d clock slot before d.processes) bits v ∷ r) (along (word_after (slot_effects d clock slot before d.processes) bits v) x slots xs (sym one) h.1)
 
-      idle_word : (bs : List ℕ) → ((b : ℕ) → contains bs b ≡ true → idle_value d b ≡ X) → read (idle_value d) bs ≡ map (λ b. X) bs
-      idle_word [] h = refl
-      idle_word (b ∷ bs) h =
-          let head : idle_value d b ≡ X = h b (contains_head b bs) in
-          let rest : read (idle_value d) bs ≡ map (λ b. X) bs = idle_word bs (λ c m. h c (or_right (c == b) (contains bs c) m)) in
-          cc
-
-      all_of_x : (f n : ℕ) → map (λ b. X) (count_from f n) ≡ all_x n
-      all_of_x f zero = refl
-      all_of_x f (suc n) = ap {B = BitList} (λ r. X ∷ r) (all_of_x (suc f) n)
-
-      idle_bit : (b : ℕ) → contains (bits_of_signal s) b ≡ true → idle_value d b ≡ X
-      idle_bit b h = by_test (contains (net_bits d) b) (λ e. absurd (variables_not_nets d name a clock b (of_variable b h) e)) (λ e. rw e refl)
-
-      begins : all_x (word_length s) ≡ read (beginning (network_of d clock)) bits
-      begins = sym (read_same bits (beginning (network_of d clock)) (idle_value d) (λ b h. begins_none (network_of d clock) (λ p. refl) b) ∙ idle_word bits (λ b h. idle_bit b (word_in_bits s k b low h)) ∙ all_of_x (s.first + k * word_length s) (word_length s))
+      begins : read (start_value d) bits ≡ read (beginning (network_of d clock)) bits
+      begins = read_same bits (start_value d) (beginning (network_of d clock)) (λ b h. sym (begun d name a d.initials (same_order d.initials) b).1)
 
 pub words_are : WordsAre
-words_are d name a slots xs h i s at memory k low = along d name a i s at memory k low (all_x (word_length s)) (beginning (network_of d a.clock.first)) slots xs (begins d name a i s at memory k low) h
+words_are d name a slots xs h i s at memory k low = along d name a i s at memory k low (read (start_value d) (word_bits s k)) (beginning (network_of d a.clock.first)) slots xs (begins d name a i s at memory k low) h

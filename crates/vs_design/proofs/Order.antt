@@ -5,10 +5,10 @@ use Rattle.std.specs.List.{list_any}
 use Rattle.vs_net.specs.Network.{Network, AnAssign, AComb, kind, writes, listens}
 use Rattle.vs_net.specs.Network as N
 use Rattle.vs_net.specs.Lawful.{Settles, IsOrdered}
-use Rattle.vs_design.specs.Designs.{Process, Continuous, Always, is_clocked, Design}
+use Rattle.vs_design.specs.Designs.{Process, Continuous, Always, is_clocked, Initial, Design}
 use Rattle.vs_design.specs.Footprints.{contains, writes_of, reads_of, waits_of}
 use Rattle.vs_design.specs.Levels.{needs, feeds, is_ready, has_all, at_number, is_order_after}
-use Rattle.vs_design.specs.Networks.{network_of}
+use Rattle.vs_design.specs.Networks.{network_in, network_of}
 use Rattle.vs_design.proofs.Lists.{by_test, and_both, or_left, or_right, contains-left, contains-right}
 use Rattle.vs_design.proofs.Writes.{either_way}
 use Rattle.vs_design.proofs.Parts.{by_kind}
@@ -117,17 +117,18 @@ settler d c = by_kind d c (λ p x. Settles (kind x) → Settler d p x) (record {
   inputs = λ p i s l e f g. absurd g;
   clock = λ p i s l e f g. absurd g;
   spare = λ p l f g. absurd g;
+  keeper = λ p l m bs e g. absurd g;
   none = λ p s. absurd s;
 })
 
-pub is_ordered : (d : Design) (c : ℕ) (order placed : List ℕ) (P : ℕ → Type 0) → is_order_after placed d order ≡ true → ((p : ℕ) → contains placed p ≡ true → P p) → IsOrdered (network_of d c) P order
-is_ordered d c [] placed P h f = λ p s. let t = settler d c p s in f p (all_at_end d placed p t.x h t.is t.settles)
-is_ordered d c (p ∷ order) placed P h f =
+pub is_ordered : (d : Design) (c : ℕ) (is : List Initial) (order placed : List ℕ) (P : ℕ → Type 0) → is_order_after placed d order ≡ true → ((p : ℕ) → contains placed p ≡ true → P p) → IsOrdered (network_in d c is) P order
+is_ordered d c is [] placed P h f = λ p s. let t = settler d c p s in f p (all_at_end d placed p t.x h t.is t.settles)
+is_ordered d c is (p ∷ order) placed P h f =
     let t = turn_of d placed p order h in (
       (λ b r l w s.
           let u = settler d c r s in
           f r (t.ready r u.x b u.is u.settles (sym (u.writes_it b) ∙ w) (listened b l t))),
-      is_ordered d c order (p ∷ placed) (λ r. P r ⊎ (r ≡ p)) t.rest (λ r k. by_test (r == p) (λ e. inr (eqb-true r p e)) (λ e. inl (f r (subst (λ z. (z || contains placed r) ≡ true) e k)))),
+      is_ordered d c is order (p ∷ placed) (λ r. P r ⊎ (r ≡ p)) t.rest (λ r k. by_test (r == p) (λ e. inr (eqb-true r p e)) (λ e. inl (f r (subst (λ z. (z || contains placed r) ≡ true) e k)))),
     )
   where
     listened : (b : ℕ) → listens ((network_of d c).process p) b ≡ true → (t : Turn d placed p order) → contains (needs t.process) b ≡ true
@@ -143,5 +144,6 @@ is_ordered d c (p ∷ order) placed P h f =
           inputs = λ p i s l e f g. absurd (either_way false g refl);
           clock = λ p i s l e f g. absurd (either_way false g refl);
           spare = λ p l f g. absurd (either_way false g refl);
+          keeper = λ p l m bs e g. absurd (either_way false g refl);
           none = λ p l. absurd (either_way false l refl);
         }) p l

@@ -1,5 +1,5 @@
 -- The processes of a design's network, by kind.
-use Rattle.std.proofs.Common.{◌≡◌, ℕ, zero, suc, ◌+◌, ◌≤◌, Bool, true, false, List, [], ◌∷◌, ◌++◌, refl, sym, ap, subst, map, length, arith, ◌==◌, eqb-true, nat_lt, if◌then◌else◌, Some}
+use Rattle.std.proofs.Common.{◌≡◌, ℕ, zero, suc, ◌+◌, ◌≤◌, Bool, true, false, List, [], ◌∷◌, ◌++◌, refl, sym, ap, ◌∙◌, subst, map, length, arith, ◌==◌, eqb-true, nat_lt, if◌then◌else◌, Some, None}
 use Rattle.std.specs.Prelude.{slice_get}
 use Rattle.std.specs.List.{list_any, list_all}
 use Rattle.vs_net.specs.Network.{Network, State}
@@ -7,12 +7,13 @@ use Rattle.vs_net.specs.Network as N
 use Rattle.vs_design.specs.Expressions.{Signal, Expression}
 use Rattle.vs_design.specs.Values.{bits_of_signal}
 use Rattle.vs_design.specs.Statements.{Target, Statement}
-use Rattle.vs_design.specs.Bodies.{assignment_writes, body}
+use Rattle.vs_design.specs.Bodies.{assignment_writes, body, no_effect}
 use Rattle.vs_design.specs.Designs.{Event, Port, Process, Continuous, Always, is_clocked, Design, top_inputs, bit_count}
 use Rattle.vs_design.specs.Footprints.{contains, read_bits, target_reads, target_bits, statement_bits, waits_of}
 use Rattle.vs_design.specs.Clocks.{clock_bit, root_of}
 use Rattle.vs_design.specs.Resets.{reset_by}
-use Rattle.vs_design.specs.Networks.{events_in, block_process, process_of, writer_of, spare_writers, at_or_input, network_of}
+use Rattle.vs_design.specs.Networks.{events_in, block_process, process_of, writer_of, spare_writers, keeper_of, at_or_input, network_of}
+use Rattle.vs_design.specs.Initials.{sole_bits}
 use Rattle.vs_design.proofs.Lists.{by_test, and_both, or_neither}
 
 pub all_at : {A : Type 0} (test : A → Bool) (xs : List A) (n : ℕ) (x : A) → list_all test xs ≡ true → slice_get xs n ≡ Some x → test x ≡ true
@@ -58,10 +59,10 @@ at_writer d (y ∷ ps) c ss ws i zero s l e = absurd (omega arith)
 at_writer d (y ∷ ps) c ss ws i (suc p) s l e = at_writer d ps c ss ws i p s (omega arith) e
 
 pub process_there : (d : Design) (c p : ℕ) (x : Process) → slice_get d.processes p ≡ Some x → (network_of d c).process p ≡ process_of d c x
-process_there d c p x e = at_process d c d.processes (map (writer_of c) (top_inputs d) ++ spare_writers d c) p x e
+process_there d c p x e = at_process d c d.processes (map (writer_of c) (top_inputs d) ++ (spare_writers d c ++ keeper_of c (sole_bits d))) p x e
 
 pub writer_there : (d : Design) (c i : ℕ) (s : Signal) → slice_get (top_inputs d) i ≡ Some s → (network_of d c).process (length d.processes + i) ≡ writer_of c s
-writer_there d c i s e = at_writer d d.processes c (top_inputs d) (spare_writers d c) i (length d.processes + i) s refl e
+writer_there d c i s e = at_writer d d.processes c (top_inputs d) (spare_writers d c ++ keeper_of c (sole_bits d)) i (length d.processes + i) s refl e
 
 -- the process behind all inputs
 at_behind : (d : Design) (ps : List Process) (c : ℕ) (ss : List Signal) (w : N.Process) (ws : List N.Process) (p : ℕ) → p ≡ length ps + length ss → at_or_input (map (process_of d c) ps ++ (map (writer_of c) ss ++ (w ∷ ws))) p ≡ w
@@ -74,10 +75,25 @@ at_behind d (x ∷ ps) c ss w ws (suc p) l = at_behind d ps c ss w ws p (omega a
 
 -- a clock that isn't a bit of the design is there
 pub at_spare : (d : Design) (c : ℕ) → bit_count d ≤ c → (network_of d c).process (length d.processes + length (top_inputs d)) ≡ N.Clock c
-at_spare d c h = subst (λ (ws : List N.Process). at_or_input (map (process_of d c) d.processes ++ (map (writer_of c) (top_inputs d) ++ ws)) (length d.processes + length (top_inputs d)) ≡ N.Clock c) (sym spare_there) (at_behind d d.processes c (top_inputs d) (N.Clock c) [] (length d.processes + length (top_inputs d)) refl)
+at_spare d c h = subst (λ (ws : List N.Process). at_or_input (map (process_of d c) d.processes ++ (map (writer_of c) (top_inputs d) ++ (ws ++ keeper_of c (sole_bits d)))) (length d.processes + length (top_inputs d)) ≡ N.Clock c) (sym spare_there) (at_behind d d.processes c (top_inputs d) (N.Clock c) (keeper_of c (sole_bits d)) (length d.processes + length (top_inputs d)) refl)
   where
     spare_there : spare_writers d c ≡ N.Clock c ∷ []
     spare_there = rw (not_less c (bit_count d) h) refl
+
+at_skip : (xs ys : List N.Process) (n p : ℕ) → p ≡ length xs + n → at_or_input (xs ++ ys) p ≡ at_or_input ys n
+at_skip [] ys n p l = ap (at_or_input ys) (omega (arith, l))
+at_skip (x ∷ xs) ys n zero l = absurd (omega arith)
+at_skip (x ∷ xs) ys n (suc p) l = at_skip xs ys n p (omega arith)
+
+-- the block that keeps what initial processes alone write is there
+pub keeper_there : (d : Design) (c b : ℕ) (bs : List ℕ) → sole_bits d ≡ b ∷ bs → (p : ℕ) × ((network_of d c).process p ≡ N.Clocked c None (contains (b ∷ bs)) (λ s. no_effect))
+keeper_there d c b bs e = (
+  length (map (process_of d c) d.processes) + (length (map (writer_of c) (top_inputs d)) + (length (spare_writers d c) + 0)),
+  at_skip (map (process_of d c) d.processes) (map (writer_of c) (top_inputs d) ++ (spare_writers d c ++ keeper_of c (sole_bits d))) (length (map (writer_of c) (top_inputs d)) + (length (spare_writers d c) + 0)) _ refl
+      ∙ at_skip (map (writer_of c) (top_inputs d)) (spare_writers d c ++ keeper_of c (sole_bits d)) (length (spare_writers d c) + 0) _ refl
+      ∙ at_skip (spare_writers d c) (keeper_of c (sole_bits d)) 0 _ refl
+      ∙ ap (λ xs. at_or_input (keeper_of c xs) 0) e,
+)
 
 -- what holds of each process, by kind
 pub record Cases (d : Design) (c : ℕ) (F : ℕ → N.Process → Type 0) : Type 0 where
@@ -91,6 +107,8 @@ pub record Cases (d : Design) (c : ℕ) (F : ℕ → N.Process → Type 0) : Typ
   pub clock : (p i : ℕ) (s : Signal) → p ≡ length d.processes + i → slice_get (top_inputs d) i ≡ Some s → s.first ≡ c → F p (N.Clock c)
   -- a clock that isn't a bit of the design
   pub spare : (p : ℕ) → p ≡ length d.processes + length (top_inputs d) → bit_count d ≤ c → F p (N.Clock c)
+  -- the block that keeps what initial processes alone write
+  pub keeper : (p : ℕ) → p ≡ length d.processes + (length (top_inputs d) + length (spare_writers d c)) → (b : ℕ) (bs : List ℕ) → sole_bits d ≡ b ∷ bs → F p (N.Clocked c None (contains (b ∷ bs)) (λ s. no_effect))
   pub none : (p : ℕ) → F p (N.Input [])
 
 block_case : (d : Design) (c : ℕ) (F : ℕ → N.Process → Type 0) → Cases d c F → (p place : ℕ) (star : Bool) (events : List Event) (st : Statement) → slice_get d.processes p ≡ Some (Always place star events st)
@@ -109,25 +127,35 @@ writer_case d c F k p i s l e =
     (λ h. rw h (k.inputs p i s l e h))
 
 pub by_kind : (d : Design) (c : ℕ) (F : ℕ → N.Process → Type 0) → Cases d c F → (p : ℕ) → F p ((network_of d c).process p)
-by_kind d c F k p = walk d.processes p F k.none (λ q x e. process_case d c F k q x e) (λ q i s l e. writer_case d c F k q i s l e) k.spare
+by_kind d c F k p = walk d.processes p F k.none (λ q x e. process_case d c F k q x e) (λ q i s l e. writer_case d c F k q i s l e) k.spare k.keeper
   where
-    spares : (p : ℕ) (F' : ℕ → N.Process → Type 0) → ((q : ℕ) → F' q (N.Input [])) → ((q : ℕ) → q ≡ 0 → bit_count d ≤ c → F' q (N.Clock c)) → (b : Bool) → nat_lt c (bit_count d) ≡ b → F' p (at_or_input (if b then [] else (N.Clock c ∷ [])) p)
-    spares p F' n v true h = n p
-    spares zero F' n v false h = v 0 refl (less_not c (bit_count d) h)
-    spares (suc p) F' n v false h = n (suc p)
+    keepers : (p : ℕ) (F' : ℕ → N.Process → Type 0) → ((q : ℕ) → F' q (N.Input [])) → ((q : ℕ) → q ≡ 0 → (b : ℕ) (bs : List ℕ) → sole_bits d ≡ b ∷ bs → F' q (N.Clocked c None (contains (b ∷ bs)) (λ s. no_effect)))
+        → (bs : List ℕ) → sole_bits d ≡ bs → F' p (at_or_input (keeper_of c bs) p)
+    keepers p F' n w [] e = n p
+    keepers zero F' n w (b ∷ bs) e = w 0 refl b bs e
+    keepers (suc p) F' n w (b ∷ bs) e = n (suc p)
+
+    spares : (p : ℕ) (F' : ℕ → N.Process → Type 0) → ((q : ℕ) → F' q (N.Input [])) → ((q : ℕ) → q ≡ 0 → bit_count d ≤ c → F' q (N.Clock c)) → (b : Bool) → nat_lt c (bit_count d) ≡ b
+        → ((q : ℕ) → q ≡ length (if b then [] else (N.Clock c ∷ [])) → (b : ℕ) (bs : List ℕ) → sole_bits d ≡ b ∷ bs → F' q (N.Clocked c None (contains (b ∷ bs)) (λ s. no_effect)))
+        → F' p (at_or_input ((if b then [] else (N.Clock c ∷ [])) ++ keeper_of c (sole_bits d)) p)
+    spares p F' n v true h w = keepers p F' n w (sole_bits d) refl
+    spares zero F' n v false h w = v 0 refl (less_not c (bit_count d) h)
+    spares (suc p) F' n v false h w = keepers p (λ q x. F' (suc q) x) (λ q. n (suc q)) (λ q l b bs e. w (suc q) (ap suc l) b bs e) (sole_bits d) refl
 
     inputs : (ss : List Signal) (p : ℕ) (F' : ℕ → N.Process → Type 0) → ((q : ℕ) → F' q (N.Input [])) → ((q : ℕ) (s : Signal) → slice_get ss q ≡ Some s → F' q (writer_of c s)) → ((q : ℕ) → q ≡ length ss → bit_count d ≤ c → F' q (N.Clock c))
-        → F' p (at_or_input (map (writer_of c) ss ++ spare_writers d c) p)
-    inputs [] p F' n w v = spares p F' n v (nat_lt c (bit_count d)) refl
-    inputs (s ∷ ss) zero F' n w v = w 0 s refl
-    inputs (s ∷ ss) (suc p) F' n w v = inputs ss p (λ q x. F' (suc q) x) (λ q. n (suc q)) (λ q t e. w (suc q) t e) (λ q l h. v (suc q) (omega arith) h)
+        → ((q : ℕ) → q ≡ length ss + length (spare_writers d c) → (b : ℕ) (bs : List ℕ) → sole_bits d ≡ b ∷ bs → F' q (N.Clocked c None (contains (b ∷ bs)) (λ s. no_effect)))
+        → F' p (at_or_input (map (writer_of c) ss ++ (spare_writers d c ++ keeper_of c (sole_bits d))) p)
+    inputs [] p F' n w v k = spares p F' n v (nat_lt c (bit_count d)) refl (λ q l b bs e. k q (omega (arith, l)) b bs e)
+    inputs (s ∷ ss) zero F' n w v k = w 0 s refl
+    inputs (s ∷ ss) (suc p) F' n w v k = inputs ss p (λ q x. F' (suc q) x) (λ q. n (suc q)) (λ q t e. w (suc q) t e) (λ q l h. v (suc q) (omega arith) h) (λ q l b bs e. k (suc q) (omega (arith, l)) b bs e)
 
     walk : (ps : List Process) (p : ℕ) (F' : ℕ → N.Process → Type 0) → ((q : ℕ) → F' q (N.Input [])) → ((q : ℕ) (x : Process) → slice_get ps q ≡ Some x → F' q (process_of d c x))
         → ((q i : ℕ) (s : Signal) → q ≡ length ps + i → slice_get (top_inputs d) i ≡ Some s → F' q (writer_of c s)) → ((q : ℕ) → q ≡ length ps + length (top_inputs d) → bit_count d ≤ c → F' q (N.Clock c))
-        → F' p (at_or_input (map (process_of d c) ps ++ (map (writer_of c) (top_inputs d) ++ spare_writers d c)) p)
-    walk [] p F' n f w v = inputs (top_inputs d) p F' n (λ q s e. w q q s (omega arith) e) (λ q l h. v q (omega (arith, l)) h)
-    walk (x ∷ ps) zero F' n f w v = f 0 x refl
-    walk (x ∷ ps) (suc p) F' n f w v = walk ps p (λ q y. F' (suc q) y) (λ q. n (suc q)) (λ q y e. f (suc q) y e) (λ q i s l e. w (suc q) i s (omega arith) e) (λ q l h. v (suc q) (omega arith) h)
+        → ((q : ℕ) → q ≡ length ps + (length (top_inputs d) + length (spare_writers d c)) → (b : ℕ) (bs : List ℕ) → sole_bits d ≡ b ∷ bs → F' q (N.Clocked c None (contains (b ∷ bs)) (λ s. no_effect)))
+        → F' p (at_or_input (map (process_of d c) ps ++ (map (writer_of c) (top_inputs d) ++ (spare_writers d c ++ keeper_of c (sole_bits d)))) p)
+    walk [] p F' n f w v k = inputs (top_inputs d) p F' n (λ q s e. w q q s (omega arith) e) (λ q l h. v q (omega (arith, l)) h) (λ q l b bs e. k q (omega (arith, l)) b bs e)
+    walk (x ∷ ps) zero F' n f w v k = f 0 x refl
+    walk (x ∷ ps) (suc p) F' n f w v k = walk ps p (λ q y. F' (suc q) y) (λ q. n (suc q)) (λ q y e. f (suc q) y e) (λ q i s l e. w (suc q) i s (omega arith) e) (λ q l h. v (suc q) (omega arith) h) (λ q l b bs e. k (suc q) (omega (arith, l)) b bs e)
 
 pub beyond_count : (xs : List N.Process) (p : ℕ) → length xs ≤ p → at_or_input xs p ≡ N.Input []
 beyond_count [] p h = refl

@@ -4,7 +4,8 @@ use Rattle.std.specs.Prelude.{filter, slice_get}
 use Rattle.std.specs.List.{list_any}
 use Rattle.vs_four.specs.Logic.{BitList, truth}
 use Rattle.vs_four.specs.Tables.{is_one}
-use Rattle.vs_net.specs.Network.{State, Effect, write_all, is_written}
+use Rattle.vs_net.specs.Network.{State, Effect, write_all, is_written, flatten}
+use Rattle.vs_net.proofs.Basics.{none_written}
 use Rattle.vs_design.specs.Statements.{CaseKind, Target, Statement, Empty, Assignment, Then, If, Case, Arms, Arm, Default, case_width, case_sign}
 use Rattle.vs_design.specs.Values.{own_value, value}
 use Rattle.vs_design.specs.Bodies.{assignment_writes, effect_of, body, arms_body, is_taken}
@@ -12,11 +13,11 @@ use Rattle.vs_design.specs.Designs.{Process, is_clocked, Design}
 use Rattle.vs_design.specs.Footprints.{contains, target_bits, writes_of, reads_of}
 use Rattle.vs_design.specs.Fits.{fits_target, is_fit, fit_items, fits_statement, fits_arms}
 use Rattle.vs_design.specs.Levels.{needs, is_order_after}
-use Rattle.vs_design.specs.Races.{blocking_bits, arms_blocking, stirred_at, stir, stirred, raced_from, race_bits, is_none, race_free}
+use Rattle.vs_design.specs.Races.{blocking_bits, arms_blocking, nonblocking_bits, arms_nonblocking, stirred_at, stir, stirred, raced_from, race_bits, is_none, race_free}
 use Rattle.vs_design.proofs.Lists.{by_test, and_both, or_left, or_right, contains-left, contains-right}
 use Rattle.vs_design.proofs.Writes.{either_way, written-append, assignment_within}
 use Rattle.vs_design.proofs.Order.{turn_of, all_at_end, Turn}
-use Rattle.vs_design.proofs.BodyExact.{cond_of}
+use Rattle.vs_design.proofs.BodyExact.{cond_of, flatten-append, one_flat}
 
 -- ---- what is written at once
 
@@ -65,6 +66,52 @@ mutual
       (widen_left (blocking_bits statement) (arms_blocking rest) (body statement s) (body_once statement s m.1))
       (widen_right (blocking_bits statement) (arms_blocking rest) (arms_body rest kind w g v s) (arms_once rest kind w g v s k.1))
   arms_once (Default statement) kind w g v s f = body_once statement s f
+
+-- ---- and what by updates
+
+abbrev Later : List ℕ → Effect → Type 0
+Later bits f = (b : ℕ) → is_written (flatten f.updates) b ≡ true → contains bits b ≡ true
+
+later_left : (xs ys : List ℕ) (f : Effect) → Later xs f → Later (xs ++ ys) f
+later_left xs ys f h b k = contains-left xs ys b (h b k)
+
+later_right : (xs ys : List ℕ) (f : Effect) → Later ys f → Later (xs ++ ys) f
+later_right xs ys f h b k = contains-right xs ys b (h b k)
+
+effect_later : (t : Target) (e : Rattle.vs_design.specs.Expressions.Expression) (s : State) (blocking : Bool) → fits_target t ≡ true → Later (if blocking then [] else target_bits t) (effect_of blocking (assignment_writes t e s))
+effect_later t e s true f b h = absurd (none_written b h)
+effect_later t e s false f b h = assignment_within t e s b f (subst (λ ws. is_written ws b ≡ true) (one_flat (assignment_writes t e s)) h)
+
+mutual
+  pub body_later : (st : Statement) (s : State) → fits_statement st ≡ true → Later (nonblocking_bits st) (body st s)
+  body_later Empty s f = λ b h. absurd (none_written b h)
+  body_later (Assignment place target e blocking) s f = effect_later target e s blocking (and_both (fits_target target) (is_fit e) f).0
+  body_later (Then first rest) s f = λ b h.
+      let k = and_both (fits_statement first) (fits_statement rest) f in
+      by_part b (flatten-append (body first s).updates (body rest (write_all s (body first s).writes)).updates b h)
+      (λ w. contains-left (nonblocking_bits first) (nonblocking_bits rest) b (body_later first s k.0 b w))
+      (λ w. contains-right (nonblocking_bits first) (nonblocking_bits rest) b (body_later rest (write_all s (body first s).writes) k.1 b w))
+    where
+      by_part : {A B : Type 0} (b : ℕ) → A ⊎ B → (A → contains (nonblocking_bits (Then first rest)) b ≡ true) → (B → contains (nonblocking_bits (Then first rest)) b ≡ true) → contains (nonblocking_bits (Then first rest)) b ≡ true
+      by_part b (inl x) f g = f x
+      by_part b (inr y) f g = g y
+  body_later (If c taken other) s f =
+      let k = and_both (is_fit c && fits_statement taken) (fits_statement other) f in
+      let m = and_both (is_fit c) (fits_statement taken) k.0 in
+      cond_of (Later (nonblocking_bits taken ++ nonblocking_bits other)) (is_one (truth (own_value c s))) (body taken s) (body other s)
+      (later_left (nonblocking_bits taken) (nonblocking_bits other) (body taken s) (body_later taken s m.1))
+      (later_right (nonblocking_bits taken) (nonblocking_bits other) (body other s) (body_later other s k.1))
+  body_later (Case kind subject arms) s f =
+      arms_later arms kind (case_width subject arms) (case_sign subject arms) (value subject (case_width subject arms) (case_sign subject arms) s) s (and_both (is_fit subject) (fits_arms arms) f).1
+
+  arms_later : (arms : Arms) (kind : CaseKind) (w : ℕ) (g : Bool) (v : BitList) (s : State) → fits_arms arms ≡ true → Later (arms_nonblocking arms) (arms_body arms kind w g v s)
+  arms_later (Arm items statement rest) kind w g v s f =
+      let k = and_both (fit_items items && fits_statement statement) (fits_arms rest) f in
+      let m = and_both (fit_items items) (fits_statement statement) k.0 in
+      cond_of (Later (nonblocking_bits statement ++ arms_nonblocking rest)) (is_taken kind w g v items s) (body statement s) (arms_body rest kind w g v s)
+      (later_left (nonblocking_bits statement) (arms_nonblocking rest) (body statement s) (body_later statement s m.1))
+      (later_right (nonblocking_bits statement) (arms_nonblocking rest) (arms_body rest kind w g v s) (arms_later rest kind w g v s k.1))
+  arms_later (Default statement) kind w g v s f = body_later statement s f
 
 -- ---- what is stirred is closed
 

@@ -385,6 +385,7 @@ module _ (d : Design) (name : Option (List ℕ)) (a : IsAcceptedDesign d name) w
         (λ q. inr (λ b w. rootless k s e f q b w (roots b) refl));
     clock = λ p i s l e f k. cc;
     spare = λ p l f k. cc;
+    keeper = λ p l m bs e k. cc;
     none = λ p k. inr (λ b w. cc);
   }) p
     where
@@ -524,6 +525,7 @@ module _ (d : Design) (name : Option (List ℕ)) (a : IsAcceptedDesign d name) w
     inputs = λ p i s l e f k. cc;
     clock = λ p i s l e f k. cc;
     spare = λ p l f k. cc;
+    keeper = λ p l m bs e k. cc;
     none = λ p k. cc;
   }) p
 
@@ -540,6 +542,7 @@ module _ (d : Design) (name : Option (List ℕ)) (a : IsAcceptedDesign d name) w
     inputs = λ p i s l e f k. cc;
     clock = λ p i s l e f k. cc;
     spare = λ p l f k. cc;
+    keeper = λ p l m bs e k. cc;
     none = λ p k. cc;
   }) p
 
@@ -551,5 +554,6 @@ module _ (d : Design) (name : Option (List ℕ)) (a : IsAcceptedDesign d name) w
     inputs = λ p i s l e f k. cc;
     clock = λ p i s l e f k. cc;
     spare = λ p l f k. cc;
+    keeper = λ p l m bs e k. cc;
     none = λ p k. cc;
   }) p

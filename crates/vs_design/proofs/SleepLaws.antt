@@ -13,10 +13,12 @@ use Rattle.vs_net.proofs.Asleep.{times-append}
 use Rattle.vs_design.specs.Statements.{CaseKind, Statement, Empty, Assignment, Then, If, Case, Arms, Arm, Default, case_width, case_sign}
 use Rattle.vs_design.specs.Values.{own_value, value}
 use Rattle.vs_design.specs.Bodies.{last_of_each, assignment_writes, body, arms_body, is_taken}
-use Rattle.vs_design.specs.Designs.{Event, Process, Continuous, Always, is_clocked, is_combinational, Design, top_inputs}
+use Rattle.vs_design.specs.Designs.{Event, Process, Continuous, Always, is_clocked, is_combinational, Initial, Design, top_inputs}
+use Rattle.vs_design.specs.Initials.{initial_bits, IsOrderOf}
+use Rattle.vs_design.proofs.Begun.{unset}
 use Rattle.vs_design.specs.Footprints.{contains, target_bits, statement_bits, writes_of, waits_of, net_bits, variable_bits, is_variable}
 use Rattle.vs_design.specs.Fits.{fits_target, is_fit, fits_statement, fits_arms, fit_items}
-use Rattle.vs_design.specs.Networks.{network_of, block_process}
+use Rattle.vs_design.specs.Networks.{network_in, network_of, block_process}
 use Rattle.vs_design.specs.Accepted.{IsAcceptedDesign}
 use Rattle.vs_design.specs.Sleepers.{most_writes, arms_most, process_most, is_once, comb_bits, is_still, stays_x, is_sleeping, sleeper_if, sleeper_of, sleeper_at}
 use Rattle.vs_design.specs.Values.{bits_of_signal}
@@ -116,9 +118,10 @@ mutual
       (λ k. rw k (right_most _ (most_writes statement b) (arms_most rest b) (arms_times rest kind w g v s b h.1)))
   arms_times (Default statement) kind w g v s b f = run_times statement s b f
 
-unset_flat : (b : ℕ) → is_written (flatten []) b ≡ false
-unfolding is_written flatten
-unset_flat b = refl
+-- a block that never writes
+nothing_twice : (b : ℕ) → times (flatten ([] ∷ [])) b ≤ 1
+unfolding flatten times
+nothing_twice b = omega arith
 
 -- no clocked block writes such a bit twice in a run
 pub once_in : (ps : List Process) (n : ℕ) (place : ℕ) (star : Bool) (events : List Event) (st : Statement) (s : State) (b : ℕ) → is_once ps b ≡ true → slice_get ps n ≡ Some (Always place star events st) → is_clocked (Always place star events st) ≡ true → fits_statement st ≡ true → run_count (body st s) b ≤ 1
@@ -187,18 +190,28 @@ module _ (d : Design) (name : Option (List ℕ)) (a : IsAcceptedDesign d name) w
   abbrev net_work : Network
   net_work = network_of d a.clock.first
 
+  still_but : (b : ℕ) → is_still d b ≡ true → ((contains (variable_bits d) b && not (contains (comb_bits d.processes) b) && is_once d.processes b) ≡ true) × (not (contains (initial_bits d.initials) b) ≡ true)
+  still_but b h = and_both (contains (variable_bits d) b && not (contains (comb_bits d.processes) b) && is_once d.processes b) (not (contains (initial_bits d.initials) b)) h
+
+  still_unset : (b : ℕ) → is_still d b ≡ true → contains (initial_bits d.initials) b ≡ false
+  still_unset b h = go (contains (initial_bits d.initials) b) (still_but b h).1
+    where
+      go : (c : Bool) → not c ≡ true → c ≡ false
+      go true h = cc
+      go false h = refl
+
   still_variable : (b : ℕ) → is_still d b ≡ true → contains (variable_bits d) b ≡ true
-  still_variable b h = (and_both (contains (variable_bits d) b) (not (contains (comb_bits d.processes) b)) (and_both (contains (variable_bits d) b && not (contains (comb_bits d.processes) b)) (is_once d.processes b) h).0).0
+  still_variable b h = (and_both (contains (variable_bits d) b) (not (contains (comb_bits d.processes) b)) (and_both (contains (variable_bits d) b && not (contains (comb_bits d.processes) b)) (is_once d.processes b) (still_but b h).0).0).0
 
   still_comb : (b : ℕ) → is_still d b ≡ true → contains (comb_bits d.processes) b ≡ false
-  still_comb b h = go (contains (comb_bits d.processes) b) (and_both (contains (variable_bits d) b) (not (contains (comb_bits d.processes) b)) (and_both (contains (variable_bits d) b && not (contains (comb_bits d.processes) b)) (is_once d.processes b) h).0).1
+  still_comb b h = go (contains (comb_bits d.processes) b) (and_both (contains (variable_bits d) b) (not (contains (comb_bits d.processes) b)) (and_both (contains (variable_bits d) b && not (contains (comb_bits d.processes) b)) (is_once d.processes b) (still_but b h).0).0).1
     where
       go : (c : Bool) → not c ≡ true → c ≡ false
       go true h = cc
       go false h = refl
 
   still_once : (b : ℕ) → is_still d b ≡ true → is_once d.processes b ≡ true
-  still_once b h = (and_both (contains (variable_bits d) b && not (contains (comb_bits d.processes) b)) (is_once d.processes b) h).1
+  still_once b h = (and_both (contains (variable_bits d) b && not (contains (comb_bits d.processes) b)) (is_once d.processes b) (still_but b h).0).1
 
   -- such a bit is x before anything writes it
   still_idle : (b : ℕ) → is_still d b ≡ true → net_work.idle b ≡ X
@@ -213,6 +226,7 @@ module _ (d : Design) (name : Option (List ℕ)) (a : IsAcceptedDesign d name) w
     inputs = λ p i s l e f w. absurd (variables_not_inputs d name a a.clock.first b (still_variable b h) (member_bits (top_inputs d) i s b e w));
     clock = λ p i s l e f w. absurd (variables_not_inputs d name a a.clock.first b (still_variable b h) (member_bits (top_inputs d) i s b e (subst (λ m. contains (bits_of_signal s) m ≡ true) (f ∙ sym (eqb-true b a.clock.first w)) (first_bit s))));
     spare = λ p l f w. absurd (let k = kind_below d name a a.clock.first is_variable b (still_variable b h) in let e = eqb-true b a.clock.first w in omega (arith, f, k, e));
+    keeper = λ p l m bs e w. refl;
     none = λ p w. cc;
   }) r
 
@@ -228,6 +242,7 @@ module _ (d : Design) (name : Option (List ℕ)) (a : IsAcceptedDesign d name) w
     inputs = λ p i t l e f k. cc;
     clock = λ p i t l e f k. cc;
     spare = λ p l f k. cc;
+    keeper = λ p l m bs e k. nothing_twice b;
     none = λ p k. cc;
   }) r
 
@@ -237,13 +252,13 @@ module _ (d : Design) (name : Option (List ℕ)) (a : IsAcceptedDesign d name) w
       process_there d a.clock.first p (Always f.place f.star f.events f.statement) f.at
       ∙ ap {B = N.Process} (λ c. block_process d a.clock.first c (Always f.place f.star f.events f.statement) f.events f.statement) f.settles
 
-  pub is_sleeper : (p : ℕ) (x : Sleeper) → sleeper_at d p ≡ Some x → IsSleeper net_work p x
-  is_sleeper p x n = record {
+  pub is_sleeper : (order : List Initial) → IsOrderOf d.initials order → (p : ℕ) (x : Sleeper) → sleeper_at d p ≡ Some x → IsSleeper (network_in d a.clock.first order) p x
+  is_sleeper order o p x n = record {
     comb = ap {B = Kind} kind process;
     on_is = λ b. ap {B = Bool} (λ (y : Sleeper). contains y.on b) f.is ∙ sym (ap {B = Bool} (λ y. listens y b) process);
     bits_is = λ b. ap {B = Bool} (λ (y : Sleeper). contains y.bits b) f.is ∙ sym (ap {B = Bool} (λ y. writes y b) process);
     exact = λ b s w. exact d name a a.clock.first p b s (subst Settles (sym (ap {B = Kind} kind process)) tt) ∙ w;
-    unset = λ b r l. unset_flat b;
+    unset = λ b r l. unset d name a order o b r (still_unset b (still b l));
     idle = λ b w. still_idle b (still b w);
     register = λ b r w v. still_register b r (still b w) v;
     once = λ b r s w k. still_writes b r s (still b w) k;

@@ -12,10 +12,11 @@ use Rattle.vs_design.specs.Rules.{mixed_in, mixed_in_arms, mixed_assigns, missin
 use Rattle.vs_design.specs.Levels.{is_level_order}
 use Rattle.vs_design.specs.Sets.{Set4, has, only, is_only_x, is_unknown_set, is_known_set}
 use Rattle.vs_design.specs.LiftedBodies.{lifted_body}
+use Rattle.vs_design.specs.Initials.{initial_bits, idle_value, start_value}
 use Rattle.vs_design.specs.Clocks.{own_clock}
 use Rattle.vs_design.specs.Resets.{reset_of, with_reset, with_resets}
 use Rattle.vs_design.specs.Sleepers.{at_once, arms_at_once, comb_bits, is_once, is_still, stays_x, is_sleeping}
-use Rattle.vs_design.specs.TimeZero.{Families, families, early_source, before_run, block_sets, is_quiet, wakes}
+use Rattle.vs_design.specs.TimeZero.{Families, families, before_run, block_sets, is_quiet, wakes}
 use Rattle.vs_design.specs.Elaborated.{is_formed, is_formed_target, is_formed_port, is_formed_process, has_constant_selects}
 use Rattle.vs_design.specs.Accepted.{is_empty}
 use Rattle.vs_design.specs.Equations.{IsBlock, IsSource, IsOrderly}
@@ -35,6 +36,7 @@ use Rattle.vs_design.proofs.Facts.{CombFacts, comb_facts_by}
 use Rattle.vs_design.proofs.SleepLaws.{comb_listed}
 use Rattle.vs_design.proofs.TimeBits.{all_of_bits}
 use Rattle.vs_design.proofs.Solved.{solved}
+use Rattle.vs_design.proofs.Starts.{first_unset, start_unset}
 
 -- ---- a combinational block has blocking assignments alone
 
@@ -73,15 +75,17 @@ module _ (d : Design) (o : IsOrderly d) (clock : ℕ) (clock_in : (contains (inp
   abbrev f : Families
   f = families d clock order
 
-  -- such a bit is a variable's, and no assign and no combinational block writes it
+  -- such a bit is a variable's, and no assign, no combinational block and no initial process writes it
   record Still (b : ℕ) : Type 0 where
     pub variable : contains (variable_bits d) b ≡ true
     pub no_comb : contains (comb_bits d.processes) b ≡ false
+    pub unset : contains (initial_bits d.initials) b ≡ false
 
   still_is : (b : ℕ) → is_still d b ≡ true → Still b
   still_is b k =
-      let p = and_both (contains (variable_bits d) b) (not (contains (comb_bits d.processes) b)) (and_both (contains (variable_bits d) b && not (contains (comb_bits d.processes) b)) (is_once d.processes b) k).0 in
-      record { variable = p.0; no_comb = go (contains (comb_bits d.processes) b) p.1 }
+      let q = and_both (contains (variable_bits d) b && not (contains (comb_bits d.processes) b) && is_once d.processes b) (not (contains (initial_bits d.initials) b)) k in
+      let p = and_both (contains (variable_bits d) b) (not (contains (comb_bits d.processes) b)) (and_both (contains (variable_bits d) b && not (contains (comb_bits d.processes) b)) (is_once d.processes b) q.0).0 in
+      record { variable = p.0; no_comb = go (contains (comb_bits d.processes) b) p.1; unset = go (contains (initial_bits d.initials) b) q.1 }
     where
       go : (c : Bool) → not c ≡ true → c ≡ false
       go true q = cc
@@ -112,11 +116,14 @@ module _ (d : Design) (o : IsOrderly d) (clock : ℕ) (clock_in : (contains (inp
           (and_both (is_formed_target d is_net target) (has_constant_selects target) (and_both (is_formed_target d is_net target && has_constant_selects target) (is_formed d e) g.0).0).0
   source b k p (Always place star events st) i c = by_test (contains (statement_bits st) b) (λ w. absurd (either_way (contains (comb_bits d.processes) b) (comb_listed d.processes p place star events st b i c w) k.no_comb)) (λ w. w)
 
+  idle_is : (b : ℕ) → Still b → idle_value d b ≡ X
+  idle_is b k = rw (no_net b k) refl
+
   early_is : (b : ℕ) → Still b → f.early b ≡ only X
-  early_is b k = ((solved d o clock order h).source b (source b k)).0 ∙ rw (no_net b k) refl
+  early_is b k = ((solved d o clock order h).source b (source b k)).0 ∙ ap {B = Set4} only (first_unset d o.lawful.initials b k.unset ∙ idle_is b k)
 
   late_has : (b : ℕ) → Still b → has (f.late b) X ≡ true
-  late_has b k = subst (λ s. has s X ≡ true) (sym late_is) (resets_keep d clock d.processes b (early_source d b) (rw (no_net b k) refl))
+  late_has b k = subst (λ s. has s X ≡ true) (sym late_is) (resets_keep d clock d.processes b (only (start_value d b)) (subst (λ v. has (only v) X ≡ true) (sym (start_unset d o.lawful.initials b k.unset ∙ idle_is b k)) refl))
     where
       not_clock : contains (own_clock d clock) b ≡ false
       not_clock = by_test (b == clock) (λ e. absurd (by_place (eqb-true b clock e) clock_in)) (λ e. apart e (nat_lt clock (bit_count d)))
@@ -129,7 +136,7 @@ module _ (d : Design) (o : IsOrderly d) (clock : ℕ) (clock_in : (contains (inp
           by_place e (inl i) = either_way (contains (input_bits d) b) (subst (λ m. contains (input_bits d) m ≡ true) (sym e) i) (no_input b k)
           by_place e (inr l) = let m = filter_high is_variable 0 d.signals b o.lawful.bits_numbered k.variable in omega (arith, e, l, m)
 
-      late_is : f.late b ≡ with_resets d clock d.processes b (early_source d b)
+      late_is : f.late b ≡ with_resets d clock d.processes b (only (start_value d b))
       late_is = ((solved d o clock order h).source b (source b k)).1 ∙ rw (not_clock, no_input b k) refl
 
   -- so it doesn't wake

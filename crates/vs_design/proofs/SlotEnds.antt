@@ -1,6 +1,6 @@
 -- The equations of a slot on a design are those of its network.
 use Rattle.vs_net.specs.Lawful.{Settles}
-use Rattle.std.proofs.Common.{◌≡◌, ℕ, ◌+◌, Bool, true, false, List, [], ◌∷◌, ◌++◌, ◌||◌, ◌==◌, if◌then◌else◌, refl, sym, ap, ◌∙◌, subst, map, length, Some, eqb-true, eq-eqb, None, Option}
+use Rattle.std.proofs.Common.{◌≡◌, ℕ, ◌+◌, Bool, true, false, List, [], ◌∷◌, ◌++◌, ◌||◌, ◌==◌, if◌then◌else◌, refl, sym, ap, ◌∙◌, subst, map, length, Some, eqb-true, eq-eqb, None, Option, ◌⊎◌, inl, inr, ◌≤◌, arith}
 use Rattle.std.specs.Prelude.{slice_get}
 use Rattle.vs_four.specs.declared.Bit4.{Bit4}
 use Rattle.vs_net.specs.Network.{State, Write, Update, put, write_all, is_written, flatten, Network, Kind, AnInput, TheClock, AnAssign, AComb, AClocked, kind, writes, made}
@@ -11,21 +11,22 @@ use Rattle.vs_net.proofs.Basics.{write_all_other}
 use Rattle.vs_design.specs.Expressions.{Signal, signal_length, Expression}
 use Rattle.vs_design.specs.Values.{count_from, bits_of_signal}
 use Rattle.vs_design.specs.Statements.{Target, Statement}
-use Rattle.vs_design.specs.Bodies.{body}
-use Rattle.vs_design.specs.Designs.{Event, Port, Process, Continuous, Always, is_clocked, Design, top_inputs}
-use Rattle.vs_design.specs.Footprints.{contains, statement_bits, writes_of, input_bits}
+use Rattle.vs_design.specs.Bodies.{no_effect, body}
+use Rattle.vs_design.specs.Designs.{Event, Port, Process, Continuous, Always, is_clocked, Design, top_inputs, bit_count}
+use Rattle.vs_design.specs.Footprints.{contains, statement_bits, writes_of, input_bits, is_variable}
 use Rattle.vs_design.specs.Clocks.{clock_bit}
 use Rattle.vs_design.specs.Resets.{reset_of}
 use Rattle.vs_design.specs.Sleepers.{sleeper_of, sleeper_at}
+use Rattle.vs_design.specs.Initials.{sole_bits}
 use Rattle.vs_design.specs.Networks.{events_in, network_of, process_of, writer_of, block_process}
 use Rattle.vs_design.specs.Accepted.{IsAcceptedDesign}
 use Rattle.vs_design.specs.SlotValues.{clock_value, input_value, register_value, IsSlotValues, SlotValuesAre}
 use Rattle.vs_design.proofs.Lists.{by_test}
 use Rattle.vs_design.proofs.Writes.{either_way}
 use Rattle.vs_design.proofs.Signals.{member_bits}
-use Rattle.vs_design.proofs.Parts.{by_kind, process_there, writer_there}
-use Rattle.vs_design.proofs.LawfulParts.{first_bit}
-use Rattle.vs_design.proofs.ClockNets.{clock_at, clock_long, clock_number, clock_process, one_listed}
+use Rattle.vs_design.proofs.Parts.{by_kind, process_there, writer_there, keeper_there}
+use Rattle.vs_design.proofs.LawfulParts.{first_bit, variables_not_inputs, kind_below, sole_variable, sole_unwritten}
+use Rattle.vs_design.proofs.ClockNets.{clock_at, clock_inside, clock_long, clock_number, clock_process, one_listed}
 use Rattle.vs_design.proofs.TimeBits.{signal_with}
 use Rattle.vs_design.proofs.TimeLaws.{clock_signal}
 
@@ -72,6 +73,12 @@ unfolding write_all flatten
 register_driven c reset targets st (Fall v) before = refl
 register_driven c reset targets st Rise before = refl
 
+-- a block that never writes leaves its bits as they are
+keeper_driven : (c : ℕ) (targets : ℕ → Bool) (slot : Slot) (before : State) → driven (N.Clocked c None targets (λ s. no_effect)) slot before ≡ before
+unfolding write_all flatten
+keeper_driven c targets (Fall v) before = refl
+keeper_driven c targets Rise before = refl
+
 nothing_made : (s : State) → write_all s [] ≡ s
 unfolding write_all
 nothing_made s = refl
@@ -115,7 +122,7 @@ module _ (d : Design) (name : Option (List ℕ)) (a : IsAcceptedDesign d name) (
         registered p (clock_bit (events_in d a.clock.first events)) (reset_of d a.clock.first (Always place star events st)) st e b w;
     clock_input = clocked (clock_number d name a) (clock_process d name a);
     input = λ i r e f b w. given (length d.processes + i) (bits_of_signal r) (writer_at i r e ∙ input_writer r f) b w;
-    kept = λ b n i k. h.kept b (λ p. unwritten b n i k p);
+    kept = λ b n i k. by_test (contains (sole_bits d) b) (λ e. kept_by (sole_bits d) refl b e) (λ e. h.kept b (λ p. unwritten b n i k e p));
   }
     where
       input_writer : (r : Signal) → (r.first == a.clock.first) ≡ false → writer_of a.clock.first r ≡ N.Input (bits_of_signal r)
@@ -131,14 +138,23 @@ module _ (d : Design) (name : Option (List ℕ)) (a : IsAcceptedDesign d name) (
       given : (p : ℕ) (bits : List ℕ) → net_work.process p ≡ N.Input bits → (b : ℕ) → contains bits b ≡ true → s b ≡ input_value slot before b
       given p bits e b w = subst (λ x. IsWriter (kind x) → writes x b ≡ true → s b ≡ driven x slot before b) e (h.updated p b) tt w ∙ input_driven bits slot before b w
 
-      unwritten : (b : ℕ) → ((p : ℕ) (process : Process) → slice_get d.processes p ≡ Some process → contains (writes_of process) b ≡ false) → contains (input_bits d) b ≡ false → (b == a.clock.first) ≡ false → (p : ℕ) → writes (net_work.process p) b ≡ false
-      unwritten b n i k = by_kind d a.clock.first (λ p x. writes x b ≡ false) (record {
+      -- what initial processes alone write stays
+      kept_by : (bs : List ℕ) → sole_bits d ≡ bs → (b : ℕ) → contains bs b ≡ true → s b ≡ before b
+      kept_by [] q b e = cc
+      kept_by (m ∷ bs) q b e =
+          let r = keeper_there d a.clock.first m bs q in
+          subst (λ x. IsWriter (kind x) → writes x b ≡ true → s b ≡ driven x slot before b) r.1 (h.updated r.0 b) tt e ∙ ap {B = Bit4} (λ (t : State). t b) (keeper_driven a.clock.first (contains (m ∷ bs)) slot before)
+
+      unwritten : (b : ℕ) → ((p : ℕ) (process : Process) → slice_get d.processes p ≡ Some process → contains (writes_of process) b ≡ false) → contains (input_bits d) b ≡ false → (b == a.clock.first) ≡ false → contains (sole_bits d) b ≡ false
+          → (p : ℕ) → writes (net_work.process p) b ≡ false
+      unwritten b n i k o = by_kind d a.clock.first (λ p x. writes x b ≡ false) (record {
         assigns = λ p place port target_place target e h. n p (Continuous place port target_place target e) h;
         combs = λ p place star events st h c. n p (Always place star events st) h;
         clocked = λ p place star events st h c. n p (Always place star events st) h;
         inputs = λ p j r l e f. outside j r e;
         clock = λ p j r l e f. k;
         spare = λ p l f. k;
+        keeper = λ p l m bs e. subst (λ xs. contains xs b ≡ false) e o;
         none = λ p. refl;
       })
         where
@@ -156,6 +172,7 @@ module _ (d : Design) (name : Option (List ℕ)) (a : IsAcceptedDesign d name) (
       inputs = λ p j r l e f z. absurd z;
       clock = λ p j r l e f z. absurd z;
       spare = λ p l f z. absurd z;
+      keeper = λ p l m bs e z. absurd z;
       none = λ p z. absurd z;
     });
     updated = λ p b. by_kind d a.clock.first (λ p x. IsWriter (kind x) → writes x b ≡ true → s b ≡ driven x slot before b) (record {
@@ -165,11 +182,24 @@ module _ (d : Design) (name : Option (List ℕ)) (a : IsAcceptedDesign d name) (
       inputs = λ p j r l e f w z. h.input j r e f b z ∙ sym (input_driven (bits_of_signal r) slot before b z);
       clock = λ p j r l e f w z. subst (λ m. s m ≡ driven (N.Clock a.clock.first) slot before m) (sym (eqb-true b a.clock.first z)) (h.clock_input ∙ sym (clock_driven a.clock.first slot before));
       spare = λ p l f w z. subst (λ m. s m ≡ driven (N.Clock a.clock.first) slot before m) (sym (eqb-true b a.clock.first z)) (h.clock_input ∙ sym (clock_driven a.clock.first slot before));
+      keeper = λ p l m bs e w z.
+          let o : contains (sole_bits d) b ≡ true = subst (λ xs. contains xs b ≡ true) (sym e) z in
+          h.kept b (λ q x g. sole_unwritten d name a a.clock.first b q x o g) (sole_no_input b o) (sole_no_clock b o) ∙ sym (ap {B = Bit4} (λ (t : State). t b) (keeper_driven a.clock.first (contains (m ∷ bs)) slot before));
       none = λ p w z. cc;
     }) p;
     kept = λ b n. h.kept b (λ p x e. not_written b n p x e) (no_input b n) (not_clock b n);
   }
     where
+      sole_no_input : (b : ℕ) → contains (sole_bits d) b ≡ true → contains (input_bits d) b ≡ false
+      sole_no_input b o = by_test (contains (input_bits d) b) (λ i. absurd (variables_not_inputs d name a a.clock.first b (sole_variable d name a a.clock.first b o) i)) (λ i. i)
+
+      sole_no_clock : (b : ℕ) → contains (sole_bits d) b ≡ true → (b == a.clock.first) ≡ false
+      sole_no_clock b o = by_test (b == a.clock.first) (λ e. absurd (by_place (eqb-true b a.clock.first e) (clock_inside d a.clock (clock_at d name a)))) (λ e. e)
+        where
+          by_place : b ≡ a.clock.first → (contains (input_bits d) a.clock.first ≡ true) ⊎ (bit_count d ≤ a.clock.first) → ⊥
+          by_place e (inl q) = variables_not_inputs d name a a.clock.first b (sole_variable d name a a.clock.first b o) (subst (λ c. contains (input_bits d) c ≡ true) (sym e) q)
+          by_place e (inr past) = let low = kind_below d name a a.clock.first is_variable b (sole_variable d name a a.clock.first b o) in omega (arith, e, past, low)
+
       of_process : (x : Process) (b : ℕ) → contains (writes_of x) b ≡ true → writes (process_of d a.clock.first x) b ≡ true
       of_process (Continuous place port target_place target e) b w = w
       of_process (Always place star events st) b w = go (is_clocked (Always place star events st))

@@ -1,8 +1,8 @@
 -- What is stirred, and that what breaks the rule Race is the same along each level order.
 use Rattle.std.proofs.Common.{◌≡◌, ℕ, suc, Bool, true, false, List, [], ◌∷◌, ◌++◌, ◌||◌, ◌==◌, if◌then◌else◌, ◌⊎◌, inl, inr, refl, sym, ap, ◌∙◌, subst, Option, Some}
-use Rattle.std.specs.Prelude.{filter, slice_get, option_map}
+use Rattle.std.specs.Prelude.{filter, slice_get}
 use Rattle.std.specs.List.{list_any}
-use Rattle.vs_design.specs.Designs.{Process, is_clocked, process_place, Design}
+use Rattle.vs_design.specs.Designs.{Process, is_clocked, Design}
 use Rattle.vs_design.specs.Footprints.{contains, writes_of, reads_of}
 use Rattle.vs_design.specs.Levels.{needs, level_order, is_order_after, is_level_order, has_no_cycle}
 use Rattle.vs_design.specs.Races.{at_once_bits, stirred_at, stir, stirred, DependsOn, Itself, Through, raced_from, race_bits}

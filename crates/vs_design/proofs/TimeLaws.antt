@@ -12,7 +12,7 @@ use Rattle.vs_design.specs.Values.{count_from, bits_of_signal}
 use Rattle.vs_design.specs.Statements.{Statement}
 use Rattle.vs_design.specs.Bodies.{assignment_writes, body}
 use Rattle.vs_design.specs.Designs.{Event, Process, Continuous, Always, is_clocked, Design, top_inputs, bit_count}
-use Rattle.vs_design.specs.Footprints.{contains, read_bits, target_reads, statement_reads, statement_bits, writes_of, reads_of, waits_of, net_bits, input_bits, is_input}
+use Rattle.vs_design.specs.Footprints.{contains, read_bits, target_reads, statement_reads, statement_bits, writes_of, reads_of, waits_of, input_bits, is_input}
 use Rattle.vs_design.specs.Levels.{level_order}
 use Rattle.vs_design.specs.Sets.{Set4, has, only, known_set, union, is_only_x, is_unknown_set, is_known_set}
 use Rattle.vs_design.specs.Lifted.{Family}
@@ -22,7 +22,8 @@ use Rattle.vs_net.proofs.Basics.{write_all_covered, write_all_other}
 use Rattle.vs_net.proofs.Nets.{reset_clocked}
 use Rattle.vs_design.specs.Sleepers.{is_sleeping, sleeper_at}
 use Rattle.vs_design.specs.TimeZero.{Families, families, early_source, late_source, block_sets, early_end, late_end, is_quiet, wakes, is_uncertain}
-use Rattle.vs_design.specs.Networks.{network_of, process_of, block_process, idle_value}
+use Rattle.vs_design.specs.Initials.{first_value, start_value}
+use Rattle.vs_design.specs.Networks.{network_of, process_of, block_process}
 use Rattle.vs_design.specs.Accepted.{IsAcceptedDesign}
 use Rattle.vs_design.proofs.Lists.{by_test, and_both, or_left, or_right, contains-left, contains-right}
 use Rattle.vs_design.proofs.Writes.{either_way}
@@ -60,11 +61,15 @@ module _ (d : Design) (name : Option (List ℕ)) (a : IsAcceptedDesign d name) w
   first_sets : (b : ℕ) → ((p : ℕ) → writes (net_work.process p) b ≡ true → Settles (kind (net_work.process p)) → ⊥) → SameAt sets (record { early = early_source d; late = late_source d a.clock.first }) b
   first_sets b h = unwritten d (level_order d) (record { early = early_source d; late = late_source d a.clock.first }) b a.no_cycle (λ r x e k. by_test (contains (writes_of x) b) (λ w. let q = settling r x b e k w in absurd (h r q.0 q.1)) (λ w. w))
 
-  source_idle : (b : ℕ) → has (early_source d b) (idle_value d b) ≡ true
-  source_idle b = by_test (contains (net_bits d) b) (λ e. rw e refl) (λ e. rw e refl)
+  -- a value is in the set of it alone
+  only_has : (v : Bit4) → has (only v) v ≡ true
+  only_has Zero = refl
+  only_has One = refl
+  only_has X = refl
+  only_has Z = refl
 
-  pub early_idle : (b : ℕ) → ((p : ℕ) → writes (net_work.process p) b ≡ true → Settles (kind (net_work.process p)) → ⊥) → has (sets.early b) (net_work.idle b) ≡ true
-  early_idle b h = subst (λ s. has s (idle_value d b) ≡ true) (sym (first_sets b h).0) (source_idle b)
+  pub early_idle : (b : ℕ) → ((p : ℕ) → writes (net_work.process p) b ≡ true → Settles (kind (net_work.process p)) → ⊥) → has (sets.early b) (first_value d b) ≡ true
+  early_idle b h = subst (λ s. has s (first_value d b) ≡ true) (sym (first_sets b h).0) (only_has (first_value d b))
 
   pub early_comb : (p b : ℕ) → kind (net_work.process p) ≡ AComb → writes (net_work.process p) b ≡ true → has (sets.early b) X ≡ true
   early_comb p b = by_kind d a.clock.first (λ p x. kind x ≡ AComb → writes x b ≡ true → has (sets.early b) X ≡ true) (record {
@@ -74,6 +79,7 @@ module _ (d : Design) (name : Option (List ℕ)) (a : IsAcceptedDesign d name) w
     inputs = λ p i r l e f w z. cc;
     clock = λ p i r l e f w z. cc;
     spare = λ p l f w z. cc;
+    keeper = λ p l m bs e w z. cc;
     none = λ p w z. cc;
   }) p
     where
@@ -102,6 +108,7 @@ module _ (d : Design) (name : Option (List ℕ)) (a : IsAcceptedDesign d name) w
     inputs = λ p i r l e f z n. absurd z;
     clock = λ p i r l e f z n. absurd z;
     spare = λ p l f z n. absurd z;
+    keeper = λ p l m bs e z n. absurd z;
     none = λ p z n. absurd z;
   }) p z n
     where
@@ -131,6 +138,7 @@ module _ (d : Design) (name : Option (List ℕ)) (a : IsAcceptedDesign d name) w
     inputs = λ p i r l e f z. absurd z;
     clock = λ p i r l e f z. absurd z;
     spare = λ p l f z. absurd z;
+    keeper = λ p l m bs e z. absurd z;
     none = λ p z. absurd z;
   }) p z
     where
@@ -181,6 +189,7 @@ module _ (d : Design) (name : Option (List ℕ)) (a : IsAcceptedDesign d name) w
     inputs = λ p i s l e f g. absurd (either_way false g refl);
     clock = λ p i s l e f g. absurd (either_way false g refl);
     spare = λ p l f g. absurd (either_way false g refl);
+    keeper = λ p l m bs e g. absurd (either_way false g refl);
     none = λ p l. absurd (either_way false l refl);
   }) p
 
@@ -228,6 +237,7 @@ module _ (d : Design) (name : Option (List ℕ)) (a : IsAcceptedDesign d name) w
         inputs = λ p i r l e f w z. cc;
         clock = λ p i r l e f w z. eqb-true b a.clock.first z;
         spare = λ p l f w z. eqb-true b a.clock.first z;
+        keeper = λ p l m bs e w z. cc;
         none = λ p w z. cc;
       })
 
@@ -268,16 +278,10 @@ module _ (d : Design) (name : Option (List ℕ)) (a : IsAcceptedDesign d name) w
       ap (λ z. has (with_reset (reset_of d a.clock.first z) b (with_resets d a.clock.first ps b s)) (write_all (λ m. X) (flatten (N.branch r)) b)) same
       ∙ ap (λ o. has (with_reset o b (with_resets d a.clock.first ps b s)) (write_all (λ m. X) (flatten (N.branch r)) b)) e
       ∙ rw w (union_left (only (write_all (λ m. X) (flatten (N.branch r)) b)) (with_resets d a.clock.first ps b s) (write_all (λ m. X) (flatten (N.branch r)) b) (only_has (write_all (λ m. X) (flatten (N.branch r)) b)))
-    where
-      only_has : (v : Bit4) → has (only v) v ≡ true
-      only_has Zero = refl
-      only_has One = refl
-      only_has X = refl
-      only_has Z = refl
   resets_have (y ∷ ps) (suc p) x r b s h e w = reset_keeps (reset_of d a.clock.first y) b (with_resets d a.clock.first ps b s) (write_all (λ m. X) (flatten (N.branch r)) b) (resets_have ps p x r b s h e w)
 
-  source_other : (b : ℕ) → (b == a.clock.first) ≡ false → contains (input_bits d) b ≡ false → has (late_source d a.clock.first b) (idle_value d b) ≡ true
-  source_other b e h = rw (not_own b e) (rw h (resets_keep d.processes b (early_source d b) (idle_value d b) (source_idle b)))
+  source_other : (b : ℕ) → (b == a.clock.first) ≡ false → contains (input_bits d) b ≡ false → has (late_source d a.clock.first b) (start_value d b) ≡ true
+  source_other b e h = rw (not_own b e) (rw h (resets_keep d.processes b (only (start_value d b)) (start_value d b) (only_has (start_value d b))))
 
   pub late_input : (p b : ℕ) (v : Bit4) → kind (net_work.process p) ≡ AnInput → writes (net_work.process p) b ≡ true → IsKnown v → has (sets.late b) v ≡ true
   late_input p b v h w k = subst (λ s. has s v ≡ true) (sym (first_sets b (unsettled p b w (λ s. settles_not (kind (net_work.process p)) h s))).1) (is_input p h w)
@@ -302,6 +306,7 @@ module _ (d : Design) (name : Option (List ℕ)) (a : IsAcceptedDesign d name) w
             (λ q. source_input b v q (member_bits (top_inputs d) i s b e z) k);
         clock = λ p i r l e f w z. cc;
         spare = λ p l f w z. cc;
+        keeper = λ p l m bs e w z. cc;
         none = λ p w z. cc;
       })
 
@@ -349,21 +354,21 @@ module _ (d : Design) (name : Option (List ℕ)) (a : IsAcceptedDesign d name) w
           clock_bit : (b : ℕ) → contains (bits_of_signal a.clock) b ≡ true → b ≡ a.clock.first
           clock_bit b k = one_listed a.clock.first b (subst (λ n. contains (count_from a.clock.first n) b ≡ true) one_long k)
 
-  pub late_idle : (b : ℕ) → ((p : ℕ) → writes (net_work.process p) b ≡ true → kind (net_work.process p) ≡ AClocked) → has (sets.late b) (net_work.idle b) ≡ true
-  late_idle b h = let r = late_register b h in subst (λ s. has s (idle_value d b) ≡ true) (sym r.2) (source_other b r.0 r.1)
+  pub late_idle : (b : ℕ) → ((p : ℕ) → writes (net_work.process p) b ≡ true → kind (net_work.process p) ≡ AClocked) → has (sets.late b) (start_value d b) ≡ true
+  late_idle b h = let r = late_register b h in subst (λ s. has s (start_value d b) ≡ true) (sym r.2) (source_other b r.0 r.1)
 
   -- what a reset gives a register last
-  pub late_reset : (p b : ℕ) (r : N.Reset) → N.reset_of (net_work.process p) ≡ Some r → writes (net_work.process p) b ≡ true → has (sets.late b) (write_all net_work.idle (flatten (N.branch r)) b) ≡ true
+  pub late_reset : (p b : ℕ) (r : N.Reset) → N.reset_of (net_work.process p) ≡ Some r → writes (net_work.process p) b ≡ true → has (sets.late b) (write_all (start_value d) (flatten (N.branch r)) b) ≡ true
   late_reset p b r e w =
       let clocked = reset_clocked (net_work.process p) r e in
       let only_clocked : (q : ℕ) → writes (net_work.process q) b ≡ true → kind (net_work.process q) ≡ AClocked = λ q v. subst (λ m. kind (net_work.process m) ≡ AClocked) (sym (one_writer d name a a.clock.first p q b w v)) clocked in
       let g = late_register b only_clocked in
       by_test (is_written (flatten (N.branch r)) b)
       (λ z. let m = has_reset p e in
-      subst (λ s. has s (write_all net_work.idle (flatten (N.branch r)) b) ≡ true) (sym (g.2 ∙ (rw (not_own b g.0) (rw g.1 refl))))
-      (subst (λ v. has (with_resets d a.clock.first d.processes b (early_source d b)) v ≡ true) (write_all_covered (flatten (N.branch r)) (λ m. X) net_work.idle b z)
-      (resets_have d.processes p m.0 r b (early_source d b) m.1 m.2 z)))
-      (λ z. subst (λ v. has (sets.late b) v ≡ true) (sym (write_all_other (flatten (N.branch r)) net_work.idle b z)) (late_idle b only_clocked))
+      subst (λ s. has s (write_all (start_value d) (flatten (N.branch r)) b) ≡ true) (sym (g.2 ∙ (rw (not_own b g.0) (rw g.1 refl))))
+      (subst (λ v. has (with_resets d a.clock.first d.processes b (only (start_value d b))) v ≡ true) (write_all_covered (flatten (N.branch r)) (λ m. X) (start_value d) b z)
+      (resets_have d.processes p m.0 r b (only (start_value d b)) m.1 m.2 z)))
+      (λ z. subst (λ v. has (sets.late b) v ≡ true) (sym (write_all_other (flatten (N.branch r)) (start_value d) b z)) (late_idle b only_clocked))
     where
       has_reset : (p : ℕ) → N.reset_of (net_work.process p) ≡ Some r → (x : Process) × (slice_get d.processes p ≡ Some x) × (reset_of d a.clock.first x ≡ Some r)
       has_reset = by_kind d a.clock.first (λ p y. N.reset_of y ≡ Some r → (x : Process) × (slice_get d.processes p ≡ Some x) × (reset_of d a.clock.first x ≡ Some r)) (record {
@@ -373,6 +378,7 @@ module _ (d : Design) (name : Option (List ℕ)) (a : IsAcceptedDesign d name) w
         inputs = λ p i s l e f k. cc;
         clock = λ p i s l e f k. cc;
         spare = λ p l f k. cc;
+        keeper = λ p l m bs e k. cc;
         none = λ p k. cc;
       })
 
@@ -390,6 +396,7 @@ module _ (d : Design) (name : Option (List ℕ)) (a : IsAcceptedDesign d name) w
     inputs = λ p i r l e f w n. cc;
     clock = λ p i r l e f w n. cc;
     spare = λ p l f w n. cc;
+    keeper = λ p l m bs e w n. cc;
     none = λ p w n. cc;
   }) p
     where

@@ -1,17 +1,18 @@
 -- The writers of a bit, and the refusal of two.
-use Rattle.std.proofs.Common.{◌≡◌, ℕ, zero, suc, ◌+◌, ◌≤◌, Bool, true, false, List, [], ◌∷◌, ◌++◌, ◌||◌, ◌==◌, if◌then◌else◌, ◌⊎◌, inl, inr, refl, sym, ap, ◌∙◌, subst, length, replicate, get_or, arith, nat_lt, eqb-true, Some}
-use Rattle.std.specs.Prelude.{slice_get}
-use Rattle.vs_design.specs.Designs.{Process, Continuous, Always, process_place}
+use Rattle.std.proofs.Common.{◌≡◌, ℕ, zero, suc, ◌+◌, ◌≤◌, Bool, true, false, List, [], ◌∷◌, ◌++◌, ◌||◌, ◌==◌, if◌then◌else◌, ◌⊎◌, inl, inr, refl, sym, ap, ◌∙◌, subst, length, replicate, get_or, arith, nat_lt, eqb-true, Option, Some, None}
+use Rattle.std.specs.Prelude.{slice_get, option_and_then}
+use Rattle.vs_design.specs.Designs.{Process, Continuous, Always, process_place, AnyProcess}
 use Rattle.vs_design.specs.Footprints.{contains, target_bits, statement_bits, writes_of}
 use Rattle.vs_design.specs.Rules.{times, driver, drivers_from, drivers, shared_bits, written_bits}
 use Rattle.vs_design.specs.Cycles.{AreAtLeast}
-use Rattle.vs_design.specs.Refusals.{least, place_at, TwoDrivers}
+use Rattle.vs_design.specs.Initials.{initial_bits, clashes, clashed_bits}
+use Rattle.vs_design.specs.Refusals.{least, place_at, DriverRefusal, TwoDrivers, TwoWriters, writers, two_writers, driver_refusal_at}
 use Rattle.vs_design.specs.RefusalLaws.{IsLeastOf, DriversAre, IsDriverRefusal, DriverRefusalIs}
 use Rattle.vs_design.proofs.Lists.{by_test, and_both, or_left, or_right, or_false, contains-left, contains-right, contains_head, contains_filter}
 use Rattle.vs_design.proofs.Writes.{either_way}
 use Rattle.vs_design.proofs.Signals.{split}
 use Rattle.vs_design.proofs.Drivers.{times_some}
-use Rattle.vs_design.proofs.Answered.{least_is, mapped_some}
+use Rattle.vs_design.proofs.Least.{least_is}
 
 -- ---- who they are
 
@@ -129,28 +130,53 @@ firsts (x ∷ y ∷ xs) h s = record { rest = xs; is = refl; order = s.0.0; othe
         (λ e. inr (at_least_of y (y ∷ xs) p (omega arith, s.1.0) (subst (λ z. (z || contains (y ∷ xs) p) ≡ true) e c)))
 
 pub driver_refusal_is : DriverRefusalIs
-driver_refusal_is d (TwoDrivers bit first second at) h =
-    let m = mapped_some (λ b. TwoDrivers b (get_or (drivers d b) 0 0) (get_or (drivers d b) 1 0) (place_at d.processes (get_or (drivers d b) 1 0))) (least (shared_bits d)) (TwoDrivers bit first second at) h in
-    let q = same_two m.0 (get_or (drivers d m.0) 0 0) (get_or (drivers d m.0) 1 0) (place_at d.processes (get_or (drivers d m.0) 1 0)) bit first second at m.2 in
-    let i : IsLeastOf (shared_bits d) bit = subst (IsLeastOf (shared_bits d)) q.0 (least_is (shared_bits d) m.0 m.1) in
-    let fq : get_or (drivers d bit) 0 0 ≡ first = subst (λ b. get_or (drivers d b) 0 0 ≡ first) q.0 q.1 in
-    let sq : get_or (drivers d bit) 1 0 ≡ second = subst (λ b. get_or (drivers d b) 1 0 ≡ second) q.0 q.2 in
-    let aq : place_at d.processes (get_or (drivers d bit) 1 0) ≡ at = subst (λ b. place_at d.processes (get_or (drivers d b) 1 0) ≡ at) q.0 q.3 in
-    answer i (firsts (drivers d bit) (many i.there) (drivers_sorted 0 d.processes bit).1) fq sq aq
+driver_refusal_is d r h = at (least (shared_bits d ++ clashed_bits d)) refl h
   where
+    two_drivers : ℕ → DriverRefusal
+    two_drivers b = TwoDrivers b (get_or (drivers d b) 0 0) (get_or (drivers d b) 1 0) (place_at d.processes (get_or (drivers d b) 1 0))
+
     same_two : (b f s a c g t e : ℕ) → TwoDrivers b f s a ≡ TwoDrivers c g t e → (b ≡ c) × (f ≡ g) × (s ≡ t) × (a ≡ e)
     same_two b f s a c g t e h = (cc, cc, cc, cc)
 
-    many : contains (shared_bits d) bit ≡ true → nat_lt 1 (length (drivers d bit)) ≡ true
-    many c = (and_both (contains (written_bits d.processes) bit) (nat_lt 1 (length (drivers d bit))) (sym (contains_filter (λ b. nat_lt 1 (length (drivers d b))) (written_bits d.processes) bit) ∙ c)).1
+    value : (x y : DriverRefusal) → Some x ≡ Some y → x ≡ y
+    value x y e = cc
 
-    answer : IsLeastOf (shared_bits d) bit → Firsts (drivers d bit) → get_or (drivers d bit) 0 0 ≡ first → get_or (drivers d bit) 1 0 ≡ second → place_at d.processes (get_or (drivers d bit) 1 0) ≡ at → IsDriverRefusal d (TwoDrivers bit first second at)
-    answer i r fq sq aq =
-        let shape : drivers d bit ≡ first ∷ second ∷ r.rest = r.is ∙ ap {B = List ℕ} (λ x. x ∷ get_or (drivers d bit) 1 0 ∷ r.rest) fq ∙ ap {B = List ℕ} (λ y. first ∷ y ∷ r.rest) sq in
-        let w = (drivers_are d bit second).0 (subst (λ xs. contains xs second ≡ true) (sym shape) (or_right (second == first) (contains (second ∷ r.rest) second) (contains_head second r.rest))) in (
-          i,
-          (r.rest, shape),
-          subst (λ n. n ≤ second) fq (subst (λ n. get_or (drivers d bit) 0 0 ≤ n) sq r.order),
-          λ p c. subst (λ n. (p ≡ n) ⊎ (second ≤ p)) fq (subst (λ n. (p ≡ get_or (drivers d bit) 0 0) ⊎ (n ≤ p)) sq (r.others p c)),
-          (w.0, w.1, sym aq ∙ subst (λ n. place_at d.processes n ≡ process_place w.0) (sym sq) (place_is d.processes second w.0 w.1)),
-        )
+    -- a bit that no initial process writes is one with two drivers
+    many : (b : ℕ) → contains (shared_bits d ++ clashed_bits d) b ≡ true → contains (initial_bits d.initials) b ≡ false → nat_lt 1 (length (drivers d b)) ≡ true
+    many b c n =
+        split (shared_bits d) (clashed_bits d) b c
+        (λ s. (and_both (contains (written_bits d.processes) b) (nat_lt 1 (length (drivers d b))) (sym (contains_filter (λ b. nat_lt 1 (length (drivers d b))) (written_bits d.processes) b) ∙ s)).1)
+        (λ s. absurd (either_way (contains (initial_bits d.initials) b) (and_both (contains (initial_bits d.initials) b) (clashes d b) (sym (contains_filter (clashes d) (initial_bits d.initials) b) ∙ s)).0 n))
+
+    -- the two least of its drivers
+    drivers_case : (b : ℕ) → IsLeastOf (shared_bits d ++ clashed_bits d) b → contains (initial_bits d.initials) b ≡ false → (r : DriverRefusal) → two_drivers b ≡ r → IsDriverRefusal d r
+    drivers_case b i n (TwoWriters c x y) e = cc
+    drivers_case b i n (TwoDrivers c first second place) e =
+        let q = same_two b (get_or (drivers d b) 0 0) (get_or (drivers d b) 1 0) (place_at d.processes (get_or (drivers d b) 1 0)) c first second place e in
+        subst (λ m. IsDriverRefusal d (TwoDrivers m first second place)) q.0 (answer (firsts (drivers d b) (many b i.there n) (drivers_sorted 0 d.processes b).1) q.1 q.2 q.3)
+      where
+        answer : Firsts (drivers d b) → get_or (drivers d b) 0 0 ≡ first → get_or (drivers d b) 1 0 ≡ second → place_at d.processes (get_or (drivers d b) 1 0) ≡ place → IsDriverRefusal d (TwoDrivers b first second place)
+        answer r fq sq aq =
+            let shape : drivers d b ≡ first ∷ second ∷ r.rest = r.is ∙ ap {B = List ℕ} (λ x. x ∷ get_or (drivers d b) 1 0 ∷ r.rest) fq ∙ ap {B = List ℕ} (λ y. first ∷ y ∷ r.rest) sq in
+            let w = (drivers_are d b second).0 (subst (λ xs. contains xs second ≡ true) (sym shape) (or_right (second == first) (contains (second ∷ r.rest) second) (contains_head second r.rest))) in (
+              i,
+              n,
+              (r.rest, shape),
+              subst (λ n. n ≤ second) fq (subst (λ n. get_or (drivers d b) 0 0 ≤ n) sq r.order),
+              λ p c. subst (λ n. (p ≡ n) ⊎ (second ≤ p)) fq (subst (λ n. (p ≡ get_or (drivers d b) 0 0) ⊎ (n ≤ p)) sq (r.others p c)),
+              (w.0, w.1, sym aq ∙ subst (λ n. place_at d.processes n ≡ process_place w.0) (sym sq) (place_is d.processes second w.0 w.1)),
+            )
+
+    -- the first two of its writers in the text
+    writers_case : (b : ℕ) → IsLeastOf (shared_bits d ++ clashed_bits d) b → contains (initial_bits d.initials) b ≡ true → (xs : List AnyProcess) → writers d b ≡ xs → two_writers b xs ≡ Some r → IsDriverRefusal d r
+    writers_case b i t [] e h = cc
+    writers_case b i t (x ∷ []) e h = cc
+    writers_case b i t (x ∷ y ∷ rest) e h = subst (IsDriverRefusal d) (value (TwoWriters b x y) r h) (i, t, (rest, e))
+
+    at : (o : Option ℕ) → least (shared_bits d ++ clashed_bits d) ≡ o → option_and_then (driver_refusal_at d) o ≡ Some r → IsDriverRefusal d r
+    at None e h = cc
+    at (Some b) e h =
+        let i = least_is (shared_bits d ++ clashed_bits d) b e in
+        by_test (contains (initial_bits d.initials) b)
+        (λ t. writers_case b i t (writers d b) refl (subst (λ (c : Bool). (if c then two_writers b (writers d b) else Some (two_drivers b)) ≡ Some r) t h))
+        (λ t. drivers_case b i t r (value (two_drivers b) r (subst (λ (c : Bool). (if c then two_writers b (writers d b) else Some (two_drivers b)) ≡ Some r) t h)))

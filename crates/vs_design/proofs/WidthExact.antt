@@ -6,11 +6,11 @@ use Rattle.vs_four.specs.declared.Range.{Range}
 use Rattle.vs_four.specs.Selects.{range_length, Part}
 use Rattle.vs_design.specs.Expressions.{Signal, range_or_one, words_length, signal_length, word_length, Source, OfSignal, OfConstant, UnaryOp, Plus, Minus, BitNot, Signed, Unsigned, Expression, Literal, Name, Select, Word, Unary, Binary, Choice, Join, Repeat, At, Call, Items, NoItem, Item, Header, local_signals, Way, InContext, Shifted, Raised, way, unary_length, binary_length, width, is_constant}
 use Rattle.vs_design.specs.Statements.{Target, Whole, PartOf, WordOf, Both, target_width, Statement, Empty, Assignment, Then, If, Case, Arms, Arm, Default}
-use Rattle.vs_design.specs.Designs.{Design, Process, Continuous, Always}
+use Rattle.vs_design.specs.Designs.{Design, Process, Continuous, Always, Initial}
 use Rattle.vs_design.specs.Footprints.{is_input, is_net, is_variable, is_memory}
 use Rattle.vs_design.specs.Rules.{mixed_in}
-use Rattle.vs_design.specs.Fits.{fits_64, fits_signal, source_length, fits, fit_items, is_division, divides_constants, is_fit, fits_target, fits_statement, fits_arms, fits_process}
-use Rattle.vs_design.specs.Elaborated.{same_range, is_lawful_range, is_plain, has_words, is_formed_select, is_formed, is_formed_target, has_constant_selects, is_nil, has_items, are_numbered, have_bits_from, is_local, is_formed_header, inside, are_as_many, are_formed, is_formed_statement, are_formed_arms, are_formed_events, is_formed_port, is_formed_process}
+use Rattle.vs_design.specs.Fits.{fits_64, fits_signal, source_length, fits, fit_items, is_division, divides_constants, is_fit, fits_target, fits_statement, fits_arms, fits_process, fits_initial}
+use Rattle.vs_design.specs.Elaborated.{same_range, is_lawful_range, is_plain, has_words, is_formed_select, is_formed, is_formed_target, has_constant_selects, is_nil, has_items, are_numbered, have_bits_from, is_local, is_formed_header, inside, are_as_many, are_formed, is_formed_statement, are_formed_arms, are_formed_events, is_formed_port, is_formed_process, is_formed_initial}
 use Rattle.vs_design.specs.Refusals.{over_64, wide_places, wide_in_items, wide_in_indices, wide_in_statement, wide_in_arms, place_in, division_places, divisions_in_items, divisions_in_indices, divisions_in_statement, divisions_in_arms, in_indices, in_items, in_statement, in_arms, wide_in, divisions_in}
 use Rattle.vs_design.proofs.Lists.{by_test, and_both}
 use Rattle.vs_design.proofs.BodyExact.{append_empty}
@@ -545,3 +545,14 @@ divisions_none (Continuous place port target_place target e) h =
     let q = and_both (fits e) (divides_constants e) p.1 in
     empty_append _ _ (divided_indices target target_place ∙ indices_undivided target target_place p.0) (divides_none e place q.0 q.1)
 divisions_none (Always place star events st) h = divided_statement st place ∙ statement_undivided st place h
+
+-- ---- initial processes
+
+pub initial_clear : (d : Design) (i : Initial) → is_formed_initial d i ≡ true → in_statement wide_places over_64 i.place i.statement ≡ [] → in_statement division_places (λ at n. []) i.place i.statement ≡ [] → fits_initial i ≡ true
+initial_clear d i f h k = statement_clear d i.statement i.place f (sym (wide_statement i.statement i.place) ∙ h) (sym (divided_statement i.statement i.place) ∙ k)
+
+pub initial_narrow : (i : Initial) → fits_initial i ≡ true → in_statement wide_places over_64 i.place i.statement ≡ []
+initial_narrow i h = wide_statement i.statement i.place ∙ statement_narrow i.statement i.place h
+
+pub initial_undivided : (i : Initial) → fits_initial i ≡ true → in_statement division_places (λ at n. []) i.place i.statement ≡ []
+initial_undivided i h = divided_statement i.statement i.place ∙ statement_undivided i.statement i.place h

@@ -92,30 +92,42 @@ written_part signal part index v s b h =
 pub written_word : (signal : Signal) (index : Expression) (v : BitList) (s : State) (b : ℕ) → length v ≡ word_length signal → is_written (target_writes (WordOf signal index) v s) b ≡ contains (somes (bits_at signal (word_places signal (sign index) (own_value index s)))) b
 written_word signal index v s b h = written_pairs (bits_at signal (word_places signal (sign index) (own_value index s))) v b (long_word signal (sign index) (own_value index s) ∙ sym h)
 
+-- a part is of as many bits as its signal has
+abbrev pub HasParts : Target → Type 0
+HasParts (Whole signal) = Unit {0}
+HasParts (PartOf signal part index) = range_length part.range ≡ signal_length signal
+HasParts (WordOf signal index) = Unit {0}
+HasParts (Both high low) = HasParts high × HasParts low
+
+pub fit_parts : (t : Target) → fits_target t ≡ true → HasParts t
+fit_parts (Whole signal) f = tt
+fit_parts (PartOf signal part index) f = eqb-true _ _ (and_both (fits_64 part.width) (range_length part.range == signal_length signal) (and_both (fits_64 part.width && (range_length part.range == signal_length signal)) (is_fit index) f).0).1
+fit_parts (WordOf signal index) f = tt
+fit_parts (Both high low) f =
+    let fs = and_both (fits_64 (target_width high + target_width low) && fits_target high) (fits_target low) f in
+    (fit_parts high (and_both (fits_64 (target_width high + target_width low)) (fits_target high) fs.0).1, fit_parts low fs.1)
+
 -- an assignment writes bits of its target alone
-pub target_within : (t : Target) (v : BitList) (s : State) (b : ℕ) → fits_target t ≡ true → length v ≡ target_width t → is_written (target_writes t v s) b ≡ true → contains (target_bits t) b ≡ true
+pub target_within : (t : Target) (v : BitList) (s : State) (b : ℕ) → HasParts t → length v ≡ target_width t → is_written (target_writes t v s) b ≡ true → contains (target_bits t) b ≡ true
 target_within (Whole signal) v s b f h k =
     subst (λ c. contains c b ≡ true) (somes_all (bits_of_signal signal)) (sym (written_pairs (map Some (bits_of_signal signal)) v b (length-map (bits_of_signal signal) Some ∙ length_count signal.first (signal_length signal) ∙ sym h)) ∙ k)
 target_within (PartOf signal part index) v s b f h k =
-    let r = and_both (fits_64 part.width) (range_length part.range == signal_length signal) (and_both (fits_64 part.width && (range_length part.range == signal_length signal)) (is_fit index) f).0 in
     let w : contains (somes (bits_at signal (places part (sign index) (own_value index s)))) b ≡ true = sym (written_part signal part index v s b h) ∙ k in
     by_test (is_constant index)
     (λ e. subst (λ (c : Bool). contains (if c then somes (bits_at signal (places part (sign index) (constant_value index))) else bits_of_signal signal) b ≡ true) (sym e) (subst (λ (x : BitList). contains (somes (bits_at signal (places part (sign index) x))) b ≡ true) (constant_index index s e) w))
-    (λ e. subst (λ (c : Bool). contains (if c then somes (bits_at signal (places part (sign index) (constant_value index))) else bits_of_signal signal) b ≡ true) (sym e) (part_bits signal part (sign index) (own_value index s) b (eqb-true _ _ r.1) w))
+    (λ e. subst (λ (c : Bool). contains (if c then somes (bits_at signal (places part (sign index) (constant_value index))) else bits_of_signal signal) b ≡ true) (sym e) (part_bits signal part (sign index) (own_value index s) b f w))
 target_within (WordOf signal index) v s b f h k =
     let w : contains (somes (bits_at signal (word_places signal (sign index) (own_value index s)))) b ≡ true = sym (written_word signal index v s b h) ∙ k in
     by_test (is_constant index)
     (λ e. subst (λ xs. contains xs b ≡ true) (sym (addressed_constant signal index e)) (subst (λ (x : BitList). contains (somes (bits_at signal (word_places signal (sign index) x))) b ≡ true) (constant_index index s e) w))
     (λ e. subst (λ xs. contains xs b ≡ true) (sym (addressed_variable signal index e)) (word_within signal (sign index) (own_value index s) b w))
 target_within (Both high low) v s b f h k =
-    let fs = and_both (fits_64 (target_width high + target_width low) && fits_target high) (fits_target low) f in
-    let fh = and_both (fits_64 (target_width high + target_width low)) (fits_target high) fs.0 in
     let w : (is_written (target_writes high (drop (target_width low) v) s) b || is_written (target_writes low (take (target_width low) v) s) b) ≡ true = sym (written-append (target_writes high (drop (target_width low) v) s) (target_writes low (take (target_width low) v) s) b) ∙ k in
     let dl = length-drop (target_width low) v in
     let tl = length-take (target_width low) v in
     by_test (is_written (target_writes high (drop (target_width low) v) s) b)
-    (λ e. contains-left (target_bits high) (target_bits low) b (target_within high (drop (target_width low) v) s b fh.1 (omega (arith, dl)) e))
-    (λ e. contains-right (target_bits high) (target_bits low) b (target_within low (take (target_width low) v) s b fs.1 (omega (arith, tl)) (subst (λ c. (c || is_written (target_writes low (take (target_width low) v) s) b) ≡ true) e w)))
+    (λ e. contains-left (target_bits high) (target_bits low) b (target_within high (drop (target_width low) v) s b f.0 (omega (arith, dl)) e))
+    (λ e. contains-right (target_bits high) (target_bits low) b (target_within low (take (target_width low) v) s b f.1 (omega (arith, tl)) (subst (λ c. (c || is_written (target_writes low (take (target_width low) v) s) b) ≡ true) e w)))
 
 -- it writes all that it assigns
 pub target_assigns : (t : Target) (v : BitList) (s : State) (b : ℕ) → length v ≡ target_width t → contains (assigns t) b ≡ true → is_written (target_writes t v s) b ≡ true
@@ -143,8 +155,11 @@ target_assigns (Both high low) v s b h k =
     (λ e. or_left (is_written (target_writes high (drop (target_width low) v) s) b) (is_written (target_writes low (take (target_width low) v) s) b) (target_assigns high (drop (target_width low) v) s b (omega (arith, dl)) e))
     (λ e. or_right (is_written (target_writes high (drop (target_width low) v) s) b) (is_written (target_writes low (take (target_width low) v) s) b) (target_assigns low (take (target_width low) v) s b (omega (arith, tl)) (subst (λ c. (c || contains (assigns low) b) ≡ true) e (sym (contains-append (assigns high) (assigns low) b) ∙ k))))
 
+pub parts_within : (t : Target) (e : Expression) (s : State) (b : ℕ) → HasParts t → is_written (assignment_writes t e s) b ≡ true → contains (target_bits t) b ≡ true
+parts_within t e s b f h = target_within t (assigned_value e (target_width t) s) s b f (length_assigned e (target_width t) s) (sym (written_last (target_writes t (assigned_value e (target_width t) s) s) b) ∙ h)
+
 pub assignment_within : (t : Target) (e : Expression) (s : State) (b : ℕ) → fits_target t ≡ true → is_written (assignment_writes t e s) b ≡ true → contains (target_bits t) b ≡ true
-assignment_within t e s b f h = target_within t (assigned_value e (target_width t) s) s b f (length_assigned e (target_width t) s) (sym (written_last (target_writes t (assigned_value e (target_width t) s) s) b) ∙ h)
+assignment_within t e s b f = parts_within t e s b (fit_parts t f)
 
 pub assignment_assigns : (t : Target) (e : Expression) (s : State) (b : ℕ) → contains (assigns t) b ≡ true → is_written (assignment_writes t e s) b ≡ true
 assignment_assigns t e s b h = written_last (target_writes t (assigned_value e (target_width t) s) s) b ∙ target_assigns t (assigned_value e (target_width t) s) s b (length_assigned e (target_width t) s) h

@@ -3,10 +3,11 @@ use Rattle.std.specs.Prelude.{◌≡◌, ℕ, ◌≤◌, Bool, true, false, List
 use Rattle.std.specs.List.{list_any, list_all}
 use Rattle.vs_design.specs.Expressions.{Signal}
 use Rattle.vs_design.specs.Designs.{Design}
-use Rattle.vs_design.specs.Fits.{fits_process}
+use Rattle.vs_design.specs.Fits.{fits_process, fits_initial}
 use Rattle.vs_design.specs.Elaborated.{IsLawfulDesign}
 use Rattle.vs_design.specs.Sizes.{size}
 use Rattle.vs_design.specs.Rules.{function_latches, mixed_assigns, missing_bits, latches, shared_bits}
+use Rattle.vs_design.specs.Initials.{has_other_start, clashed_bits}
 use Rattle.vs_design.specs.Clocks.{clock_input, clock_nets, root_of, reads_clock, has_other_clock}
 use Rattle.vs_design.specs.Resets.{has_other_form}
 use Rattle.vs_design.specs.Levels.{level_order, has_no_cycle}
@@ -22,10 +23,13 @@ pub record IsAcceptedDesign (d : Design) (name : Option (List ℕ)) : Type 0 whe
   pub lawful : IsLawfulDesign d
   -- TooWide, Division
   pub fit : list_all fits_process d.processes ≡ true
+  pub fit_initials : list_all fits_initial d.initials ≡ true
   -- TooLarge
   pub small : size d ≤ 16777216
   -- FunctionLatch
   pub no_function_latch : is_empty (function_latches d.functions) ≡ true
+  -- InitialForm
+  pub initial_form : list_any has_other_start d.initials ≡ false
   -- MixedAssign
   pub unmixed : list_all (λ p. is_empty (mixed_assigns p)) d.processes ≡ true
   -- Sensitivity
@@ -34,6 +38,7 @@ pub record IsAcceptedDesign (d : Design) (name : Option (List ℕ)) : Type 0 whe
   pub no_latch : list_all (λ p. is_empty (latches p)) d.processes ≡ true
   -- TwoDrivers
   pub one_driver : is_empty (shared_bits d) ≡ true
+  pub no_clash : is_empty (clashed_bits d) ≡ true
   -- NoClock
   pub clock : Signal
   pub clock_found : clock_input d name ≡ Some clock

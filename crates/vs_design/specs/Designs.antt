@@ -1,5 +1,5 @@
 -- An elaborated design: scopes, signals and processes, each by number (IEEE 1364-2005, clause 12).
-use Rattle.std.specs.Prelude.{ℕ, Bool, true, false, not, ◌&&◌, List, filter, sum_by, Option}
+use Rattle.std.specs.Prelude.{ℕ, suc, Bool, true, false, not, ◌&&◌, ◌==◌, List, [], ◌∷◌, ◌++◌, filter, sum_by, if◌then◌else◌, Option}
 use Rattle.std.specs.List.{list_any}
 pub use Rattle.vs_base.specs.declared.events.Edge.{Edge}
 pub use Rattle.vs_base.specs.declared.events.Edge.TheVariants.{Any, Posedge, Negedge}
@@ -28,10 +28,19 @@ pub data Process : Type 0 where
   -- an always block (9.9.2) with its event control; `star` is `@*` (9.7.5), and then there are no events
   Always : (place : ℕ) (star : Bool) (events : List Event) (statement : Statement) → Process
 
+-- An initial process (9.9.1): `initial`, or the initial value in a variable's declaration (6.2.1). It runs once, from the beginning. It begins at `place` in the text, behind this many of the processes
+pub record Initial : Type 0 where
+  pub place : ℕ
+  pub behind : ℕ
+  pub statement : Statement
+
 pub record Design : Type 0 where
   pub scopes : List Scope
   pub signals : List Signal
+  -- assigns and `always` blocks
   pub processes : List Process
+  -- in the order of the text
+  pub initials : List Initial
   -- those that are declared, whether or not they are called
   pub functions : List Function
 
@@ -54,6 +63,28 @@ is_combinational p = not (is_assign p) && not (is_clocked p)
 abbrev pub process_place : Process → ℕ
 process_place (Continuous place port target_place target e) = place
 process_place (Always place star events statement) = place
+
+-- a process or an initial process, with its number among those of its kind
+pub data AnyProcess : Type 0 where
+  OfProcess : (number : ℕ) (process : Process) → AnyProcess
+  OfInitial : (number : ℕ) (initial : Initial) → AnyProcess
+
+-- the initial processes that stand behind so many processes; the list is numbered from k on
+abbrev pub standing : ℕ → ℕ → List Initial → List AnyProcess
+standing p k [] = []
+standing p k (i ∷ is) = (if i.behind == p then (OfInitial k i ∷ []) else []) ++ standing p (suc k) is
+
+abbrev pub text_from : ℕ → List Process → List Initial → List AnyProcess
+text_from p [] is = standing p 0 is
+text_from p (process ∷ ps) is = standing p 0 is ++ OfProcess p process ∷ text_from (suc p) ps is
+
+-- all of them in the order of the text: the number that a report gives to one is its place in this list
+abbrev pub in_text_order : Design → List AnyProcess
+in_text_order d = text_from 0 d.processes d.initials
+
+abbrev pub any_place : AnyProcess → ℕ
+any_place (OfProcess p process) = process_place process
+any_place (OfInitial k i) = i.place
 
 abbrev pub top_inputs : Design → List Signal
 top_inputs d = filter (λ s. s.input) d.signals

@@ -5,7 +5,7 @@ use Rattle.vs_four.specs.declared.Range.{Range}
 use Rattle.vs_four.specs.Selects.{range_length, Part}
 use Rattle.vs_design.specs.Expressions.{Signal, signal_length, Source, OfSignal, OfConstant, Expression, Literal, Name, Select, Word, Unary, Binary, Choice, Join, Repeat, At, Call, Items, NoItem, Item, Header, local_signals, is_constant}
 use Rattle.vs_design.specs.Statements.{Target, Whole, PartOf, WordOf, Both, Statement, Empty, Assignment, Then, If, Case, Arms, Arm, Default, Function}
-use Rattle.vs_design.specs.Designs.{Scope, Event, is_edge, is_clocked, Port, Written, InputPort, OutputPort, Process, Continuous, Always, Design, bit_count}
+use Rattle.vs_design.specs.Designs.{Scope, Event, is_edge, is_clocked, Port, Written, InputPort, OutputPort, Process, Continuous, Always, Initial, Design, bit_count}
 use Rattle.vs_design.specs.Footprints.{is_input, is_net, is_variable, is_memory}
 use Rattle.vs_design.specs.Fits.{fits_64}
 use Rattle.vs_design.specs.Rules.{mixed_in}
@@ -115,7 +115,7 @@ is_formed_header d h = not (is_nil h.inputs) && are_numbered 0 0 (local_signals 
 
 -- what names mean in a function: its local signals
 abbrev pub inside : Design → Header → Design
-inside d h = record { scopes = d.scopes; signals = local_signals h; processes = []; functions = [] }
+inside d h = record { scopes = d.scopes; signals = local_signals h; processes = []; initials = []; functions = [] }
 
 abbrev pub has_items : Items → Bool
 has_items NoItem = false
@@ -219,6 +219,15 @@ abbrev pub has_clocked_words : Process → Bool
 has_clocked_words (Continuous place port target_place target e) = true
 has_clocked_words (Always place star events statement) = is_clocked (Always place star events statement) || writes_no_word statement
 
+-- an initial process writes variables, and words of memories too
+abbrev pub is_formed_initial : Design → Initial → Bool
+is_formed_initial d i = is_formed_statement d i.statement
+
+-- initial processes stand in the order of the text, each behind some of the processes
+abbrev pub are_behind : ℕ → ℕ → List Initial → Bool
+are_behind first count [] = true
+are_behind first count (i ∷ is) = nat_le first i.behind && nat_le i.behind count && are_behind i.behind count is
+
 pub record IsLawfulDesign (d : Design) : Type 0 where
   pub scopes : are_scopes d.scopes ≡ true
   pub numbered : are_numbered 0 0 d.signals ≡ true
@@ -226,7 +235,9 @@ pub record IsLawfulDesign (d : Design) : Type 0 where
   pub declared : list_all (is_declared d) d.signals ≡ true
   pub memories : list_all is_lawful_memory d.signals ≡ true
   pub formed : list_all (is_formed_process d) d.processes ≡ true
+  pub initials : list_all (is_formed_initial d) d.initials ≡ true
+  pub behind : are_behind 0 (length d.processes) d.initials ≡ true
   pub functions : list_all (is_formed_function d) d.functions ≡ true
   pub clocked_words : list_all has_clocked_words d.processes ≡ true
   pub few_bits : bit_count d ≤ 1048576
-  pub few_processes : length d.processes ≤ 65536
+  pub few_processes : length d.processes + length d.initials ≤ 65536

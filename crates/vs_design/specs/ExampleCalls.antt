@@ -29,7 +29,7 @@ abbrev pub call : Function → List Expression → Expression
 call f arguments = Call f.header f.statement (items_of arguments)
 
 abbrev pub design_with : List Function → List Signal → List Process → Design
-design_with functions signals processes = record { scopes = top_scope ∷ []; signals = signals; processes = processes; functions = functions }
+design_with functions signals processes = record { scopes = top_scope ∷ []; signals = signals; processes = processes; initials = []; functions = functions }
 
 -- ---- `function [3:0] max(input [3:0] u, input [3:0] v); if (u > v) max = u; else max = v; endfunction assign y = max(a, b);`
 

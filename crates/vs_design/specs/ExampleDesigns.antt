@@ -127,6 +127,7 @@ port = record {
   scopes = top_scope ∷ record { name = codes "g"; parent = Some 0; instance = true } ∷ [];
   signals = clk_signal ∷ a1 ∷ y2_net ∷ p3_inner ∷ q4_inner ∷ [];
   processes = Continuous 100 InputPort 100 (Whole p3_inner) (Name a1) ∷ Continuous 100 OutputPort 109 (Whole y2_net) (Name q4_inner) ∷ assign 36 (Whole q4_inner) (Unary BitNot (Name p3_inner)) ∷ [];
+  initials = [];
   functions = [];
 }
 
@@ -145,6 +146,7 @@ clocked_instance = record {
   scopes = top_scope ∷ record { name = codes "r"; parent = Some 0; instance = true } ∷ [];
   signals = clk_signal ∷ d1 ∷ y2_net ∷ c3_inner ∷ d4_inner ∷ q5_inner ∷ [];
   processes = Continuous 130 InputPort 130 (Whole c3_inner) (At 138 (At 139 (Name clk_signal))) ∷ Continuous 130 InputPort 130 (Whole d4_inner) (Name d1) ∷ Continuous 130 OutputPort 145 (Whole y2_net) (Name q5_inner) ∷ on_posedge 47 c3_inner (nonblocking 67 q5_inner (Name d4_inner)) ∷ [];
+  initials = [];
   functions = [];
 }
 
@@ -240,6 +242,7 @@ reset_through_port = record {
   processes =
       Continuous 130 InputPort 130 (Whole c4_leaf) (Name clk_signal) ∷ Continuous 130 InputPort 130 (Whole r5_leaf) (At 133 (Name r1)) ∷ Continuous 130 InputPort 130 (Whole d6_leaf) (Name d2_input) ∷ Continuous 130 OutputPort 145 (Whole y3_output) (Name q7_leaf)
       ∷ Always 47 false (record { signal = r5_leaf; edge = Negedge } ∷ record { signal = c4_leaf; edge = Posedge } ∷ []) (If (Unary LogicalNot (Name r5_leaf)) (nonblocking 67 q7_leaf (dec 1 1)) (nonblocking 80 q7_leaf (Name d6_leaf))) ∷ [];
+  initials = [];
   functions = [];
 }
 

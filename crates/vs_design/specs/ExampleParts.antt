@@ -89,7 +89,7 @@ abbrev pub top_scope : Scope
 top_scope = record { name = codes "top"; parent = None; instance = true }
 
 abbrev pub design_of : List Signal → List Process → Design
-design_of signals processes = record { scopes = top_scope ∷ []; signals = signals; processes = processes; functions = [] }
+design_of signals processes = record { scopes = top_scope ∷ []; signals = signals; processes = processes; initials = []; functions = [] }
 
 -- ---- waveforms
 

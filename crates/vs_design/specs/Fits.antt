@@ -4,7 +4,7 @@ use Rattle.std.specs.List.{list_all}
 use Rattle.vs_four.specs.Selects.{range_length}
 use Rattle.vs_design.specs.Expressions.{Signal, signal_length, word_length, Source, OfSignal, OfConstant, BinaryOp, Divide, Remainder, Power, Expression, Literal, Name, Select, Word, Unary, Binary, Choice, Join, Repeat, At, Call, Items, NoItem, Item, width, is_constant}
 use Rattle.vs_design.specs.Statements.{Target, Whole, PartOf, WordOf, Both, target_width, Statement, Empty, Assignment, Then, If, Case, Arms, Arm, Default}
-use Rattle.vs_design.specs.Designs.{Process, Continuous, Always}
+use Rattle.vs_design.specs.Designs.{Process, Continuous, Always, Initial}
 
 abbrev pub source_length : Source → ℕ
 source_length (OfSignal signal) = signal_length signal
@@ -80,3 +80,6 @@ is_fit e = fits e && divides_constants e
 abbrev pub fits_process : Process → Bool
 fits_process (Continuous place port target_place target e) = fits_target target && is_fit e
 fits_process (Always place star events statement) = fits_statement statement
+
+abbrev pub fits_initial : Initial → Bool
+fits_initial i = fits_statement i.statement

@@ -11,11 +11,12 @@ use Rattle.vs_net.specs.Laws.{IsKnownVector, AreKnownResets, has_run, IsAfterSlo
 use Rattle.vs_net.specs.LevelRun.{level_run}
 use Rattle.vs_net.specs.Bound.{IsWeighed, bound, IsPartOfRun, HasNoNext}
 use Rattle.vs_design.specs.Statements.{Statement}
-use Rattle.vs_design.specs.Designs.{Event, Process, Always, is_clocked, Design, bit_count}
+use Rattle.vs_design.specs.Designs.{Event, Process, Always, is_clocked, Initial, Design, bit_count}
+use Rattle.vs_design.specs.Initials.{start_value, IsOrderOf}
 use Rattle.vs_design.specs.Footprints.{contains, all_reads, writes_of, waits_of, input_bits, ascending}
 use Rattle.vs_design.specs.Rules.{missing_bits}
 use Rattle.vs_design.specs.Clocks.{port_targets, clock_nets, root_of, reads_clock, has_other_clock}
-use Rattle.vs_design.specs.Networks.{network_of}
+use Rattle.vs_design.specs.Networks.{network_in, network_of}
 use Rattle.vs_design.specs.Bounds.{feeds_of, size_of}
 use Rattle.vs_design.specs.Levels.{level_order, is_level_order}
 use Rattle.vs_design.specs.Elaborated.{IsLawfulDesign}
@@ -83,13 +84,17 @@ StirredBitsAre = (d : Design) (order : List ℕ) → is_level_order d order ≡ 
 abbrev pub RaceByAnyOrder : Type 0
 RaceByAnyOrder = (d : Design) (order : List ℕ) → is_level_order d order ≡ true → (p : ℕ) (process : Process) → race_bits d order p process ≡ race_bits d (level_order d) p process
 
--- the network of an accepted design is lawful
+-- the network of an accepted design is lawful, in whatever order its initial processes run
 abbrev pub AcceptedIsLawful : Type 0
-AcceptedIsLawful = (d : Design) (name : Option (List ℕ)) (a : IsAcceptedDesign d name) → IsLawful (network_of d a.clock.first)
+AcceptedIsLawful = (d : Design) (name : Option (List ℕ)) (a : IsAcceptedDesign d name) (order : List Initial) → IsOrderOf d.initials order → IsLawful (network_in d a.clock.first order)
 
 -- so every completed run of its event queue, in whatever order of its steps, ends each slot with the one solution
 abbrev pub EveryOrderOfDesign : Type 0
-EveryOrderOfDesign = (d : Design) (name : Option (List ℕ)) (a : IsAcceptedDesign d name) → let n = network_of d a.clock.first in (first v : State) (vs : List State) → IsFirst n first → IsKnownVector n v → AreKnownResets n vs → (choices : List Choice) → IsCompleted n (start n first v vs) choices → IsSolution n (beginning n) (slots_of (v ∷ vs)) (ends n (start n first v vs) choices)
+EveryOrderOfDesign = (d : Design) (name : Option (List ℕ)) (a : IsAcceptedDesign d name) (order : List Initial) → IsOrderOf d.initials order → let m = network_in d a.clock.first order in let n = network_of d a.clock.first in (first v : State) (vs : List State) → IsFirst m first → IsKnownVector m v → AreKnownResets m vs → (choices : List Choice) → IsCompleted m (start m first v vs) choices → IsSolution n (beginning n) (slots_of (v ∷ vs)) (ends m (start m first v vs) choices)
+
+-- before slot 0 a bit has what initial processes leave in it, and else is idle
+abbrev pub BeginningIs : Type 0
+BeginningIs = (d : Design) (name : Option (List ℕ)) (a : IsAcceptedDesign d name) (b : ℕ) → beginning (network_of d a.clock.first) b ≡ start_value d b
 
 -- the equations of an accepted design have no second solution
 abbrev pub OneSolutionOfDesign : Type 0
@@ -105,15 +110,15 @@ OnePassOfDesign = (d : Design) (name : Option (List ℕ)) (a : IsAcceptedDesign 
 
 -- its processes have weights, so between two beginnings of slots there are at most `bound` steps, in any order
 abbrev pub BoundOfDesign : Type 0
-BoundOfDesign = (d : Design) (name : Option (List ℕ)) (a : IsAcceptedDesign d name) → let n = network_of d a.clock.first in (w : ℕ → ℕ) × (r : ℕ → ℕ) × IsWeighed n (feeds_of d a.clock.first) (size_of d) w r
+BoundOfDesign = (d : Design) (name : Option (List ℕ)) (a : IsAcceptedDesign d name) (order : List Initial) → IsOrderOf d.initials order → let n = network_in d a.clock.first order in (w : ℕ → ℕ) × (r : ℕ → ℕ) × IsWeighed n (feeds_of d a.clock.first) (size_of d) w r
     × ((first v : State) (vs : List State) → IsFirst n first → IsKnownVector n v → AreKnownResets n vs → (earlier steps : List Choice) → IsPartOfRun n (start n first v vs) (earlier ++ steps) → HasNoNext steps → length steps ≤ bound n w r)
 
 -- every run of its event queue can be continued to a completed one
 abbrev pub RunsEndOfDesign : Type 0
-RunsEndOfDesign = (d : Design) (name : Option (List ℕ)) (a : IsAcceptedDesign d name) → let n = network_of d a.clock.first in (first v : State) (vs : List State) → IsFirst n first → IsKnownVector n v → AreKnownResets n vs → (earlier : List Choice) → IsPartOfRun n (start n first v vs) earlier → (later : List Choice) × IsCompleted n (start n first v vs) (earlier ++ later)
+RunsEndOfDesign = (d : Design) (name : Option (List ℕ)) (a : IsAcceptedDesign d name) (order : List Initial) → IsOrderOf d.initials order → let n = network_in d a.clock.first order in (first v : State) (vs : List State) → IsFirst n first → IsKnownVector n v → AreKnownResets n vs → (earlier : List Choice) → IsPartOfRun n (start n first v vs) earlier → (later : List Choice) × IsCompleted n (start n first v vs) (earlier ++ later)
 
 -- in every completed run, at the end of each slot, a sleeping block has run exactly where a bit that it waits on wasn't x at the end of that slot or one before it
 abbrev pub SleepersOfDesign : Type 0
-SleepersOfDesign = (d : Design) (name : Option (List ℕ)) (a : IsAcceptedDesign d name) → let n = network_of d a.clock.first in (first v : State) (vs : List State) → IsFirst n first → IsKnownVector n v → AreKnownResets n vs
+SleepersOfDesign = (d : Design) (name : Option (List ℕ)) (a : IsAcceptedDesign d name) (order : List Initial) → IsOrderOf d.initials order → let n = network_in d a.clock.first order in (first v : State) (vs : List State) → IsFirst n first → IsKnownVector n v → AreKnownResets n vs
     → (earlier later : List Choice) → IsCompleted n (start n first v vs) (earlier ++ later) → IsAfterSlot later
     → (p : ℕ) (x : Sleeper) → sleeper_at d p ≡ Some x → (has_run p earlier ≡ true) ↔ (list_any (λ s. not (all_x s x.on)) (ends n (start n first v vs) earlier) ≡ true)

@@ -27,6 +27,7 @@ pub mod Cycles
 pub mod Equations
 pub mod Calls
 pub mod Resets
+pub mod Initials
 pub mod Networks
 pub mod Sleepers
 pub mod Bounds
@@ -48,4 +49,5 @@ pub mod ExampleBlocking
 pub mod ExampleRefusals
 pub mod ExampleMemories
 pub mod ExampleTogether
+pub mod ExampleInitials
 pub mod PlaceLaws

@@ -3,7 +3,6 @@ use Rattle.std.specs.Prelude.{◌≡◌, ℕ, ◌+◌, ◌*◌, ◌<◌, Bool, t
 use Rattle.std.specs.List.{list_all}
 use Rattle.vs_four.specs.declared.Bit4.TheVariants.{X}
 use Rattle.vs_four.specs.Logic.{BitList}
-use Rattle.vs_four.specs.Numbers.{all_x}
 use Rattle.vs_four.specs.Selects.{range_length}
 use Rattle.vs_net.specs.Network.{State, Update, write_all, is_written}
 use Rattle.vs_net.specs.Network as N
@@ -16,6 +15,7 @@ use Rattle.vs_design.specs.Bodies.{body}
 use Rattle.vs_design.specs.Designs.{Process, Continuous, Always, is_clocked, Design}
 use Rattle.vs_design.specs.Footprints.{is_memory}
 use Rattle.vs_design.specs.Resets.{reset_of}
+use Rattle.vs_design.specs.Initials.{start_value}
 use Rattle.vs_design.specs.Networks.{network_of}
 use Rattle.vs_design.specs.Accepted.{IsAcceptedDesign}
 
@@ -52,9 +52,9 @@ word_along d clock bits v before [] xs = []
 word_along d clock bits v before (slot ∷ slots) [] = []
 word_along d clock bits v before (slot ∷ slots) (x ∷ xs) = let w = word_after (slot_effects d clock slot before d.processes) bits v in w ∷ word_along d clock bits w x slots xs
 
--- a word is all x until it is given a value, and then has the last one
+-- a word has what initial processes leave in it, x where none does, until it is given a value, and then has the last one
 abbrev pub word : Design → ℕ → Signal → ℕ → State → List Slot → List State → List BitList
-word d clock s n before slots xs = word_along d clock (word_bits s n) (all_x (word_length s)) before slots xs
+word d clock s n before slots xs = word_along d clock (word_bits s n) (read (start_value d) (word_bits s n)) before slots xs
 
 -- in the solution of an accepted design each word of a memory is that at the end of each slot
 abbrev pub WordsAre : Type 0

@@ -1,14 +1,16 @@
 -- A design as a network of processes, on which the event queue runs (IEEE 1364-2005, 11.3 and 11.4).
-use Rattle.std.specs.Prelude.{ℕ, zero, suc, Bool, true, false, List, [], ◌∷◌, ◌++◌, map, length, if◌then◌else◌, ◌==◌, nat_lt, Option}
-use Rattle.vs_four.specs.declared.Bit4.TheVariants.{X, Z}
-use Rattle.vs_net.specs.Network.{State, Network}
+use Rattle.std.specs.Prelude.{ℕ, zero, suc, Bool, true, false, List, [], ◌∷◌, ◌++◌, map, filter, length, if◌then◌else◌, ◌==◌, nat_lt, Option, None}
+use Rattle.std.specs.List.{flat_map}
+use Rattle.vs_net.specs.Network.{Write, Update, Network}
 use Rattle.vs_net.specs.Network as N
 use Rattle.vs_design.specs.Expressions.{Signal}
 use Rattle.vs_design.specs.Values.{bits_of_signal}
 use Rattle.vs_design.specs.Statements.{Statement}
-use Rattle.vs_design.specs.Bodies.{assignment_writes, body}
-use Rattle.vs_design.specs.Designs.{Event, Process, Continuous, Always, is_clocked, Design, top_inputs, bit_count}
-use Rattle.vs_design.specs.Footprints.{contains, all_reads, writes_of, waits_of, net_bits}
+use Rattle.vs_design.specs.Bodies.{assignment_writes, body, no_effect}
+use Rattle.vs_design.specs.Designs.{Event, Process, Continuous, Always, is_clocked, Initial, Design, top_inputs, bit_count}
+use Rattle.vs_design.specs.Footprints.{contains, all_reads, writes_of, waits_of}
+pub use Rattle.vs_design.specs.Initials.{idle_value}
+use Rattle.vs_design.specs.Initials.{initial_writes, initial_updates, sole_bits}
 use Rattle.vs_design.specs.Clocks.{Events, events_of, clock_nets, root_of, clock_bit}
 use Rattle.vs_design.specs.Resets.{reset_by}
 use Rattle.vs_design.specs.Sleepers.{sleeper_at}
@@ -33,9 +35,14 @@ writer_of clock s = if s.first == clock then N.Clock clock else N.Input (bits_of
 abbrev pub spare_writers : Design → ℕ → List N.Process
 spare_writers d clock = if nat_lt clock (bit_count d) then [] else (N.Clock clock ∷ [])
 
--- the processes by number, then the inputs in order of declaration, and then such a clock
+-- bits that initial processes alone write are those of a block that never writes: so the values that they leave stay
+abbrev pub keeper_of : ℕ → List ℕ → List N.Process
+keeper_of clock [] = []
+keeper_of clock (b ∷ bs) = N.Clocked clock None (contains (b ∷ bs)) (λ s. no_effect) ∷ []
+
+-- the processes by number, then the inputs in order of declaration, then such a clock, and then such a block
 abbrev pub all_processes : Design → ℕ → List N.Process
-all_processes d clock = map (process_of d clock) d.processes ++ (map (writer_of clock) (top_inputs d) ++ spare_writers d clock)
+all_processes d clock = map (process_of d clock) d.processes ++ (map (writer_of clock) (top_inputs d) ++ (spare_writers d clock ++ keeper_of clock (sole_bits d)))
 
 -- the process of this number, or an input without bits
 abbrev pub at_or_input : List N.Process → ℕ → N.Process
@@ -43,9 +50,30 @@ at_or_input [] p = N.Input []
 at_or_input (process ∷ ps) zero = process
 at_or_input (process ∷ ps) (suc p) = at_or_input ps p
 
--- before anything writes it a net bit is z (4.2.1), and a variable or an input x (4.2.2)
-abbrev pub idle_value : Design → State
-idle_value d b = if contains (net_bits d) b then Z else X
+-- the bits of a block that initial processes may write too
+abbrev pub kept_bits : N.Process → ℕ → Bool
+kept_bits (N.Clocked clock reset targets run) b = targets b
+kept_bits _ b = false
+
+-- these writes, as an update where there are any
+abbrev pub update_of : List Write → List Update
+update_of [] = []
+update_of (w ∷ ws) = (w ∷ ws) ∷ []
+
+-- of these updates what is to such bits
+abbrev pub updates_to : (ℕ → Bool) → List Update → List Update
+updates_to own us = flat_map (λ ws. update_of (filter (λ w. own w.bit) ws)) us
+
+-- the network in which the initial processes run in this order
+abbrev pub network_in : Design → ℕ → List Initial → Network
+network_in d clock order = record {
+  process = at_or_input (all_processes d clock);
+  count = length (all_processes d clock);
+  idle = idle_value d;
+  initial = λ p. updates_to (kept_bits (at_or_input (all_processes d clock) p)) (map initial_writes order);
+  initial_updates = λ p. updates_to (kept_bits (at_or_input (all_processes d clock) p)) (flat_map initial_updates order);
+  sleeper = sleeper_at d;
+}
 
 abbrev pub network_of : Design → ℕ → Network
-network_of d clock = record { process = at_or_input (all_processes d clock); count = length (all_processes d clock); idle = idle_value d; initial = λ p. []; initial_updates = λ p. []; sleeper = sleeper_at d }
+network_of d clock = network_in d clock d.initials

@@ -1,20 +1,21 @@
 -- What each refusal says of the design.
-use Rattle.std.specs.Prelude.{◌≡◌, ℕ, ◌≤◌, ◌<◌, Bool, true, false, not, ◌||◌, List, [], ◌∷◌, ◌⊎◌, ◌↔◌, Option, Some, None, slice_get}
+use Rattle.std.specs.Prelude.{◌≡◌, ℕ, ◌≤◌, ◌<◌, Bool, true, false, not, ◌||◌, List, [], ◌∷◌, ◌++◌, ◌⊎◌, ◌↔◌, Option, Some, None, slice_get}
 use Rattle.std.specs.List.{list_any, list_all}
 use Rattle.vs_design.specs.Expressions.{Signal}
 use Rattle.vs_design.specs.Values.{bits_of_signal}
-use Rattle.vs_design.specs.Designs.{Process, process_place, Design}
+use Rattle.vs_design.specs.Designs.{Process, process_place, Initial, Design, AnyProcess, OfProcess, OfInitial, in_text_order}
 use Rattle.vs_design.specs.Footprints.{contains, writes_of}
-use Rattle.vs_design.specs.Fits.{fits_process}
+use Rattle.vs_design.specs.Fits.{fits_process, fits_initial}
 use Rattle.vs_design.specs.Elaborated.{IsLawfulDesign}
 use Rattle.vs_design.specs.Sizes.{size}
 use Rattle.vs_design.specs.Rules.{function_latches, mixed_assigns, missing_bits, latches, shared_bits, drivers}
+use Rattle.vs_design.specs.Initials.{has_other_start, initial_bits, clashed_bits}
 use Rattle.vs_design.specs.Clocks.{clock_input, clock_nets, root_of, reads_clock, has_other_clock}
 use Rattle.vs_design.specs.Resets.{has_other_form}
 use Rattle.vs_design.specs.Levels.{level_order}
 use Rattle.vs_design.specs.Races.{race_bits}
 use Rattle.vs_design.specs.TimeZero.{families, is_uncertain}
-use Rattle.vs_design.specs.Refusals.{WidthRefusal, TooWide, Division, TooLarge, wide_in, divisions_in, told_size, width_refusal, BlockRefusal, FunctionLatch, MixedAssign, Sensitivity, Latch, block_refusal, DriverRefusal, TwoDrivers, driver_refusal, ClockRefusal, NoClock, ClockRead, NotTheClock, ResetForm, clock_refusal, RaceRefusal, Race, race_refusal, ZeroRefusal, TimeZero, zero_refusal}
+use Rattle.vs_design.specs.Refusals.{WidthRefusal, TooWide, Division, TooLarge, wide_at, divisions_at, told_size, width_refusal, BlockRefusal, FunctionLatch, InitialForm, MixedAssign, Sensitivity, Latch, block_refusal, DriverRefusal, TwoDrivers, TwoWriters, writers, driver_refusal, ClockRefusal, NoClock, ClockRead, NotTheClock, ResetForm, clock_refusal, RaceRefusal, Race, race_refusal, ZeroRefusal, TimeZero, zero_refusal}
 
 -- n is the least of these numbers
 pub record IsLeastOf (ns : List ℕ) (n : ℕ) : Type 0 where
@@ -27,16 +28,25 @@ pub record IsFirstOf (d : Design) (breaks : Process → Bool) (p : ℕ) (process
   pub broken : breaks process ≡ true
   pub before : (q : ℕ) (other : Process) → q < p → slice_get d.processes q ≡ Some other → breaks other ≡ false
 
+-- x is the first of all processes, initial ones among them, that breaks the rule
+pub record IsFirstIn (d : Design) (breaks : AnyProcess → Bool) (x : AnyProcess) : Type 0 where
+  pub earlier : List AnyProcess
+  pub rest : List AnyProcess
+  pub is : in_text_order d ≡ earlier ++ x ∷ rest
+  pub broken : breaks x ≡ true
+  pub before : list_any breaks earlier ≡ false
+
 -- ---- lengths
 
-abbrev pub is_unfit : Process → Bool
-is_unfit process = not (fits_process process)
+abbrev pub is_unfit : AnyProcess → Bool
+is_unfit (OfProcess p process) = not (fits_process process)
+is_unfit (OfInitial k i) = not (fits_initial i)
 
 -- the first process that has something too wide or a division; of its places the least, and at one place TooWide. TooLarge exactly where the size is over the limit
 abbrev pub IsWidthRefusal : Design → WidthRefusal → Type 0
-IsWidthRefusal d (TooWide at) = (p : ℕ) × (process : Process) × IsFirstOf d is_unfit p process × IsLeastOf (wide_in process) at × ((n : ℕ) → contains (divisions_in process) n ≡ true → at ≤ n)
-IsWidthRefusal d (Division at) = (p : ℕ) × (process : Process) × IsFirstOf d is_unfit p process × IsLeastOf (divisions_in process) at × ((n : ℕ) → contains (wide_in process) n ≡ true → at < n)
-IsWidthRefusal d (TooLarge n) = (list_all fits_process d.processes ≡ true) × (n ≡ told_size d) × (16777216 < size d)
+IsWidthRefusal d (TooWide at) = (x : AnyProcess) × IsFirstIn d is_unfit x × IsLeastOf (wide_at x) at × ((n : ℕ) → contains (divisions_at x) n ≡ true → at ≤ n)
+IsWidthRefusal d (Division at) = (x : AnyProcess) × IsFirstIn d is_unfit x × IsLeastOf (divisions_at x) at × ((n : ℕ) → contains (wide_at x) n ≡ true → at < n)
+IsWidthRefusal d (TooLarge n) = (list_all fits_process d.processes ≡ true) × (list_all fits_initial d.initials ≡ true) × (n ≡ told_size d) × (16777216 < size d)
 
 abbrev pub WidthRefusalIs : Type 0
 WidthRefusalIs = (d : Design) → IsLawfulDesign d → (r : WidthRefusal) → width_refusal d ≡ Some r → IsWidthRefusal d r
@@ -47,18 +57,20 @@ abbrev pub is_some_of : List ℕ → Bool
 is_some_of [] = false
 is_some_of (n ∷ ns) = true
 
-abbrev pub breaks_block : Process → Bool
-breaks_block process = is_some_of (mixed_assigns process) || is_some_of (missing_bits process) || is_some_of (latches process)
+abbrev pub breaks_block : AnyProcess → Bool
+breaks_block (OfProcess p process) = is_some_of (mixed_assigns process) || is_some_of (missing_bits process) || is_some_of (latches process)
+breaks_block (OfInitial k i) = has_other_start i
 
--- the first function that may latch; where there is none, the first process that breaks a rule on blocks; within it the first mixed assignment in the text, then the least signal with a missing bit, then the least bit that may latch
+-- the first function that may latch; where there is none, the first process that breaks a rule on blocks, or initial process that has another form; within a process the first mixed assignment in the text, then the least signal with a missing bit, then the least bit that may latch
 abbrev pub IsBlockRefusal : Design → BlockRefusal → Type 0
 IsBlockRefusal d (FunctionLatch at) = IsLeastOf (function_latches d.functions) at
-IsBlockRefusal d (MixedAssign at) = (function_latches d.functions ≡ []) × (p : ℕ) × (process : Process) × IsFirstOf d breaks_block p process × IsLeastOf (mixed_assigns process) at
+IsBlockRefusal d (InitialForm k at) = (function_latches d.functions ≡ []) × (i : Initial) × IsFirstIn d breaks_block (OfInitial k i) × (at ≡ i.place)
+IsBlockRefusal d (MixedAssign at) = (function_latches d.functions ≡ []) × (p : ℕ) × (process : Process) × IsFirstIn d breaks_block (OfProcess p process) × IsLeastOf (mixed_assigns process) at
 IsBlockRefusal d (Sensitivity p signal at) =
-    (function_latches d.functions ≡ []) × (process : Process) × IsFirstOf d breaks_block p process × (at ≡ process_place process) × (mixed_assigns process ≡ [])
+    (function_latches d.functions ≡ []) × (process : Process) × IsFirstIn d breaks_block (OfProcess p process) × (at ≡ process_place process) × (mixed_assigns process ≡ [])
     × ((b : ℕ) × IsLeastOf (missing_bits process) b × ((s : Signal) × (slice_get d.signals signal ≡ Some s) × (contains (bits_of_signal s) b ≡ true)))
     × ((q : ℕ) (s : Signal) (b : ℕ) → slice_get d.signals q ≡ Some s → contains (bits_of_signal s) b ≡ true → contains (missing_bits process) b ≡ true → signal ≤ q)
-IsBlockRefusal d (Latch p bit at) = (function_latches d.functions ≡ []) × (process : Process) × IsFirstOf d breaks_block p process × (at ≡ process_place process) × (mixed_assigns process ≡ []) × (missing_bits process ≡ []) × IsLeastOf (latches process) bit
+IsBlockRefusal d (Latch p bit at) = (function_latches d.functions ≡ []) × (process : Process) × IsFirstIn d breaks_block (OfProcess p process) × (at ≡ process_place process) × (mixed_assigns process ≡ []) × (missing_bits process ≡ []) × IsLeastOf (latches process) bit
 
 abbrev pub BlockRefusalIs : Type 0
 BlockRefusalIs = (d : Design) → IsLawfulDesign d → (r : BlockRefusal) → block_refusal d ≡ Some r → IsBlockRefusal d r
@@ -69,11 +81,12 @@ BlockRefusalIs = (d : Design) → IsLawfulDesign d → (r : BlockRefusal) → bl
 abbrev pub DriversAre : Type 0
 DriversAre = (d : Design) (b p : ℕ) → (contains (drivers d b) p ≡ true) ↔ ((process : Process) × (slice_get d.processes p ≡ Some process) × (contains (writes_of process) b ≡ true))
 
--- the least bit with two writers, its least writer and the least of the others
+-- the least bit with two writers that may not share it: its least driver and the least of the others, or its first writer in the text and the second, where an initial process is one of its writers
 abbrev pub IsDriverRefusal : Design → DriverRefusal → Type 0
 IsDriverRefusal d (TwoDrivers bit first second at) =
-    IsLeastOf (shared_bits d) bit × ((rest : List ℕ) × (drivers d bit ≡ first ∷ second ∷ rest)) × (first ≤ second) × ((p : ℕ) → contains (drivers d bit) p ≡ true → (p ≡ first) ⊎ (second ≤ p))
+    IsLeastOf (shared_bits d ++ clashed_bits d) bit × (contains (initial_bits d.initials) bit ≡ false) × ((rest : List ℕ) × (drivers d bit ≡ first ∷ second ∷ rest)) × (first ≤ second) × ((p : ℕ) → contains (drivers d bit) p ≡ true → (p ≡ first) ⊎ (second ≤ p))
     × ((process : Process) × (slice_get d.processes second ≡ Some process) × (at ≡ process_place process))
+IsDriverRefusal d (TwoWriters bit first second) = IsLeastOf (shared_bits d ++ clashed_bits d) bit × (contains (initial_bits d.initials) bit ≡ true) × ((rest : List AnyProcess) × (writers d bit ≡ first ∷ second ∷ rest))
 
 abbrev pub DriverRefusalIs : Type 0
 DriverRefusalIs = (d : Design) (r : DriverRefusal) → driver_refusal d ≡ Some r → IsDriverRefusal d r

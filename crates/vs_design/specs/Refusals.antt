@@ -1,13 +1,15 @@
 -- What a refusal of an elaborated design carries, and which comes first. A refusal's `at` is a place in the text.
-use Rattle.std.specs.Prelude.{◌≡◌, ℕ, zero, suc, Bool, true, not, ◌&&◌, List, [], ◌∷◌, ◌++◌, min, get_or, if◌then◌else◌, nat_le, nat_lt, Option, Some, None, option_map}
+use Rattle.std.specs.Prelude.{◌≡◌, ℕ, zero, suc, Bool, true, not, ◌&&◌, List, [], ◌∷◌, ◌++◌, map, min, get_or, if◌then◌else◌, nat_le, nat_lt, Option, Some, None, option_map, option_and_then}
+use Rattle.std.specs.List.{flat_map}
 use Rattle.vs_design.specs.Expressions.{Signal, Expression, Literal, Name, Select, Word, Unary, Binary, Choice, Join, Repeat, At, Call, Items, NoItem, Item, width, is_constant}
 use Rattle.vs_design.specs.Statements.{Target, Whole, PartOf, WordOf, Both, target_width, Statement, Empty, Assignment, Then, If, Case, Arms, Arm, Default}
-use Rattle.vs_design.specs.Designs.{Process, Continuous, Always, process_place, Design}
+use Rattle.vs_design.specs.Designs.{Process, Continuous, Always, process_place, Design, AnyProcess, OfProcess, OfInitial, in_text_order}
 use Rattle.vs_design.specs.Values.{bits_of_signal}
-use Rattle.vs_design.specs.Footprints.{contains}
+use Rattle.vs_design.specs.Footprints.{contains, statement_bits}
 use Rattle.vs_design.specs.Fits.{is_division}
 use Rattle.vs_design.specs.Sizes.{awake_size, size}
-use Rattle.vs_design.specs.Rules.{function_latches, mixed_assigns, missing_bits, latches, drivers, shared_bits}
+use Rattle.vs_design.specs.Rules.{function_latches, mixed_assigns, missing_bits, latches, driver, drivers, shared_bits}
+use Rattle.vs_design.specs.Initials.{has_other_start, initial_bits, clashed_bits}
 use Rattle.vs_design.specs.Clocks.{clock_input, clock_nets, root_of, reads_clock, has_other_clock}
 use Rattle.vs_design.specs.Resets.{has_other_form}
 use Rattle.vs_design.specs.Levels.{level_order, has_no_cycle}
@@ -32,6 +34,11 @@ otherwise None b = b
 abbrev pub first_found : {A : Type 0} → (ℕ → Process → Option A) → ℕ → List Process → Option A
 first_found find p [] = None
 first_found find p (process ∷ ps) = otherwise (find p process) (first_found find (suc p) ps)
+
+-- what is found at the first of these
+abbrev pub first_in : {A : Type 0} → (AnyProcess → Option A) → List AnyProcess → Option A
+first_in find [] = None
+first_in find (x ∷ xs) = otherwise (find x) (first_in find xs)
 
 -- this value where the test holds
 abbrev pub where_true : {A : Type 0} → Bool → A → Option A
@@ -163,6 +170,16 @@ wide_in p = in_process wide_places over_64 p
 abbrev pub divisions_in : Process → List ℕ
 divisions_in p = in_process division_places (λ at n. []) p
 
+abbrev pub in_any : (ℕ → Expression → List ℕ) → (ℕ → ℕ → List ℕ) → AnyProcess → List ℕ
+in_any f own (OfProcess p process) = in_process f own process
+in_any f own (OfInitial k i) = in_statement f own i.place i.statement
+
+abbrev pub wide_at : AnyProcess → List ℕ
+wide_at x = in_any wide_places over_64 x
+
+abbrev pub divisions_at : AnyProcess → List ℕ
+divisions_at x = in_any division_places (λ at n. []) x
+
 -- the one with the lesser place; at one place TooWide
 abbrev pub earlier : Option ℕ → Option ℕ → Option WidthRefusal
 earlier None None = None
@@ -181,15 +198,17 @@ told_size d = min (judged_size d) 18446744073709551615
 abbrev pub too_large : Design → Option WidthRefusal
 too_large d = where_true (nat_lt 16777216 (judged_size d)) (TooLarge (told_size d))
 
--- TooWide and Division by process and then by place, and after them TooLarge
+-- TooWide and Division in the order of the processes, initial ones among them, and then by place, and after them TooLarge
 abbrev pub width_refusal : Design → Option WidthRefusal
-width_refusal d = otherwise (first_found (λ p process. earlier (least (wide_in process)) (least (divisions_in process))) 0 d.processes) (too_large d)
+width_refusal d = otherwise (first_in (λ x. earlier (least (wide_at x)) (least (divisions_at x))) (in_text_order d)) (too_large d)
 
 -- ---- blocks and drivers
 
 pub data BlockRefusal : Type 0 where
   -- at the function
   FunctionLatch : (at : ℕ) → BlockRefusal
+  -- at the initial process
+  InitialForm : (initial at : ℕ) → BlockRefusal
   -- at the assignment
   MixedAssign : (at : ℕ) → BlockRefusal
   -- at the process, as all that follow
@@ -207,9 +226,13 @@ block_refusal_of d p process =
     otherwise (option_map MixedAssign (least (mixed_assigns process)))
     (otherwise (option_map (λ b. Sensitivity p (signal_of d.signals b) (process_place process)) (least (missing_bits process))) (option_map (λ b. Latch p b (process_place process)) (least (latches process))))
 
+abbrev pub block_refusal_at : Design → AnyProcess → Option BlockRefusal
+block_refusal_at d (OfProcess p process) = block_refusal_of d p process
+block_refusal_at d (OfInitial k i) = where_true (has_other_start i) (InitialForm k i.place)
+
 -- before them the first function in the text that may latch
 abbrev pub block_refusal : Design → Option BlockRefusal
-block_refusal d = otherwise (option_map FunctionLatch (least (function_latches d.functions))) (first_found (block_refusal_of d) 0 d.processes)
+block_refusal d = otherwise (option_map FunctionLatch (least (function_latches d.functions))) (first_in (block_refusal_at d) (in_text_order d))
 
 abbrev pub place_at : List Process → ℕ → ℕ
 place_at [] p = 0
@@ -217,12 +240,34 @@ place_at (process ∷ ps) zero = process_place process
 place_at (process ∷ ps) (suc p) = place_at ps p
 
 pub data DriverRefusal : Type 0 where
-  -- at the second
+  -- two processes, at the second
   TwoDrivers : (bit first second at : ℕ) → DriverRefusal
+  -- two of which one at least is an initial process, at the second
+  TwoWriters : (bit : ℕ) (first second : AnyProcess) → DriverRefusal
 
--- the least bit with two writers, and the two least of them
+-- the process as often as it writes the bit
+abbrev pub writes_at : ℕ → AnyProcess → List AnyProcess
+writes_at b (OfProcess p process) = map (λ q. OfProcess q process) (driver p process b)
+writes_at b (OfInitial k i) = if contains (statement_bits i.statement) b then (OfInitial k i ∷ []) else []
+
+-- the writers of the bit in the order of the text
+abbrev pub writers : Design → ℕ → List AnyProcess
+writers d b = flat_map (writes_at b) (in_text_order d)
+
+-- the first two of them
+abbrev pub two_writers : ℕ → List AnyProcess → Option DriverRefusal
+two_writers b (first ∷ second ∷ rest) = Some (TwoWriters b first second)
+two_writers b _ = None
+
+-- the refusal for this bit: without an initial process among its writers its two least drivers
+abbrev pub driver_refusal_at : Design → ℕ → Option DriverRefusal
+driver_refusal_at d b =
+    if contains (initial_bits d.initials) b then two_writers b (writers d b)
+    else Some (TwoDrivers b (get_or (drivers d b) 0 0) (get_or (drivers d b) 1 0) (place_at d.processes (get_or (drivers d b) 1 0)))
+
+-- the least bit with two writers that may not share it
 abbrev pub driver_refusal : Design → Option DriverRefusal
-driver_refusal d = option_map (λ b. TwoDrivers b (get_or (drivers d b) 0 0) (get_or (drivers d b) 1 0) (place_at d.processes (get_or (drivers d b) 1 0))) (least (shared_bits d))
+driver_refusal d = option_and_then (driver_refusal_at d) (least (shared_bits d ++ clashed_bits d))
 
 -- ---- the clock, and time zero
 

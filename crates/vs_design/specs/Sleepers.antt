@@ -6,6 +6,7 @@ use Rattle.vs_net.specs.Network.{Sleeper}
 use Rattle.vs_design.specs.Statements.{Statement, Empty, Assignment, Then, If, Case, Arms, Arm, Default}
 use Rattle.vs_design.specs.Designs.{Process, Continuous, Always, is_clocked, is_combinational, Design}
 use Rattle.vs_design.specs.Footprints.{contains, target_bits, statement_bits, writes_of, waits_of, variable_bits}
+use Rattle.vs_design.specs.Initials.{initial_bits}
 use Rattle.vs_design.specs.Sets.{only, is_only_x}
 use Rattle.vs_design.specs.LiftedBodies.{lifted_body}
 
@@ -35,9 +36,9 @@ abbrev pub comb_bits : List Process → List ℕ
 comb_bits [] = []
 comb_bits (p ∷ ps) = (if is_combinational p then writes_of p else []) ++ comb_bits ps
 
--- a variable's bit that no combinational block writes, and no clocked block more than once on a path
+-- a variable's bit that no combinational block and no initial process writes, and no clocked block more than once on a path
 abbrev pub is_still : Design → ℕ → Bool
-is_still d b = contains (variable_bits d) b && not (contains (comb_bits d.processes) b) && is_once d.processes b
+is_still d b = contains (variable_bits d) b && not (contains (comb_bits d.processes) b) && is_once d.processes b && not (contains (initial_bits d.initials) b)
 
 -- each `<=` taken as a `=`
 abbrev mutual

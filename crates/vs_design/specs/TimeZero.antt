@@ -1,10 +1,11 @@
 -- The sets of values at time zero, and the rule TimeZero: a combinational block that might not be started before its nets settle has to be quiet, to be woken, or surely to sleep.
 use Rattle.std.specs.Prelude.{ℕ, Bool, true, not, ◌&&◌, List, [], ◌∷◌, if◌then◌else◌, Option, Some, None, slice_get}
 use Rattle.std.specs.List.{list_any, list_all}
-use Rattle.vs_four.specs.declared.Bit4.TheVariants.{Zero, X, Z}
+use Rattle.vs_four.specs.declared.Bit4.TheVariants.{Zero, X}
 use Rattle.vs_design.specs.Statements.{Statement}
 use Rattle.vs_design.specs.Designs.{Process, Continuous, Always, is_combinational, Design}
-use Rattle.vs_design.specs.Footprints.{contains, waits_of, statement_bits, input_bits, net_bits}
+use Rattle.vs_design.specs.Footprints.{contains, waits_of, statement_bits, input_bits}
+use Rattle.vs_design.specs.Initials.{first_value, start_value}
 use Rattle.vs_design.specs.Clocks.{own_clock}
 use Rattle.vs_design.specs.Resets.{with_resets}
 use Rattle.vs_design.specs.Sleepers.{is_sleeping}
@@ -17,13 +18,13 @@ pub record Families : Type 0 where
   pub early : Family
   pub late : Family
 
--- the early sets of a bit that no assign and no combinational block writes: z in a net without driver, x in an input or a variable (4.2.1, 4.2.2)
+-- the early set of a bit that no assign and no combinational block writes: z in a net without driver, x in an input or a variable, or what an initial process writes to it by `=`
 abbrev pub early_source : Design → Family
-early_source d b = if contains (net_bits d) b then only Z else only X
+early_source d b = only (first_value d b)
 
--- its late sets: 0 in the clock, 0 or 1 in any other input, else as early, with the value that a reset gives it last
+-- its late set: 0 in the clock, 0 or 1 in any other input, else what initial processes leave in it, with the value that a reset gives it last
 abbrev pub late_source : Design → ℕ → Family
-late_source d clock b = if contains (own_clock d clock) b then only Zero else (if contains (input_bits d) b then known_set else with_resets d clock d.processes b (early_source d b))
+late_source d clock b = if contains (own_clock d clock) b then only Zero else (if contains (input_bits d) b then known_set else with_resets d clock d.processes b (only (start_value d b)))
 
 -- a block's own bits may have any value when it begins: without latches each is assigned before it is read
 abbrev pub before_run : List ℕ → Family → Family

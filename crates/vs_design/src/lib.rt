@@ -9,13 +9,14 @@ ghost use Rattle.vs_design.specs.ExampleBlocking.{BlockingComputed};
 ghost use Rattle.vs_design.specs.ExampleCalls.{CallsComputed};
 ghost use Rattle.vs_design.specs.ExampleDesigns.{DesignsComputed};
 ghost use Rattle.vs_design.specs.ExampleElaborated.{ElaboratedComputed};
+ghost use Rattle.vs_design.specs.ExampleInitials.{InitialsComputed};
 ghost use Rattle.vs_design.specs.ExampleMemories.{MemoriesComputed};
 ghost use Rattle.vs_design.specs.ExampleRefusals.{RefusalsComputed};
 ghost use Rattle.vs_design.specs.ExampleSets.{SetsComputed};
 ghost use Rattle.vs_design.specs.ExampleSizes.{SizesComputed};
 ghost use Rattle.vs_design.specs.ExampleTogether.{TogetherComputed};
 ghost use Rattle.vs_design.specs.ExampleValues.{ValuesComputed};
-ghost use Rattle.vs_design.specs.Laws.{AcceptedExactly, AcceptedIsLawful, AscendingHas, AscendingRises, BitsOfDesign, BoundOfDesign, ClockNetsAre, EveryOrderOfDesign, LevelOrderIs, LevelRunOfDesign, OneFamilies, OnePassOfDesign, OneSolutionOfDesign, OrderOrCycle, RaceByAnyOrder, RunsEndOfDesign, SleepersOfDesign, SleepingIs, SpareClockIs, StarMissesNone, StirredBitsAre};
+ghost use Rattle.vs_design.specs.Laws.{AcceptedExactly, AcceptedIsLawful, AscendingHas, AscendingRises, BeginningIs, BitsOfDesign, BoundOfDesign, ClockNetsAre, EveryOrderOfDesign, LevelOrderIs, LevelRunOfDesign, OneFamilies, OnePassOfDesign, OneSolutionOfDesign, OrderOrCycle, RaceByAnyOrder, RunsEndOfDesign, SleepersOfDesign, SleepingIs, SpareClockIs, StarMissesNone, StirredBitsAre};
 ghost use Rattle.vs_design.specs.Memories.{WordsAre};
 ghost use Rattle.vs_design.specs.Paths.{LatchBitsAre};
 ghost use Rattle.vs_design.specs.PlaceLaws.{ItemPlacesAgree, StatementFits, StatementPlacesAgree};
@@ -81,7 +82,7 @@ pub fn time_zero_law()
     ensures { OneFamilies }
 {}
 
-/// A combinational block sleeps exactly where it waits on bits alone that clocked blocks may write, once in a run, and is neither quiet nor wakes.
+/// A combinational block sleeps exactly where it waits on bits alone that clocked blocks may write, once in a run, and no initial process does, and is neither quiet nor wakes.
 pub fn sleeping_law()
     ensures { SleepingIs }
 {}
@@ -143,9 +144,10 @@ pub fn race_law()
     ensures orders { RaceByAnyOrder }
 {}
 
-/// The network of an accepted design is lawful.
+/// The network of an accepted design is lawful, in whatever order its initial processes run (IEEE 1364-2005, 9.9.1); and before slot 0 each bit has what they leave in it.
 pub fn lawful_law()
-    ensures { AcceptedIsLawful }
+    ensures lawful { AcceptedIsLawful }
+    ensures beginning { BeginningIs }
 {}
 
 /// The equations of a slot of an accepted design, on its assigns, blocks, registers and inputs, are those of its network.
@@ -153,7 +155,7 @@ pub fn solution_law()
     ensures { SlotValuesAre }
 {}
 
-/// Every completed run of an accepted design's event queue (IEEE 1364-2005, 11.3 and 11.4), in whatever order of its steps, ends each slot with the one solution.
+/// Every completed run of an accepted design's event queue (IEEE 1364-2005, 11.3 and 11.4), in whatever order of its steps and of its initial processes, ends each slot with the one solution.
 pub fn order_law()
     ensures { EveryOrderOfDesign }
 {}
@@ -163,7 +165,7 @@ pub fn exists_law()
     ensures { LevelRunOfDesign }
 {}
 
-/// Each word of a memory has, at the end of each slot, the last value that a clocked block or an active reset gave it, at once or by an update, and is all x before the first (IEEE 1364-2005, 4.9).
+/// Each word of a memory has, at the end of each slot, the last value that a clocked block or an active reset gave it, at once or by an update, and before the first what initial processes leave in it, x where none does (IEEE 1364-2005, 4.9 and 9.9.1).
 pub fn memory_law()
     ensures { WordsAre }
 {}
@@ -226,6 +228,11 @@ pub fn design_examples()
 /// Worked designs with blocking assignments in clocked blocks: their sizes, which of them the rules Race and MixedAssign refuse, and the values that their networks have at the end of each slot.
 pub fn blocking_examples()
     ensures { BlockingComputed }
+{}
+
+/// Worked initial processes: what they leave, the values at the end of each slot in whatever order they run, and what refuses them.
+pub fn initial_examples()
+    ensures { InitialsComputed }
 {}
 
 /// Worked memories: places of words, what is read and written, sizes, and the values at the end of each slot.

@@ -11,12 +11,12 @@ use Rattle.vs_driver.specs.declared.drivers.Drivers.{Drivers}
 use Rattle.vs_driver.specs.Drivers.{first_two, drivers_at, AreDrivers}
 use Rattle.vs_reads.proofs.Tests.{by_test, either_way, place_of}
 
-same_other : (q p : ℕ) → (q == p) ≡ false → q ≡ p → ⊥
+pub same_other : (q p : ℕ) → (q == p) ≡ false → q ≡ p → ⊥
 same_other q p h e = either_way (q == p) (subst (λ m. (q == m) ≡ true) e (eq-eqb q q refl)) h
 
 -- ---- how often
 
-times-append : (b : ℕ) (xs ys : List ℕ) → times b (xs ++ ys) ≡ times b xs + times b ys
+pub times-append : (b : ℕ) (xs ys : List ℕ) → times b (xs ++ ys) ≡ times b xs + times b ys
 times-append b [] ys = sym (zero-add (times b ys))
 times-append b (x ∷ xs) ys = by_test (b == x) (λ e. rw e (ap suc (times-append b xs ys) ∙ grown (times b xs) (times b ys))) (λ e. rw e (times-append b xs ys))
   where
@@ -62,7 +62,7 @@ times_rising b (x ∷ xs) h =
 abbrev pub AreNoted : List Drivers → List Drivers → List ℕ → ℕ → Type 0
 AreNoted old new bits p = (b : ℕ) (ps : List ℕ) → b < length old → drivers_at old b ≡ first_two ps → drivers_at new b ≡ first_two (ps ++ replicate (times b bits) p)
 
-append_nil : (ps : List ℕ) → ps ++ [] ≡ ps
+pub append_nil : (ps : List ℕ) → ps ++ [] ≡ ps
 append_nil [] = refl
 append_nil (p ∷ ps) = ap {B = List ℕ} (λ zs. p ∷ zs) (append_nil ps)
 

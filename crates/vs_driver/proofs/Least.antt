@@ -1,27 +1,28 @@
 -- The least bit with two drivers.
-use Rattle.std.proofs.Common.{◌≡◌, ℕ, zero, suc, ◌<◌, ◌≤◌, Bool, true, false, List, [], ◌∷◌, ◌++◌, ◌||◌, ◌&&◌, ◌==◌, refl, sym, ap, ◌∙◌, subst, eqb-true, get_or, length, arith, min, nat_lt, Some, None, option_map, ◌⊎◌, inl, inr}
-use Rattle.std.specs.Prelude.{slice_get, filter}
+use Rattle.std.proofs.Common.{◌≡◌, ℕ, zero, suc, ◌<◌, ◌≤◌, Bool, true, false, List, [], ◌∷◌, ◌++◌, ◌||◌, ◌&&◌, ◌==◌, refl, sym, ap, ◌∙◌, subst, eqb-true, get_or, length, arith, min, nat_lt, map, if◌then◌else◌, Some, None, ◌⊎◌, inl, inr}
+use Rattle.std.specs.Prelude.{slice_get, filter, option_and_then}
 use Rattle.std.proofs.lemmas.Bool.{lt-ltb, ltb-true, ltb-false, le-ltb}
-use Rattle.vs_design.specs.Designs.{Process, Design, bit_count}
+use Rattle.vs_design.specs.Designs.{Process, Design, AnyProcess, bit_count}
 use Rattle.vs_design.specs.Footprints.{contains, all_reads, writes_of, waits_of}
 use Rattle.vs_design.specs.Elaborated.{IsLawfulDesign}
 use Rattle.vs_design.specs.Laws.{BitsOfDesign}
 use Rattle.vs_design.specs.Rules.{drivers, written_bits, shared_bits}
-use Rattle.vs_design.specs.Refusals.{least_with, least, place_at, driver_refusal}
+use Rattle.vs_design.specs.Initials.{initial_bits, clashes, clashed_bits}
+use Rattle.vs_design.specs.Refusals.{least_with, least, place_at, writers, two_writers, driver_refusal_at, driver_refusal}
 use Rattle.vs_design.specs.Refusals as R
 use Rattle.vs_design.specs.RefusalLaws.{DriversAre}
-use Rattle.vs_driver.specs.declared.drivers.Drivers.{Drivers}
-use Rattle.vs_driver.specs.declared.drivers.Drivers.TheVariants.{Nobody, One, Two}
-use Rattle.vs_driver.specs.Drivers.{first_two}
+use Rattle.vs_driver.specs.declared.drivers.Drivers.TheVariants.{Two}
+use Rattle.vs_flat.specs.declared.processes.AnyProcess as F
+use Rattle.vs_flat.specs.TextOrder.{any_of}
+use Rattle.vs_driver.specs.declared.writers.Writers as V
+use Rattle.vs_driver.specs.declared.writers.Writers.TheVariants as W
+use Rattle.vs_driver.specs.Writers.{first_writers}
+use Rattle.vs_driver.specs.Refused.{AreTwoWriters}
+use Rattle.vs_driver.specs.Drivers.{are_two, first_two}
 use Rattle.vs_reads.proofs.Tests.{by_test, either_way, same_test, or_left, or_right, and_both, and_true, contains-append, contains_head, contains_tail}
 
-abbrev pub is_two : Drivers → Bool
-is_two Nobody = false
-is_two (One p) = false
-is_two (Two p q) = true
-
 -- two drivers or more
-two_is : (ps : List ℕ) → is_two (first_two ps) ≡ nat_lt 1 (length ps)
+two_is : (ps : List ℕ) → are_two (first_two ps) ≡ nat_lt 1 (length ps)
 two_is [] = sym (le-ltb 1 0 (omega arith))
 two_is (p ∷ []) = sym (le-ltb 1 1 (omega arith))
 two_is (p ∷ q ∷ ps) = sym (lt-ltb 1 (length (p ∷ q ∷ ps)) (omega arith))
@@ -121,6 +122,25 @@ least_is : (ns : List ℕ) (b : ℕ) → contains ns b ≡ true → ((c : ℕ) �
 least_is [] b h l = cc
 least_is (n ∷ ns) b h l = ap Some (least_min n ns b h l)
 
+in_two : (n m k : ℕ) (ms : List ℕ) → (k ≡ n) ⊎ (k ≡ m) → contains (n ∷ m ∷ ms) k ≡ true
+in_two n m k ms (inl e) = subst (λ z. contains (n ∷ m ∷ ms) z ≡ true) (sym e) (contains_head n (m ∷ ms))
+in_two n m k ms (inr e) = subst (λ z. contains (n ∷ m ∷ ms) z ≡ true) (sym e) (contains_tail m n (m ∷ ms) (contains_head m ms))
+
+spread : (n m k b : ℕ) (ms : List ℕ) → (k ≡ n) ⊎ (k ≡ m) → contains (k ∷ ms) b ≡ true → contains (n ∷ m ∷ ms) b ≡ true
+spread n m k b ms which h =
+    by_test (b == k)
+    (λ e. subst (λ z. contains (n ∷ m ∷ ms) z ≡ true) (sym (eqb-true b k e)) (in_two n m k ms which))
+    (λ e. contains_tail b n (m ∷ ms) (contains_tail b m ms (subst (λ t. (t || contains ms b) ≡ true) e h)))
+
+least_with_in : (n : ℕ) (ms : List ℕ) → contains (n ∷ ms) (least_with n ms) ≡ true
+least_with_in n [] = contains_head n []
+least_with_in n (m ∷ ms) = spread n m (min n m) (least_with (min n m) ms) ms (smaller n m).0 (least_with_in (min n m) ms)
+
+-- the least is one of them
+least_in : (ns : List ℕ) (b : ℕ) → least ns ≡ Some b → contains ns b ≡ true
+least_in [] b h = cc
+least_in (n ∷ ns) b h = subst (λ m. contains (n ∷ ns) m ≡ true) (let e : least_with n ns ≡ b = cc in e) (least_with_in n ns)
+
 least_none : (ns : List ℕ) → ((b : ℕ) → contains ns b ≡ false) → least ns ≡ None
 least_none [] h = refl
 least_none (n ∷ ns) h = either_way (contains (n ∷ ns) n) (contains_head n ns) (h n)
@@ -136,25 +156,49 @@ shared_below d w b h =
     let r = writer_of d.processes b (and_both (contains (written_bits d.processes) b) (nat_lt 1 (length (drivers d b))) (sym (contains_filter (λ b. nat_lt 1 (length (drivers d b))) (written_bits d.processes) b) ∙ h)).0 in
     w r.0 r.1 r.2 b r.3
 
-pub none_refused : DriversAre → (d : Design) → WritesBelow d → ((b : ℕ) → b < bit_count d → is_two (first_two (drivers d b)) ≡ false) → driver_refusal d ≡ None
-none_refused law d w h =
-    ap (option_map (λ b. R.TwoDrivers b (get_or (drivers d b) 0 0) (get_or (drivers d b) 1 0) (place_at d.processes (get_or (drivers d b) 1 0))))
-    (least_none (shared_bits d) (λ b. by_test (contains (shared_bits d) b) (λ e. absurd (either_way (is_two (first_two (drivers d b))) (two_is (drivers d b) ∙ sym (shared_is law d b) ∙ e) (h b (shared_below d w b e)))) (λ e. e)))
+-- the bits that refuse the design
+abbrev pub refused_bits : Design → List ℕ
+refused_bits d = shared_bits d ++ clashed_bits d
 
-pub two_refused : DriversAre → (d : Design) (b p q at : ℕ) → first_two (drivers d b) ≡ Two p q → ((c : ℕ) → c < b → is_two (first_two (drivers d c)) ≡ false) → at ≡ place_at d.processes q → driver_refusal d ≡ Some (R.TwoDrivers b p q at)
-two_refused law d b p q at e h f =
-    ap (option_map (λ b. R.TwoDrivers b (get_or (drivers d b) 0 0) (get_or (drivers d b) 1 0) (place_at d.processes (get_or (drivers d b) 1 0)))) (least_is (shared_bits d) b here below)
-    ∙ ap Some (same (drivers d b) e)
+-- a bit is refused exactly where it has two drivers, or an initial process writes it and clashes
+pub refused_is : DriversAre → (d : Design) (b : ℕ) → contains (refused_bits d) b ≡ (are_two (first_two (drivers d b)) || (contains (initial_bits d.initials) b && clashes d b))
+refused_is law d b =
+    contains-append (shared_bits d) (clashed_bits d) b
+    ∙ ap (λ t. t || contains (clashed_bits d) b) (shared_is law d b ∙ sym (two_is (drivers d b)))
+    ∙ ap (λ t. are_two (first_two (drivers d b)) || t) (contains_filter (clashes d) (initial_bits d.initials) b)
+
+-- and is a bit of the design
+refused_below : DriversAre → (d : Design) → WritesBelow d → ((b : ℕ) → contains (initial_bits d.initials) b ≡ true → b < bit_count d) → (b : ℕ) → contains (refused_bits d) b ≡ true → b < bit_count d
+refused_below law d w starts b h =
+    by_test (contains (shared_bits d) b)
+    (λ e. shared_below d w b e)
+    (λ e.
+    let c = subst (λ t. (t || contains (clashed_bits d) b) ≡ true) e (sym (contains-append (shared_bits d) (clashed_bits d) b) ∙ h) in
+    starts b (and_both (contains (initial_bits d.initials) b) (clashes d b) (sym (contains_filter (clashes d) (initial_bits d.initials) b) ∙ c)).0)
+
+pub least_refused : DriversAre → (d : Design) (b : ℕ) → contains (refused_bits d) b ≡ true → ((c : ℕ) → c < b → contains (refused_bits d) c ≡ false) → least (refused_bits d) ≡ Some b
+least_refused law d b here none =
+    least_is (refused_bits d) b here (λ c k. by_test (nat_lt c b) (λ l. either_way (contains (refused_bits d) c) k (none c (ltb-true c b l))) (λ l. ltb-false c b l))
+
+pub none_refused : DriversAre → (d : Design) → WritesBelow d → ((b : ℕ) → contains (initial_bits d.initials) b ≡ true → b < bit_count d) → ((b : ℕ) → b < bit_count d → contains (refused_bits d) b ≡ false) → driver_refusal d ≡ None
+none_refused law d w starts h =
+    ap (option_and_then (driver_refusal_at d))
+    (least_none (refused_bits d) (λ b. by_test (contains (refused_bits d) b) (λ e. either_way (contains (refused_bits d) b) e (h b (refused_below law d w starts b e))) (λ e. e)))
+
+-- ---- what is told of the least bit
+
+at_least : (d : Design) (b : ℕ) → least (refused_bits d) ≡ Some b → driver_refusal d ≡ driver_refusal_at d b
+at_least d b h = ap (option_and_then (driver_refusal_at d)) h
+
+abbrev two_drivers : Design → ℕ → R.DriverRefusal
+two_drivers d b = R.TwoDrivers b (get_or (drivers d b) 0 0) (get_or (drivers d b) 1 0) (place_at d.processes (get_or (drivers d b) 1 0))
+
+chosen : (d : Design) (b : ℕ) (c : Bool) → contains (initial_bits d.initials) b ≡ c → driver_refusal_at d b ≡ (if c then two_writers b (writers d b) else Some (two_drivers d b))
+chosen d b c e = ap (λ (t : Bool). if t then two_writers b (writers d b) else Some (two_drivers d b)) e
+
+pub drivers_told : (d : Design) (b p q at : ℕ) → least (refused_bits d) ≡ Some b → contains (initial_bits d.initials) b ≡ false → first_two (drivers d b) ≡ Two p q → at ≡ place_at d.processes q → driver_refusal d ≡ Some (R.TwoDrivers b p q at)
+drivers_told d b p q at h c e f = at_least d b h ∙ chosen d b false c ∙ ap Some (same (drivers d b) e)
   where
-    here : contains (shared_bits d) b ≡ true
-    here = shared_is law d b ∙ sym (two_is (drivers d b)) ∙ ap is_two e
-
-    below : (c : ℕ) → contains (shared_bits d) c ≡ true → b ≤ c
-    below c k =
-        by_test (nat_lt c b)
-        (λ l. either_way (is_two (first_two (drivers d c))) (two_is (drivers d c) ∙ sym (shared_is law d c) ∙ k) (h c (ltb-true c b l)))
-        (λ l. ltb-false c b l)
-
     same : (ps : List ℕ) → first_two ps ≡ Two p q → R.TwoDrivers b (get_or ps 0 0) (get_or ps 1 0) (place_at d.processes (get_or ps 1 0)) ≡ R.TwoDrivers b p q at
     same [] e = cc
     same (x ∷ []) e = cc
@@ -163,6 +207,35 @@ two_refused law d b p q at e h f =
         let c : y ≡ q = cc in
         let g : place_at d.processes y ≡ at = ap (place_at d.processes) c ∙ sym f in
         cc
+
+-- without an initial process among its writers it has two drivers
+pub has_two : DriversAre → (d : Design) (b : ℕ) → least (refused_bits d) ≡ Some b → contains (initial_bits d.initials) b ≡ false → are_two (first_two (drivers d b)) ≡ true
+has_two law d b h c =
+    let in_it = least_in (refused_bits d) b h in
+    sym (or_end (are_two (first_two (drivers d b)))) ∙ ap (λ t. are_two (first_two (drivers d b)) || (t && clashes d b)) (sym c) ∙ sym (refused_is law d b) ∙ in_it
+  where
+    or_end : (a : Bool) → (a || false) ≡ a
+    or_end true = refl
+    or_end false = refl
+
+pub writers_told : (d : Design) (b : ℕ) (first second : F.AnyProcess) → least (refused_bits d) ≡ Some b → contains (initial_bits d.initials) b ≡ true → first_writers (map any_of (writers d b)) ≡ W.Two first second → AreTwoWriters d b first second
+writers_told d b first second h c e = go (writers d b) refl e
+  where
+    go : (xs : List AnyProcess) → writers d b ≡ xs → first_writers (map any_of xs) ≡ W.Two first second → AreTwoWriters d b first second
+    go [] f e = absurd (let z : ⊥ = cc in z)
+    go (x ∷ []) f e = absurd (let z : ⊥ = cc in z)
+    go (x ∷ y ∷ xs) f e =
+        let a : any_of x ≡ first = cc in
+        let g : any_of y ≡ second = cc in
+        record { one = x; other = y; told = at_least d b h ∙ chosen d b true c ∙ ap (two_writers b) f; first_is = a; second_is = g }
+
+pub few_writers : (d : Design) (b : ℕ) (w : V.Writers) → least (refused_bits d) ≡ Some b → contains (initial_bits d.initials) b ≡ true → w ≡ first_writers (map any_of (writers d b)) → ((x y : F.AnyProcess) → w ≡ W.Two x y → ⊥) → driver_refusal d ≡ None
+few_writers d b w h c e other = at_least d b h ∙ chosen d b true c ∙ go (writers d b) e
+  where
+    go : (xs : List AnyProcess) → w ≡ first_writers (map any_of xs) → two_writers b xs ≡ None
+    go [] f = refl
+    go (x ∷ []) f = refl
+    go (x ∷ y ∷ xs) f = absurd (other (any_of x) (any_of y) f)
 
 pub writes_below : BitsOfDesign → (d : Design) → IsLawfulDesign d → WritesBelow d
 writes_below law d l p x e b h =

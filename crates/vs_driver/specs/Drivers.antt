@@ -1,5 +1,5 @@
 -- The drivers of bits, as far as they matter.
-use Rattle.std.specs.Prelude.{◌≡◌, ℕ, ◌<◌, List, [], ◌∷◌, length, take, slice_index_or}
+use Rattle.std.specs.Prelude.{◌≡◌, ℕ, ◌<◌, Bool, true, false, List, [], ◌∷◌, length, take, slice_index_or}
 use Rattle.vs_design.specs.Designs.{Design, bit_count}
 use Rattle.vs_design.specs.Rules.{drivers_from, drivers}
 use Rattle.vs_driver.specs.declared.drivers.Drivers.{Drivers}
@@ -9,6 +9,11 @@ abbrev pub first_two : List ℕ → Drivers
 first_two [] = Nobody
 first_two (p ∷ []) = One p
 first_two (p ∷ q ∷ ps) = Two p q
+
+abbrev pub are_two : Drivers → Bool
+are_two Nobody = false
+are_two (One p) = false
+are_two (Two p q) = true
 
 abbrev pub drivers_at : List Drivers → ℕ → Drivers
 drivers_at table b = slice_index_or table b Nobody

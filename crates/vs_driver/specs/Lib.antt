@@ -1,2 +1,5 @@
 pub mod Drivers
+pub mod Walks
+pub mod Marks
+pub mod Writers
 pub mod Refused

@@ -10,7 +10,14 @@ pub(crate) enum Drivers {
 
 impl Drivers {
     ghost use Rattle.std.specs.Prelude.{◌≡◌, ℕ, List, ◌∷◌, ◌++◌, []};
-    ghost use Rattle.vs_driver.specs.Drivers.{first_two};
+    ghost use Rattle.vs_driver.specs.Drivers.{are_two, first_two};
+
+    /// Whether there are two.
+    pub(crate) fn are_two(self) -> bool
+        ensures { result ≡ are_two self }
+    {
+        matches!(self, Drivers::Two(_, _))
+    }
 
     /// The drivers with one more.
     pub(crate) fn with(self, p: u32) -> Drivers

@@ -2,8 +2,9 @@
 
 use std::alloc::AllocError;
 use thiserror::Error;
+use vs_flat::AnyProcess;
 
-/// Why a bit of a design isn't written by one process alone.
+/// Why a bit of a design isn't written by one process alone, or by a clocked block and an initial process that may share it.
 #[derive(Clone, Copy, PartialEq, Eq, Debug, Error)]
 pub enum DriverError {
     /// Two processes write the bit, or one assign has it twice in its target; then it is both. Of several bits it is the least one, and of several writers the two least. The second begins at token `at`.
@@ -13,6 +14,13 @@ pub enum DriverError {
         first: u32,
         second: u32,
         at: u32,
+    },
+    /// An initial process writes the bit beside another one, beside an assign or a combinational block, or by `<=` beside a clocked block that writes it by `=` (IEEE 1364-2005, 9.9.1); or two processes write it, and an initial process too. Of several bits it is the least one, and of several writers the first two in the text.
+    #[error("bit {bit} has two writers that may not share it")]
+    TwoWriters {
+        bit: u32,
+        first: AnyProcess,
+        second: AnyProcess,
     },
     /// There was not enough memory.
     #[error("out of memory")]

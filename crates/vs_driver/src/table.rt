@@ -29,7 +29,11 @@ fn note(table: &mut [Drivers], bits: &[u32], p: u32)
 }
 
 /// The bits that an assign writes, a bit as often as its target has it (IEEE 1364-2005, 6.1).
-fn assigned_bits(alloc: Global, typed: &Typed, target: u32) -> Result<Vec<u32>, AllocError>
+pub(crate) fn assigned_bits(
+    alloc: Global,
+    typed: &Typed,
+    target: u32,
+) -> Result<Vec<u32>, AllocError>
     requires there { target < length typed.now.nodes }
     requires target { IsTarget (tree_at (arena_trees typed.now) target) }
     ensures { IfOk result (λ v. v.items ≡ target_bits (target_tree (tree_at (arena_trees typed.now) target))) }
@@ -66,6 +70,16 @@ fn note_process(
         Kind::Block { .. } => note(table, footprints.writes(p), p),
     }
     Ok(())
+}
+
+/// The drivers of a bit.
+pub(crate) fn drivers_at(table: &[Drivers], bit: usize) -> Drivers
+    ensures { result ≡ drivers_at table.now bit }
+{
+    match table.get(bit) {
+        Some(drivers) => *drivers,
+        None => Drivers::Nobody,
+    }
 }
 
 /// The drivers of all bits of a design.

@@ -1,8 +1,8 @@
 -- What an item without a fault adds breaks no rule.
-use Rattle.std.proofs.Common.{◌≡◌, ◌≤◌, ◌<◌, ℕ, zero, suc, List, [], ◌∷◌, ◌++◌, length, get_or, map, Option, Some, None, refl, sym, subst, arith}
+use Rattle.std.proofs.Common.{◌≡◌, ◌≤◌, ◌<◌, ◌+◌, ℕ, zero, suc, Bool, true, false, if◌then◌else◌, List, [], ◌∷◌, ◌++◌, length, get_or, map, Option, Some, None, refl, sym, subst, arith}
 use Rattle.vs_grammar.specs.Trees as tree
-use Rattle.vs_grammar.specs.Shapes.{Each, OneOrMore, IsDeclarator, IsAssign, IsInstance, AreInstances}
-use Rattle.vs_grammar.specs.Depths.{deepest, declarator_depth, assign_depth, instance_depth, instances_depth}
+use Rattle.vs_grammar.specs.Shapes.{Each, OneOrMore, IsExpr, IsName, IsDeclarator, IsAssign, IsInstance, AreInstances}
+use Rattle.vs_grammar.specs.Depths.{deepest, expr_depth, declarator_depth, signals_depth, header_depth, assign_depth, instance_depth, instances_depth}
 use Rattle.vs_grammar.specs.Spelled.{depth_limit}
 use Rattle.vs_ast.specs.declared.items.Item.{Item}
 use Rattle.vs_ast.specs.Views as view
@@ -16,8 +16,10 @@ use Rattle.vs_elaborated.specs.Generate.{Made}
 use Rattle.vs_elaborated.specs.Ports.{find_module}
 use Rattle.vs_elaborated.specs.Pieces.{Said, all_said}
 use Rattle.vs_elaborated.specs.Instances.{Around, said_overrides, instance_said, unknown_module}
-use Rattle.vs_elaborated.specs.Surveys.{wire_said, assign_said}
-use Rattle.vs_elab.specs.Fine.{IsFineAssign, IsFineWire, IsFineBlock, IsFineInstance, IsFineItem, AreFineItems, plain_said, plains_said}
+use Rattle.vs_elaborated.specs.Signals.{is_reg}
+use Rattle.vs_elaborated.specs.Surveys.{value_said, wire_said, declarator_said, signals_said, ports_said, assign_said}
+use Rattle.vs_items.specs.Stated.{IsDeclared, IsStatedHeader}
+use Rattle.vs_elab.specs.Fine.{IsFineAssign, IsFineBegun, IsFineValue, IsFineDeclarator, AreFineSignals, IsFineHeader, IsFineBlock, IsFineInstance, IsFineItem, AreFineItems, plain_said, plains_said}
 use Rattle.vs_elab.proofs.PartItems.{made_at}
 
 -- each of a list that says no fault
@@ -30,19 +32,33 @@ all_fine said shaped fine depth h (x ∷ xs) s d c =
 
 -- ---- declared names
 
-value_fine : (env : Env) (place : ℕ) (name : tree.Name) (a : Option tree.RangeTree) (v : Option tree.Expr)
-    → (let d : tree.Declarator = record { name = name; addresses = a; value = v } in IsDeclarator d → declarator_depth d ≤ depth_limit → (wire_said env place d).faults ≡ [] → IsFineWire env d)
-value_fine env place name a None s h c = tt
-value_fine env place name a (Some e) s h c = record { shaped = ((s.0, tt), s.1); clean = c; shallow = omega (arith, h) }
+value_fine : (env : Env) (place : ℕ) (variable : Bool) (name : tree.Name) (e : tree.Expr) → IsName name → IsExpr e → expr_depth e ≤ depth_limit
+    → (if variable then value_said env name e else wire_said env place name e).faults ≡ [] → IsFineValue env variable name e
+value_fine env place true name e n x h c = record { shaped = ((n, tt), x); clean = c; shallow = omega (arith, h) }
+value_fine env place false name e n x h c = record { shaped = ((n, tt), x); clean = c; shallow = omega (arith, h) }
 
-wire_fine : (env : Env) (place : ℕ) (d : tree.Declarator) → IsDeclarator d → declarator_depth d ≤ depth_limit → (wire_said env place d).faults ≡ [] → IsFineWire env d
-wire_fine env place d s h c = value_fine env place d.name d.addresses d.value s h c
+given_fine : (env : Env) (place : ℕ) (kind : tree.SignalKind) (name : tree.Name) (a : Option tree.RangeTree) (v : Option tree.Expr)
+    → (let d : tree.Declarator = record { name = name; addresses = a; value = v } in IsDeclarator d → declarator_depth d ≤ depth_limit → (declarator_said env place kind d).faults ≡ [] → IsFineDeclarator env kind d)
+given_fine env place kind name a None s h c = tt
+given_fine env place kind name a (Some e) s h c = value_fine env place (is_reg kind) name e s.0 s.1 (omega (arith, h)) c
 
-pub wires_fine : (source : tree.Source) (around : Around) (t : tree.Signals) (m : Made) → IsFineItem source around (tree.SignalsItem t) m → Each (IsFineWire around.env) t.names
-wires_fine source around t m f =
-    all_fine (wire_said around.env t.place) IsDeclarator (IsFineWire around.env) declarator_depth (wire_fine around.env t.place) t.names f.stated (omega (arith, f.shallow)) f.clean
+declarator_fine : (env : Env) (place : ℕ) (kind : tree.SignalKind) (d : tree.Declarator) → IsDeclarator d → declarator_depth d ≤ depth_limit → (declarator_said env place kind d).faults ≡ [] → IsFineDeclarator env kind d
+declarator_fine env place kind d s h c = given_fine env place kind d.name d.addresses d.value s h c
 
--- ---- assigns and always blocks
+-- a declaration
+signals_fine : (env : Env) (t : tree.Signals) → IsDeclared t → signals_depth t ≤ depth_limit → (signals_said env t).faults ≡ [] → AreFineSignals env t
+signals_fine env t s h c = all_fine (declarator_said env t.place t.kind) IsDeclarator (IsFineDeclarator env t.kind) declarator_depth (declarator_fine env t.place t.kind) t.names s (omega (arith, h)) c
+
+pub declared_fine : (source : tree.Source) (around : Around) (t : tree.Signals) (m : Made) → IsFineItem source around (tree.SignalsItem t) m → AreFineSignals around.env t
+declared_fine source around t m f = signals_fine around.env t f.stated f.shallow f.clean
+
+-- a header
+pub header_fine : (env : Env) (h : tree.Header) → IsStatedHeader h → header_depth h ≤ depth_limit → (ports_said env h).faults ≡ [] → IsFineHeader env h
+header_fine env tree.NoPorts s d c = tt
+header_fine env (tree.PlainPorts names) s d c = tt
+header_fine env (tree.DeclaredPorts ports) s d c = all_fine (signals_said env) IsDeclared (AreFineSignals env) signals_depth (signals_fine env) ports s d c
+
+-- ---- assigns, always blocks and initial blocks
 
 pub assigns_fine : (source : tree.Source) (around : Around) (place : ℕ) (xs : List tree.Assign) (m : Made) → IsFineItem source around (tree.AssignsItem place xs) m → Each (IsFineAssign around.env) xs
 assigns_fine source around place xs m f =
@@ -50,6 +66,9 @@ assigns_fine source around place xs m f =
 
 pub block_fine : (source : tree.Source) (around : Around) (b : tree.AlwaysBlock) (m : Made) → IsFineItem source around (tree.AlwaysItem b) m → IsFineBlock around.env b
 block_fine source around b m f = record { shaped = f.stated; clean = f.clean; shallow = f.shallow }
+
+pub initial_fine : (source : tree.Source) (around : Around) (b : tree.InitialBlock) (m : Made) → IsFineItem source around (tree.InitialItem b) m → IsFineBegun around.env b.statement
+initial_fine source around b m f = record { shaped = f.stated; clean = f.clean; shallow = omega (arith, f.shallow) }
 
 -- ---- instances
 

@@ -5,7 +5,7 @@ use Rattle.std.specs.Borrow.{Bor}
 use Rattle.vs_grammar.specs.Trees as tree
 use Rattle.vs_grammar.specs.Trees.{items_list}
 use Rattle.vs_grammar.specs.Shapes.{Each, AreConnections, IsModule}
-use Rattle.vs_grammar.specs.Depths.{deepest, item_depth, connections_depth}
+use Rattle.vs_grammar.specs.Depths.{deepest, header_depth, item_depth, connections_depth}
 use Rattle.vs_grammar.specs.Spelled.{depth_limit}
 use Rattle.vs_ast.specs.declared.items.Instance.{Instance as CodeInstance}
 use Rattle.vs_ast.specs.declared.items.Instances.{Instances as CodeInstances}
@@ -48,7 +48,7 @@ use Rattle.vs_elab.specs.Wiring.{AreWirable, own_names}
 use Rattle.vs_elab.proofs.AlikeTasks.{instance_task}
 use Rattle.vs_elab.proofs.InstanceReads.{told, told_more, IsKnownFine, known_fine, next_pending, others_pending, task_at, ports_at, instance_deepest, broken_at, opened_at, wiring_room, instance_wirable, names_inside, count_more, parts_fine, stack_pending, instance_done}
 use Rattle.vs_elab.proofs.InstanceSteps.{wired, depth_within}
-use Rattle.vs_elab.proofs.SoundInstances.{alike_fine, found_shaped, found_shallow, instance_sound}
+use Rattle.vs_elab.proofs.SoundInstances.{alike_fine, found_header, found_shaped, found_shallow, instance_sound}
 use Rattle.vs_const.specs.declared.rules.Rule.TheVariants.{InstanceDepth}
 
 module _ (text : Text) (whole : IsText text) (old : Reading) (stack : List Pending) (at : Standing) (t : Bor CodeInstances) (i : Bor CodeInstance) (k : Known)
@@ -86,6 +86,9 @@ module _ (text : Text) (whole : IsText text) (old : Reading) (stack : List Pendi
 
   pub module_shaped : IsModule m
   module_shaped = found_shaped (source_of text) (view.instances t.now).of.bytes m whole.shaped fine.found
+
+  pub module_header : header_depth m.header ≤ depth_limit
+  module_header = found_header (source_of text) (view.instances t.now).of.bytes m whole.shaped fine.found
 
   pub module_shallow : deepest item_depth (items_list m.items) ≤ depth_limit
   module_shallow = found_shallow (source_of text) (view.instances t.now).of.bytes m whole.shaped fine.found

@@ -42,7 +42,7 @@ use Rattle.vs_items.specs.Interfaces.{IsInterface}
 use Rattle.vs_items.specs.Overriding.{AreAlike}
 use Rattle.vs_items.specs.Modules.{IsKnownOf, IsOf}
 use Rattle.vs_elab.specs.Pending.{parts_pieces, scope_around, stack_pieces, AreWithin}
-use Rattle.vs_elab.specs.Reading.{source_of, totals_of, totals_so_far, design_so_far, surveyed, FailsBy, IsOpened, IsPending, ArePending, IsReading, IsStep, outcome, Tells, pending_at, pending_processes, work_left}
+use Rattle.vs_elab.specs.Reading.{source_of, totals_of, totals_so_far, design_so_far, surveyed, FailsBy, IsOpened, IsPending, ArePending, IsReading, IsStep, outcome, Tells, pending_at, pending_processes, processes_in, work_left}
 use Rattle.vs_elab.specs.Stacks as stacks
 use Rattle.vs_elab.specs.Stacks.{built_then, rest_of, work}
 use Rattle.vs_elab.specs.Functions.{IsIdle}
@@ -174,10 +174,10 @@ module _ (text : Text) (old : Reading) (stack : List Pending) (at : Standing) (t
         (subst (λ (n : List ℕ). IsOpened (source_of text) (named_task n) old mid ps) name_is h)
 
   -- room for its ports
-  pub instance_room : (r : IsReading text old (stack ++ pending_at at (part.Instance t i) ∷ [])) → length (design_so_far old).processes + length (ports_at old at i m) ≤ 2 ^ 16
+  pub instance_room : (r : IsReading text old (stack ++ pending_at at (part.Instance t i) ∷ [])) → processes_in (design_so_far old) + length (ports_at old at i m) ≤ 2 ^ 16
   instance_room r =
-      room_first at.left (length (design_so_far old).processes) (ports_at old at i m) (task_at old at t i m) (stack_pieces (source_of text) old.frames.items stack) old.counts.processes
-      (sym (ap (λ (qs : List stacks.Pending). length (design_so_far old).processes + pending_processes qs) (instance_first (source_of text) old.frames.items stack at t i m found)) ∙ r.room) r.read.few_processes
+      room_first at.left (processes_in (design_so_far old)) (ports_at old at i m) (task_at old at t i m) (stack_pieces (source_of text) old.frames.items stack) old.counts.processes
+      (sym (ap (λ (qs : List stacks.Pending). processes_in (design_so_far old) + pending_processes qs) (instance_first (source_of text) old.frames.items stack at t i m found)) ∙ r.room) r.read.few_processes
 
   module _ (mid : Reading) (ps : List Part) (opened : IsOpened (source_of text) (task_at old at t i m) old mid ps) where
     abbrev own : Survey
@@ -265,7 +265,7 @@ module _ (text : Text) (old : Reading) (stack : List Pending) (at : Standing) (t
             (stack_pieces (source_of text) new.frames.items rest) stepped
             (survey_counts (source_of text) (view.instance i.now).name.bytes (Some at.frame) m (at.depth + 1) (view.instances t.now).of.place no_env
             (said_overrides (view.instances t.now).of (Some m) (view.instances t.now).overrides (env_at (envs old.frames.items) (Some at.frame))).overrides (totals_so_far old))
-            (sym (ap (λ (qs : List stacks.Pending). length (design_so_far old).processes + pending_processes qs) before_is) ∙ reading.room);
+            (sym (ap (λ (qs : List stacks.Pending). processes_in (design_so_far old) + pending_processes qs) before_is) ∙ reading.room);
       }
 
       pub instance_read : IsStep text old (stack ++ pending_at at (part.Instance t i) ∷ []) new rest

@@ -5,7 +5,9 @@ use Rattle.std.specs.Borrow.{Bor}
 use Rattle.std.proofs.lemmas.Bool.{ltb-false}
 use Rattle.std.proofs.lemmas.List.{append-nil, length-map}
 use Rattle.std.proofs.lemmas.List.Sums.{sum_by-cons, sum_by-append}
-use Rattle.vs_design.specs.Designs.{Process, Design}
+use Rattle.vs_design.specs.Expressions.{Signal}
+use Rattle.vs_design.specs.Statements.{Function}
+use Rattle.vs_design.specs.Designs.{Scope, Process, Initial, Design}
 use Rattle.vs_grammar.specs.Trees as tree
 use Rattle.vs_ast.specs.declared.items.Instance.{Instance as CodeInstance}
 use Rattle.vs_ast.specs.declared.items.Instances.{Instances as CodeInstances}
@@ -27,7 +29,7 @@ use Rattle.vs_elab.specs.declared.stack.Pending.{Pending}
 use Rattle.vs_elab.specs.declared.pending.Part.TheVariants as part
 use Rattle.vs_elab.specs.declared.steps.Standing.{Standing}
 use Rattle.vs_elab.specs.Pending.{instance_pieces, scope_around, stack_pieces}
-use Rattle.vs_elab.specs.Reading.{pending_at, pending_processes}
+use Rattle.vs_elab.specs.Reading.{pending_at, pending_processes, processes_in}
 use Rattle.vs_elab.specs.Stacks as stacks
 use Rattle.vs_elab.specs.Stacks.{rest_of, built_then, scope_part, ports_part, work}
 use Rattle.vs_elab.proofs.Stacks.{instance_step}
@@ -64,15 +66,19 @@ instance_first source frames stack at t i m found =
 abbrev pub wired : Design → List Process → Design
 wired d ps = record d { processes = d.processes ++ ps }
 
+abbrev of_parts : List Scope → List Signal → List Process → List Initial → List Function → Design
+of_parts a b c i f = record { scopes = a; signals = b; processes = c; initials = i; functions = f }
+
 -- the ports of an instance may come behind its scope
 ports_behind : (d : Design) (k : Task) (s : Survey) (cs : List Connection) → both_designs (both_designs d (ports_part k s cs)) (scope_part k s) ≡ wired (both_designs d (scope_part k s)) (map (port_assign k.place s.entries) cs)
 ports_behind d k s cs =
     let ps = map (port_assign k.place s.entries) cs in
     let inside = scope_part k s in
-    ap (λ xs. let x : Design = record { scopes = xs ++ inside.scopes; signals = (d.signals ++ []) ++ inside.signals; processes = (d.processes ++ ps) ++ []; functions = (d.functions ++ []) ++ inside.functions } in x) (append-nil d.scopes)
-    ∙ ap (λ xs. let x : Design = record { scopes = d.scopes ++ inside.scopes; signals = xs ++ inside.signals; processes = (d.processes ++ ps) ++ []; functions = (d.functions ++ []) ++ inside.functions } in x) (append-nil d.signals)
-    ∙ ap (λ xs. let x : Design = record { scopes = d.scopes ++ inside.scopes; signals = d.signals ++ inside.signals; processes = xs; functions = (d.functions ++ []) ++ inside.functions } in x) (append-nil (d.processes ++ ps) ∙ ap (λ xs. xs ++ ps) (sym (append-nil d.processes)))
-    ∙ ap (λ xs. let x : Design = record { scopes = d.scopes ++ inside.scopes; signals = d.signals ++ inside.signals; processes = (d.processes ++ []) ++ ps; functions = xs ++ inside.functions } in x) (append-nil d.functions)
+    ap (λ xs. of_parts (xs ++ inside.scopes) ((d.signals ++ []) ++ inside.signals) ((d.processes ++ ps) ++ []) ((d.initials ++ []) ++ []) ((d.functions ++ []) ++ inside.functions)) (append-nil d.scopes)
+    ∙ ap (λ xs. of_parts (d.scopes ++ inside.scopes) (xs ++ inside.signals) ((d.processes ++ ps) ++ []) ((d.initials ++ []) ++ []) ((d.functions ++ []) ++ inside.functions)) (append-nil d.signals)
+    ∙ ap (λ xs. of_parts (d.scopes ++ inside.scopes) (d.signals ++ inside.signals) xs ((d.initials ++ []) ++ []) ((d.functions ++ []) ++ inside.functions)) (append-nil (d.processes ++ ps) ∙ ap (λ xs. xs ++ ps) (sym (append-nil d.processes)))
+    ∙ ap (λ xs. of_parts (d.scopes ++ inside.scopes) (d.signals ++ inside.signals) ((d.processes ++ []) ++ ps) (xs ++ []) ((d.functions ++ []) ++ inside.functions)) (append-nil d.initials)
+    ∙ ap (λ xs. of_parts (d.scopes ++ inside.scopes) (d.signals ++ inside.signals) ((d.processes ++ []) ++ ps) (d.initials ++ []) (xs ++ inside.functions)) (append-nil d.functions)
 
 -- what has been read of an instance, and what is pending then
 pub record AreStepped (source : tree.Source) (k : Task) (cs : List Connection) (left : ℕ) (d : Design) (t : Totals) (ps : List stacks.Pending) (s : Survey) (e : Design) (u : Totals) (qs : List stacks.Pending) : Type 0 where
@@ -111,8 +117,8 @@ module _ (source : tree.Source) (k : Task) (cs : List Connection) (left : ℕ) (
       sum_by-cons (λ (x : stacks.Pending). piece_processes x.piece) (stacks.pending left q) (map (stacks.pending left) qs) ∙ ap (λ n. piece_processes q + n) (counted_same qs) ∙ sym (sum_by-cons piece_processes q qs)
 
   -- and there are as many processes
-  pub room_same : s.totals.processes ≡ t.processes + sum_by piece_processes s.pieces → length d.processes + pending_processes (stacks.pending (suc left) (Instance cs k) ∷ ps) ≡ t.processes
-      → length e.processes + pending_processes qs ≡ u.processes
+  pub room_same : s.totals.processes ≡ t.processes + sum_by piece_processes s.pieces → processes_in d + pending_processes (stacks.pending (suc left) (Instance cs k) ∷ ps) ≡ t.processes
+      → processes_in e + pending_processes qs ≡ u.processes
   room_same more before =
       let count = λ (x : stacks.Pending). piece_processes x.piece in
       let first : pending_processes (stacks.pending (suc left) (Instance cs k) ∷ ps) ≡ length cs + pending_processes ps = sum_by-cons count (stacks.pending (suc left) (Instance cs k)) ps in
@@ -120,8 +126,9 @@ module _ (source : tree.Source) (k : Task) (cs : List Connection) (left : ℕ) (
       let wide : length e.processes ≡ length d.processes + length cs =
       ap (λ (x : Design). length x.processes) h.design ∙ length-append (d.processes ++ []) (map (port_assign k.place s.entries) cs) ∙ ap (λ xs. length xs + length (map (port_assign k.place s.entries) cs)) (append-nil d.processes)
       ∙ ap (λ n. length d.processes + n) (length-map cs (port_assign k.place s.entries)) in
+      let begun : length e.initials ≡ length d.initials = ap (λ (x : Design). length x.initials) h.design ∙ ap (λ xs. length xs) (append-nil d.initials) in
       let behind : u.processes ≡ t.processes + sum_by piece_processes s.pieces = ap (λ (x : Totals). x.processes) h.totals ∙ more in
-      omega (arith, first, now, wide, behind, before)
+      omega (arith, first, now, wide, begun, behind, before)
 
 -- room for its ports
 pub room_first : (left n : ℕ) (cs : List Connection) (k : Task) (ps : List stacks.Pending) (total : ℕ) → n + pending_processes (stacks.pending left (Instance cs k) ∷ ps) ≡ total → total ≤ 2 ^ 16 → n + length cs ≤ 2 ^ 16

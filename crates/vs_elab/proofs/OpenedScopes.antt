@@ -6,7 +6,7 @@ use Rattle.std.proofs.lemmas.List.Sums.{sum_by-append}
 use Rattle.vs_design.specs.Expressions as design
 use Rattle.vs_design.specs.Expressions.{signal_length}
 use Rattle.vs_design.specs.Statements.{Function}
-use Rattle.vs_design.specs.Designs.{Scope, Process, Design, bit_count}
+use Rattle.vs_design.specs.Designs.{Scope, Process, Initial, Design, bit_count}
 use Rattle.vs_design.specs.Elaborated.{is_signal}
 use Rattle.vs_grammar.specs.Trees as tree
 use Rattle.vs_grammar.specs.Shapes.{Each, OneOrMore, IsModule, IsShaped}
@@ -73,7 +73,7 @@ wider_by c d [] n e = same_signals c d n (e ∙ append-nil c.signals)
 wider_by c d (s ∷ ss) n e = of (more_signals c m s (omega arith) refl) (wider_by m d ss n (e ∙ sym (append_assoc c.signals (s ∷ []) ss)))
   where
     m : Design
-    m = record { scopes = c.scopes; signals = c.signals ++ s ∷ []; processes = c.processes; functions = c.functions }
+    m = record c { signals = c.signals ++ s ∷ [] }
 
     of : IsWider c m → IsWider m d → IsWider c d
     of a b = record { scopes = n; signals = λ x h. b.signals x (a.signals x h) }
@@ -91,8 +91,8 @@ wider_mid d t s = wider_by d (mid_with d t s) s.signals (omega (arith, length-ap
 abbrev a_scope : List ℕ → Option ℕ → Bool → Scope
 a_scope name parent instance = record { name = name; parent = parent; instance = instance }
 
-abbrev with_scope : Design → Survey → List Function → Scope → List Process → Design
-with_scope d s fs x ps = record { scopes = d.scopes ++ x ∷ []; signals = d.signals ++ s.signals; processes = ps; functions = fs }
+abbrev with_scope : Design → Survey → List Function → Scope → List Process → List Initial → Design
+with_scope d s fs x ps is = record { scopes = d.scopes ++ x ∷ []; signals = d.signals ++ s.signals; processes = ps; initials = is; functions = fs }
 
 -- a scope and then its signals
 pub signals_added : (d e f : Draft) (x : Scope) (t : Task) (s : Survey) (ss : List Signal) → e ≡ and_scope d x → f ≡ and_signals e (map signal ss) → map signal ss ≡ s.signals
@@ -101,10 +101,11 @@ signals_added d e f x t s ss added signals same name parent instance =
     ap (λ (y : Draft). y.design) signals
     ∙ ap (λ (y : Draft). (and_signals y (map signal ss)).design) added
     ∙ ap (λ (ys : List design.Signal). (and_signals (and_scope d x) ys).design) same
-    ∙ ap (with_scope d.design s d.design.functions x) (sym (append-nil d.design.processes))
-    ∙ ap (λ n. with_scope d.design s d.design.functions (a_scope n x.parent x.instance) (d.design.processes ++ [])) name
-    ∙ ap (λ p. with_scope d.design s d.design.functions (a_scope t.name p x.instance) (d.design.processes ++ [])) parent
-    ∙ ap (λ i. with_scope d.design s d.design.functions (a_scope t.name t.parent i) (d.design.processes ++ [])) instance
+    ∙ ap (λ (ps : List Process). with_scope d.design s d.design.functions x ps d.design.initials) (sym (append-nil d.design.processes))
+    ∙ ap (with_scope d.design s d.design.functions x (d.design.processes ++ [])) (sym (append-nil d.design.initials))
+    ∙ ap (λ n. with_scope d.design s d.design.functions (a_scope n x.parent x.instance) (d.design.processes ++ []) (d.design.initials ++ [])) name
+    ∙ ap (λ p. with_scope d.design s d.design.functions (a_scope t.name p x.instance) (d.design.processes ++ []) (d.design.initials ++ [])) parent
+    ∙ ap (λ i. with_scope d.design s d.design.functions (a_scope t.name t.parent i) (d.design.processes ++ []) (d.design.initials ++ [])) instance
 
 -- and its functions
 pub scope_added : (d f g : Draft) (t : Task) (s : Survey) (fs : List Function) → f.design ≡ mid_with d.design t s → g ≡ and_functions f fs → fs ≡ s.functions → g.design ≡ design_with d.design t s

@@ -29,7 +29,7 @@ use Rattle.vs_elab.specs.declared.stack.Pending.{Pending}
 use Rattle.vs_elab.specs.Fine.{IsFinePart, AreFineParts}
 use Rattle.vs_elab.specs.Functions.{IsIdle}
 use Rattle.vs_elab.specs.Pending.{parts_pieces, scope_around, pending_pieces, stack_pieces, AreWithin}
-use Rattle.vs_elab.specs.Reading.{AreNumberedIn, AreSeen, ArePending, IsOpened, IsPending, IsRead, IsReading, IsStep, design_so_far, outcome, pending_processes, source_of, surveyed, Tells, totals_so_far, work_left}
+use Rattle.vs_elab.specs.Reading.{AreNumberedIn, AreSeen, ArePending, IsOpened, IsPending, IsRead, IsReading, IsStep, design_so_far, outcome, pending_processes, processes_in, source_of, surveyed, Tells, totals_so_far, work_left}
 use Rattle.vs_elab.specs.Stacks as stacks
 use Rattle.vs_elab.specs.Stacks.{built_then, pending, rest_of, scope_part, work}
 use Rattle.vs_elab.proofs.MoreFrames.{each_behind, env_kept, stack_kept}
@@ -125,10 +125,10 @@ pub record HasMore (n : ℕ) (r s : Reading) : Type 0 where
   pub signals : (design_so_far s).signals ≡ (design_so_far r).signals
   pub functions : (design_so_far s).functions ≡ (design_so_far r).functions
   pub idle : IsIdle (draft r.builder) → IsIdle (draft s.builder)
-  pub processes : length (design_so_far s).processes ≡ length (design_so_far r).processes + n
+  pub processes : processes_in (design_so_far s) ≡ processes_in (design_so_far r) + n
 
 pub nothing_more : (r : Reading) → HasMore 0 r r
-nothing_more r = record { frames = refl; counts = refl; loops = refl; scopes = refl; signals = refl; functions = refl; idle = λ h. h; processes = nothing_added (length (design_so_far r).processes) }
+nothing_more r = record { frames = refl; counts = refl; loops = refl; scopes = refl; signals = refl; functions = refl; idle = λ h. h; processes = nothing_added (processes_in (design_so_far r)) }
 
 -- it has been read as before
 pub more_read : (n : ℕ) (r s : Reading) → HasMore n r s → IsRead r → IsRead s
@@ -190,8 +190,11 @@ pub opened_fine : (source : tree.Source) (t : Task) (old new : Reading) (ps : Li
 opened_fine source t old new ps o = subst (λ (e : Env). AreFineParts source e ps) (sym o.seen) o.parts
 
 -- the scope adds no process of its own
-opened_processes : (source : tree.Source) (t : Task) (old new : Reading) (ps : List Part) → IsOpened source t old new ps → length (design_so_far new).processes ≡ length (design_so_far old).processes
-opened_processes source t old new ps o = ap (λ (d : Design). length d.processes) o.design ∙ ap length (append-nil (design_so_far old).processes)
+opened_processes : (source : tree.Source) (t : Task) (old new : Reading) (ps : List Part) → IsOpened source t old new ps → processes_in (design_so_far new) ≡ processes_in (design_so_far old)
+opened_processes source t old new ps o =
+    let a : length (design_so_far new).processes ≡ length (design_so_far old).processes = ap (λ (d : Design). length d.processes) o.design ∙ ap length (append-nil (design_so_far old).processes) in
+    let b : length (design_so_far new).initials ≡ length (design_so_far old).initials = ap (λ (d : Design). length d.initials) o.design ∙ ap length (append-nil (design_so_far old).initials) in
+    omega (arith, a, b)
 
 -- what has been read and what is pending is all there is, where the part `p` had `n` processes of its own and these are built besides
 pub opened_reading : (text : Text) (t : Task) (old new last : Reading) (ps : List Part) (left n : ℕ) (p : Pending) (stack rest : List Pending)
@@ -222,7 +225,7 @@ opened_reading text t old new last ps left n p stack rest h o m own pushed all =
     counts : last.counts.processes ≡ old.counts.processes + sum_by piece_processes (surveyed source t old).pieces
     counts = ap (λ (c : Counts). c.processes) m.counts ∙ ap (λ (u : Totals). u.processes) o.totals_is ∙ surveyed_processes source t old
 
-    room_of : length (design_so_far last).processes + pending_processes (stack_pieces source last.frames.items rest) ≡ last.counts.processes
+    room_of : processes_in (design_so_far last) + pending_processes (stack_pieces source last.frames.items rest) ≡ last.counts.processes
     room_of = left_is _ _ _ _ _ _ _ n _ _ (opened_processes source t old new ps o) m.processes before behind counts h.room
 
 -- ---- a generate block

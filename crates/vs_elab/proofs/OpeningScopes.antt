@@ -4,14 +4,14 @@ use Rattle.std.proofs.lemmas.List.{append-nil}
 use Rattle.vs_design.specs.Designs.{Scope, Design, bit_count}
 use Rattle.vs_grammar.specs.Trees as tree
 use Rattle.vs_grammar.specs.Shapes.{Each, IsShaped}
-use Rattle.vs_grammar.specs.Depths.{deepest, item_depth}
+use Rattle.vs_grammar.specs.Depths.{deepest, header_depth, item_depth}
 use Rattle.vs_grammar.specs.Spelled.{depth_limit}
 use Rattle.vs_const.specs.declared.faults.Fault.{Fault}
 use Rattle.vs_const.specs.Faults.{least}
 use Rattle.vs_elaborated.specs.Limits.{the_limits}
 use Rattle.vs_elaborated.specs.Environments.{Env, within}
 use Rattle.vs_elaborated.specs.Pieces.{Task, is_instance}
-use Rattle.vs_elaborated.specs.Surveys.{Loops, Totals, Survey, survey, declarations_of, items_of}
+use Rattle.vs_elaborated.specs.Surveys.{Loops, Totals, Survey, survey, declarations_of, header_said, items_of, ports_said}
 use Rattle.vs_elaborated.specs.Elaborated.{counted as counted_task, limit_faults}
 use Rattle.vs_elaborated.specs.Numbers.{AreNumberedFrames, FunctionNamesAreNumbered, FunctionsAreCounted, MoreFunctionsStand, ScopesAreNumbered}
 use Rattle.vs_elaborated.specs.Sound.{IsSoundTask, BlocksAreLower, FaultlessIsFair, FunctionsAreFormed, FunctionsSeeSound, SignalsAreCounted}
@@ -28,15 +28,15 @@ use Rattle.vs_elab.specs.declared.pending.Part.{Part}
 use Rattle.vs_elab.specs.declared.reading.Counts.{Counts}
 use Rattle.vs_elab.specs.declared.reading.Reading.{Reading}
 use Rattle.vs_elab.specs.declared.surveyed.SurveyedScope.{SurveyedScope}
-use Rattle.vs_elab.specs.Fine.{AreFineItems, AreFineParts, plains_said}
+use Rattle.vs_elab.specs.Fine.{AreFineItems, AreFineParts, IsFineHeader, scope_plain}
 use Rattle.vs_elab.specs.Functions.{AreBuildable, IsIdle, and_functions}
 use Rattle.vs_elab.specs.Opening.{signal, Follow, and_signals}
 use Rattle.vs_elab.specs.Pending.{parts_pieces}
 use Rattle.vs_elab.specs.Reading.{IsRead, IsOpened, IsSurveyed, totals_of, totals_so_far, design_so_far}
 use Rattle.vs_elab.specs.Stacks.{scope_part}
-use Rattle.vs_items.specs.Stated.{AreStated}
+use Rattle.vs_items.specs.Stated.{AreStated, IsStatedHeader}
 use Rattle.vs_elab.proofs.BuildableFunctions.{IsLow}
-use Rattle.vs_elab.proofs.FineScopes.{items_around, items_made, scope_fine, scope_pieces}
+use Rattle.vs_elab.proofs.FineScopes.{items_around, items_made, scope_fine, scope_header, scope_pieces}
 use Rattle.vs_elab.proofs.MoreFrames.{env_new, kept_behind}
 use Rattle.vs_elab.proofs.NumberedNames.{frames_numbered}
 use Rattle.vs_elab.proofs.OpenedScopes.{recounted, counted_read, design_with, mid_with, wider_mid, IsWell, well, signals_follow, signals_added, scope_added, scope_read, opened_by}
@@ -99,22 +99,23 @@ module _ (source : tree.Source) (t : Task) (old : Reading) (c : Counts) (o : IsO
     all_added g added = scope_added (draft old.builder) f g t own (completed t.env r.names).functions mid_is added (functions_said source t (totals_of c old.loops) did r s o.of_parts)
 
 -- what parts there are
-pub record AreParts (source : tree.Source) (t : Task) (totals : Totals) (s : Survey) (items : List tree.Item) (ps : List Part) : Type 0 where
-  pub pieces : parts_pieces source (items_around t totals s.entries) ps ≡ (plains_said source (items_around t totals s.entries) items (items_made t totals)).pieces
-  pub fine : AreFineItems source (items_around t totals s.entries) items (items_made t totals) → AreFineParts source (within t.env s.entries) ps
+pub record AreParts (source : tree.Source) (t : Task) (totals : Totals) (s : Survey) (header : tree.Header) (items : List tree.Item) (ps : List Part) : Type 0 where
+  pub pieces : parts_pieces source (items_around t totals s.entries) ps ≡ (scope_plain source (items_around t totals s.entries) header items (items_made t totals)).pieces
+  pub fine : IsFineHeader (within t.env s.entries) header → AreFineItems source (items_around t totals s.entries) items (items_made t totals) → AreFineParts source (within t.env s.entries) ps
 
 -- what is seen in the scope that was added
 added_env : (old new : List Frame) (f : Frame) (t : Task) → new ≡ old ++ f ∷ [] → env_above (envs old) f.parent f.turn ≡ t.env → env_at (envs new) (Some (length old)) ≡ within t.env (complete t.env f.names)
 added_env old new f t is around = ap (λ fs. env_at (envs fs) (Some (length old))) is ∙ env_new old f ∙ ap (λ (e : Env). within e (complete e f.names)) around
 
-pub scope_opened : (source : tree.Source) (t : Task) (old new : Reading) (c : Counts) (l : Option Fault) (r : SurveyedScope) (items : List tree.Item) (ps : List Part) (frame : Frame) → BlocksAreLower → IsOpening source t old c
+pub scope_opened : (source : tree.Source) (t : Task) (old new : Reading) (c : Counts) (l : Option Fault) (r : SurveyedScope) (header : tree.Header) (items : List tree.Item) (ps : List Part) (frame : Frame) → BlocksAreLower → IsOpening source t old c
     → totals_of c old.loops ≡ counted_task t (totals_so_far old) → l ≡ least (limit_faults the_limits t (totals_of c old.loops)) → l ≡ None
     → IsSurveyed source t (totals_of c old.loops) new.loops r → r.fault ≡ None → new.counts ≡ r.counts
     → design_so_far new ≡ design_with (design_so_far old) t (survey the_limits source t (totals_of c old.loops)) → IsIdle (draft new.builder)
     → new.frames.items ≡ old.frames.items ++ frame ∷ [] → frame.names ≡ r.names → env_above (envs old.frames.items) frame.parent frame.turn ≡ t.env
-    → items_of t.contents ≡ items → AreStated items → deepest item_depth items ≤ depth_limit → AreParts source t (totals_of c old.loops) (survey the_limits source t (totals_of c old.loops)) items ps
+    → ((env : Env) → header_said env t.contents ≡ ports_said env header) → IsStatedHeader header → header_depth header ≤ depth_limit
+    → items_of t.contents ≡ items → AreStated items → deepest item_depth items ≤ depth_limit → AreParts source t (totals_of c old.loops) (survey the_limits source t (totals_of c old.loops)) header items ps
     → IsOpened source t old new ps
-scope_opened source t old new c l r items ps frame lower o counts limits within_limits s none same made idle frames names around are stated shallow parts =
+scope_opened source t old new c l r header items ps frame lower o counts limits within_limits s none same made idle frames names around heads header_stated low are stated shallow parts =
     let v = survey the_limits source t (totals_of c old.loops) in
     let totals = ap (λ (k : Counts). totals_of k new.loops) same ∙ s.totals_is none in
     let seen : env_at (envs new.frames.items) (Some (length old.frames.items)) ≡ within t.env v.entries =
@@ -130,8 +131,10 @@ scope_opened source t old new c l r items ps frame lower o counts limits within_
       frame = frame;
       frames = frames;
       seen = seen;
-      pieces = scope_pieces source t (totals_of c old.loops) v new.frames.items (length old.frames.items) items ps o.of_parts o.none are o.read.frames seen parts.pieces;
-      parts = parts.fine (scope_fine source t (totals_of c old.loops) v r.made.items items lower o.of_parts o.none are s.made s.blocks stated shallow);
+      pieces = scope_pieces source t (totals_of c old.loops) v new.frames.items (length old.frames.items) header items ps o.of_parts o.none heads are o.read.frames seen parts.pieces;
+      parts =
+          parts.fine (scope_header source t (totals_of c old.loops) v header o.of_parts o.none heads header_stated low)
+          (scope_fine source t (totals_of c old.loops) v r.made.items items lower o.of_parts o.none are s.made s.blocks stated shallow);
       read = scope_read (recounted old c) new t v frame o.read o.sound o.numbered o.is_well made idle totals (subst (λ (k : Counts). k.processes ≤ 2 ^ 16) (sym same) s.few) frames kept seen;
       later = ap (λ (k : Counts). k.start.top) same ∙ s.later;
     })

@@ -8,6 +8,7 @@ use Rattle.vs_ast.specs.declared.items.Item as kind
 use Rattle.vs_ast.specs.declared.items.Signals.{Signals}
 use Rattle.vs_ast.specs.declared.items.Assign.{Assign}
 use Rattle.vs_ast.specs.declared.items.AlwaysBlock.{AlwaysBlock}
+use Rattle.vs_ast.specs.declared.items.InitialBlock.{InitialBlock}
 use Rattle.vs_ast.specs.declared.items.Instances.{Instances}
 use Rattle.vs_ast.specs.Views as view
 use Rattle.vs_elaborated.specs.Generate.{Made, nothing_made}
@@ -30,18 +31,19 @@ block_more around xs i x before done more h e is pushed =
 
 -- what is made of an item of another kind
 pub other_pieces : (source : tree.Source) (around : Around) (x : Item) (made : Made) → ((s : Signals) → x ≡ kind.Signals s → ⊥) → ((place : ℕ) (all : Vec Assign Global) → x ≡ kind.Assigns place all → ⊥)
-    → ((b : AlwaysBlock) → x ≡ kind.Always b → ⊥) → ((t : Instances) → x ≡ kind.Instances t → ⊥) → (plain_said source around (view.item x) made).pieces ≡ map (nested_piece around) made.blocks
-other_pieces source around (kind.Signals s) made f g h k = absurd (f s refl)
-other_pieces source around (kind.Parameters p) made f g h k = refl
-other_pieces source around (kind.Assigns place all) made f g h k = absurd (g place all refl)
-other_pieces source around (kind.Always b) made f g h k = absurd (h b refl)
-other_pieces source around (kind.Genvars place names) made f g h k = refl
-other_pieces source around (kind.Integers place names) made f g h k = refl
-other_pieces source around (kind.Function fn) made f g h k = refl
-other_pieces source around (kind.Instances t) made f g h k = absurd (k t refl)
-other_pieces source around (kind.GenerateFor' head p b) made f g h k = refl
-other_pieces source around (kind.GenerateIf' place e p b other) made f g h k = refl
-other_pieces source around (kind.GenerateCase' place e shape all other) made f g h k = refl
+    → ((b : AlwaysBlock) → x ≡ kind.Always b → ⊥) → ((b : InitialBlock) → x ≡ kind.Initial b → ⊥) → ((t : Instances) → x ≡ kind.Instances t → ⊥) → (plain_said source around (view.item x) made).pieces ≡ map (nested_piece around) made.blocks
+other_pieces source around (kind.Signals s) made f g h i k = absurd (f s refl)
+other_pieces source around (kind.Parameters p) made f g h i k = refl
+other_pieces source around (kind.Assigns place all) made f g h i k = absurd (g place all refl)
+other_pieces source around (kind.Always b) made f g h i k = absurd (h b refl)
+other_pieces source around (kind.Initial b) made f g h i k = absurd (i b refl)
+other_pieces source around (kind.Genvars place names) made f g h i k = refl
+other_pieces source around (kind.Integers place names) made f g h i k = refl
+other_pieces source around (kind.Function fn) made f g h i k = refl
+other_pieces source around (kind.Instances t) made f g h i k = absurd (k t refl)
+other_pieces source around (kind.GenerateFor' head p b) made f g h i k = refl
+other_pieces source around (kind.GenerateIf' place e p b other) made f g h i k = refl
+other_pieces source around (kind.GenerateCase' place e shape all other) made f g h i k = refl
 
 -- ---- lists that are alike
 

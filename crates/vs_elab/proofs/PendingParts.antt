@@ -1,10 +1,16 @@
 -- One part more of a scope.
-use Rattle.std.proofs.Common.{◌≡◌, ℕ, ◌+◌, ◌<◌, List, [], ◌∷◌, ◌++◌, length, get_or, take, map, sym, ap, ◌∙◌, append_assoc}
+use Rattle.std.proofs.Common.{◌≡◌, ℕ, ◌+◌, ◌<◌, List, [], ◌∷◌, ◌++◌, length, get_or, take, map, Vec, Global, refl, sym, ap, ◌∙◌, append_assoc}
 use Rattle.std.proofs.lemmas.List.{append-nil}
 use Rattle.std.proofs.lemmas.Grind.{flat_map-append}
 use Rattle.vs_grammar.specs.Trees as tree
+use Rattle.vs_ast.specs.declared.items.Signals.{Signals}
+use Rattle.vs_ast.specs.declared.modules.Header.{Header}
+use Rattle.vs_ast.specs.declared.modules.Header.TheVariants as header
+use Rattle.vs_ast.specs.Views as view
+use Rattle.vs_elaborated.specs.Environments.{Env}
 use Rattle.vs_elaborated.specs.Pieces.{Piece, Said, all_said}
 use Rattle.vs_elaborated.specs.Instances.{Around}
+use Rattle.vs_elaborated.specs.Surveys.{ports_said}
 use Rattle.vs_elab.specs.declared.pending.Part.{Part}
 use Rattle.vs_elab.specs.Pending.{part_pieces, parts_pieces}
 use Rattle.vs_elab.proofs.Sequences.{one_more}
@@ -23,3 +29,9 @@ pub said_more : {A B : Type 0} (f : B → Said) (g : A → B) (xs : List A) (i :
 said_more f g xs i x before done more h e is pushed =
     pushed ∙ ap (λ r. r ++ (f (g x)).pieces) is ∙ append_assoc before (all_said f (map g (take i xs))).pieces (f (g x)).pieces
     ∙ ap (λ r. before ++ r) (sym (ap (λ ys. (all_said f ys).pieces) (one_more g xs i x h e) ∙ said_behind f (map g (take i xs)) (g x)))
+
+-- a header that declares no ports adds none
+pub other_header : (env : Env) (h : Header) → ((ports : Vec Signals Global) → h ≡ header.Declared ports → ⊥) → (before : List Piece) → before ≡ before ++ (ports_said env (view.header h)).pieces
+other_header env header.NoPorts none before = sym (append-nil before)
+other_header env (header.Plain names) none before = sym (append-nil before)
+other_header env (header.Declared ports) none before = absurd (none ports refl)

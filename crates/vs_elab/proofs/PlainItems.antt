@@ -9,9 +9,9 @@ use Rattle.vs_elaborated.specs.Environments.{named}
 use Rattle.vs_elaborated.specs.Generate.{Made}
 use Rattle.vs_elaborated.specs.Heads.{shared_heads}
 use Rattle.vs_elaborated.specs.Instances.{Around}
-use Rattle.vs_elaborated.specs.Pieces.{Own, Piece}
+use Rattle.vs_elaborated.specs.Pieces.{Own, Initially, Piece}
 use Rattle.vs_elaborated.specs.Statements.{TypedStatement, typed_control, typed_statement}
-use Rattle.vs_elaborated.specs.Surveys.{Loops, block_body, block_heads, block_said, block_statement, item_said, items_said, loops_after}
+use Rattle.vs_elaborated.specs.Surveys.{Loops, block_body, block_heads, block_said, block_statement, initial_body, initial_heads, initial_said, initial_statement, item_said, items_said, loops_after}
 use Rattle.vs_build.proofs.Unrolled.{unrolled_is}
 use Rattle.vs_elab.specs.Fine.{plain_said, plains_said}
 
@@ -42,6 +42,23 @@ module _ (source : tree.Source) (around : Around) (loops : Loops) (b : tree.Alwa
       let e = typed_control b.control (named around.env) in
       ap (λ (t : TypedStatement). let ps : List Piece = Own (Always b.place e.star e.events t.statement) ∷ [] in ps) (sym statement_is)
 
+-- an initial block
+module _ (source : tree.Source) (around : Around) (loops : Loops) (b : tree.InitialBlock) (clean : (initial_said the_limits around.env loops b).faults ≡ []) where
+  abbrev begun_said : TypedStatement
+  begun_said = initial_statement the_limits around.env loops b
+
+  begun_clean : begun_said.faults ≡ []
+  begun_clean = (both_nil begun_said.faults (shared_heads loops.headed (initial_heads around.env b)) clean).0
+
+  begun_is : begun_said ≡ typed_statement b.statement initial_body (named around.env)
+  begun_is = unrolled_is (the_limits.copies - loops.copies) b.statement initial_body (named around.env) begun_clean
+
+  pub initial_clean : (made : Made) → (plain_said source around (tree.InitialItem b) made).faults ≡ []
+  initial_clean made = ap (λ (t : TypedStatement). t.faults) (sym begun_is) ∙ begun_clean
+
+  pub initial_pieces : (made : Made) → (plain_said source around (tree.InitialItem b) made).pieces ≡ (initial_said the_limits around.env loops b).pieces
+  initial_pieces made = ap (λ (t : TypedStatement). let ps : List Piece = Initially b.place t.statement ∷ [] in ps) (sym begun_is)
+
 -- an item
 plain_is : (source : tree.Source) (around : Around) (loops : Loops) (i : tree.Item) (made : Made) → (item_said the_limits source around loops i made).faults ≡ []
     → ((plain_said source around i made).faults ≡ []) × ((plain_said source around i made).pieces ≡ (item_said the_limits source around loops i made).pieces)
@@ -49,6 +66,7 @@ plain_is source around loops (tree.SignalsItem t) made h = (h, refl)
 plain_is source around loops (tree.ParametersItem t) made h = (h, refl)
 plain_is source around loops (tree.AssignsItem place assigns) made h = (h, refl)
 plain_is source around loops (tree.AlwaysItem b) made h = (block_clean source around loops b h made, block_pieces source around loops b h made)
+plain_is source around loops (tree.InitialItem b) made h = (initial_clean source around loops b h made, initial_pieces source around loops b h made)
 plain_is source around loops (tree.GenvarsItem place names) made h = (h, refl)
 plain_is source around loops (tree.IntegersItem place names) made h = (h, refl)
 plain_is source around loops (tree.InstancesItem t) made h = (h, refl)

@@ -14,7 +14,7 @@ use Rattle.vs_elaborated.specs.Functions.{said_functions}
 use Rattle.vs_elaborated.specs.Generate.{Made}
 use Rattle.vs_elaborated.specs.Constructs.{constructs}
 use Rattle.vs_elaborated.specs.Pieces.{OfModule}
-use Rattle.vs_elaborated.specs.Surveys.{items_said, loops_behind, counts_of, block_faults, block_entries, Totals, bits_over, piece_processes, processes_over, turns_after, items_of, declarations_of, header_of, Survey, survey}
+use Rattle.vs_elaborated.specs.Surveys.{contents_said, loops_behind, counts_of, block_faults, block_entries, Totals, bits_over, piece_processes, processes_over, turns_after, items_of, declarations_of, header_of, Survey, survey}
 use Rattle.vs_items.specs.Overriding.{AreAlike}
 
 -- all that an instance of a module says, by its names with the values of its parameters
@@ -30,7 +30,7 @@ surveyed limits source parent m depth env totals parameters =
     let made = constructs limits (items_of (OfModule m [])) (within env entries) 1 totals.turns in
     let blocks = flat_map (λ (x : Made). x.names) made in
     let whole = entries ++ block_entries blocks in
-    let said = items_said limits source (record { scope = totals.scopes; depth = depth; env = within env whole }) loops (items_of (OfModule m [])) made in
+    let said = contents_said limits source (record { scope = totals.scopes; depth = depth; env = within env whole }) loops (OfModule m []) made in
     record {
       entries = whole;
       signals = map (λ (s : SaidSignal). s.meaning.signal) signals;

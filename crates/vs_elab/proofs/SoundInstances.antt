@@ -5,7 +5,7 @@ use Rattle.vs_design.specs.Designs.{Design}
 use Rattle.vs_design.specs.Clocks.{same_name}
 use Rattle.vs_grammar.specs.Trees.{Module, Source, items_list}
 use Rattle.vs_grammar.specs.Shapes.{Each, IsModule, IsShaped, OneOrMore}
-use Rattle.vs_grammar.specs.Depths.{deepest, item_depth, items_depth, module_depth}
+use Rattle.vs_grammar.specs.Depths.{deepest, header_depth, item_depth, items_depth, module_depth}
 use Rattle.vs_grammar.specs.Spelled.{depth_limit}
 use Rattle.vs_const.specs.Typed.{Typed}
 use Rattle.vs_elaborated.specs.Environments.{no_env}
@@ -115,7 +115,11 @@ deepest_found (a ∷ ms) name m most x h = by (same_name a.name.bytes name) h (�
     by true k f = subst (λ (n : Module). module_depth n ≤ most) (same k) (omega (arith, x))
     by false k f = f k
 
--- the items of a module of a text nest within the limit
+-- the header of a module of a text nests within the limit
+pub found_header : (source : Source) (name : List ℕ) (m : Module) → IsShaped source → find_module source name ≡ Some m → header_depth m.header ≤ depth_limit
+found_header source name m x h = let whole : module_depth m ≤ depth_limit = deepest_found source.modules name m depth_limit x.shallow h in omega (arith, whole)
+
+-- and its items
 pub found_shallow : (source : Source) (name : List ℕ) (m : Module) → IsShaped source → find_module source name ≡ Some m → deepest item_depth (items_list m.items) ≤ depth_limit
 found_shallow source name m x h =
     let whole : module_depth m ≤ depth_limit = deepest_found source.modules name m depth_limit x.shallow h in

@@ -1,46 +1,74 @@
 -- Reading what is pending, one step after the other, is reading scopes within one another.
-use Rattle.std.proofs.Common.{◌≡◌, ℕ, suc, List, [], ◌∷◌, ◌++◌, map, Option, Some, None, refl, sym, ap, ◌∙◌, append_assoc}
+use Rattle.std.proofs.Common.{◌≡◌, ℕ, suc, ◌+◌, List, [], ◌∷◌, ◌++◌, map, length, length-append, Option, Some, None, refl, sym, ap, ◌∙◌, append_assoc, arith}
 use Rattle.std.specs.Prelude.{Result, Ok, Err}
-use Rattle.std.proofs.lemmas.List.{append-nil}
+use Rattle.std.proofs.lemmas.List.{append-nil, map-append}
 use Rattle.vs_design.specs.Expressions.{Signal}
 use Rattle.vs_design.specs.Statements.{Function}
-use Rattle.vs_design.specs.Designs.{Scope, Process, Design}
+use Rattle.vs_design.specs.Designs.{Scope, Process, Initial, Design}
 use Rattle.vs_grammar.specs.Trees.{Source}
 use Rattle.vs_const.specs.declared.faults.Fault.{Fault}
 use Rattle.vs_const.specs.Faults.{least}
 use Rattle.vs_elaborated.specs.Limits.{Limits}
-use Rattle.vs_elaborated.specs.Pieces.{Task, Connection, Piece, Own, Instance, Within}
+use Rattle.vs_elaborated.specs.Pieces.{Task, Connection, Piece, Own, Initially, Instance, Within}
 use Rattle.vs_elaborated.specs.Surveys.{Totals, Survey, survey}
-use Rattle.vs_elaborated.specs.Elaborated.{both_designs, of_processes, then_do, unless_fault, port_assign, Read, ReadPieces, read_piece, read_pieces, counted, limit_faults, scope_design, read_scope}
+use Rattle.vs_elaborated.specs.Elaborated.{moved, both_designs, of_processes, of_initial, then_do, unless_fault, port_assign, Read, ReadPieces, read_piece, read_pieces, counted, limit_faults, scope_design, read_scope}
 use Rattle.vs_elab.specs.Stacks.{Pending, pending, rest_of, built_then, scope_part, ports_part}
 
 -- ---- designs one after the other
 
-abbrev of_parts : List Scope → List Signal → List Process → List Function → Design
-of_parts a b c d = record { scopes = a; signals = b; processes = c; functions = d }
+abbrev of_parts : List Scope → List Signal → List Process → List Initial → List Function → Design
+of_parts a b c i d = record { scopes = a; signals = b; processes = c; initials = i; functions = d }
+
+-- an initial process behind so many
+abbrev placed : Initial → ℕ → Initial
+placed i behind = record i { behind = behind }
+
+moved_again : (n m k : ℕ) (i : Initial) → k ≡ n + m → moved k i ≡ moved n (moved m i)
+moved_again n m k i e = let same : k + i.behind ≡ n + (m + i.behind) = omega (arith, e) in ap (placed i) same
+
+moved_twice : (n m k : ℕ) (is : List Initial) → k ≡ n + m → map (moved k) is ≡ map (moved n) (map (moved m) is)
+moved_twice n m k [] e = refl
+moved_twice n m k (i ∷ is) e = ap (λ (j : Initial). j ∷ map (moved k) is) (moved_again n m k i e) ∙ ap (λ (js : List Initial). moved n (moved m i) ∷ js) (moved_twice n m k is e)
+
+not_moved : (i : Initial) → moved 0 i ≡ i
+not_moved i = let same : 0 + i.behind ≡ i.behind = omega arith in ap (placed i) same
+
+unmoved : (is : List Initial) → map (moved 0) is ≡ is
+unmoved [] = refl
+unmoved (i ∷ is) = ap (λ (j : Initial). j ∷ map (moved 0) is) (not_moved i) ∙ ap (λ (js : List Initial). i ∷ js) (unmoved is)
+
+initials_grouped : (a b c : Design)
+    → (a.initials ++ map (moved (length a.processes)) b.initials) ++ map (moved (length (a.processes ++ b.processes))) c.initials ≡ a.initials ++ map (moved (length a.processes)) (b.initials ++ map (moved (length b.processes)) c.initials)
+initials_grouped a b c =
+    append_assoc a.initials (map (moved (length a.processes)) b.initials) (map (moved (length (a.processes ++ b.processes))) c.initials)
+    ∙ ap (λ (is : List Initial). a.initials ++ (map (moved (length a.processes)) b.initials ++ is)) (moved_twice (length a.processes) (length b.processes) (length (a.processes ++ b.processes)) c.initials (length-append a.processes b.processes))
+    ∙ ap (λ (is : List Initial). a.initials ++ is) (sym (map-append (moved (length a.processes)) b.initials (map (moved (length b.processes)) c.initials)))
 
 pub both_grouped : (a b c : Design) → both_designs (both_designs a b) c ≡ both_designs a (both_designs b c)
 both_grouped a b c =
-    ap (λ x. of_parts x ((a.signals ++ b.signals) ++ c.signals) ((a.processes ++ b.processes) ++ c.processes) ((a.functions ++ b.functions) ++ c.functions)) (append_assoc a.scopes b.scopes c.scopes)
-    ∙ ap (λ x. of_parts (a.scopes ++ (b.scopes ++ c.scopes)) x ((a.processes ++ b.processes) ++ c.processes) ((a.functions ++ b.functions) ++ c.functions)) (append_assoc a.signals b.signals c.signals)
-    ∙ ap (λ x. of_parts (a.scopes ++ (b.scopes ++ c.scopes)) (a.signals ++ (b.signals ++ c.signals)) x ((a.functions ++ b.functions) ++ c.functions)) (append_assoc a.processes b.processes c.processes)
-    ∙ ap (of_parts (a.scopes ++ (b.scopes ++ c.scopes)) (a.signals ++ (b.signals ++ c.signals)) (a.processes ++ (b.processes ++ c.processes))) (append_assoc a.functions b.functions c.functions)
+    let then_initials = a.initials ++ map (moved (length a.processes)) (b.initials ++ map (moved (length b.processes)) c.initials) in
+    ap (of_parts ((a.scopes ++ b.scopes) ++ c.scopes) ((a.signals ++ b.signals) ++ c.signals) ((a.processes ++ b.processes) ++ c.processes) ((a.initials ++ map (moved (length a.processes)) b.initials) ++ map (moved (length (a.processes ++ b.processes))) c.initials)) (append_assoc a.functions b.functions c.functions)
+    ∙ ap (λ x. of_parts ((a.scopes ++ b.scopes) ++ c.scopes) ((a.signals ++ b.signals) ++ c.signals) ((a.processes ++ b.processes) ++ c.processes) x (a.functions ++ (b.functions ++ c.functions))) (initials_grouped a b c)
+    ∙ ap (λ x. of_parts x ((a.signals ++ b.signals) ++ c.signals) ((a.processes ++ b.processes) ++ c.processes) then_initials (a.functions ++ (b.functions ++ c.functions))) (append_assoc a.scopes b.scopes c.scopes)
+    ∙ ap (λ x. of_parts (a.scopes ++ (b.scopes ++ c.scopes)) x ((a.processes ++ b.processes) ++ c.processes) then_initials (a.functions ++ (b.functions ++ c.functions))) (append_assoc a.signals b.signals c.signals)
+    ∙ ap (λ x. of_parts (a.scopes ++ (b.scopes ++ c.scopes)) (a.signals ++ (b.signals ++ c.signals)) x then_initials (a.functions ++ (b.functions ++ c.functions))) (append_assoc a.processes b.processes c.processes)
 
 pub both_nothing : (a : Design) → both_designs a (of_processes []) ≡ a
 both_nothing a =
-    ap (λ x. of_parts x (a.signals ++ []) (a.processes ++ []) (a.functions ++ [])) (append-nil a.scopes)
-    ∙ ap (λ x. of_parts a.scopes x (a.processes ++ []) (a.functions ++ [])) (append-nil a.signals)
-    ∙ ap (λ x. of_parts a.scopes a.signals x (a.functions ++ [])) (append-nil a.processes)
-    ∙ ap (of_parts a.scopes a.signals a.processes) (append-nil a.functions)
+    ap (λ x. of_parts x (a.signals ++ []) (a.processes ++ []) (a.initials ++ []) (a.functions ++ [])) (append-nil a.scopes)
+    ∙ ap (λ x. of_parts a.scopes x (a.processes ++ []) (a.initials ++ []) (a.functions ++ [])) (append-nil a.signals)
+    ∙ ap (λ x. of_parts a.scopes a.signals x (a.initials ++ []) (a.functions ++ [])) (append-nil a.processes)
+    ∙ ap (λ x. of_parts a.scopes a.signals a.processes x (a.functions ++ [])) (append-nil a.initials)
+    ∙ ap (of_parts a.scopes a.signals a.processes a.initials) (append-nil a.functions)
 
 -- what is built, one part more, and then the rest
 pub built_more : (a b : Design) (r : Result Design Fault) → built_then a (built_then b r) ≡ built_then (both_designs a b) r
 built_more a b (Err e) = refl
 built_more a b (Ok d) = ap Ok (sym (both_grouped a b d))
 
-built_nothing : (r : Result Design Fault) → built_then (of_processes []) r ≡ r
+pub built_nothing : (r : Result Design Fault) → built_then (of_processes []) r ≡ r
 built_nothing (Err e) = refl
-built_nothing (Ok d) = refl
+built_nothing (Ok d) = ap (λ (is : List Initial). Ok (of_parts d.scopes d.signals d.processes is d.functions)) (unmoved d.initials)
 
 -- at the end
 pub built_all : (limits : Limits) (source : Source) (built : Design) (t : Totals) → built_then built (rest_of limits source [] t) ≡ Ok built
@@ -101,10 +129,26 @@ module _ (left : ℕ) (limits : Limits) (source : Source) (k : Task) (t : Totals
 
 -- ---- steps
 
--- a process
-pub own_step : (limits : Limits) (source : Source) (built : Design) (left : ℕ) (p : Process) (ps : List Pending) (t : Totals)
-    → built_then built (rest_of limits source (pending left (Own p) ∷ ps) t) ≡ built_then (both_designs built (of_processes (p ∷ []))) (rest_of limits source ps t)
-own_step limits source built left p ps t = built_more built (of_processes (p ∷ [])) (rest_of limits source ps t)
+-- a process or an initial process of a scope's own
+abbrev pub IsOwnPiece : Piece → Type 0
+IsOwnPiece (Own p) = Unit {0}
+IsOwnPiece (Initially place statement) = Unit {0}
+IsOwnPiece (Instance cs k) = ⊥
+IsOwnPiece (Within k) = ⊥
+
+-- alone
+abbrev pub own_design : Piece → Design
+own_design (Own p) = of_processes (p ∷ [])
+own_design (Initially place statement) = of_initial place statement
+own_design (Instance cs k) = of_processes []
+own_design (Within k) = of_processes []
+
+pub own_step : (limits : Limits) (source : Source) (built : Design) (left : ℕ) (p : Piece) (ps : List Pending) (t : Totals) → IsOwnPiece p
+    → built_then built (rest_of limits source (pending left p ∷ ps) t) ≡ built_then (both_designs built (own_design p)) (rest_of limits source ps t)
+own_step limits source built left (Own p) ps t h = built_more built (of_processes (p ∷ [])) (rest_of limits source ps t)
+own_step limits source built left (Initially place statement) ps t h = built_more built (of_initial place statement) (rest_of limits source ps t)
+own_step limits source built left (Instance cs k) ps t h = absurd h
+own_step limits source built left (Within k) ps t h = absurd h
 
 -- the piece of a scope
 abbrev pub within_read : Result Read Fault → Result ReadPieces Fault

@@ -9,10 +9,10 @@ use Rattle.vs_elaborated.specs.Limits.{the_limits}
 use Rattle.vs_elaborated.specs.Environments.{Env, find_entry, find_name, named, within}
 use Rattle.vs_elaborated.specs.Signals.{Start, SaidSignal}
 use Rattle.vs_elaborated.specs.Generate.{Made}
-use Rattle.vs_elaborated.specs.Pieces.{Task}
+use Rattle.vs_elaborated.specs.Pieces.{Task, Said, both_said}
 use Rattle.vs_elaborated.specs.Instances.{Around}
 use Rattle.vs_elaborated.specs.Functions.{Counts}
-use Rattle.vs_elaborated.specs.Surveys.{Loops, Totals, Survey, survey, counts_of, declarations_of, items_of, items_said, loops_behind, piece_processes, processes_over}
+use Rattle.vs_elaborated.specs.Surveys.{Loops, Totals, Survey, survey, counts_of, declarations_of, header_said, items_of, items_said, ports_said, loops_behind, piece_processes, processes_over}
 use Rattle.vs_scope.specs.Again.{AreSeen}
 use Rattle.vs_scope.specs.Complete.{KeepsShapes, complete, function_declaration}
 use Rattle.vs_scope.specs.Functions.{functions_in}
@@ -50,7 +50,7 @@ better_second (Some a) b h = cc
 abbrev items_around : Task → Totals → Around
 items_around t totals = record { scope = totals.scopes; depth = t.depth; env = scope_env t totals }
 
--- what was found of its names and of its items: the code's own words
+-- what was found of its names, of its header and of its items: the code's own words
 pub record IsFound (source : tree.Source) (t : Task) (totals : Totals) (did : Loops) (r : SurveyedScope) : Type 0 where
   pub start : Start
   pub starts : start ≡ start_at t totals
@@ -58,6 +58,8 @@ pub record IsFound (source : tree.Source) (t : Task) (totals : Totals) (did : Lo
   pub counts_before : before ≡ counts_of totals
   pub items : List tree.Item
   pub items_are : items_of t.contents ≡ items
+  pub header : tree.Header
+  pub header_are : (env : Env) → header_said env t.contents ≡ ports_said env header
   pub here : Env
   pub here_is : here ≡ within t.env (complete t.env r.names)
   pub names : MeanTheSame (complete t.env r.names) (entries_in t.env t.contents start before totals.turns)
@@ -68,7 +70,7 @@ pub record IsFound (source : tree.Source) (t : Task) (totals : Totals) (did : Lo
   pub first : r.fault ≡ better found said.fault
   pub found_is : found ≡ least (faults_in t.env t.contents start before totals.turns)
   pub said_is : (a : Around) (ms : List Made) → SeeTheSame a.env here → length ms ≡ length items
-      → IsSaid said the_limits.processes totals.processes (items_said the_limits source a (record { copies = behind.copies; headed = totals.loops.headed }) items ms)
+      → IsSaid said the_limits.processes totals.processes (both_said (ports_said a.env header) (items_said the_limits source a (record { copies = behind.copies; headed = totals.loops.headed }) items ms))
   pub then_is : (env : Env) → SeeTheSame env here → did ≡ loops_behind the_limits env (record { copies = behind.copies; headed = totals.loops.headed }) items
   pub entries_are : found ≡ None → complete t.env r.names ≡ entries_in t.env t.contents start before totals.turns
   pub kept : KeepsShapes t.env r.names
@@ -113,20 +115,22 @@ module _ (source : tree.Source) (t : Task) (totals : Totals) (did : Loops) (r : 
   loops_are : loops_with f.behind ≡ loops_in t totals
   loops_are = ap loops_with behind_then
 
-  said : IsSaid f.said the_limits.processes totals.processes (items_said the_limits source (items_around t totals) (loops_in t totals) f.items all_made)
-  said =
-      subst (λ (l : Loops). IsSaid f.said the_limits.processes totals.processes (items_said the_limits source (items_around t totals) l f.items all_made)) loops_are
-      (f.said_is (items_around t totals) all_made alike as_many)
+  abbrev said_with : Loops → List tree.Item → Said
+  said_with l is = both_said (ports_said (scope_env t totals) f.header) (items_said the_limits source (items_around t totals) l is all_made)
+
+  said : IsSaid f.said the_limits.processes totals.processes (said_with (loops_in t totals) f.items)
+  said = subst (λ (l : Loops). IsSaid f.said the_limits.processes totals.processes (said_with l f.items)) loops_are (f.said_is (items_around t totals) all_made alike as_many)
+
+  said_same : said_with (loops_in t totals) f.items ≡ said_in source t totals
+  said_same =
+      ap (said_with (loops_in t totals)) (sym f.items_are)
+      ∙ ap (λ (h : Said). both_said h (items_said the_limits source (items_around t totals) (loops_in t totals) (items_of t.contents) all_made)) (sym (f.header_are (scope_env t totals)))
 
   said_fault : f.said.fault ≡ least (items_faults source t totals)
-  said_fault =
-      said.fault
-      ∙ ap (λ is. least ((items_said the_limits source (items_around t totals) (loops_in t totals) is all_made).faults ++ processes_over the_limits.processes totals.processes (items_said the_limits source (items_around t totals) (loops_in t totals) is all_made).pieces)) (sym f.items_are)
+  said_fault = said.fault ∙ ap (λ (s : Said). least (s.faults ++ processes_over the_limits.processes totals.processes s.pieces)) said_same
 
   said_processes : f.said.fault ≡ None → r.counts.processes ≡ totals.processes + sum_by piece_processes (said_in source t totals).pieces
-  said_processes none =
-      f.processes ∙ said.processes none
-      ∙ ap (λ is. totals.processes + sum_by piece_processes (items_said the_limits source (items_around t totals) (loops_in t totals) is all_made).pieces) (sym f.items_are)
+  said_processes none = f.processes ∙ said.processes none ∙ ap (λ (s : Said). totals.processes + sum_by piece_processes s.pieces) said_same
 
   loops_then : did ≡ loops_behind the_limits (scope_env t totals) (loops_in t totals) (items_of t.contents)
   loops_then =

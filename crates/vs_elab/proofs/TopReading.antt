@@ -7,7 +7,7 @@ use Rattle.vs_design.specs.Designs.{Design, bit_count}
 use Rattle.vs_design.specs.Clocks.{same_name}
 use Rattle.vs_grammar.specs.Trees as tree
 use Rattle.vs_grammar.specs.Shapes.{Each, OneOrMore, IsModule, IsShaped}
-use Rattle.vs_grammar.specs.Depths.{deepest, item_depth, module_depth}
+use Rattle.vs_grammar.specs.Depths.{deepest, header_depth, item_depth, module_depth}
 use Rattle.vs_grammar.specs.Spelled.{depth_limit}
 use Rattle.vs_ast.specs.declared.modules.Module.{Module}
 use Rattle.vs_ast.specs.Views as view
@@ -43,12 +43,12 @@ use Rattle.vs_elab.specs.Functions.{IsIdle}
 use Rattle.vs_elab.specs.Pending.{parts_pieces, scope_around, stack_pieces}
 use Rattle.vs_elab.specs.declared.error.ElabError.{ElabError}
 use Rattle.vs_elab.specs.declared.error.ElabError.TheVariants.{Broken, Memory}
-use Rattle.vs_elab.specs.Reading.{IsOpened, IsRead, IsReading, Tells, FailsBy, ArePending, design_so_far, pending_processes, outcome, source_of, surveyed, totals_so_far}
+use Rattle.vs_elab.specs.Reading.{IsOpened, IsRead, IsReading, Tells, FailsBy, ArePending, design_so_far, pending_processes, processes_in, outcome, source_of, surveyed, totals_so_far}
 use Rattle.vs_elab.specs.Stacks as stacks
 use Rattle.vs_elab.specs.Stacks.{rest_of, built_then, scope_part}
 use Rattle.vs_elab.proofs.OpenedSteps.{tells, told_exit}
 use Rattle.vs_elab.proofs.ShapedScopes.{list_depth}
-use Rattle.vs_elab.proofs.Stacks.{and_rest, within_read, both_nothing, built_all, within_step}
+use Rattle.vs_elab.proofs.Stacks.{and_rest, within_read, both_nothing, built_nothing, built_all, within_step}
 
 -- ---- modules
 
@@ -83,7 +83,11 @@ known_some (Some k) one (Some m) e h = ap Some (sym h.of) ∙ ap (λ (x : Known)
     same : Some k ≡ Some one → k ≡ one
     same i = cc
 
--- how deep the items of the module nest
+-- how deep the header of the module nests
+pub header_shallow : (m : Module) → module_depth (view.module_tree m) ≤ depth_limit → header_depth (view.module_tree m).header ≤ depth_limit
+header_shallow m h = omega (arith, h)
+
+-- and its items
 pub items_shallow : (m : Module) → module_depth (view.module_tree m) ≤ depth_limit → deepest item_depth (tree.items_list (view.items m.items.items)) ≤ depth_limit
 items_shallow m h = let e = list_depth (view.items m.items.items) in omega (arith, e, h)
 
@@ -142,7 +146,7 @@ only_pending limits source left k t = of (read_scope left limits source k t)
   where
     of : (q : Result Read Fault) → built_then (of_processes []) (and_rest limits source [] (within_read q)) ≡ design_of_read q
     of (Err e) = refl
-    of (Ok r) = ap Ok (both_nothing r.design)
+    of (Ok r) = built_nothing (Ok (both_designs r.design (of_processes []))) ∙ ap Ok (both_nothing r.design)
 
 -- its scope was read, and its parts are pending
 pub top_opened : (source : tree.Source) (left : ℕ) (k : Task) (old new : Reading) (ps : List Part) (qs : List stacks.Pending) → IsOpened source k old new ps → design_so_far old ≡ of_processes []
@@ -182,7 +186,7 @@ pub top_reading : (text : Text) (left : ℕ) (k : Task) (old new : Reading) (ps 
     → IsReading text new stack
 top_reading text left k old new ps stack o empty none pending is =
     let s = surveyed (source_of text) k old in
-    let built : length (design_so_far new).processes ≡ 0 = ap (λ (d : Design). length d.processes) (o.design ∙ ap (λ d. both_designs d (scope_part k s)) empty) in
+    let built : processes_in (design_so_far new) ≡ 0 = ap processes_in (o.design ∙ ap (λ d. both_designs d (scope_part k s)) empty) in
     let counts : pending_processes (stack_pieces (source_of text) new.frames.items stack) ≡ sum_by piece_processes s.pieces =
     ap pending_processes (is ∙ ap (λ xs. map (stacks.pending left) xs ++ []) o.pieces) ∙ pieces_pending left s.pieces in
     let before : (counted k (totals_so_far old)).processes ≡ 0 = counted_processes k (totals_so_far old) ∙ ap (λ (t : Totals). t.processes) none in

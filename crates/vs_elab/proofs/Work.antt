@@ -1,16 +1,15 @@
 -- How many pieces are still to be read: it falls with each step.
 use Rattle.std.proofs.Common.{◌≡◌, ℕ, suc, ◌+◌, ◌<◌, List, [], ◌∷◌, ◌++◌, map, None, refl, ap, ◌∙◌, arith}
 use Rattle.std.specs.Prelude.{Result, Ok, Err}
-use Rattle.vs_design.specs.Designs.{Process}
 use Rattle.vs_grammar.specs.Trees.{Source}
 use Rattle.vs_const.specs.declared.faults.Fault.{Fault}
 use Rattle.vs_const.specs.Faults.{least}
 use Rattle.vs_elaborated.specs.Limits.{Limits}
-use Rattle.vs_elaborated.specs.Pieces.{Task, Connection, Piece, Own, Instance, Within}
+use Rattle.vs_elaborated.specs.Pieces.{Task, Connection, Piece, Own, Initially, Instance, Within}
 use Rattle.vs_elaborated.specs.Surveys.{Totals, Survey, survey}
 use Rattle.vs_elaborated.specs.Elaborated.{both_designs, then_do, Read, ReadPieces, read_piece, read_pieces, counted, limit_faults, scope_design, read_scope}
 use Rattle.vs_elab.specs.Stacks.{Pending, pending, after, piece_work, pieces_work, scope_work, work}
-use Rattle.vs_elab.proofs.Stacks.{within_read, instance_read, fair}
+use Rattle.vs_elab.proofs.Stacks.{IsOwnPiece, within_read, instance_read, fair}
 
 work_append : (limits : Limits) (source : Source) (left : ℕ) (qs : List Piece) (ps : List Pending) (t : Totals)
     → work limits source (map (pending left) qs ++ ps) t
@@ -32,9 +31,12 @@ work_append limits source left (q ∷ qs) ps t =
         last (Err e) = refl
         last (Ok b) = refl
 
--- a process less
-pub own_less : (limits : Limits) (source : Source) (left : ℕ) (p : Process) (ps : List Pending) (t : Totals) → work limits source ps t < work limits source (pending left (Own p) ∷ ps) t
-own_less limits source left p ps t = omega arith
+-- a process or an initial process less
+pub own_less : (limits : Limits) (source : Source) (left : ℕ) (p : Piece) (ps : List Pending) (t : Totals) → IsOwnPiece p → work limits source ps t < work limits source (pending left p ∷ ps) t
+own_less limits source left (Own p) ps t h = omega arith
+own_less limits source left (Initially place statement) ps t h = omega arith
+own_less limits source left (Instance cs k) ps t h = absurd h
+own_less limits source left (Within k) ps t h = absurd h
 
 abbrev scope_then : Task → Survey → Result ReadPieces Fault → Result Read Fault
 scope_then k s q = then_do q λ r. Ok (record { entries = s.entries; design = scope_design k s r.design; totals = r.totals })

@@ -171,12 +171,16 @@ pending_at at part = record { frame = at.frame; depth = at.depth; left = at.left
 abbrev pub pending_processes : List stacks.Pending → ℕ
 pending_processes qs = sum_by (λ (q : stacks.Pending). piece_processes q.piece) qs
 
+-- how many there are in a design, initial ones among them
+abbrev pub processes_in : Design → ℕ
+processes_in d = length d.processes + length d.initials
+
 -- what has been read and what is pending is all there is
 pub record IsReading (text : Text) (r : Reading) (stack : List Pending) : Type 0 where
   pub read : IsRead r
   pub later : r.counts.start.top ≡ false
   pub pending : ArePending (source_of text) r.frames.items stack
-  pub room : length (design_so_far r).processes + pending_processes (stack_pieces (source_of text) r.frames.items stack) ≡ r.counts.processes
+  pub room : processes_in (design_so_far r) + pending_processes (stack_pieces (source_of text) r.frames.items stack) ≡ r.counts.processes
 
 -- the whole design, or the first fault of what is pending
 abbrev pub outcome : Text → Reading → List Pending → Result Design Fault

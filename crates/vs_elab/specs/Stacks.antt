@@ -4,7 +4,7 @@ use Rattle.vs_design.specs.Designs.{Design}
 use Rattle.vs_grammar.specs.Trees.{Source}
 use Rattle.vs_const.specs.declared.faults.Fault.{Fault}
 use Rattle.vs_elaborated.specs.Limits.{Limits}
-use Rattle.vs_elaborated.specs.Pieces.{Task, is_instance, Connection, Piece, Own, Instance, Within}
+use Rattle.vs_elaborated.specs.Pieces.{Task, is_instance, Connection, Piece, Own, Initially, Instance, Within}
 use Rattle.vs_elaborated.specs.Surveys.{Totals, Survey, survey}
 use Rattle.vs_elaborated.specs.Elaborated.{both_designs, of_processes, then_do, port_assign, counted, Read, ReadPieces, read_piece, read_scope}
 
@@ -34,7 +34,7 @@ built_then built r = then_do r λ d. Ok (both_designs built d)
 
 -- the scope with its signals and its functions
 abbrev pub scope_part : Task → Survey → Design
-scope_part k s = record { scopes = record { name = k.name; parent = k.parent; instance = is_instance k.contents } ∷ []; signals = s.signals; processes = []; functions = s.functions }
+scope_part k s = record { scopes = record { name = k.name; parent = k.parent; instance = is_instance k.contents } ∷ []; signals = s.signals; processes = []; initials = []; functions = s.functions }
 
 -- the ports of an instance (12.3.9.2)
 abbrev pub ports_part : Task → Survey → List Connection → Design
@@ -50,6 +50,7 @@ after (Ok a) f = f a.totals
 -- of one piece, and of pieces in text order; `f` is that of a scope
 abbrev pub piece_work : (Task → Totals → ℕ) → Piece → Totals → ℕ
 piece_work f (Own p) t = 0
+piece_work f (Initially place statement) t = 0
 piece_work f (Instance cs k) t = f k t
 piece_work f (Within k) t = f k t
 

@@ -1,7 +1,7 @@
 //! A scope with its signals and parts (IEEE 1364-2005, 12.1).
 
 ghost use Rattle.std.specs.Prelude.{◌≡◌, ◌≤◌, ◌++◌, ◌∷◌, [], List, None, OnOk, IfOk, IfErr, IsTrue, is_none, length, option_to_list};
-ghost use Rattle.vs_grammar.specs.Depths.{deepest, item_depth};
+ghost use Rattle.vs_grammar.specs.Depths.{deepest, header_depth, item_depth};
 ghost use Rattle.vs_grammar.specs.Spelled.{depth_limit};
 ghost use Rattle.vs_flat.specs.Named.{all_below};
 ghost use Rattle.vs_const.specs.Faults.{least};
@@ -12,7 +12,7 @@ ghost use Rattle.vs_elaborated.specs.Numbers.{AreNumberedFrames};
 ghost use Rattle.vs_elaborated.specs.Sound.{IsSoundTask};
 ghost use Rattle.vs_elaborated.specs.Surveys.{Loops};
 ghost use Rattle.vs_scope.specs.declared.frames.Frame.{Frame};
-ghost use Rattle.vs_scope.specs.Contents.{contents_items};
+ghost use Rattle.vs_scope.specs.Contents.{contents_header, contents_items};
 ghost use Rattle.vs_scope.specs.Overrides.{AreOverrides};
 ghost use Rattle.vs_scope.specs.Surveys.{IsShapedScope};
 ghost use Rattle.vs_elab.specs.Reading.{FailsBy, IsOpened, IsRead, IsText, Tells, design_so_far, source_of, task_of, totals_of, totals_so_far};
@@ -94,6 +94,7 @@ pub(crate) fn open_scope<'a>(
     requires numbered { AreNumberedFrames (design_so_far reading.old) (task_of reading.old.frames.items scope).env.frames }
     requires overrides { AreOverrides reading.old.frames.items scope.overrides.now }
     requires shaped { IsShapedScope scope.contents }
+    requires header { header_depth (contents_header scope.contents) ≤ depth_limit }
     requires shallow { deepest item_depth (contents_items scope.contents) ≤ depth_limit }
     requires top { reading.old.counts.start.top ≡ is_none scope.within }
     requires within { IsTrue (all_below (length reading.old.frames.items) (option_to_list scope.within)) }

@@ -1,4 +1,4 @@
-//! The parts of a scope, from its items and what its generate constructs make (IEEE 1364-2005, A.1.4 and 12.4).
+//! The parts of a scope, from its header, its items and what its generate constructs make (IEEE 1364-2005, A.1.4 and 12.4).
 
 ghost use Rattle.std.specs.Prelude.{◌≡◌, ◌++◌, ◌∷◌, [], List, IfOk, OnOk, length, map};
 ghost use Rattle.vs_grammar.specs.Trees as tree;
@@ -7,16 +7,27 @@ ghost use Rattle.vs_ast.specs.Views as view;
 ghost use Rattle.vs_elaborated.specs.Environments.{Env};
 ghost use Rattle.vs_elaborated.specs.Generate as generate;
 ghost use Rattle.vs_elaborated.specs.Instances.{Around};
-ghost use Rattle.vs_elaborated.specs.Surveys.{nested_piece};
-ghost use Rattle.vs_scope.specs.Contents.{block_items, contents_items};
+ghost use Rattle.vs_elaborated.specs.Surveys.{nested_piece, ports_said};
+ghost use Rattle.vs_scope.specs.Contents.{block_items, contents_header, contents_items};
 ghost use Rattle.vs_scope.specs.Made as code;
-ghost use Rattle.vs_elab.specs.Fine.{AreFineInside, AreFineItems, AreFineParts, IsFineItem, plain_said, plains_said};
+ghost use Rattle.vs_elab.specs.Fine.{AreFineInside, AreFineItems, AreFineParts, IsFineHeader, IsFineItem, plain_said, plains_said, scope_plain};
 ghost use Rattle.vs_elab.specs.Pending.{parts_pieces};
 
-use crate::pending::{Part, push_assigns, push_instances, push_wires};
+use crate::pending::{Part, push_assigns, push_header, push_instances, push_signals};
 use std::alloc::{AllocError, Global};
+use std::slice;
 use vs_ast::Item;
 use vs_scope::{BlockItems, Contents, Made, Nested};
+
+/// The items of a block, one after the other.
+fn items_of<'a>(block: BlockItems<'a>) -> &'a [Item]
+    ensures { map view.item result.now ≡ block_items block.entry }
+{
+    match block {
+        BlockItems::One(item) => slice::from_ref(item),
+        BlockItems::Many(items) => items,
+    }
+}
 
 /// Adds the blocks that a generate construct makes.
 fn push_blocks<'a>(
@@ -30,9 +41,10 @@ fn push_blocks<'a>(
 {
     for b in blocks {
         let name = b.name.to_vec(alloc)?;
+        let items = items_of(b.items);
         parts.push(Part::Block {
             name,
-            items: b.items,
+            items,
             turn: b.turn,
         })?;
     }
@@ -52,10 +64,14 @@ fn push_item<'a>(
         → IsFineItem source around (view.item item.now) m → AreFineParts source around.env parts.old.items → OnOk result (AreFineParts source around.env parts.new.items) }
 {
     match item {
-        Item::Signals(s) => push_wires(parts, s.place, &s.names),
+        Item::Signals(s) => push_signals(parts, s),
         Item::Assigns { place, assigns } => push_assigns(parts, *place, assigns),
         Item::Always(b) => {
             parts.push(Part::Always(b))?;
+            Ok(())
+        }
+        Item::Initial(b) => {
+            parts.push(Part::Initial(b))?;
             Ok(())
         }
         Item::Instances(t) => push_instances(parts, t),
@@ -136,6 +152,18 @@ fn push_contents<'a>(
     }
 }
 
+/// Adds the parts of a scope's header, if it has one.
+fn push_values<'a>(parts: &mut Vec<Part<'a>>, contents: Contents<'a>) -> Result<(), AllocError>
+    ensures pieces { (source : tree.Source) (around : Around)
+        → OnOk result (parts_pieces source around parts.new.items ≡ parts_pieces source around parts.old.items ++ (ports_said around.env (contents_header contents.entry)).pieces) }
+    ensures fine { (source : tree.Source) (around : Around) → IsFineHeader around.env (contents_header contents.entry) → AreFineParts source around.env parts.old.items → OnOk result (AreFineParts source around.env parts.new.items) }
+{
+    match contents {
+        Contents::Module(m) => push_header(parts, &m.header),
+        Contents::Block(_) => Ok(()),
+    }
+}
+
 /// The parts of a scope, each of whose items makes this, in the order of the text. An error is want of memory.
 pub(crate) fn parts_of<'a>(
     alloc: Global,
@@ -144,11 +172,12 @@ pub(crate) fn parts_of<'a>(
 ) -> Result<Vec<Part<'a>>, AllocError>
     requires { length made.now ≡ length (contents_items contents) }
     ensures pieces { (source : tree.Source) (around : Around) (ms : List generate.Made) → map code.made made.now ≡ map code.kept ms
-        → IfOk result (λ ps. parts_pieces source around ps.items ≡ (plains_said source around (contents_items contents.entry) ms).pieces) }
+        → IfOk result (λ ps. parts_pieces source around ps.items ≡ (scope_plain source around (contents_header contents.entry) (contents_items contents.entry) ms).pieces) }
     ensures fine { (source : tree.Source) (around : Around) (ms : List generate.Made) → map code.made made.now ≡ map code.kept ms
-        → AreFineItems source around (contents_items contents.entry) ms → IfOk result (λ ps. AreFineParts source around.env ps.items) }
+        → IsFineHeader around.env (contents_header contents.entry) → AreFineItems source around (contents_items contents.entry) ms → IfOk result (λ ps. AreFineParts source around.env ps.items) }
 {
     let mut parts = Vec::new(alloc);
+    push_values(&mut parts, contents)?;
     push_contents(&mut parts, alloc, contents, made)?;
     Ok(parts)
 }

@@ -1,26 +1,35 @@
 //! What is still to be read of a text: the parts of scopes, in the order of the text (IEEE 1364-2005, 12.1 and 12.4).
 
-ghost use Rattle.std.specs.Prelude.{◌≡◌, ◌++◌, OnOk, map};
+ghost use Rattle.std.specs.Prelude.{◌≡◌, ◌++◌, OnOk, map, if◌then◌else◌};
 ghost use Rattle.vs_grammar.specs.Trees as tree;
 ghost use Rattle.vs_grammar.specs.Shapes.{Each};
 ghost use Rattle.vs_ast.specs.Views as view;
 ghost use Rattle.vs_elaborated.specs.Environments.{Env};
 ghost use Rattle.vs_elaborated.specs.Pieces.{all_said};
 ghost use Rattle.vs_elaborated.specs.Surveys as survey;
+ghost use Rattle.vs_elaborated.specs.Signals as signals;
 ghost use Rattle.vs_elaborated.specs.Instances as spec;
-ghost use Rattle.vs_elab.specs.Pending.{parts_pieces};
-ghost use Rattle.vs_elab.specs.Fine.{AreFineParts, IsFineAssign, IsFineInstance, IsFineWire};
+ghost use Rattle.vs_elab.specs.Pending.{part_pieces, parts_pieces};
+ghost use Rattle.vs_elab.specs.Fine.{AreFineParts, AreFineSignals, IsFineAssign, IsFineDeclarator, IsFineHeader, IsFineInstance, IsFinePart, IsFineValue};
 
 use std::alloc::AllocError;
-use vs_ast::{AlwaysBlock, Assign, Declarator, Expr, Instance, Instances, Name};
-use vs_scope::{BlockItems, Turn};
+use vs_ast::{
+    AlwaysBlock, Assign, Declarator, Expr, Header, InitialBlock, Instance, Instances, Item, Name,
+    SignalKind, Signals,
+};
+use vs_scope::{Turn, is_reg};
 
-/// A part of a scope: a process of its own, an instance, or a generate block. `place` is where the item begins.
+/// A part of a scope: a process or an initial process of its own, an instance, or a generate block. `place` is where the item begins.
 #[derive(Drop)]
 pub(crate) enum Part<'a> {
-    /// A declared name with a value (6.1.1).
+    /// A declared net with a value (6.1.1).
     Wire {
         place: u32,
+        name: &'a Name,
+        value: &'a Expr,
+    },
+    /// A declared variable with an initial value (6.2.1).
+    Value {
         name: &'a Name,
         value: &'a Expr,
     },
@@ -30,6 +39,7 @@ pub(crate) enum Part<'a> {
         assign: &'a Assign,
     },
     Always(&'a AlwaysBlock),
+    Initial(&'a InitialBlock),
     /// One instance of an item (12.1.2).
     Instance {
         item: &'a Instances,
@@ -38,44 +48,96 @@ pub(crate) enum Part<'a> {
     /// A generate block, and the value of its loop.
     Block {
         name: Vec<u8>,
-        items: BlockItems<'a>,
+        items: &'a [Item],
         turn: Option<Turn>,
     },
 }
 
-/// Adds the part of a declared name, if it has a value.
-fn push_wire<'a>(parts: &mut Vec<Part<'a>>, place: u32, d: &'a Declarator) -> Result<(), AllocError>
+/// The part of a name with a value, in a declaration of this kind that begins at `place`.
+fn value_part<'a>(kind: SignalKind, place: u32, name: &'a Name, value: &'a Expr) -> Part<'a>
     ensures pieces { (source : tree.Source) (around : spec.Around)
-        → OnOk result (parts_pieces source around parts.new.items ≡ parts_pieces source around parts.old.items ++ (survey.wire_said around.env place (view.declarator d.now)).pieces) }
-    ensures fine { (source : tree.Source) (env : Env) → IsFineWire env (view.declarator d.now) → AreFineParts source env parts.old.items → OnOk result (AreFineParts source env parts.new.items) }
+        → part_pieces source around result ≡ (if signals.is_reg (view.signal_kind kind) then survey.value_said around.env (view.name name.now) (view.expr value.now) else survey.wire_said around.env place (view.name name.now) (view.expr value.now)).pieces }
+    ensures fine { (source : tree.Source) (env : Env) → IsFineValue env (signals.is_reg (view.signal_kind kind)) (view.name name.now) (view.expr value.now) → IsFinePart source env result }
+{
+    if is_reg(kind) {
+        Part::Value { name, value }
+    } else {
+        Part::Wire { place, name, value }
+    }
+}
+
+/// Adds the part of a declared name, if it has a value.
+fn push_declarator<'a>(
+    parts: &mut Vec<Part<'a>>,
+    kind: SignalKind,
+    place: u32,
+    d: &'a Declarator,
+) -> Result<(), AllocError>
+    ensures pieces { (source : tree.Source) (around : spec.Around)
+        → OnOk result (parts_pieces source around parts.new.items ≡ parts_pieces source around parts.old.items ++ (survey.declarator_said around.env place (view.signal_kind kind) (view.declarator d.now)).pieces) }
+    ensures fine { (source : tree.Source) (env : Env) → IsFineDeclarator env (view.signal_kind kind) (view.declarator d.now) → AreFineParts source env parts.old.items → OnOk result (AreFineParts source env parts.new.items) }
 {
     match &d.value {
         None => Ok(()),
         Some(value) => {
-            parts.push(Part::Wire {
-                place,
-                name: &d.name,
-                value,
-            })?;
+            let part = value_part(kind, place, &d.name, value);
+            parts.push(part)?;
             Ok(())
         }
     }
 }
 
-/// Adds the parts of the names of a declaration that begins at this place.
-pub(crate) fn push_wires<'a>(
+/// Adds the parts of the names of a declaration of this kind that begins at this place.
+fn push_declarators<'a>(
     parts: &mut Vec<Part<'a>>,
+    kind: SignalKind,
     place: u32,
     names: &'a [Declarator],
 ) -> Result<(), AllocError>
     ensures pieces { (source : tree.Source) (around : spec.Around)
-        → OnOk result (parts_pieces source around parts.new.items ≡ parts_pieces source around parts.old.items ++ (all_said (survey.wire_said around.env place) (map view.declarator names.now)).pieces) }
-    ensures fine { (source : tree.Source) (env : Env) → Each (IsFineWire env) (map view.declarator names.now) → AreFineParts source env parts.old.items → OnOk result (AreFineParts source env parts.new.items) }
+        → OnOk result (parts_pieces source around parts.new.items ≡ parts_pieces source around parts.old.items ++ (all_said (survey.declarator_said around.env place (view.signal_kind kind)) (map view.declarator names.now)).pieces) }
+    ensures fine { (source : tree.Source) (env : Env) → Each (IsFineDeclarator env (view.signal_kind kind)) (map view.declarator names.now) → AreFineParts source env parts.old.items → OnOk result (AreFineParts source env parts.new.items) }
 {
     for d in names {
-        push_wire(parts, place, d)?;
+        push_declarator(parts, kind, place, d)?;
     }
     Ok(())
+}
+
+/// Adds the parts of a declaration.
+pub(crate) fn push_signals<'a>(parts: &mut Vec<Part<'a>>, s: &'a Signals) -> Result<(), AllocError>
+    ensures pieces { (source : tree.Source) (around : spec.Around)
+        → OnOk result (parts_pieces source around parts.new.items ≡ parts_pieces source around parts.old.items ++ (survey.signals_said around.env (view.signals s.now)).pieces) }
+    ensures fine { (source : tree.Source) (env : Env) → AreFineSignals env (view.signals s.now) → AreFineParts source env parts.old.items → OnOk result (AreFineParts source env parts.new.items) }
+{
+    push_declarators(parts, s.kind, s.place, &s.names)
+}
+
+/// Adds the parts of declarations of ports.
+fn push_ports<'a>(parts: &mut Vec<Part<'a>>, ports: &'a [Signals]) -> Result<(), AllocError>
+    ensures pieces { (source : tree.Source) (around : spec.Around)
+        → OnOk result (parts_pieces source around parts.new.items ≡ parts_pieces source around parts.old.items ++ (all_said (survey.signals_said around.env) (map view.signals ports.now)).pieces) }
+    ensures fine { (source : tree.Source) (env : Env) → Each (AreFineSignals env) (map view.signals ports.now) → AreFineParts source env parts.old.items → OnOk result (AreFineParts source env parts.new.items) }
+{
+    for s in ports {
+        push_signals(parts, s)?;
+    }
+    Ok(())
+}
+
+/// Adds the parts of a header.
+pub(crate) fn push_header<'a>(
+    parts: &mut Vec<Part<'a>>,
+    header: &'a Header,
+) -> Result<(), AllocError>
+    ensures pieces { (source : tree.Source) (around : spec.Around)
+        → OnOk result (parts_pieces source around parts.new.items ≡ parts_pieces source around parts.old.items ++ (survey.ports_said around.env (view.header header.now)).pieces) }
+    ensures fine { (source : tree.Source) (env : Env) → IsFineHeader env (view.header header.now) → AreFineParts source env parts.old.items → OnOk result (AreFineParts source env parts.new.items) }
+{
+    match header {
+        Header::Declared(ports) => push_ports(parts, ports),
+        _ => Ok(()),
+    }
 }
 
 /// Adds the parts of the assigns of an item that begins at this place.

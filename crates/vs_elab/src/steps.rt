@@ -7,11 +7,10 @@ ghost use Rattle.vs_elaborated.specs.Numbers.{AreNumberedFrames};
 ghost use Rattle.vs_elaborated.specs.Sound.{AreSoundFrames};
 ghost use Rattle.vs_scope.specs.Frames.{KeepShapes, env_at, envs};
 ghost use Rattle.vs_build.specs.Growth.{draft};
-ghost use Rattle.vs_build.specs.Items.{and_processes};
 ghost use Rattle.vs_items.specs.Modules.{IsOf};
 ghost use Rattle.vs_elab.specs.Functions.{IsIdle};
-ghost use Rattle.vs_elab.specs.OwnParts.{IsFineOwn, own_processes};
-ghost use Rattle.vs_elab.specs.Reading.{IsReading, IsStep, IsText, Tells, design_so_far, outcome, pending_at, source_of};
+ghost use Rattle.vs_elab.specs.OwnParts.{IsFineOwn, with_own};
+ghost use Rattle.vs_elab.specs.Reading.{IsReading, IsStep, IsText, Tells, design_so_far, outcome, pending_at, processes_in, source_of};
 ghost use Rattle.vs_const.specs.declared.rules.Rule.TheVariants.{InstanceDepth};
 ghost use Rattle.vs_elab.specs.declared.error.ElabError.TheVariants.{Broken};
 ghost use Rattle.vs_elab.specs.declared.pending.Part.TheVariants as parts;
@@ -23,8 +22,8 @@ use crate::reading::{NewScope, Reading, Text};
 use crate::stack::{Pending, push_parts};
 use crate::wiring::wire_ports;
 use std::alloc::{AllocError, Global};
-use vs_ast::{Instance, Instances};
-use vs_build::{always, assign, wire};
+use vs_ast::{Instance, Instances, Item};
+use vs_build::{always, assign, initial, value, wire};
 use vs_const::{Fault, Rule};
 use vs_elaborated::{instance_law, number_law, scope_law};
 use vs_items::{Known, connections_of, overrides_of};
@@ -55,7 +54,7 @@ fn one_deeper(left: u32, place: u32) -> Result<u32, ElabError>
     }
 }
 
-/// Builds a process of a scope's own.
+/// Builds a process or an initial process of a scope's own.
 fn read_own<'a>(
     alloc: Global,
     reading: &mut Reading<'a>,
@@ -67,9 +66,9 @@ fn read_own<'a>(
     requires idle { IsIdle (draft reading.old.builder) }
     requires seen { AreSoundFrames (design_so_far reading.old) false (env_at (envs reading.old.frames.items) (Some frame)).frames }
     requires numbered { AreNumberedFrames (design_so_far reading.old) (env_at (envs reading.old.frames.items) (Some frame)).frames }
-    requires room { length (design_so_far reading.old).processes < 2 ^ 16 }
+    requires room { processes_in (design_so_far reading.old) < 2 ^ 16 }
     requires fine { IsFineOwn (env_at (envs reading.old.frames.items) (Some frame)) part.now }
-    ensures built { OnOk result (draft reading.new.builder ≡ and_processes (draft reading.old.builder) (own_processes (env_at (envs reading.old.frames.items) (Some frame)) part.now)) }
+    ensures built { OnOk result (draft reading.new.builder ≡ with_own (draft reading.old.builder) (env_at (envs reading.old.frames.items) (Some frame)) part.now) }
     ensures frames { reading.new.frames.items ≡ reading.old.frames.items }
     ensures counts { reading.new.counts ≡ reading.old.counts }
     ensures loops { reading.new.loops ≡ reading.old.loops }
@@ -81,10 +80,12 @@ fn read_own<'a>(
         Part::Wire { place, name, value } => {
             wire(&mut reading.builder, alloc, *place, name, value, &here)
         }
+        Part::Value { name, value: e } => value(&mut reading.builder, alloc, name, e, &here),
         Part::Assigned { place, assign: a } => {
             assign(&mut reading.builder, alloc, *place, a, &here)
         }
         Part::Always(block) => always(&mut reading.builder, alloc, block, &here),
+        Part::Initial(block) => initial(&mut reading.builder, alloc, block, &here),
         _ => unreachable!(),
     }
 }
@@ -97,7 +98,7 @@ fn read_block<'a>(
     stack: &mut Vec<Pending<'a>>,
     at: Standing,
     name: Vec<u8>,
-    items: BlockItems<'a>,
+    items: &'a [Item],
     turn: Option<Turn>,
 ) -> Result<(), ElabError>
     requires text { IsText text.now }
@@ -111,7 +112,7 @@ fn read_block<'a>(
     let scope = NewScope {
         name: &name,
         within: Some(at.frame as u32),
-        contents: Contents::Block(items),
+        contents: Contents::Block(BlockItems::Many(items)),
         overrides: &none,
         parent: Some(at.frame),
         turn,

@@ -6,16 +6,16 @@ ghost use Rattle.vs_elaborated.specs.Limits.{the_limits};
 ghost use Rattle.vs_elaborated.specs.Environments.{Env, within};
 ghost use Rattle.vs_elaborated.specs.Generate as generate;
 ghost use Rattle.vs_elaborated.specs.Instances as instances;
-ghost use Rattle.vs_elaborated.specs.Surveys.{items_said, loops_behind};
+ghost use Rattle.vs_elaborated.specs.Surveys.{loops_behind};
 ghost use Rattle.vs_scope.specs.Complete.{KeepsShapes, complete};
-ghost use Rattle.vs_scope.specs.Contents.{contents_items};
+ghost use Rattle.vs_scope.specs.Contents.{contents_header, contents_items};
 ghost use Rattle.vs_scope.specs.Frames.{KeepShapes, around_env};
 ghost use Rattle.vs_scope.specs.Overrides.{AreOverrides};
 ghost use Rattle.vs_scope.specs.Surveys.{IsShapedScope};
 ghost use Rattle.vs_items.specs.Loops.{SeeTheSame};
 ghost use Rattle.vs_items.specs.Modules.{AreOf};
-ghost use Rattle.vs_items.specs.Said.{IsSaid};
-ghost use Rattle.vs_items.specs.Stated.{AreStated};
+ghost use Rattle.vs_items.specs.Said.{IsSaid, scope_said};
+ghost use Rattle.vs_items.specs.Stated.{AreStated, IsStatedHeader};
 ghost use Rattle.vs_elab.specs.Reading.{IsSurveyed, IsText, source_of, task_of, totals_of};
 
 use crate::reading::{Counts, NewScope, Text};
@@ -34,7 +34,7 @@ pub(crate) struct SurveyedScope<'a> {
     pub counts: Counts,
 }
 
-/// What is found of the items of a scope that has these names.
+/// What is found of the header and the items of a scope that has these names.
 fn said_here<'f, 'a>(
     alloc: Global,
     text: &Text<'a>,
@@ -45,10 +45,11 @@ fn said_here<'f, 'a>(
     loops: &mut Loops,
 ) -> Result<SaidItems, AllocError>
     requires kept { KeepsShapes (around_env around) names.now }
+    requires header { IsStatedHeader (contents_header contents) }
     requires stated { AreStated (contents_items contents) }
     requires few { total ≤ 2 ^ 16 }
     ensures said { IfOk result (λ r. (source : tree.Source) (a : instances.Around) (made : List generate.Made) → AreOf text.now.modules source → SeeTheSame a.env (within (around_env around.entry) (complete (around_env around.entry) names.now)) → length made ≡ length (contents_items contents.entry)
-        → IsSaid r 65536 total (items_said the_limits source a loops.old (contents_items contents.entry) made)) }
+        → IsSaid r 65536 total (scope_said source a loops.old contents.entry made)) }
     ensures loops { OnOk result ((env : Env) → SeeTheSame env (within (around_env around.entry) (complete (around_env around.entry) names.now)) → loops.new ≡ loops_behind the_limits env loops.old (contents_items contents.entry)) }
 {
     let here = View {

@@ -108,7 +108,7 @@ fn read_top<'a>(alloc: Global, text: &Text<'a>, top: &Known<'a>) -> Result<Readi
     read_pending(alloc, text, reading, stack)
 }
 
-/// The design that the tree of a text has from the module `top` on, flat: every scope, signal, function and process of it in the order of the text, each scope
+/// The design that the tree of a text has from the module `top` on, flat: every scope, signal, function, process and initial process of it in the order of the text, each scope
 /// before those within it (IEEE 1364-2005, 12.1). Nothing of the text is borrowed by it.
 ///
 /// An error is the first rule that is broken: `DuplicateModule` before all others, then `NoTop`, then those of one scope after the other, each scope before those within

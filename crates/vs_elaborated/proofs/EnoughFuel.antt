@@ -9,7 +9,7 @@ use Rattle.vs_const.specs.Faults.{fault_if, comes_before}
 use Rattle.vs_const.specs.declared.rules.Rule.TheVariants.{InstanceDepth, TooManyInstances}
 use Rattle.vs_elaborated.specs.Limits.{Limits}
 use Rattle.vs_elaborated.specs.Ports.{find_module}
-use Rattle.vs_elaborated.specs.Pieces.{Task, Piece, Own, Instance, Within, is_instance}
+use Rattle.vs_elaborated.specs.Pieces.{Task, Piece, Own, Initially, Instance, Within, is_instance}
 use Rattle.vs_elaborated.specs.Surveys.{items_of, Totals, no_totals, Survey, survey}
 use Rattle.vs_elaborated.specs.Elaborated.{both_designs, of_processes, then_do, unless_fault, port_assign, Read, ReadPieces, read_piece, read_pieces, counted, limit_faults, scope_design, read_scope, top_task, scope_depth}
 use Rattle.vs_elaborated.proofs.LowBlocks.{levels, AreLowModules, IsLowInstance, IsLowPiece, AreLowPieces, modules_low, found_low, survey_low}
@@ -18,11 +18,13 @@ use Rattle.vs_elaborated.proofs.LowBlocks.{levels, AreLowModules, IsLowInstance,
 
 abbrev Agree : (Task → Totals → Result Read Fault) → (Task → Totals → Result Read Fault) → Piece → Type 0
 Agree f g (Own p) = Unit {0}
+Agree f g (Initially place statement) = Unit {0}
 Agree f g (Instance connections task) = (t : Totals) → f task t ≡ g task t
 Agree f g (Within task) = (t : Totals) → f task t ≡ g task t
 
 piece_same : (f g : Task → Totals → Result Read Fault) (p : Piece) → Agree f g p → (t : Totals) → read_piece f p t ≡ read_piece g p t
 piece_same f g (Own p) h t = refl
+piece_same f g (Initially place statement) h t = refl
 piece_same f g (Instance connections task) h t = ap onward (h t)
   where
     onward : Result Read Fault → Result ReadPieces Fault
@@ -121,6 +123,7 @@ scope_same (suc left) (suc more) limits source x b k t (inl h) =
       where
         one : (p : Piece) → IsLowPiece k.depth (levels (items_of k.contents)) p → Agree (read_scope more limits source) (read_scope left limits source) p
         one (Own p) i = tt
+        one (Initially place statement) i = tt
         one (Instance connections task) i = λ u. r task u (instance_or limits k.depth (levels (items_of k.contents)) left task h i)
         one (Within task) i = λ u. r task u (inl (block_enough limits.depth k.depth (levels (items_of k.contents)) left (levels (items_of task.contents)) task.depth h i.low i.same))
 

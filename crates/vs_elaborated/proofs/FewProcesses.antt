@@ -1,4 +1,4 @@
--- An elaborated design has no more processes than the limit.
+-- An elaborated design has no more processes, initial ones among them, than the limit.
 use Rattle.std.proofs.Common.{◌≡◌, ℕ, zero, suc, ◌+◌, ◌≤◌, Bool, true, false, List, [], ◌∷◌, ◌++◌, map, length, Option, Some, None, refl, ◌∙◌, arith, if◌then◌else◌, nat_lt}
 use Rattle.std.specs.Prelude.{Result, Ok, Err, fold, sum_by}
 use Rattle.std.proofs.lemmas.Bool.{ltb-false}
@@ -10,10 +10,10 @@ use Rattle.vs_const.specs.Faults.{fault, lesser, least}
 use Rattle.vs_const.specs.declared.rules.Rule.TheVariants.{TooManyProcesses}
 use Rattle.vs_elaborated.specs.Limits.{Limits}
 use Rattle.vs_elaborated.specs.Ports.{find_module}
-use Rattle.vs_elaborated.specs.Pieces.{Task, Piece, Own, Instance, Within, is_instance}
+use Rattle.vs_elaborated.specs.Pieces.{Task, Piece, Own, Initially, Instance, Within, is_instance}
 use Rattle.vs_elaborated.specs.Surveys.{Totals, no_totals, Survey, survey, piece_place, piece_processes, processes_over}
 use Rattle.vs_elaborated.proofs.SurveyParts.{faultless}
-use Rattle.vs_elaborated.specs.Elaborated.{both_designs, of_processes, then_do, port_assign, Read, ReadPieces, read_piece, read_pieces, counted, limit_faults, scope_design, read_scope, repeated_modules, top_task, scope_depth, elaborated_top, elaborated_within}
+use Rattle.vs_elaborated.specs.Elaborated.{moved, both_designs, of_processes, then_do, port_assign, Read, ReadPieces, read_piece, read_pieces, counted, limit_faults, scope_design, read_scope, repeated_modules, top_task, scope_depth, elaborated_top, elaborated_within}
 use Rattle.vs_elaborated.proofs.NumberedSignals.{unless}
 
 -- ---- counting
@@ -49,7 +49,7 @@ least_none (f ∷ fs) h = absurd (no (lesser f (least fs)) h)
 
 -- what was read was counted, and there are no more than the most
 pub record Counts (most : ℕ) (t : Totals) (own : ℕ) (d : Design) (u : Totals) : Type 0 where
-  pub exact : u.processes + own ≡ t.processes + length d.processes
+  pub exact : u.processes + own ≡ t.processes + length d.processes + length d.initials
   pub within : u.processes ≤ most
 
 abbrev pub CountsRead : ℕ → Totals → Result Read Fault → Type 0
@@ -68,12 +68,18 @@ abbrev CountsTasks : ℕ → (Task → Totals → Result Read Fault) → Type 0
 CountsTasks most read = (k : Task) (t : Totals) → t.processes ≤ most → CountsRead most t (read k t)
 
 piece_counts : (most : ℕ) (read : Task → Totals → Result Read Fault) → CountsTasks most read → (p : Piece) (t : Totals) → t.processes ≤ most → CountsPieces most t (piece_processes p) (read_piece read p t)
-piece_counts most read h (Own p) t b = record { exact = refl; within = b }
+piece_counts most read h (Own p) t b = record { exact = omega arith; within = b }
+piece_counts most read h (Initially place statement) t b = record { exact = omega arith; within = b }
 piece_counts most read h (Instance connections task) t b = of (read task t) (h task t b)
   where
     of : (r : Result Read Fault) → CountsRead most t r → CountsPieces most t (length connections) (then_do r λ s. Ok (record { design = both_designs (of_processes (map (port_assign task.place s.entries) connections)) s.design; totals = s.totals }))
     of (Err e) g = tt
-    of (Ok s) g = record { exact = omega (arith, g.exact, length_both (map (port_assign task.place s.entries) connections) s.design.processes, length-map connections (port_assign task.place s.entries)); within = g.within }
+    of (Ok s) g =
+        let ports = map (port_assign task.place s.entries) connections in
+        record {
+          exact = omega (arith, g.exact, length_both ports s.design.processes, length-map connections (port_assign task.place s.entries), length-map s.design.initials (moved (length ports)));
+          within = g.within;
+        }
 piece_counts most read h (Within task) t b = of (read task t) (h task t b)
   where
     of : (r : Result Read Fault) → CountsRead most t r → CountsPieces most t 0 (then_do r λ s. Ok (record { design = s.design; totals = s.totals }))
@@ -81,7 +87,7 @@ piece_counts most read h (Within task) t b = of (read task t) (h task t b)
     of (Ok s) g = record { exact = g.exact; within = g.within }
 
 pieces_count : (most : ℕ) (read : Task → Totals → Result Read Fault) → CountsTasks most read → (ps : List Piece) (t : Totals) → t.processes ≤ most → CountsPieces most t (processes_of ps) (read_pieces read ps t)
-pieces_count most read h [] t b = record { exact = refl; within = b }
+pieces_count most read h [] t b = record { exact = omega arith; within = b }
 pieces_count most read h (p ∷ ps) t b = of (read_piece read p t) (piece_counts most read h p t b) (λ u c. pieces_count most read h ps u c)
   where
     of : (r : Result ReadPieces Fault) → CountsPieces most t (piece_processes p) r → ((u : Totals) → u.processes ≤ most → CountsPieces most u (processes_of ps) (read_pieces read ps u))
@@ -91,7 +97,12 @@ pieces_count most read h (p ∷ ps) t b = of (read_piece read p t) (piece_counts
       where
         rest : (q : Result ReadPieces Fault) → CountsPieces most a.totals (processes_of ps) q → CountsPieces most t (piece_processes p + processes_of ps) (then_do q λ b. Ok (record { design = both_designs a.design b.design; totals = b.totals }))
         rest (Err e) l = tt
-        rest (Ok b) l = record { exact = omega (arith, g.exact, l.exact, length_both a.design.processes b.design.processes); within = l.within }
+        rest (Ok b) l =
+            let more = map (moved (length a.design.processes)) b.design.initials in
+            record {
+              exact = omega (arith, g.exact, l.exact, length_both a.design.processes b.design.processes, length_both a.design.initials more, length-map b.design.initials (moved (length a.design.processes)));
+              within = l.within;
+            }
 
 counted_processes : (k : Task) (t : Totals) → (counted k t).processes ≡ t.processes
 counted_processes k t = of (is_instance k.contents)
@@ -121,10 +132,10 @@ scope_counts (suc left) limits source k t b =
   where
     of : (s : Survey) → s.totals.processes ≡ t.processes + processes_of s.pieces → (q : Result ReadPieces Fault) → CountsPieces limits.processes s.totals (processes_of s.pieces) q → CountsRead limits.processes t (then_do q λ r. Ok (record { entries = s.entries; design = scope_design k s r.design; totals = r.totals }))
     of s e (Err f) g = tt
-    of s e (Ok r) g = record { exact = omega (arith, g.exact, e); within = g.within }
+    of s e (Ok r) g = record { exact = omega (arith, g.exact, e, length-map r.design.initials (moved 0)); within = g.within }
 
 abbrev pub FewDesign : Limits → Result Design Fault → Type 0
-FewDesign limits (Ok d) = length d.processes ≤ limits.processes
+FewDesign limits (Ok d) = length d.processes + length d.initials ≤ limits.processes
 FewDesign limits (Err e) = Unit {0}
 
 pub elaborated_few : (limits : Limits) (source : Source) (top : List ℕ) → FewDesign limits (elaborated_within limits source top)

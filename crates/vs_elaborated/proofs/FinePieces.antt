@@ -9,7 +9,7 @@ use Rattle.vs_design.specs.Clocks.{same_name}
 use Rattle.vs_design.specs.Elaborated.{is_signal, is_formed, is_formed_target, has_constant_selects, is_formed_statement, are_formed_events}
 use Rattle.vs_grammar.specs.Trees as tree
 use Rattle.vs_grammar.specs.Trees.{Module, Source, items_list}
-use Rattle.vs_grammar.specs.Shapes.{Each, OneOrMore, Given, IsExpr, IsDeclarator, IsPlain, IsVariable, IsNet, IsPort, AreNames, IsAssign, IsControl, IsStatement, IsConnection, AreOrdered, AreConnections, IsInstance, AreInstances, IsItem, AreItems, IsGenerateItem, AreSignals, IsModule}
+use Rattle.vs_grammar.specs.Shapes.{Each, OneOrMore, Given, IsName, IsExpr, IsDeclarator, IsPlain, IsStored, IsPort, IsVariablePort, AreNames, IsAssign, IsControl, IsStatement, IsConnection, AreOrdered, AreConnections, IsInstance, AreInstances, IsItem, AreItems, IsGenerateItem, AreSignals, ArePorts, IsHeader, IsModule}
 use Rattle.vs_const.specs.Expressions.{typed, constant}
 use Rattle.vs_const.proofs.Formed.{both_nil, both, typed_fine}
 use Rattle.vs_elaborated.specs.Environments.{Env, Turn, named, within}
@@ -18,19 +18,20 @@ use Rattle.vs_elaborated.specs.Constructs.{construct, constructs, is_construct}
 use Rattle.vs_elaborated.specs.Targets.{typed_target, as_target}
 use Rattle.vs_elaborated.specs.Statements.{typed_control}
 use Rattle.vs_elaborated.specs.Heads.{shared_heads}
+use Rattle.vs_elaborated.specs.Signals.{is_reg}
 use Rattle.vs_elaborated.specs.Parameters.{Override}
 use Rattle.vs_elaborated.specs.Generate.{Nested, Made}
 use Rattle.vs_elaborated.specs.Ports.{Port, find_port, find_in, find_module}
 use Rattle.vs_elaborated.specs.Pieces.{Contents, OfModule, OfBlock, Task, Connection, Said, all_said}
 use Rattle.vs_elaborated.specs.Instances.{Around, Overrides, and_override, overrides_by_order, overrides_by_name, said_overrides, output_target, directed, connected, connected_by_order, connected_by_name, connection_name, connection_of, module_overridable, module_ports, unknown_module, in_port_order, said_connections, instance_said, instances_said}
-use Rattle.vs_elaborated.specs.Surveys.{Loops, block_body, block_statement, block_heads, loops_after, items_of, Totals, survey, wire_said, assign_said, block_said, turned, nested_piece, item_said, items_said}
+use Rattle.vs_elaborated.specs.Surveys.{Loops, block_body, block_statement, block_heads, initial_body, initial_statement, initial_heads, loops_after, items_of, Totals, survey, value_said, wire_said, declarator_said, signals_said, ports_said, header_said, assign_said, block_said, initial_said, turned, nested_piece, item_said, items_said}
 use Rattle.vs_elaborated.specs.Sound.{AreSoundFrames, AreFineOverrides, IsShapedContents, IsFineConnection, IsSoundTask, IsFinePiece, AreFinePieces, AreModules}
 use Rattle.vs_elaborated.proofs.FormedBodies.{target_fine, statement_fine, control_fine, as_target_shaped}
 use Rattle.vs_elaborated.proofs.SoundNames.{frames_needed, named_sound, constant_fine}
 use Rattle.vs_elaborated.proofs.ClockedWords.{block_clocked}
 use Rattle.vs_elaborated.proofs.EachOf.{each_append}
 use Rattle.vs_elaborated.proofs.TurnsLaw.{unrolled_law}
-use Rattle.vs_elaborated.proofs.SurveyParts.{functions_in, loops_in, around_in, faultless}
+use Rattle.vs_elaborated.proofs.SurveyParts.{functions_in, loops_in, made_in, around_in, faultless}
 use Rattle.vs_elaborated.proofs.SurveyNames.{survey_names}
 use Rattle.vs_elaborated.proofs.ShapedBlocks.{AreShapedBlocks, construct_shaped}
 
@@ -83,20 +84,55 @@ module _ (d : Design) (env : Env) (s : AreSoundFrames d false env.frames) where
       four true false c e h k l m = cc
       four false b c e h k l m = cc
 
-  wire_fine : (place : ℕ) (w : tree.Declarator) → IsDeclarator w → (wire_said env place w).faults ≡ [] → AreFinePieces d (wire_said env place w).pieces
-  wire_fine place w x h = of w.name w.value x h
-    where
-      of : (n : tree.Name) (v : Option tree.Expr) → IsDeclarator (record { name = n; addresses = w.addresses; value = v }) → (wire_said env place (record { name = n; addresses = w.addresses; value = v })).faults ≡ []
-          → AreFinePieces d (wire_said env place (record { name = n; addresses = w.addresses; value = v })).pieces
-      of n None x h = tt
-      of n (Some e) x h = assign_fine place (record { target = tree.NamedTarget n tree.Whole; e = e }) ((x.0, tt), x.1) h
+  value_fine : (n : tree.Name) (e : tree.Expr) → IsName n → IsExpr e → (value_said env n e).faults ≡ [] → AreFinePieces d (value_said env n e).pieces
+  value_fine n e x y h = (statement_fine d initial_body (λ place. tt) (tree.Assignment (tree.NamedTarget n tree.Whole) e true) (named env) (named_sound d false env s) ((x, tt), y) h, tt)
 
-  plain_fine : (place : ℕ) (w : tree.Declarator) → IsPlain w → (wire_said env place w).faults ≡ [] → AreFinePieces d (wire_said env place w).pieces
-  plain_fine place w x h = of w.name w.value x.1
+  declarator_fine : (place : ℕ) (kind : tree.SignalKind) (w : tree.Declarator) → IsDeclarator w → (declarator_said env place kind w).faults ≡ [] → AreFinePieces d (declarator_said env place kind w).pieces
+  declarator_fine place kind w x h = of w.name w.value x h
     where
-      of : (n : tree.Name) (v : Option tree.Expr) → v ≡ None → AreFinePieces d (wire_said env place (record { name = n; addresses = w.addresses; value = v })).pieces
+      either : (n : tree.Name) (e : tree.Expr) (variable : Bool) → IsName n → IsExpr e → (if variable then value_said env n e else wire_said env place n e).faults ≡ [] → AreFinePieces d (if variable then value_said env n e else wire_said env place n e).pieces
+      either n e true x y h = value_fine n e x y h
+      either n e false x y h = assign_fine place (record { target = tree.NamedTarget n tree.Whole; e = e }) ((x, tt), y) h
+
+      of : (n : tree.Name) (v : Option tree.Expr) → IsDeclarator (record { name = n; addresses = w.addresses; value = v }) → (declarator_said env place kind (record { name = n; addresses = w.addresses; value = v })).faults ≡ []
+          → AreFinePieces d (declarator_said env place kind (record { name = n; addresses = w.addresses; value = v })).pieces
+      of n None x h = tt
+      of n (Some e) x h = either n e (is_reg kind) x.0 x.1 h
+
+  plain_fine : (place : ℕ) (kind : tree.SignalKind) (w : tree.Declarator) → IsPlain w → AreFinePieces d (declarator_said env place kind w).pieces
+  plain_fine place kind w x = of w.name w.value x.1
+    where
+      of : (n : tree.Name) (v : Option tree.Expr) → v ≡ None → AreFinePieces d (declarator_said env place kind (record { name = n; addresses = w.addresses; value = v })).pieces
       of n None e = tt
       of n (Some v) e = cc
+
+  names_fine_of : (place : ℕ) (kind : tree.SignalKind) (P : tree.Declarator → Type 0) → ((w : tree.Declarator) → P w → (declarator_said env place kind w).faults ≡ [] → AreFinePieces d (declarator_said env place kind w).pieces)
+      → (ds : List tree.Declarator) → OneOrMore P ds → (all_said (declarator_said env place kind) ds).faults ≡ [] → AreFinePieces d (all_said (declarator_said env place kind) ds).pieces
+  names_fine_of place kind P f [] k e = absurd k
+  names_fine_of place kind P f (w ∷ ws) k e = all_fine d (declarator_said env place kind) P f (w ∷ ws) k e
+
+  declared_fine : (place : ℕ) (kind : tree.SignalKind) (ds : List tree.Declarator) → AreNames kind ds → (all_said (declarator_said env place kind) ds).faults ≡ [] → AreFinePieces d (all_said (declarator_said env place kind) ds).pieces
+  declared_fine place tree.Input ds k e = names_fine_of place tree.Input IsPort (λ w x h. plain_fine place tree.Input w x.0) ds k e
+  declared_fine place tree.InputWire ds k e = names_fine_of place tree.InputWire IsPort (λ w x h. plain_fine place tree.InputWire w x.0) ds k e
+  declared_fine place tree.Output ds k e = names_fine_of place tree.Output IsPort (λ w x h. plain_fine place tree.Output w x.0) ds k e
+  declared_fine place tree.OutputWire ds k e = names_fine_of place tree.OutputWire IsPort (λ w x h. plain_fine place tree.OutputWire w x.0) ds k e
+  declared_fine place tree.OutputReg ds k e = names_fine_of place tree.OutputReg IsVariablePort (λ w x. declarator_fine place tree.OutputReg w x.0) ds k e
+  declared_fine place tree.Reg ds k e = names_fine_of place tree.Reg IsStored (λ w x. declarator_fine place tree.Reg w x.0) ds k e
+  declared_fine place tree.Wire ds k e = names_fine_of place tree.Wire IsStored (λ w x. declarator_fine place tree.Wire w x.0) ds k e
+
+  pub signals_fine : (t : tree.Signals) → AreSignals t → (signals_said env t).faults ≡ [] → AreFinePieces d (signals_said env t).pieces
+  signals_fine t x h = declared_fine t.place t.kind t.names x.names h
+
+  -- what a header declares
+  ports_fine : (header : tree.Header) → IsHeader header → (ports_said env header).faults ≡ [] → AreFinePieces d (ports_said env header).pieces
+  ports_fine tree.NoPorts x h = tt
+  ports_fine (tree.PlainPorts names) x h = tt
+  ports_fine (tree.DeclaredPorts []) x h = absurd x
+  ports_fine (tree.DeclaredPorts (t ∷ ts)) x h = all_fine d (signals_said env) ArePorts (λ a y e. signals_fine a y.0 e) (t ∷ ts) x h
+
+  pub header_fine : (c : Contents) → IsShapedContents c → (header_said env c).faults ≡ [] → AreFinePieces d (header_said env c).pieces
+  header_fine (OfModule m overrides) x h = ports_fine m.header x.header h
+  header_fine (OfBlock items) x h = tt
 
   block_fine : (limits : Limits) (loops : Loops) (b : tree.AlwaysBlock) → IsControl b.control → IsStatement b.statement → (block_said limits env loops b).faults ≡ [] → AreFinePieces d (block_said limits env loops b).pieces
   block_fine limits loops b x y h =
@@ -110,6 +146,15 @@ module _ (d : Design) (env : Env) (s : AreSoundFrames d false env.frames) where
       let statement = unrolled_law (λ (u : Statement). is_formed_statement d u ≡ true) most b.statement (block_body b) find (λ u k. statement_fine d (record (block_body b) { unrolls = u }) (λ place. tt) b.statement find sound y k) m.0 in
       let formed = both (are_formed_events d c.star c.events) (is_formed_statement d t.statement) (control_fine d find sound b.control x n.0) statement in
       ((formed, block_clocked find most b (block_body b) refl m.0), tt)
+
+  initial_fine : (limits : Limits) (loops : Loops) (b : tree.InitialBlock) → IsStatement b.statement → (initial_said limits env loops b).faults ≡ [] → AreFinePieces d (initial_said limits env loops b).pieces
+  initial_fine limits loops b y h =
+      let find = named env in
+      let sound = named_sound d false env s in
+      let most = limits.copies - loops.copies in
+      let t = initial_statement limits env loops b in
+      let m = both_nil t.faults (shared_heads loops.headed (initial_heads env b)) h in
+      (unrolled_law (λ (u : Statement). is_formed_statement d u ≡ true) most b.statement initial_body find (λ u k. statement_fine d (record initial_body { unrolls = u }) (λ place. tt) b.statement find sound y k) m.0, tt)
 
   -- ---- connections
 
@@ -210,26 +255,6 @@ blocks_fine d around s (b ∷ bs) x = (record { frames = turned_sound b.turn; ov
     turned_sound None = s
     turned_sound (Some t) = s
 
-wires_fine : (d : Design) (around : Around) → AreSoundFrames d false around.env.frames → (t : tree.Signals) → AreSignals t → (all_said (wire_said around.env t.place) t.names).faults ≡ [] → AreFinePieces d (all_said (wire_said around.env t.place) t.names).pieces
-wires_fine d around s t x h = of t.kind t.names x.names h
-  where
-    some : (P : tree.Declarator → Type 0) → ((w : tree.Declarator) → P w → (wire_said around.env t.place w).faults ≡ [] → AreFinePieces d (wire_said around.env t.place w).pieces)
-        → (ds : List tree.Declarator) → OneOrMore P ds → (all_said (wire_said around.env t.place) ds).faults ≡ [] → AreFinePieces d (all_said (wire_said around.env t.place) ds).pieces
-    some P f [] k e = absurd k
-    some P f (w ∷ ws) k e = all_fine d (wire_said around.env t.place) P f (w ∷ ws) k e
-
-    ports : (ds : List tree.Declarator) → OneOrMore IsPort ds → (all_said (wire_said around.env t.place) ds).faults ≡ [] → AreFinePieces d (all_said (wire_said around.env t.place) ds).pieces
-    ports ds k e = some IsPort (λ w x. plain_fine d around.env s t.place w x.0) ds k e
-
-    of : (kind : tree.SignalKind) (ds : List tree.Declarator) → AreNames kind ds → (all_said (wire_said around.env t.place) ds).faults ≡ [] → AreFinePieces d (all_said (wire_said around.env t.place) ds).pieces
-    of tree.Input ds k e = ports ds k e
-    of tree.InputWire ds k e = ports ds k e
-    of tree.Output ds k e = ports ds k e
-    of tree.OutputWire ds k e = ports ds k e
-    of tree.OutputReg ds k e = ports ds k e
-    of tree.Reg ds k e = some IsVariable (λ w x. plain_fine d around.env s t.place w x.0) ds k e
-    of tree.Wire ds k e = some IsNet (λ w x. wire_fine d around.env s t.place w x.0) ds k e
-
 assigns_fine : (d : Design) (around : Around) → AreSoundFrames d false around.env.frames → (place : ℕ) (xs : List tree.Assign) → OneOrMore IsAssign xs → (all_said (assign_said around.env place) xs).faults ≡ [] → AreFinePieces d (all_said (assign_said around.env place) xs).pieces
 assigns_fine d around s place [] x h = absurd x
 assigns_fine d around s place (a ∷ xs) x h = all_fine d (assign_said around.env place) IsAssign (assign_fine d around.env s place) (a ∷ xs) x h
@@ -237,10 +262,11 @@ assigns_fine d around s place (a ∷ xs) x h = all_fine d (assign_said around.en
 -- an item of a generate block, and of a module
 pub generate_item_fine : (d : Design) (limits : Limits) (source : Source) (around : Around) (loops : Loops) → AreSoundFrames d false around.env.frames → AreModules source.modules → (item : tree.Item) (made : Made) → IsGenerateItem item → AreShapedBlocks made.blocks → (item_said limits source around loops item made).faults ≡ []
     → AreFinePieces d (item_said limits source around loops item made).pieces
-generate_item_fine d limits source around loops s x (tree.SignalsItem t) made y z h = wires_fine d around s t y.0 h
+generate_item_fine d limits source around loops s x (tree.SignalsItem t) made y z h = signals_fine d around.env s t y.0 h
 generate_item_fine d limits source around loops s x (tree.ParametersItem t) made y z h = blocks_fine d around s made.blocks z
 generate_item_fine d limits source around loops s x (tree.AssignsItem place assigns) made y z h = assigns_fine d around s place assigns y h
 generate_item_fine d limits source around loops s x (tree.AlwaysItem block) made y z h = block_fine d around.env s limits loops block y.0 y.1 h
+generate_item_fine d limits source around loops s x (tree.InitialItem block) made y z h = initial_fine d around.env s limits loops block y h
 generate_item_fine d limits source around loops s x (tree.GenvarsItem place names) made y z h = blocks_fine d around s made.blocks z
 generate_item_fine d limits source around loops s x (tree.IntegersItem place names) made y z h = blocks_fine d around s made.blocks z
 generate_item_fine d limits source around loops s x (tree.FunctionItem function) made y z h = absurd y
@@ -251,10 +277,11 @@ generate_item_fine d limits source around loops s x (tree.GenerateCase place sub
 
 pub item_fine : (d : Design) (limits : Limits) (source : Source) (around : Around) (loops : Loops) → AreSoundFrames d false around.env.frames → AreModules source.modules → (item : tree.Item) (made : Made) → IsItem item → AreShapedBlocks made.blocks → (item_said limits source around loops item made).faults ≡ []
     → AreFinePieces d (item_said limits source around loops item made).pieces
-item_fine d limits source around loops s x (tree.SignalsItem t) made y z h = wires_fine d around s t y h
+item_fine d limits source around loops s x (tree.SignalsItem t) made y z h = signals_fine d around.env s t y h
 item_fine d limits source around loops s x (tree.ParametersItem t) made y z h = blocks_fine d around s made.blocks z
 item_fine d limits source around loops s x (tree.AssignsItem place assigns) made y z h = assigns_fine d around s place assigns y h
 item_fine d limits source around loops s x (tree.AlwaysItem block) made y z h = block_fine d around.env s limits loops block y.0 y.1 h
+item_fine d limits source around loops s x (tree.InitialItem block) made y z h = initial_fine d around.env s limits loops block y h
 item_fine d limits source around loops s x (tree.GenvarsItem place names) made y z h = blocks_fine d around s made.blocks z
 item_fine d limits source around loops s x (tree.IntegersItem place names) made y z h = blocks_fine d around s made.blocks z
 item_fine d limits source around loops s x (tree.FunctionItem function) made y z h = blocks_fine d around s made.blocks z
@@ -280,6 +307,7 @@ item_construct (tree.SignalsItem t) limits env n total x = tt
 item_construct (tree.ParametersItem t) limits env n total x = tt
 item_construct (tree.AssignsItem place assigns) limits env n total x = tt
 item_construct (tree.AlwaysItem block) limits env n total x = tt
+item_construct (tree.InitialItem block) limits env n total x = tt
 item_construct (tree.GenvarsItem place names) limits env n total x = tt
 item_construct (tree.IntegersItem place names) limits env n total x = tt
 item_construct (tree.FunctionItem function) limits env n total x = tt
@@ -310,5 +338,10 @@ contents_fine d limits source around loops s x (OfBlock items) y env total h =
 pub survey_pieces : (d : Design) (limits : Limits) (source : Source) (k : Task) (t : Totals) → AreModules source.modules → IsSoundTask d k → t.scopes < length d.scopes
     → Each (λ (s : Signal). is_signal d s ≡ true) (survey limits source k t).signals → (survey limits source k t).faults ≡ [] → AreFinePieces d (survey limits source k t).pieces
 survey_pieces d limits source k t x s b i h =
-    contents_fine d limits source (around_in limits k t) (loops_in limits k t) (survey_names d limits source k t s.frames s.overrides s.shaped b i h, s.frames) x k.contents s.shaped (within k.env (functions_in limits k t).entries) t.turns
-    (faultless limits source k t h).said
+    let around = around_in limits k t in
+    let frames : AreSoundFrames d false (around_in limits k t).env.frames = (survey_names d limits source k t s.frames s.overrides s.shaped b i h, s.frames) in
+    let first = header_said around.env k.contents in
+    let items = items_said limits source around (loops_in limits k t) (items_of k.contents) (made_in limits k t) in
+    let n = both_nil first.faults items.faults (faultless limits source k t h).said in
+    each_append (IsFinePiece d) first.pieces items.pieces (header_fine d around.env frames k.contents s.shaped n.0)
+    (contents_fine d limits source around (loops_in limits k t) frames x k.contents s.shaped (within k.env (functions_in limits k t).entries) t.turns n.1)

@@ -5,8 +5,8 @@ use Rattle.std.specs.List.{list_all}
 use Rattle.std.proofs.lemmas.Bool.{lt-ltb}
 use Rattle.vs_design.specs.Expressions.{Signal, signal_length}
 use Rattle.vs_design.specs.Statements.{Function}
-use Rattle.vs_design.specs.Designs.{Process, Design, bit_count}
-use Rattle.vs_design.specs.Elaborated.{is_signal, is_lawful_range, is_declared, is_formed_process, is_formed_function, is_lawful_memory, has_clocked_words, IsLawfulDesign}
+use Rattle.vs_design.specs.Designs.{Process, Initial, Design, bit_count}
+use Rattle.vs_design.specs.Elaborated.{is_signal, is_lawful_range, is_declared, is_formed_process, is_formed_initial, is_formed_function, is_lawful_memory, has_clocked_words, IsLawfulDesign}
 use Rattle.vs_grammar.specs.Trees.{Module, Source}
 use Rattle.vs_grammar.specs.Shapes.{Each, OneOrMore, IsModule, IsShaped}
 use Rattle.vs_const.specs.declared.faults.Fault.{Fault}
@@ -15,14 +15,15 @@ use Rattle.vs_const.proofs.Formed.{both}
 use Rattle.vs_elaborated.specs.Limits.{Limits, the_limits}
 use Rattle.vs_elaborated.specs.Environments.{Entry}
 use Rattle.vs_elaborated.specs.Ports.{find_module, find_in}
-use Rattle.vs_elaborated.specs.Pieces.{Task, Piece, Own, Instance, Within, Connection, IntoInput, FromOutput, is_instance}
+use Rattle.vs_elaborated.specs.Pieces.{Task, Piece, Own, Initially, Instance, Within, Connection, IntoInput, FromOutput, is_instance}
 use Rattle.vs_elaborated.specs.Surveys.{declarations_of, Totals, no_totals, survey}
-use Rattle.vs_elaborated.specs.Elaborated.{both_designs, of_processes, then_do, port_assign, Read, ReadPieces, read_piece, read_pieces, counted, limit_faults, scope_design, read_scope, repeated_modules, top_task, scope_depth, elaborated_top, elaborated_within, elaborated}
+use Rattle.vs_elaborated.specs.Elaborated.{moved, both_designs, of_processes, then_do, port_assign, Read, ReadPieces, read_piece, read_pieces, counted, limit_faults, scope_design, read_scope, repeated_modules, top_task, scope_depth, elaborated_top, elaborated_within, elaborated}
 use Rattle.vs_elaborated.specs.Sound.{IsFineConnection, IsSoundTask, IsFinePiece, AreFinePieces, AreModules}
-use Rattle.vs_elaborated.proofs.NumberedSignals.{bits_of_all, AreBelow, GoodRead, GoodPieces, good_pieces, good_scope, good_survey, GoodDesign, elaborated_numbered, unless}
+use Rattle.vs_elaborated.proofs.NumberedSignals.{own_part, bits_of_all, AreBelow, GoodRead, GoodPieces, good_pieces, good_scope, good_survey, GoodDesign, elaborated_numbered, unless}
 use Rattle.vs_elaborated.proofs.NestedScopes.{IsChild, AreChildren, survey_children, counted_scopes, NestedDesign, elaborated_nested}
 use Rattle.vs_elaborated.proofs.FewProcesses.{least_none, if_none, FewDesign, elaborated_few}
 use Rattle.vs_elaborated.proofs.EachOf.{each_append, each_split}
+use Rattle.vs_elaborated.proofs.BehindProcesses.{AreBehind, both_behind}
 use Rattle.vs_elaborated.proofs.SurveyNames.{survey_functions, survey_names}
 use Rattle.vs_elaborated.proofs.FinePieces.{found_shaped, survey_pieces}
 use Rattle.vs_elaborated.proofs.PortNames.{IsDirected, IsDirectedPiece, AreDirectedPieces, survey_directed}
@@ -36,6 +37,17 @@ IsGoodProcess d p = (is_formed_process d p ≡ true) × (has_clocked_words p ≡
 abbrev pub AreFormed : Design → List Process → Type 0
 AreFormed d ps = Each (IsGoodProcess d) ps
 
+-- initial processes that are formed, wherever they stand
+abbrev pub AreFormedInitials : Design → List Initial → Type 0
+AreFormedInitials d is = Each (λ (i : Initial). is_formed_initial d i ≡ true) is
+
+moved_formed : (d : Design) (n : ℕ) (is : List Initial) → AreFormedInitials d is → AreFormedInitials d (map (moved n) is)
+moved_formed d n [] h = tt
+moved_formed d n (i ∷ is) h = (h.0, moved_formed d n is h.1)
+
+both_initials : (d a b : Design) → AreFormedInitials d a.initials → AreFormedInitials d b.initials → AreFormedInitials d (both_designs a b).initials
+both_initials d a b h k = each_append (λ (i : Initial). is_formed_initial d i ≡ true) a.initials (map (moved (length a.processes)) b.initials) h (moved_formed d (length a.processes) b.initials k)
+
 -- functions that are formed
 abbrev pub AreFormedFunctions : Design → List Function → Type 0
 AreFormedFunctions d fs = Each (λ (f : Function). is_formed_function d f ≡ true) fs
@@ -46,6 +58,8 @@ IsFineSignal s = (is_lawful_range s.range ≡ true) × (s.input ≡ true → (s.
 
 pub record FineRead (d : Design) (limits : Limits) (k : Task) (r : Read) : Type 0 where
   pub formed : AreFormed d r.design.processes
+  pub initials : AreFormedInitials d r.design.initials
+  pub behind : AreBehind r.design
   pub declared : Each IsFineSignal r.design.signals
   pub functions : AreFormedFunctions d r.design.functions
   pub bits : r.totals.bits ≤ limits.bits
@@ -53,6 +67,8 @@ pub record FineRead (d : Design) (limits : Limits) (k : Task) (r : Read) : Type 
 
 pub record FineParts (d : Design) (limits : Limits) (r : ReadPieces) : Type 0 where
   pub formed : AreFormed d r.design.processes
+  pub initials : AreFormedInitials d r.design.initials
+  pub behind : AreBehind r.design
   pub declared : Each IsFineSignal r.design.signals
   pub functions : AreFormedFunctions d r.design.functions
   pub bits : r.totals.bits ≤ limits.bits
@@ -84,14 +100,18 @@ never_top o m n h k = absurd (no (sym k ∙ has_parent o m h))
     no e = cc
 
 piece_fine : (d : Design) (limits : Limits) (read : Task → Totals → Result Read Fault) → ReadsFine d limits read → (m : ℕ) (p : Piece) → IsFinePiece d p → IsDirectedPiece p → IsChild m p → (t : Totals) → t.bits ≤ limits.bits → PartsAreFine d limits (read_piece read p t)
-piece_fine d limits read h m (Own p) f g c t b = λ i l. record { formed = (f, tt); declared = tt; functions = tt; bits = b }
+piece_fine d limits read h m (Own p) f g c t b = λ i l. record { formed = (f, tt); initials = tt; behind = refl; declared = tt; functions = tt; bits = b }
+piece_fine d limits read h m (Initially place statement) f g c t b = λ i l. record { formed = tt; initials = (f, tt); behind = refl; declared = tt; functions = tt; bits = b }
 piece_fine d limits read h m (Instance connections task) f g c t b = of (read task t) (h task t f.1 (never_top task.parent m t.scopes c) b)
   where
     of : (r : Result Read Fault) → ReadIsFine d limits task r → PartsAreFine d limits (then_do r λ s. Ok (record { design = both_designs (of_processes (map (port_assign task.place s.entries) connections)) s.design; totals = s.totals }))
     of (Err e) q = tt
     of (Ok s) q = λ i l.
         let u = q i l in
+        let ports = of_processes (map (port_assign task.place s.entries) connections) in
         record {
+          initials = both_initials d ports s.design tt u.initials;
+          behind = both_behind ports s.design refl u.behind;
           formed = each_append (IsGoodProcess d) (map (port_assign task.place s.entries) connections) s.design.processes (ports_formed d task.place task limits s u (has_parent task.parent m c) connections f.0 g) u.formed;
           declared = u.declared;
           functions = u.functions;
@@ -101,11 +121,11 @@ piece_fine d limits read h m (Within task) f g c t b = of (read task t) (h task 
   where
     of : (r : Result Read Fault) → ReadIsFine d limits task r → PartsAreFine d limits (then_do r λ s. Ok (record { design = s.design; totals = s.totals }))
     of (Err e) q = tt
-    of (Ok s) q = λ i l. let u = q i l in record { formed = u.formed; declared = u.declared; functions = u.functions; bits = u.bits }
+    of (Ok s) q = λ i l. let u = q i l in record { formed = u.formed; initials = u.initials; behind = u.behind; declared = u.declared; functions = u.functions; bits = u.bits }
 
 pieces_fine : (d : Design) (limits : Limits) (read : Task → Totals → Result Read Fault) → ((k : Task) (t : Totals) → GoodRead t (read k t)) → ReadsFine d limits read → (m : ℕ) (ps : List Piece) → AreFinePieces d ps → AreDirectedPieces ps → AreChildren m ps → (t : Totals) → t.bits ≤ limits.bits
     → PartsAreFine d limits (read_pieces read ps t)
-pieces_fine d limits read good h m [] f g c t b = λ i l. record { formed = tt; declared = tt; functions = tt; bits = b }
+pieces_fine d limits read good h m [] f g c t b = λ i l. record { formed = tt; initials = tt; behind = refl; declared = tt; functions = tt; bits = b }
 pieces_fine d limits read good h m (p ∷ ps) f g c t b =
     of (read_piece read p t) (piece_fine d limits read h m p f.0 g.0 c.0 t b) (λ u l. pieces_fine d limits read good h m ps f.1 g.1 c.1 u l)
   where
@@ -117,6 +137,8 @@ pieces_fine d limits read good h m (p ∷ ps) f g c t b =
         both_fine : (b : ReadPieces) → FineParts d limits a → FineParts d limits b → FineParts d limits (record { design = both_designs a.design b.design; totals = b.totals })
         both_fine b u v = record {
           formed = each_append (IsGoodProcess d) a.design.processes b.design.processes u.formed v.formed;
+          initials = both_initials d a.design b.design u.initials v.initials;
+          behind = both_behind a.design b.design u.behind v.behind;
           declared = each_append IsFineSignal a.design.signals b.design.signals u.declared v.declared;
           functions = each_append (λ (f : Function). is_formed_function d f ≡ true) a.design.functions b.design.functions u.functions v.functions;
           bits = v.bits;
@@ -172,6 +194,8 @@ scope_fine d (suc left) limits source x k t s top b =
         let whole = survey_functions d limits source k (counted k t) s.frames s.overrides s.shaped there w.0 h in
         record {
           formed = u.formed;
+          initials = moved_formed d 0 q.design.initials u.initials;
+          behind = both_behind (own_part k y) q.design refl u.behind;
           declared = each_append IsFineSignal y.signals q.design.signals (fine_signals (is_none k.parent) (counted k t).scopes (λ e. counted_scopes k t ∙ top e) y.signals g.declared) u.declared;
           functions = each_append (λ (f : Function). is_formed_function d f ≡ true) y.functions q.design.functions whole.functions u.functions;
           bits = u.bits;
@@ -218,7 +242,7 @@ sum_from k [] = omega arith
 sum_from k (s ∷ ss) = sum_from (k + signal_length s) ss ∙ omega arith
 
 abbrev pub IsFineDesign : Limits → Design → Type 0
-IsFineDesign limits d = AreFormed d d.processes × Each IsFineSignal d.signals × (bit_count d ≤ limits.bits) × AreFormedFunctions d d.functions
+IsFineDesign limits d = AreFormed d d.processes × Each IsFineSignal d.signals × (bit_count d ≤ limits.bits) × AreFormedFunctions d d.functions × AreFormedInitials d d.initials × AreBehind d
 
 abbrev pub DesignIsFine : Limits → Result Design Fault → Type 0
 DesignIsFine limits (Ok d) = IsFineDesign limits d
@@ -239,7 +263,7 @@ elaborated_fine limits source top x = unless (DesignIsFine limits) (λ e. tt) (l
 
     read : (m : Module) → (r : Result Read Fault) → GoodRead no_totals r → ((d : Design) → ReadIsFine d limits (top_task m) r) → DesignIsFine limits (then_do r λ s. Ok s.design)
     read m (Err e) g f = tt
-    read m (Ok s) g f = let u = f s.design (in_design s.design g.numbered) (omega (arith, g.scopes)) in (u.formed, u.declared, subst (λ n. n ≤ limits.bits) (g.bits ∙ sym (sum_from 0 s.design.signals)) u.bits, u.functions)
+    read m (Ok s) g f = let u = f s.design (in_design s.design g.numbered) (omega (arith, g.scopes)) in (u.formed, u.declared, subst (λ n. n ≤ limits.bits) (g.bits ∙ sym (sum_from 0 s.design.signals)) u.bits, u.functions, u.initials, u.behind)
 
     found : (o : Option Module) → find_in source.modules top ≡ o → DesignIsFine limits (elaborated_top limits source o)
     found None e = tt
@@ -259,6 +283,8 @@ lawful_result (Ok d) g n f x = record {
   declared = all_true (is_declared d) d.signals (declared_all d d.signals g.below x.1);
   memories = all_true is_lawful_memory d.signals (memories_all d.signals x.1);
   formed = all_true (is_formed_process d) d.processes (formed_all d d.processes x.0);
+  initials = all_true (is_formed_initial d) d.initials x.4;
+  behind = x.5;
   functions = all_true (is_formed_function d) d.functions x.3;
   clocked_words = all_true has_clocked_words d.processes (clocked_all d d.processes x.0);
   few_bits = x.2;

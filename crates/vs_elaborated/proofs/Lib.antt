@@ -16,6 +16,8 @@ mod ClockedWords
 mod BlockingBodies
 mod FormedFunctions
 mod SurveyParts
+mod ValuePieces
+mod BehindProcesses
 mod Unrolling
 mod LawfulDesigns
 mod LowBlocks

@@ -14,10 +14,11 @@ use Rattle.vs_elaborated.specs.Generate.{Nested, Made, nothing_made, after_fault
 use Rattle.vs_elaborated.specs.Loops.{holds, Turns, turns_from, turn_blocks, loop_blocks, loop_from}
 use Rattle.vs_elaborated.specs.Constructs.{said_case, is_conditional, construct, branch, fallback, arm_branch, is_construct, constructs}
 use Rattle.vs_elaborated.specs.Ports.{find_in, find_module}
-use Rattle.vs_elaborated.specs.Pieces.{Task, is_instance, Piece, Own, Instance, Within, Said, all_said}
+use Rattle.vs_elaborated.specs.Pieces.{Task, is_instance, Piece, Own, Initially, Instance, Within, Said, all_said}
 use Rattle.vs_elaborated.specs.Instances.{Around, said_overrides, instance_said}
-use Rattle.vs_elaborated.specs.Surveys.{Loops, loops_after, items_of, Totals, survey, wire_said, assign_said, nested_piece, item_said, items_said}
+use Rattle.vs_elaborated.specs.Surveys.{Loops, loops_after, items_of, Totals, survey, header_said, assign_said, nested_piece, item_said, items_said}
 use Rattle.vs_elaborated.proofs.EachOf.{each_append}
+use Rattle.vs_elaborated.proofs.ValuePieces.{signals_each, header_each}
 use Rattle.vs_elaborated.proofs.SurveyParts.{functions_in, loops_in, made_in, around_in}
 
 abbrev pub levels : List tree.Item → ℕ
@@ -88,6 +89,7 @@ mutual
   construct_lower (tree.ParametersItem t) l h limits env n total = tt
   construct_lower (tree.AssignsItem place assigns) l h limits env n total = tt
   construct_lower (tree.AlwaysItem block) l h limits env n total = tt
+  construct_lower (tree.InitialItem block) l h limits env n total = tt
   construct_lower (tree.GenvarsItem place names) l h limits env n total = tt
   construct_lower (tree.IntegersItem place names) l h limits env n total = tt
   construct_lower (tree.FunctionItem function) l h limits env n total = tt
@@ -129,6 +131,7 @@ pub record IsLowBlock (depth l : ℕ) (task : Task) : Type 0 where
 
 abbrev pub IsLowPiece : (depth l : ℕ) → Piece → Type 0
 IsLowPiece depth l (Own p) = Unit {0}
+IsLowPiece depth l (Initially place statement) = Unit {0}
 IsLowPiece depth l (Instance connections task) = IsLowInstance depth task
 IsLowPiece depth l (Within task) = IsLowBlock depth l task
 
@@ -162,18 +165,12 @@ blocks_low : (l : ℕ) (around : Around) (bs : List Nested) → AreLower l bs �
 blocks_low l around [] x = tt
 blocks_low l around (b ∷ bs) x = (record { low = x.0; same = refl }, blocks_low l around bs x.1)
 
-wire_low : (l : ℕ) (around : Around) (place : ℕ) (d : tree.Declarator) → AreLowPieces around.depth l (wire_said around.env place d).pieces
-wire_low l around place d = of d.name d.value
-  where
-    of : (w : tree.Name) (v : Option tree.Expr) → AreLowPieces around.depth l (wire_said around.env place (record { name = w; addresses = d.addresses; value = v })).pieces
-    of w None = tt
-    of w (Some e) = (tt, tt)
-
 item_low : (l : ℕ) (limits : Limits) (source : Source) (around : Around) (loops : Loops) → AreLowModules source.modules → (item : tree.Item) (made : Made) → AreLower l made.blocks → AreLowPieces around.depth l (item_said limits source around loops item made).pieces
-item_low l limits source around loops x (tree.SignalsItem t) made y = all_low around.depth l (wire_said around.env t.place) t.names (wire_low l around t.place)
+item_low l limits source around loops x (tree.SignalsItem t) made y = signals_each (IsLowPiece around.depth l) (λ p. tt) (λ q s. tt) around.env t
 item_low l limits source around loops x (tree.ParametersItem t) made y = blocks_low l around made.blocks y
 item_low l limits source around loops x (tree.AssignsItem place assigns) made y = all_low around.depth l (assign_said around.env place) assigns (λ a. (tt, tt))
 item_low l limits source around loops x (tree.AlwaysItem block) made y = (tt, tt)
+item_low l limits source around loops x (tree.InitialItem block) made y = (tt, tt)
 item_low l limits source around loops x (tree.GenvarsItem place names) made y = blocks_low l around made.blocks y
 item_low l limits source around loops x (tree.IntegersItem place names) made y = blocks_low l around made.blocks y
 item_low l limits source around loops x (tree.FunctionItem function) made y = blocks_low l around made.blocks y
@@ -192,5 +189,8 @@ items_low l limits source around loops x (i ∷ is) (m ∷ ms) y = each_append (
 
 pub survey_low : (limits : Limits) (source : Source) (k : Task) (t : Totals) → AreLowModules source.modules → AreLowPieces k.depth (levels (items_of k.contents)) (survey limits source k t).pieces
 survey_low limits source k t x =
-    items_low (levels (items_of k.contents)) limits source (around_in limits k t) (loops_in limits k t) x (items_of k.contents) (made_in limits k t)
-    (constructs_lower (levels (items_of k.contents)) limits (items_of k.contents) (within k.env (functions_in limits k t).entries) 1 t.turns (omega arith))
+    let l = levels (items_of k.contents) in
+    let around = around_in limits k t in
+    each_append (IsLowPiece k.depth l) (header_said around.env k.contents).pieces (items_said limits source around (loops_in limits k t) (items_of k.contents) (made_in limits k t)).pieces
+    (header_each (IsLowPiece k.depth l) (λ p. tt) (λ q s. tt) around.env k.contents)
+    (items_low l limits source around (loops_in limits k t) x (items_of k.contents) (made_in limits k t) (constructs_lower l limits (items_of k.contents) (within k.env (functions_in limits k t).entries) 1 t.turns (omega arith)))

@@ -12,10 +12,11 @@ use Rattle.vs_const.specs.Faults.{least}
 use Rattle.vs_elaborated.specs.Limits.{Limits}
 use Rattle.vs_elaborated.specs.Generate.{Nested, Made}
 use Rattle.vs_elaborated.specs.Parameters.{Override}
-use Rattle.vs_elaborated.specs.Pieces.{Task, Piece, Own, Instance, Within, is_instance, Said, all_said}
+use Rattle.vs_elaborated.specs.Pieces.{Task, Piece, Own, Initially, Instance, Within, is_instance, Said, all_said}
 use Rattle.vs_elaborated.specs.Instances.{Around, Connected, known_instance, instance_said, said_connections, said_overrides}
 use Rattle.vs_elaborated.specs.Ports.{find_module}
-use Rattle.vs_elaborated.specs.Surveys.{Loops, loops_after, items_of, Totals, no_totals, Survey, survey, wire_said, assign_said, nested_piece, item_said, items_said}
+use Rattle.vs_elaborated.proofs.ValuePieces.{signals_each, header_each}
+use Rattle.vs_elaborated.specs.Surveys.{Loops, loops_after, items_of, Totals, no_totals, Survey, survey, header_said, assign_said, nested_piece, item_said, items_said}
 use Rattle.vs_elaborated.proofs.SurveyParts.{loops_in, made_in, around_in}
 use Rattle.vs_elaborated.specs.Elaborated.{both_designs, of_processes, then_do, port_assign, Read, ReadPieces, read_piece, read_pieces, counted, limit_faults, scope_design, read_scope, repeated_modules, top_task, scope_depth, elaborated_top, elaborated_within}
 use Rattle.vs_elaborated.proofs.NumberedSignals.{GoodRead, GoodPieces, good_piece, good_scope, unless}
@@ -71,6 +72,7 @@ pub record NestsOn (m : ℕ) (w : List ℕ) (n : ℕ) (way : List ℕ) (ss : Lis
 
 abbrev pub IsChild : ℕ → Piece → Type 0
 IsChild m (Own p) = Unit {0}
+IsChild m (Initially place statement) = Unit {0}
 IsChild m (Instance connections task) = task.parent ≡ Some m
 IsChild m (Within task) = task.parent ≡ Some m
 
@@ -93,18 +95,12 @@ blocks_children : (around : Around) (bs : List Nested) → AreChildren around.sc
 blocks_children around [] = tt
 blocks_children around (b ∷ bs) = (refl, blocks_children around bs)
 
-wire_child : (around : Around) (place : ℕ) (d : tree.Declarator) → AreChildren around.scope (wire_said around.env place d).pieces
-wire_child around place d = of d.name d.value
-  where
-    of : (w : Name) (v : Option tree.Expr) → AreChildren around.scope (wire_said around.env place (record { name = w; addresses = d.addresses; value = v })).pieces
-    of w None = tt
-    of w (Some e) = (tt, tt)
-
 item_children : (limits : Limits) (source : Source) (around : Around) (loops : Loops) (item : tree.Item) (made : Made) → AreChildren around.scope (item_said limits source around loops item made).pieces
-item_children limits source around loops (tree.SignalsItem t) made = all_children around.scope (wire_said around.env t.place) t.names (wire_child around t.place)
+item_children limits source around loops (tree.SignalsItem t) made = signals_each (IsChild around.scope) (λ p. tt) (λ q s. tt) around.env t
 item_children limits source around loops (tree.ParametersItem t) made = blocks_children around made.blocks
 item_children limits source around loops (tree.AssignsItem place assigns) made = all_children around.scope (assign_said around.env place) assigns (λ a. (tt, tt))
 item_children limits source around loops (tree.AlwaysItem block) made = (tt, tt)
+item_children limits source around loops (tree.InitialItem block) made = (tt, tt)
 item_children limits source around loops (tree.GenvarsItem place names) made = blocks_children around made.blocks
 item_children limits source around loops (tree.IntegersItem place names) made = blocks_children around made.blocks
 item_children limits source around loops (tree.FunctionItem function) made = blocks_children around made.blocks
@@ -156,6 +152,7 @@ nests_both m w n k way xs ys e g h =
 
 piece_nested : (m : ℕ) (w : List ℕ) (read : Task → Totals → Result Read Fault) → NestsChildren m w read → (p : Piece) → IsChild m p → (t : Totals) (way : List ℕ) → LeadsTo m w way → suc m ≤ t.scopes → NestedPieces m w t.scopes way (read_piece read p t)
 piece_nested m w read h (Own p) c t way l b = no_scopes m w t.scopes way l
+piece_nested m w read h (Initially place statement) c t way l b = no_scopes m w t.scopes way l
 piece_nested m w read h (Instance connections task) c t way l b = of (read task t) (h task t way c l b)
   where
     of : (r : Result Read Fault) → NestedRead m w t.scopes way r → NestedPieces m w t.scopes way (then_do r λ s. Ok (record { design = both_designs (of_processes (map (port_assign task.place s.entries) connections)) s.design; totals = s.totals }))
@@ -206,7 +203,10 @@ own_nested m w n way s ss e l b g = record {
     regroup (x ∷ xs) = ap (λ ys. x ∷ ys) (regroup xs)
 
 pub survey_children : (limits : Limits) (source : Source) (k : Task) (t : Totals) → AreChildren t.scopes (survey limits source k t).pieces
-survey_children limits source k t = items_children limits source (around_in limits k t) (loops_in limits k t) (items_of k.contents) (made_in limits k t)
+survey_children limits source k t =
+    let around = around_in limits k t in
+    children_append t.scopes (header_said around.env k.contents).pieces (items_said limits source around (loops_in limits k t) (items_of k.contents) (made_in limits k t)).pieces
+    (header_each (IsChild t.scopes) (λ p. tt) (λ q s. tt) around.env k.contents) (items_children limits source around (loops_in limits k t) (items_of k.contents) (made_in limits k t))
 
 pub counted_scopes : (k : Task) (t : Totals) → (counted k t).scopes ≡ t.scopes
 counted_scopes k t = of (is_instance k.contents)

@@ -24,9 +24,10 @@ use Rattle.vs_elaborated.specs.Generate.{BlockName, Nested, Made}
 use Rattle.vs_elaborated.specs.Ports.{find_module}
 use Rattle.vs_elaborated.specs.Pieces.{Said, all_said}
 use Rattle.vs_elaborated.specs.Instances.{Around, said_overrides, instance_said}
-use Rattle.vs_elaborated.specs.Surveys.{Loops, loops_after, items_of, declarations_of, overrides_of, block_entries, turned, Totals, counts_of, survey, wire_said, assign_said, nested_piece, item_said, items_said}
+use Rattle.vs_elaborated.specs.Surveys.{Loops, loops_after, items_of, declarations_of, overrides_of, block_entries, turned, Totals, counts_of, survey, header_said, assign_said, nested_piece, item_said, items_said}
 use Rattle.vs_elaborated.specs.Numbers.{IsAtNumber, IsNumbered, IsNumberedDeclared, AreNumberedEntries, AreNumberedFrames, IsNumberedPiece, HasFunctions, NamesAreNumbered, FunctionNamesAreNumbered, FunctionsAreNumbered, ScopesAreNumbered, FunctionsAreCounted, NumbersStay, MoreFunctionsStand}
 use Rattle.vs_elaborated.proofs.EachOf.{each_append, each_weaker}
+use Rattle.vs_elaborated.proofs.ValuePieces.{signals_each, header_each}
 use Rattle.vs_elaborated.proofs.SurveyParts.{names_in, first_in, parameters_in, signals_in, entries_in, functions_in, made_in, blocks_in, around_in, loops_in}
 
 -- ---- names
@@ -256,18 +257,12 @@ nested_numbered d around s (b ∷ bs) = (of b.turn, nested_numbered d around s b
     of None = s
     of (Some t) = s
 
-wire_numbered : (d : Design) (around : Around) (place : ℕ) (w : tree.Declarator) → AreNumberedPieces d (wire_said around.env place w)
-wire_numbered d around place w = of w.name w.value
-  where
-    of : (n : tree.Name) (v : Option tree.Expr) → AreNumberedPieces d (wire_said around.env place (record { name = n; addresses = w.addresses; value = v }))
-    of n None = tt
-    of n (Some e) = (tt, tt)
-
 item_numbered : (d : Design) (limits : Limits) (source : Source) (around : Around) (loops : Loops) → AreNumberedFrames d around.env.frames → (item : tree.Item) (made : Made) → AreNumberedPieces d (item_said limits source around loops item made)
-item_numbered d limits source around loops s (tree.SignalsItem t) made = every_said d (wire_said around.env t.place) t.names (wire_numbered d around t.place)
+item_numbered d limits source around loops s (tree.SignalsItem t) made = signals_each (IsNumberedPiece d) (λ p. tt) (λ q st. tt) around.env t
 item_numbered d limits source around loops s (tree.ParametersItem t) made = nested_numbered d around s made.blocks
 item_numbered d limits source around loops s (tree.AssignsItem place assigns) made = every_said d (assign_said around.env place) assigns (λ a. (tt, tt))
 item_numbered d limits source around loops s (tree.AlwaysItem block) made = (tt, tt)
+item_numbered d limits source around loops s (tree.InitialItem block) made = (tt, tt)
 item_numbered d limits source around loops s (tree.GenvarsItem place names) made = nested_numbered d around s made.blocks
 item_numbered d limits source around loops s (tree.IntegersItem place names) made = nested_numbered d around s made.blocks
 item_numbered d limits source around loops s (tree.FunctionItem function) made = nested_numbered d around s made.blocks
@@ -289,7 +284,13 @@ items_numbered d limits source around loops s (i ∷ is) (m ∷ ms) =
 -- ---- a scope
 
 pub scopes_numbered : ScopesAreNumbered
-scopes_numbered d limits source t totals s h = record { names = names; pieces = items_numbered d limits source (around_in limits t totals) (loops_in limits t totals) (names, s) (items_of t.contents) (made_in limits t totals) }
+scopes_numbered d limits source t totals s h = record {
+  names = names;
+  pieces =
+      each_append (IsNumberedPiece d) (header_said (around_in limits t totals).env t.contents).pieces (items_said limits source (around_in limits t totals) (loops_in limits t totals) (items_of t.contents) (made_in limits t totals)).pieces
+      (header_each (IsNumberedPiece d) (λ p. tt) (λ q st. tt) (around_in limits t totals).env t.contents)
+      (items_numbered d limits source (around_in limits t totals) (loops_in limits t totals) (names, s) (items_of t.contents) (made_in limits t totals));
+}
   where
     before : AreNumberedEntries d (entries_in t totals)
     before = signals_put d (signals_in t totals) (parameters_in t totals).entries (parameters_numbered d t.env (overrides_of t.contents) (declarations_of t.contents) (first_in t totals) (first_numbered d totals.scopes (names_in t)))

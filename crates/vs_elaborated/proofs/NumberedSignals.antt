@@ -15,7 +15,7 @@ use Rattle.vs_elaborated.specs.Limits.{Limits}
 use Rattle.vs_elaborated.specs.Declarations.{Declaration, Named, Sort, SignalOf, ParameterOf, FunctionOf, GenvarSort, IntegerSort, InstanceSort}
 use Rattle.vs_elaborated.specs.Signals.{Start, SaidSignal, said_signal, said_signals, after}
 use Rattle.vs_elaborated.specs.Ports.{find_module}
-use Rattle.vs_elaborated.specs.Pieces.{Task, Piece, Own, Instance, Within, is_instance}
+use Rattle.vs_elaborated.specs.Pieces.{Task, Piece, Own, Initially, Instance, Within, is_instance}
 use Rattle.vs_elaborated.specs.Surveys.{Totals, no_totals, Survey, survey}
 use Rattle.vs_elaborated.proofs.SurveyParts.{names_in, ranged_in, start_in, signals_in}
 use Rattle.vs_elaborated.specs.Elaborated.{both_designs, of_processes, then_do, port_assign, Read, ReadPieces, read_piece, read_pieces, counted, limit_faults, scope_design, read_scope, repeated_modules, top_task, scope_depth, elaborated_top, elaborated_within}
@@ -123,6 +123,7 @@ nothing_read t ps = record { numbered = tt; below = tt; signals = omega arith; b
 
 pub good_piece : (read : Task → Totals → Result Read Fault) → ((k : Task) (t : Totals) → GoodRead t (read k t)) → (p : Piece) (t : Totals) → GoodPieces t (read_piece read p t)
 good_piece read h (Own p) t = nothing_read t (p ∷ [])
+good_piece read h (Initially place statement) t = record { numbered = tt; below = tt; signals = omega arith; bits = omega arith; scopes = omega arith }
 good_piece read h (Instance connections task) t = of (read task t) (h task t)
   where
     of : (r : Result Read Fault) → GoodRead t r → GoodPieces t (then_do r λ s. Ok (record { design = both_designs (of_processes (map (port_assign task.place s.entries) connections)) s.design; totals = s.totals }))
@@ -159,7 +160,7 @@ bits_signals ss = sym (bits_from 0 ss ∙ omega arith)
 
 -- a scope's own part
 abbrev pub own_part : Task → Survey → Design
-own_part k s = record { scopes = record { name = k.name; parent = k.parent; instance = is_instance k.contents } ∷ []; signals = s.signals; processes = []; functions = s.functions }
+own_part k s = record { scopes = record { name = k.name; parent = k.parent; instance = is_instance k.contents } ∷ []; signals = s.signals; processes = []; initials = []; functions = s.functions }
 
 pub good_survey : (limits : Limits) (source : Source) (k : Task) (t : Totals) → GoesOn t (own_part k (survey limits source k t)) (survey limits source k t).totals
 good_survey limits source k t = record {

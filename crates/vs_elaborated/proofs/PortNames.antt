@@ -13,10 +13,11 @@ use Rattle.vs_elaborated.specs.Parameters.{Override}
 use Rattle.vs_elaborated.specs.Signals.{is_input}
 use Rattle.vs_elaborated.specs.Generate.{Nested, Made}
 use Rattle.vs_elaborated.specs.Ports.{Port, Direction, directions_in, item_directions, direction_of, header_ports, ports_of, find_port, find_module}
-use Rattle.vs_elaborated.specs.Pieces.{Task, Connection, IntoInput, FromOutput, Piece, Own, Instance, Within, Said, all_said}
+use Rattle.vs_elaborated.specs.Pieces.{Task, Connection, IntoInput, FromOutput, Piece, Own, Initially, Instance, Within, Said, all_said}
 use Rattle.vs_elaborated.specs.Instances.{Around, output_target, directed, connected, connected_by_order, connected_by_name, connection_name, connection_of, in_port_order, said_connections, said_overrides, instance_said}
-use Rattle.vs_elaborated.specs.Surveys.{Loops, loops_after, items_of, declarations_of, Totals, survey, wire_said, assign_said, nested_piece, item_said, items_said}
+use Rattle.vs_elaborated.specs.Surveys.{Loops, loops_after, items_of, declarations_of, Totals, survey, header_said, assign_said, nested_piece, item_said, items_said}
 use Rattle.vs_elaborated.proofs.EachOf.{each_append}
+use Rattle.vs_elaborated.proofs.ValuePieces.{signals_each, header_each}
 use Rattle.vs_elaborated.proofs.SurveyParts.{loops_in, made_in, around_in}
 use Rattle.vs_elaborated.proofs.FirstNames.{Has, IsSignalOf, same_is}
 
@@ -73,6 +74,7 @@ item_port (tree.SignalsItem t) w b h = of (is_port_kind t.kind) refl h
 item_port (tree.ParametersItem t) w b h = cc
 item_port (tree.AssignsItem place assigns) w b h = cc
 item_port (tree.AlwaysItem block) w b h = cc
+item_port (tree.InitialItem block) w b h = cc
 item_port (tree.GenvarsItem place names) w b h = cc
 item_port (tree.IntegersItem place names) w b h = cc
 item_port (tree.FunctionItem function) w b h = cc
@@ -205,6 +207,7 @@ connections_directed m name (tree.ByName parts) env = ordered_directed (module_d
 
 abbrev pub IsDirectedPiece : Piece → Type 0
 IsDirectedPiece (Own p) = Unit {0}
+IsDirectedPiece (Initially place statement) = Unit {0}
 IsDirectedPiece (Instance connections task) = Each (IsDirected (declarations_of task.contents)) connections
 IsDirectedPiece (Within task) = Unit {0}
 
@@ -223,18 +226,12 @@ blocks_directed : (around : Around) (bs : List Nested) → AreDirectedPieces (ma
 blocks_directed around [] = tt
 blocks_directed around (b ∷ bs) = (tt, blocks_directed around bs)
 
-wire_directed : (around : Around) (place : ℕ) (d : tree.Declarator) → AreDirectedPieces (wire_said around.env place d).pieces
-wire_directed around place d = of d.name d.value
-  where
-    of : (w : tree.Name) (v : Option tree.Expr) → AreDirectedPieces (wire_said around.env place (record { name = w; addresses = d.addresses; value = v })).pieces
-    of w None = tt
-    of w (Some e) = (tt, tt)
-
 item_directed : (limits : Limits) (source : Source) (around : Around) (loops : Loops) (item : tree.Item) (made : Made) → AreDirectedPieces (item_said limits source around loops item made).pieces
-item_directed limits source around loops (tree.SignalsItem t) made = all_pieces (wire_said around.env t.place) t.names (wire_directed around t.place)
+item_directed limits source around loops (tree.SignalsItem t) made = signals_each IsDirectedPiece (λ p. tt) (λ q s. tt) around.env t
 item_directed limits source around loops (tree.ParametersItem t) made = blocks_directed around made.blocks
 item_directed limits source around loops (tree.AssignsItem place assigns) made = all_pieces (assign_said around.env place) assigns (λ a. (tt, tt))
 item_directed limits source around loops (tree.AlwaysItem block) made = (tt, tt)
+item_directed limits source around loops (tree.InitialItem block) made = (tt, tt)
 item_directed limits source around loops (tree.GenvarsItem place names) made = blocks_directed around made.blocks
 item_directed limits source around loops (tree.IntegersItem place names) made = blocks_directed around made.blocks
 item_directed limits source around loops (tree.FunctionItem function) made = blocks_directed around made.blocks
@@ -252,4 +249,7 @@ items_directed limits source around loops (i ∷ is) [] = tt
 items_directed limits source around loops (i ∷ is) (m ∷ ms) = each_append IsDirectedPiece (item_said limits source around loops i m).pieces (items_said limits source around (loops_after limits around.env loops i) is ms).pieces (item_directed limits source around loops i m) (items_directed limits source around (loops_after limits around.env loops i) is ms)
 
 pub survey_directed : (limits : Limits) (source : Source) (k : Task) (t : Totals) → AreDirectedPieces (survey limits source k t).pieces
-survey_directed limits source k t = items_directed limits source (around_in limits k t) (loops_in limits k t) (items_of k.contents) (made_in limits k t)
+survey_directed limits source k t =
+    let around = around_in limits k t in
+    each_append IsDirectedPiece (header_said around.env k.contents).pieces (items_said limits source around (loops_in limits k t) (items_of k.contents) (made_in limits k t)).pieces (header_each IsDirectedPiece (λ p. tt) (λ q s. tt) around.env k.contents)
+    (items_directed limits source around (loops_in limits k t) (items_of k.contents) (made_in limits k t))

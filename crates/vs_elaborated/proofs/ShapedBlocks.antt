@@ -75,6 +75,7 @@ mutual
   construct_shaped (tree.ParametersItem t) limits env n total x = tt
   construct_shaped (tree.AssignsItem place assigns) limits env n total x = tt
   construct_shaped (tree.AlwaysItem block) limits env n total x = tt
+  construct_shaped (tree.InitialItem block) limits env n total x = tt
   construct_shaped (tree.GenvarsItem place names) limits env n total x = tt
   construct_shaped (tree.IntegersItem place names) limits env n total x = tt
   construct_shaped (tree.FunctionItem function) limits env n total x = tt

@@ -7,7 +7,7 @@ use Rattle.vs_design.specs.Clocks.{same_name}
 use Rattle.vs_design.specs.Elaborated.{is_signal}
 use Rattle.vs_grammar.specs.Trees as tree
 use Rattle.vs_grammar.specs.Trees.{Source, SignalKind, Input, InputWire, Output, OutputWire, OutputReg, Reg, Wire, items_list}
-use Rattle.vs_grammar.specs.Shapes.{Each, OneOrMore, Given, IsRange, IsVariable, IsNet, IsPort, is_port_kind, AreNames, AreSignals, IsSetting, AreParameters, IsItem, AreItems, IsGenerateItem, AreHeaderParameters, ArePorts, IsHeader}
+use Rattle.vs_grammar.specs.Shapes.{Each, OneOrMore, Given, IsRange, IsStored, IsPort, IsVariablePort, is_port_kind, AreNames, AreSignals, IsSetting, AreParameters, IsItem, AreItems, IsGenerateItem, AreHeaderParameters, ArePorts, IsHeader}
 use Rattle.vs_const.proofs.Formed.{both_nil}
 use Rattle.vs_elaborated.specs.Limits.{Limits}
 use Rattle.vs_elaborated.specs.Environments.{OfScope, Env}
@@ -59,9 +59,9 @@ names_of_kind kind names x = of kind names x
     of InputWire ds k = each IsPort InputWire (port InputWire) ds k
     of Output ds k = each IsPort Output (port Output) ds k
     of OutputWire ds k = each IsPort OutputWire (port OutputWire) ds k
-    of OutputReg ds k = each IsPort OutputReg (port OutputReg) ds k
-    of Reg ds k = each IsVariable Reg (λ d i. record { addresses = i.1; inner = λ e. refl }) ds k
-    of Wire ds k = each IsNet Wire (λ d i. record { addresses = i.1; inner = λ e. refl }) ds k
+    of OutputReg ds k = each IsVariablePort OutputReg (λ d i. no_addresses OutputReg d d.addresses refl i.1) ds k
+    of Reg ds k = each IsStored Reg (λ d i. record { addresses = i.1; inner = λ e. refl }) ds k
+    of Wire ds k = each IsStored Wire (λ d i. record { addresses = i.1; inner = λ e. refl }) ds k
 
 signals_shaped : (header : Bool) (t : tree.Signals) → AreSignals t → (header ≡ true → is_port_kind t.kind ≡ true) → AreShapedDeclarations (signals_declared header t)
 signals_shaped header t x h = of t.names (names_of_kind t.kind t.names x.names)
@@ -110,6 +110,7 @@ generate_item_shaped (tree.SignalsItem t) x = signals_shaped false t x.0 (in_no_
 generate_item_shaped (tree.ParametersItem t) x = parameters_shaped t x.0
 generate_item_shaped (tree.AssignsItem place assigns) x = tt
 generate_item_shaped (tree.AlwaysItem block) x = tt
+generate_item_shaped (tree.InitialItem block) x = tt
 generate_item_shaped (tree.GenvarsItem place names) x = genvars_shaped names
 generate_item_shaped (tree.IntegersItem place names) x = integers_shaped names
 generate_item_shaped (tree.FunctionItem function) x = absurd x
@@ -123,6 +124,7 @@ item_shaped (tree.SignalsItem t) x = signals_shaped false t x (in_no_header t.ki
 item_shaped (tree.ParametersItem t) x = parameters_shaped t x
 item_shaped (tree.AssignsItem place assigns) x = tt
 item_shaped (tree.AlwaysItem block) x = tt
+item_shaped (tree.InitialItem block) x = tt
 item_shaped (tree.GenvarsItem place names) x = genvars_shaped names
 item_shaped (tree.IntegersItem place names) x = integers_shaped names
 item_shaped (tree.FunctionItem function) x = (x, tt)

@@ -15,7 +15,7 @@ use Rattle.vs_elaborated.specs.Generate.{BlockName, Made}
 use Rattle.vs_elaborated.specs.Constructs.{constructs}
 use Rattle.vs_elaborated.specs.Pieces.{Task, Said}
 use Rattle.vs_elaborated.specs.Instances.{Around}
-use Rattle.vs_elaborated.specs.Surveys.{Loops, counts_of, items_of, declarations_of, overrides_of, header_of, items_said, block_entries, block_faults, bits_over, processes_over, Totals, survey}
+use Rattle.vs_elaborated.specs.Surveys.{Loops, counts_of, items_of, declarations_of, overrides_of, header_of, contents_said, block_entries, block_faults, bits_over, processes_over, Totals, survey}
 
 abbrev pub names_in : Task → List Named
 names_in k = names_of (declarations_of k.contents)
@@ -60,7 +60,7 @@ abbrev pub around_in : Limits → Task → Totals → Around
 around_in limits k t = record { scope = t.scopes; depth = k.depth; env = within k.env (whole_in limits k t) }
 
 abbrev pub said_in : Limits → Source → Task → Totals → Said
-said_in limits source k t = items_said limits source (around_in limits k t) (loops_in limits k t) (items_of k.contents) (made_in limits k t)
+said_in limits source k t = contents_said limits source (around_in limits k t) (loops_in limits k t) k.contents (made_in limits k t)
 
 -- no part has a fault
 pub record AreFaultless (limits : Limits) (source : Source) (k : Task) (t : Totals) : Type 0 where

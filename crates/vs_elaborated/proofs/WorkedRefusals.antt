@@ -137,6 +137,7 @@ unfolding is_in_range word_kind system_kind sign_kind signs keywords left_out_wo
 wrong_kinds = record {
   assigned_reg = refused refl;
   procedural_net = refused refl;
+  initial_net = refused refl;
   assigned_input = refused refl;
   procedural_input = refused refl;
   declared_input = refused refl;
@@ -182,6 +183,7 @@ loop_variables = record {
   assigned = refused refl;
   within_itself = refused refl;
   two_blocks = refused refl;
+  initial_block = refused refl;
   first_value = refused refl;
   generated = refused refl;
   bound = refused refl;
@@ -240,5 +242,6 @@ limited = record {
   bits_below = refused refl;
   processes_most = elaborates refl;
   processes = refused refl;
+  initials = refused refl;
   ports = refused refl;
 }

@@ -1,8 +1,8 @@
 -- Elaboration of a text from its top: a design, or the first fault (IEEE 1364-2005, clause 12).
-use Rattle.std.specs.Prelude.{ℕ, zero, suc, ◌+◌, ◌*◌, ◌&&◌, List, [], ◌∷◌, ◌++◌, map, if◌then◌else◌, nat_lt, Option, Some, None, Result, Ok, Err}
+use Rattle.std.specs.Prelude.{ℕ, zero, suc, ◌+◌, ◌*◌, ◌&&◌, List, [], ◌∷◌, ◌++◌, map, length, if◌then◌else◌, nat_lt, Option, Some, None, Result, Ok, Err}
 use Rattle.vs_design.specs.Expressions.{Signal, At, Name as NameOf}
-use Rattle.vs_design.specs.Statements.{Whole}
-use Rattle.vs_design.specs.Designs.{InputPort, OutputPort, Process, Continuous, Design}
+use Rattle.vs_design.specs.Statements.{Whole, Statement}
+use Rattle.vs_design.specs.Designs.{InputPort, OutputPort, Process, Continuous, Initial, Design}
 use Rattle.vs_grammar.specs.Trees.{Name, Module, Source}
 use Rattle.vs_const.specs.declared.faults.Fault.{Fault}
 use Rattle.vs_const.specs.Faults.{fault_if, least}
@@ -11,18 +11,27 @@ use Rattle.vs_elaborated.specs.Limits.{Limits, the_limits}
 use Rattle.vs_elaborated.specs.Environments.{Declared, OfSignal, Entry, find_entry, no_env}
 use Rattle.vs_elaborated.specs.Targets.{no_signal}
 use Rattle.vs_elaborated.specs.Ports.{find_module, is_named}
-use Rattle.vs_elaborated.specs.Pieces.{OfModule, Task, is_instance, Connection, IntoInput, FromOutput, Piece, Own, Instance, Within}
+use Rattle.vs_elaborated.specs.Pieces.{OfModule, Task, is_instance, Connection, IntoInput, FromOutput, Piece, Own, Initially, Instance, Within}
 use Rattle.vs_elaborated.specs.Surveys.{Totals, no_totals, Survey, survey}
 
 -- ---- designs one after the other
 
+-- an initial process behind so many processes more
+abbrev pub moved : ℕ → Initial → Initial
+moved n i = record i { behind = n + i.behind }
+
 -- what the first has comes first
 abbrev pub both_designs : Design → Design → Design
-both_designs a b = record { scopes = a.scopes ++ b.scopes; signals = a.signals ++ b.signals; processes = a.processes ++ b.processes; functions = a.functions ++ b.functions }
+both_designs a b =
+    record { scopes = a.scopes ++ b.scopes; signals = a.signals ++ b.signals; processes = a.processes ++ b.processes; initials = a.initials ++ map (moved (length a.processes)) b.initials; functions = a.functions ++ b.functions }
 
 -- processes alone
 abbrev pub of_processes : List Process → Design
-of_processes ps = record { scopes = []; signals = []; processes = ps; functions = [] }
+of_processes ps = record { scopes = []; signals = []; processes = ps; initials = []; functions = [] }
+
+-- an initial process alone
+abbrev pub of_initial : (place : ℕ) → Statement → Design
+of_initial place statement = record { scopes = []; signals = []; processes = []; initials = record { place = place; behind = 0; statement = statement } ∷ []; functions = [] }
 
 -- what follows, unless there was a fault
 abbrev pub then_do : {A B : Type 0} → Result A Fault → (A → Result B Fault) → Result B Fault
@@ -65,6 +74,7 @@ pub record ReadPieces : Type 0 where
 -- one piece; `read` reads a scope
 abbrev pub read_piece : (Task → Totals → Result Read Fault) → Piece → Totals → Result ReadPieces Fault
 read_piece read (Own p) totals = Ok (record { design = of_processes (p ∷ []); totals = totals })
+read_piece read (Initially place statement) totals = Ok (record { design = of_initial place statement; totals = totals })
 read_piece read (Instance connections task) totals =
     then_do (read task totals) λ r. Ok (record { design = both_designs (of_processes (map (port_assign task.place r.entries) connections)) r.design; totals = r.totals })
 read_piece read (Within task) totals = then_do (read task totals) λ r. Ok (record { design = r.design; totals = r.totals })
@@ -85,7 +95,7 @@ limit_faults limits t totals = fault_if (is_instance t.contents && nat_lt limits
 
 -- a scope with its signals, before all within it
 abbrev pub scope_design : Task → Survey → Design → Design
-scope_design t s inner = both_designs (record { scopes = record { name = t.name; parent = t.parent; instance = is_instance t.contents } ∷ []; signals = s.signals; processes = []; functions = s.functions }) inner
+scope_design t s inner = both_designs (record { scopes = record { name = t.name; parent = t.parent; instance = is_instance t.contents } ∷ []; signals = s.signals; processes = []; initials = []; functions = s.functions }) inner
 
 -- a scope, and then those within it in text order; `left` bounds how deep scopes stand within one another
 abbrev pub read_scope : (left : ℕ) → Limits → Source → Task → Totals → Result Read Fault

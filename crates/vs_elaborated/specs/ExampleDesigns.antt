@@ -5,7 +5,7 @@ use Rattle.vs_four.specs.declared.Range.{Range}
 use Rattle.vs_design.specs.Expressions.{Signal, signal_length, BitNot, BitAnd, Greater, Header, Name, Word, Unary, Binary, At, Call, NoItem, Item}
 use Rattle.vs_design.specs.Values.{assigned_value}
 use Rattle.vs_design.specs.Statements.{Whole, WordOf, Statement, Empty, Assignment, If}
-use Rattle.vs_design.specs.Designs.{Scope, Written, InputPort, OutputPort, Continuous, Design}
+use Rattle.vs_design.specs.Designs.{Scope, Written, InputPort, OutputPort, Continuous, Initial, Design}
 use Rattle.vs_design.specs.ExampleParts.{input_of, wire_of, reg_of, range_of, to_zero, clk_signal, blocking, on_posedge, on_star, top_scope, design_of}
 use Rattle.vs_elaborated.specs.Limits.{the_limits}
 use Rattle.vs_elaborated.specs.Worked.{Elaborates, Shows, AreAlike, unplaced_processes}
@@ -327,3 +327,20 @@ pub record LoopsAndFunctions : Type 0 where
   -- integers and variables of a function are its own
   pub own : Elaborates the_limits (codes "module top(input a, output y); function f; input [1:0] u; integer i; reg r; begin r = 1'b0; for (i = 0; i < 2; i = i + 1) r = r ^ u[i]; f = r; end endfunction assign y = f({a, a}); endmodule")
   pub calls_another : Elaborates the_limits (codes "module top(input a, output y); function f(input u); f = ~u; endfunction function g(input u); g = f(u); endfunction assign y = g(f(a)); endmodule")
+
+-- ---- initial processes (9.9.1)
+
+-- how many processes stand before each initial one
+abbrev pub behinds : Design → List ℕ
+behinds d = map (λ (i : Initial). i.behind) d.initials
+
+-- an initial value is an initial process in its place (6.2.1), in a header too
+pub record InitialValues : Type 0 where
+  pub item : AreAlike (items (codes "reg [3:0] q = 4'd9, r;")) (items (codes "reg [3:0] q, r; initial q = 4'd9;"))
+  pub header : AreAlike (codes "module top(output reg q = 1'b1, r, output z); endmodule") (codes "module top(output reg q, r, output z); initial q = 1'b1; endmodule")
+  pub port : AreAlike (codes "module top(q); output reg q = 1'b1; endmodule") (codes "module top(output reg q = 1'b1); endmodule")
+  -- words of memories, and loops
+  pub memory : AreAlike (items (codes "reg m [0:1]; integer i; initial for (i = 0; i < 2; i = i + 1) m[i] = 1'b0;")) (items (codes "reg m [0:1]; initial begin m[32'sd0] = 1'b0; m[32'sd1] = 1'b0; ; end"))
+  -- the ports of an instance are processes before those within it
+  pub behind : Shows behinds (0 ∷ 2 ∷ 3 ∷ 3 ∷ [])
+      (codes "module m(input p, output reg q = 1'b0); wire x = p; initial q <= 1'b1; endmodule module top(input a); reg r = 1'b1; wire w; m u(a, w); initial r = 1'b0; endmodule")

@@ -141,6 +141,7 @@ pub record WrongKinds : Type 0 where
   -- an assign writes nets, a statement variables, and nothing an input (table 6-1)
   pub assigned_reg : AreRefused WrongKind (codes "reg r; assign ") (codes "r = a;")
   pub procedural_net : AreRefused WrongKind (codes "always @* ") (codes "y = a;")
+  pub initial_net : AreRefused WrongKind (codes "initial ") (codes "y = a;")
   pub assigned_input : AreRefused WrongKind (codes "assign ") (codes "a = 1'b0;")
   pub procedural_input : AreRefused WrongKind (codes "always @* ") (codes "a = 1'b0;")
   pub declared_input : IsRefused WrongKind (codes "module top(a); input a; wire ") (codes "a = 1'b0; endmodule")
@@ -186,6 +187,7 @@ pub record LoopVariables : Type 0 where
   pub assigned : AreRefused LoopVariable (codes "reg r; integer i; always @* for (i = 0; i < 2; i = i + 1) ") (codes "i = 2;")
   pub within_itself : AreRefused LoopVariable (codes "reg r; integer i; always @* for (i = 0; i < 2; i = i + 1) for (") (codes "i = 0; i < 2; i = i + 1) r = a;")
   pub two_blocks : AreRefused LoopVariable (codes "reg r, s; integer i; always @* for (i = 0; i < 2; i = i + 1) r = a; always @* for (") (codes "i = 0; i < 2; i = i + 1) s = a;")
+  pub initial_block : AreRefused LoopVariable (codes "reg r, s; integer i; initial for (i = 0; i < 2; i = i + 1) r = a; always @* for (") (codes "i = 0; i < 2; i = i + 1) s = a;")
   pub first_value : AreRefused NotConstant (codes "reg r; integer i; always @* for (i = ") (codes "i; i < 2; i = i + 1) r = a;")
   pub generated : AreRefused LoopVariable (codes "integer i; genvar g; for (g = 0; g < 2; g = g + 1) begin : b reg r; always @* for (") (codes "i = 0; i < 2; i = i + 1) r = a; end")
   -- in a part's bounds it is no constant, and what heads a loop is an integer
@@ -248,4 +250,6 @@ pub record Limited : Type 0 where
   pub bits_below : IsRefusedWithin small TooManyBits (codes "module m; wire [1:0] w, ") (codes "x; endmodule module top(input a); m u(); endmodule")
   pub processes_most : Elaborates small (codes "module top(input a); wire w = a, x = a; endmodule")
   pub processes : IsRefusedWithin small TooManyProcesses (codes "module top(input a); wire w = a, x = a; ") (codes "always @* ; endmodule")
+  -- an initial process counts as any other
+  pub initials : IsRefusedWithin small TooManyProcesses (codes "module top(input a); reg q = 1'b0; wire w = a; ") (codes "initial q = 1'b1; endmodule")
   pub ports : IsRefusedWithin small TooManyProcesses (codes "module m(input p, q, r); endmodule module top(input a); ") (codes "m u(a, a, a); endmodule")

@@ -1,4 +1,4 @@
--- Integers that head loops of always blocks: each of one block alone (IEEE 1364-2005, 9.6).
+-- Integers that head loops of always and initial blocks: each of one block alone (IEEE 1364-2005, 9.6).
 use Rattle.std.specs.Prelude.{ℕ, Bool, ◌&&◌, List, [], ◌∷◌, ◌++◌, flat_map, ◌==◌, Option, Some, None}
 use Rattle.std.specs.List.{list_any}
 use Rattle.vs_grammar.specs.Trees as tree

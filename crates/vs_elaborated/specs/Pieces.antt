@@ -1,7 +1,7 @@
--- What a scope has in text order: its processes, its instances and its generate blocks.
+-- What a scope has in text order: its processes and initial processes, its instances and its generate blocks.
 use Rattle.std.specs.Prelude.{ℕ, Bool, true, false, List, [], ◌∷◌, ◌++◌, Option}
 use Rattle.vs_design.specs.Expressions.{Expression}
-use Rattle.vs_design.specs.Statements.{Target}
+use Rattle.vs_design.specs.Statements.{Target, Statement}
 use Rattle.vs_design.specs.Designs.{Process}
 use Rattle.vs_grammar.specs.Trees.{Module, Item}
 use Rattle.vs_const.specs.declared.faults.Fault.{Fault}
@@ -32,9 +32,10 @@ pub data Connection : Type 0 where
   IntoInput : (name : List ℕ) (e : Expression) → Connection
   FromOutput : (name : List ℕ) (place : ℕ) (target : Target) → Connection
 
--- a process of the scope's own, an instance with its connections, or a generate block
+-- a process of the scope's own, an initial process that begins at this place, an instance with its connections, or a generate block
 pub data Piece : Type 0 where
   Own : (process : Process) → Piece
+  Initially : (place : ℕ) (statement : Statement) → Piece
   Instance : (connections : List Connection) (task : Task) → Piece
   Within : (task : Task) → Piece
 

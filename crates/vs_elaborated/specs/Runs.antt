@@ -15,7 +15,7 @@ use Rattle.vs_elaborated.specs.Environments.{Env, inside_function, named}
 use Rattle.vs_elaborated.specs.Targets.{typed_target}
 use Rattle.vs_elaborated.specs.Statements.{Body, typed_list, scope_locals, scoped, given, goes_on, most_turns, unrolled_within}
 use Rattle.vs_elaborated.specs.Functions.{function_locals, function_body, function_names, said_function}
-use Rattle.vs_elaborated.specs.Surveys.{Loops, block_body, block_statement, block_said}
+use Rattle.vs_elaborated.specs.Surveys.{Loops, block_body, block_statement, block_said, initial_body, initial_statement, initial_said}
 
 -- the length and the sign in which a case compares (9.5)
 abbrev pub labels_width : tree.CaseArms → Find → ℕ → ℕ
@@ -76,6 +76,11 @@ RunsAsUnrolled = (most bound : ℕ) (s : tree.Statement) (b : Body) (find : Find
 abbrev pub BlocksRunAsUnrolled : Type 0
 BlocksRunAsUnrolled = (bound : ℕ) (limits : Limits) (env : Env) (loops : Loops) (b : tree.AlwaysBlock) (state : State) → most_turns ≤ bound → (block_said limits env loops b).faults ≡ []
     → runs bound b.statement (block_body b).declared (named env) state ≡ does (block_statement limits env loops b).statement state
+
+-- and that of an initial block
+abbrev pub InitialsRunAsUnrolled : Type 0
+InitialsRunAsUnrolled = (bound : ℕ) (limits : Limits) (env : Env) (loops : Loops) (b : tree.InitialBlock) (state : State) → most_turns ≤ bound → (initial_said limits env loops b).faults ≡ []
+    → runs bound b.statement initial_body.declared (named env) state ≡ does (initial_statement limits env loops b).statement state
 
 -- and that of a function, with its own names
 abbrev pub FunctionsRunAsUnrolled : Type 0

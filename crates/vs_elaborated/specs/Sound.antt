@@ -4,7 +4,7 @@ use Rattle.vs_design.specs.Expressions.{Signal, signal_length, width}
 use Rattle.vs_design.specs.Statements.{Function as WholeFunction}
 use Rattle.vs_design.specs.Designs.{Design}
 use Rattle.vs_design.specs.Footprints.{is_net}
-use Rattle.vs_design.specs.Elaborated.{inside, is_signal, is_plain, is_lawful_range, is_formed, is_formed_target, has_constant_selects, is_formed_process, is_formed_function, has_clocked_words}
+use Rattle.vs_design.specs.Elaborated.{inside, is_signal, is_plain, is_lawful_range, is_formed, is_formed_target, has_constant_selects, is_formed_statement, is_formed_process, is_formed_function, has_clocked_words}
 use Rattle.vs_grammar.specs.Trees.{Name, Connections, Function, Item, Module, Source}
 use Rattle.vs_grammar.specs.Trees as tree
 use Rattle.vs_grammar.specs.Shapes.{Each, AreConnections, IsFunction, IsGenerateItem, IsModule}
@@ -19,7 +19,7 @@ use Rattle.vs_elaborated.specs.Functions.{function_locals, header_of, function_n
 use Rattle.vs_elaborated.specs.Instances.{Around, connection_name, said_overrides, instance_said}
 use Rattle.vs_elaborated.specs.Generate.{Nested, Made}
 use Rattle.vs_elaborated.specs.Constructs.{constructs}
-use Rattle.vs_elaborated.specs.Pieces.{Contents, OfModule, OfBlock, Task, Connection, IntoInput, FromOutput, Piece, Own, Instance, Within}
+use Rattle.vs_elaborated.specs.Pieces.{Contents, OfModule, OfBlock, Task, Connection, IntoInput, FromOutput, Piece, Own, Initially, Instance, Within}
 use Rattle.vs_elaborated.specs.Surveys.{Totals, overrides_of, survey}
 
 -- ---- names
@@ -80,6 +80,7 @@ pub record IsSoundTask (d : Design) (k : Task) : Type 0 where
 -- a piece without a fault
 abbrev pub IsFinePiece : Design → Piece → Type 0
 IsFinePiece d (Own p) = (is_formed_process d p ≡ true) × (has_clocked_words p ≡ true)
+IsFinePiece d (Initially place statement) = is_formed_statement d statement ≡ true
 IsFinePiece d (Instance connections task) = Each (IsFineConnection d) connections × IsSoundTask d task
 IsFinePiece d (Within task) = IsSoundTask d task
 
@@ -108,6 +109,7 @@ pub record MeansSignal (d : Design) (es : List Entry) (name : List ℕ) : Type 0
 -- each port that an instance connects is a signal in it, if it is as the grammar has it and there is no fault in it (12.3.3)
 abbrev pub HasPorts : Design → Limits → Source → Piece → Type 0
 HasPorts d limits source (Own p) = Unit {0}
+HasPorts d limits source (Initially place statement) = Unit {0}
 HasPorts d limits source (Instance connections task) =
     (totals : Totals) → IsShapedContents task.contents → (survey limits source task totals).faults ≡ [] → AreSoundEntries d false (survey limits source task totals).entries
     → Each (λ (c : Connection). MeansSignal d (survey limits source task totals).entries (connection_name c)) connections

@@ -21,7 +21,7 @@ use Rattle.vs_const.specs.Expressions.{typed, constant, is_clean}
 use Rattle.vs_elaborated.specs.Targets.{meant_signal, typed_target}
 
 -- What a statement stands in, a block or a function: what a variable of a named block means that is declared at this place (9.8.2), whether it is a function (10.4), whether it is a
--- clocked block, which alone writes words of memories (4.9), and whether its loops are unrolled.
+-- clocked block or an initial process, which alone write words of memories (4.9), and whether its loops are unrolled.
 pub record Body : Type 0 where
   pub declared : ℕ → Meaning
   pub in_function : Bool
@@ -72,7 +72,7 @@ abbrev mutual
   targets_memories tree.NoTarget find = []
   targets_memories (tree.AndTarget target rest) find = target_memories target find ++ targets_memories rest find
 
--- a clocked block alone writes them
+-- a clocked block or an initial process alone writes them
 abbrev pub word_faults : (clocked : Bool) → tree.Target → Find → List Fault
 word_faults true target find = []
 word_faults false target find = target_memories target find

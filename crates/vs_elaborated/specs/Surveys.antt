@@ -15,16 +15,16 @@ use Rattle.vs_const.specs.Expressions.{typed}
 use Rattle.vs_elaborated.specs.Limits.{Limits}
 use Rattle.vs_elaborated.specs.Environments.{OfScope, Entry, Env, within, with_turn, find_entry, named, Turn}
 use Rattle.vs_elaborated.specs.Targets.{typed_target}
-use Rattle.vs_elaborated.specs.Statements.{Body, TypedStatement, typed_control, is_clocked_by, unrolled_within}
+use Rattle.vs_elaborated.specs.Statements.{Body, TypedStatement, typed_control, assignment, is_clocked_by, unrolled_within}
 use Rattle.vs_elaborated.specs.Heads.{Integer, Head, headed, shared_heads}
 use Rattle.vs_elaborated.specs.Functions.{Counts, said_functions}
 use Rattle.vs_elaborated.specs.Declarations.{Declaration, item_declared, module_declared, names_of, repeated_names}
 use Rattle.vs_elaborated.specs.Parameters.{Override, first_entries, said_parameters}
-use Rattle.vs_elaborated.specs.Signals.{SaidSignal, said_signals, range_faults, array_faults, put_signals}
+use Rattle.vs_elaborated.specs.Signals.{is_reg, SaidSignal, said_signals, range_faults, array_faults, put_signals}
 use Rattle.vs_elaborated.specs.Generate.{Nested, BlockName, Made}
 use Rattle.vs_elaborated.specs.Constructs.{constructs}
 use Rattle.vs_elaborated.specs.Ports.{header_faults}
-use Rattle.vs_elaborated.specs.Pieces.{Contents, OfModule, OfBlock, Task, Piece, Own, Instance, Within, Said, nothing_said, one_said, both_said, all_said}
+use Rattle.vs_elaborated.specs.Pieces.{Contents, OfModule, OfBlock, Task, Piece, Own, Initially, Instance, Within, Said, nothing_said, one_said, both_said, all_said}
 use Rattle.vs_elaborated.specs.Instances.{Around, instances_said}
 
 -- ---- loops of blocks and of functions (9.6)
@@ -47,13 +47,36 @@ assign_said env place a =
     let e = typed a.e (named env) false in
     one_said (Own (Continuous place Written (target_place a.target) t.target e.expression)) (t.faults ++ e.faults)
 
+-- An initial process stands by itself, and writes words of memories (9.9.1).
+abbrev pub initial_body : Body
+initial_body = record { declared = λ place. Barred WrongKind; in_function = false; clocked = true; unrolls = true }
+
+-- `reg q = e` is `initial q = e` in its place (6.2.1)
+abbrev pub value_said : Env → tree.Name → tree.Expr → Said
+value_said env name e =
+    let s = assignment initial_body (tree.NamedTarget name tree.Whole) (named env) (typed e (named env) false) true in
+    one_said (Initially name.place s.statement) s.faults
+
 -- `wire w = e` is an assign too (6.1.1)
-abbrev pub wire_said : Env → (place : ℕ) → tree.Declarator → Said
-wire_said env place d = of_value d.value
+abbrev pub wire_said : Env → (place : ℕ) → tree.Name → tree.Expr → Said
+wire_said env place name e = assign_said env place (record { target = tree.NamedTarget name tree.Whole; e = e })
+
+-- a name of a declaration at this place, of this kind
+abbrev pub declarator_said : Env → (place : ℕ) → tree.SignalKind → tree.Declarator → Said
+declarator_said env place kind d = of_value d.value
   where
     of_value : Option tree.Expr → Said
     of_value None = nothing_said []
-    of_value (Some e) = assign_said env place (record { target = tree.NamedTarget d.name tree.Whole; e = e })
+    of_value (Some e) = if is_reg kind then value_said env d.name e else wire_said env place d.name e
+
+-- all names of one declaration
+abbrev pub signals_said : Env → tree.Signals → Said
+signals_said env t = all_said (declarator_said env t.place t.kind) t.names
+
+-- what a header declares
+abbrev pub ports_said : Env → tree.Header → Said
+ports_said env (tree.DeclaredPorts ports) = all_said (signals_said env) ports
+ports_said env _ = nothing_said []
 
 -- An always block stands by itself: no variable of a named block in it is taken.
 abbrev pub block_body : tree.AlwaysBlock → Body
@@ -74,10 +97,26 @@ block_said limits env loops b =
     let s = block_statement limits env loops b in
     one_said (Own (Always b.place c.star c.events s.statement)) (c.faults ++ (s.faults ++ shared_heads loops.headed (block_heads env b)))
 
--- behind an item: an always block has loops
+-- the statement of an initial block, behind so many copies
+abbrev pub initial_statement : Limits → Env → Loops → tree.InitialBlock → TypedStatement
+initial_statement limits env loops b = unrolled_within (limits.copies - loops.copies) b.statement initial_body (named env)
+
+-- the loops of an initial block
+abbrev pub initial_heads : Env → tree.InitialBlock → List Head
+initial_heads env b = headed b.statement [] env
+
+-- an initial block (9.9.1)
+abbrev pub initial_said : Limits → Env → Loops → tree.InitialBlock → Said
+initial_said limits env loops b =
+    let s = initial_statement limits env loops b in
+    one_said (Initially b.place s.statement) (s.faults ++ shared_heads loops.headed (initial_heads env b))
+
+-- behind an item: an always block and an initial block have loops
 abbrev pub loops_after : Limits → Env → Loops → tree.Item → Loops
 loops_after limits env loops (tree.AlwaysItem b) =
     record { copies = loops.copies + (block_statement limits env loops b).copies; headed = loops.headed ++ map (λ (h : Head). h.integer) (block_heads env b) }
+loops_after limits env loops (tree.InitialItem b) =
+    record { copies = loops.copies + (initial_statement limits env loops b).copies; headed = loops.headed ++ map (λ (h : Head). h.integer) (initial_heads env b) }
 loops_after limits env loops item = loops
 
 -- behind items
@@ -96,9 +135,10 @@ nested_piece around b = Within (record { name = b.name; parent = Some around.sco
 
 -- `made` is what the item makes if it is a generate construct
 abbrev pub item_said : Limits → Source → Around → Loops → tree.Item → Made → Said
-item_said limits source around loops (tree.SignalsItem t) made = all_said (wire_said around.env t.place) t.names
+item_said limits source around loops (tree.SignalsItem t) made = signals_said around.env t
 item_said limits source around loops (tree.AssignsItem place assigns) made = all_said (assign_said around.env place) assigns
 item_said limits source around loops (tree.AlwaysItem block) made = block_said limits around.env loops block
+item_said limits source around loops (tree.InitialItem block) made = initial_said limits around.env loops block
 item_said limits source around loops (tree.InstancesItem t) made = instances_said source around t
 item_said limits source around loops item made = record { pieces = map (nested_piece around) made.blocks; faults = [] }
 
@@ -159,12 +199,14 @@ bits_over most total (s ∷ ss) =
 -- where its processes begin in the text
 abbrev pub piece_place : Piece → ℕ
 piece_place (Own p) = process_place p
+piece_place (Initially place statement) = place
 piece_place (Instance connections task) = task.place
 piece_place (Within task) = 0
 
 -- an instance has one for each connected port (12.3.9.2)
 abbrev pub piece_processes : Piece → ℕ
 piece_processes (Own p) = 1
+piece_processes (Initially place statement) = 1
 piece_processes (Instance connections task) = length connections
 piece_processes (Within task) = 0
 
@@ -209,6 +251,15 @@ abbrev pub header_of : Contents → List Fault
 header_of (OfModule m overrides) = header_faults m
 header_of (OfBlock items) = []
 
+-- nor the values in one
+abbrev pub header_said : Env → Contents → Said
+header_said env (OfModule m overrides) = ports_said env m.header
+header_said env (OfBlock items) = nothing_said []
+
+-- the header before the items
+abbrev pub contents_said : Limits → Source → Around → Loops → Contents → List Made → Said
+contents_said limits source around loops c made = both_said (header_said around.env c) (items_said limits source around loops (items_of c) made)
+
 -- parameters don't see ranges, nor ranges, functions and generate constructs the names of the scope's own blocks
 abbrev pub survey : Limits → Source → Task → Totals → Survey
 survey limits source t totals =
@@ -223,7 +274,7 @@ survey limits source t totals =
     let made = constructs limits (items_of t.contents) (within t.env entries) 1 totals.turns in
     let blocks = flat_map (λ (m : Made). m.names) made in
     let whole = entries ++ block_entries blocks in
-    let said = items_said limits source (record { scope = totals.scopes; depth = t.depth; env = within t.env whole }) loops (items_of t.contents) made in
+    let said = contents_said limits source (record { scope = totals.scopes; depth = t.depth; env = within t.env whole }) loops t.contents made in
     record {
       entries = whole;
       signals = map (λ (s : SaidSignal). s.meaning.signal) signals;

@@ -3,7 +3,7 @@ use Rattle.std.specs.Prelude.{◌≡◌, ℕ, List, ◌++◌, filter, length, ma
 use Rattle.vs_lexer.specs.declared.token.Token.{Token}
 use Rattle.vs_design.specs.Expressions.{Expression, Literal, Name, Select, Word, Unary, Binary, Choice, Join, Repeat, At, Call, Items, NoItem, Item}
 use Rattle.vs_design.specs.Statements.{Target, Whole, PartOf, WordOf, Both, Statement, Empty, Assignment, Then, If, Case, Arms, Arm, Default}
-use Rattle.vs_design.specs.Designs.{Process, Continuous, Always, Design}
+use Rattle.vs_design.specs.Designs.{Process, Continuous, Always, Initial, Design}
 use Rattle.vs_grammar.specs.Trees.{Source}
 use Rattle.vs_grammar.specs.Spelled.{Spells}
 use Rattle.vs_const.specs.declared.faults.Fault.{Fault}
@@ -102,9 +102,13 @@ unplaced_process (Always place star events statement) = Always 0 star events (un
 abbrev pub unplaced_processes : Design → List Process
 unplaced_processes d = map unplaced_process d.processes
 
+-- an initial process, at place 0
+abbrev pub unplaced_initial : Initial → Initial
+unplaced_initial i = record i { place = 0; statement = unplaced_statement i.statement }
+
 -- a design
 abbrev pub unplaced_design : Design → Design
-unplaced_design d = record d { processes = unplaced_processes d }
+unplaced_design d = record d { processes = unplaced_processes d; initials = map unplaced_initial d.initials }
 
 -- both texts have the same design, but for the places
 pub record AreAlike (a b : List ℕ) : Type 0 where

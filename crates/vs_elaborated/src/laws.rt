@@ -1,10 +1,10 @@
 //! What holds of every elaborated design, and worked texts.
 
-ghost use Rattle.vs_elaborated.specs.ExampleDesigns.{WholeDesigns, Parameters, Overrides, ConvertedOverrides, Ports, Connections, Numbered, Blocks, Names, LoopsAndFunctions};
+ghost use Rattle.vs_elaborated.specs.ExampleDesigns.{WholeDesigns, Parameters, Overrides, ConvertedOverrides, Ports, Connections, Numbered, Blocks, Names, LoopsAndFunctions, InitialValues};
 ghost use Rattle.vs_elaborated.specs.ExampleRefusals.{NotConstants, UnknownConstants, WrongModules, UnknownNames, RepeatedNames, BadRanges, WrongConnections, WrongKinds, OtherKinds, LoopVariables, FunctionRules, FirstFaults, Limited};
 ghost use Rattle.vs_elaborated.specs.Laws.{DepthIsEnough, ElaboratedIsLawful};
 ghost use Rattle.vs_elaborated.specs.Numbers.{FunctionNamesAreNumbered, FunctionsAreCounted, FunctionsAreNumbered, MoreFunctionsStand, NamesAreNumbered, NumbersStay, ScopesAreNumbered};
-ghost use Rattle.vs_elaborated.specs.Runs.{BlocksRunAsUnrolled, FunctionsRunAsUnrolled, RunsAsUnrolled};
+ghost use Rattle.vs_elaborated.specs.Runs.{BlocksRunAsUnrolled, FunctionsRunAsUnrolled, InitialsRunAsUnrolled, RunsAsUnrolled};
 ghost use Rattle.vs_elaborated.specs.Sound.{BlocksAreLower, FaultlessIsFair, FunctionsAreFormed, FunctionsSeeSound, InstancesHavePorts, NamesAreSound, OverridesAreFine, PortsAreSignals, SignalsAreCounted};
 
 /// Every design that a text elaborates to is lawful (IEEE 1364-2005, clause 12), and no text has scopes deeper within one another than are read.
@@ -47,11 +47,12 @@ pub fn number_law()
     ensures more { MoreFunctionsStand }
 {}
 
-/// The statement of an always block or of a function that has no fault does as it is written, with the integers of its loops as numbers that are tested
+/// The statement of an always block, of an initial block or of a function that has no fault does as it is written, with the integers of its loops as numbers that are tested
 /// and stepped, what its unrolled one does, from every state (IEEE 1364-2005, 9.6).
 pub fn unroll_law()
     ensures statements { RunsAsUnrolled }
     ensures blocks { BlocksRunAsUnrolled }
+    ensures initials { InitialsRunAsUnrolled }
     ensures functions { FunctionsRunAsUnrolled }
 {}
 
@@ -67,6 +68,7 @@ pub fn design_examples()
     ensures blocks { Blocks }
     ensures names { Names }
     ensures loops_and_functions { LoopsAndFunctions }
+    ensures initial_values { InitialValues }
 {}
 
 /// Worked refusals: each rule of elaboration, and where it is broken.

@@ -4,7 +4,7 @@ ghost use Rattle.std.specs.Prelude.{◌≡◌, ℕ, ◌+◌, ◌*◌, ◌/◌, �
 ghost use Rattle.vs_four.specs.declared.Bit4.{Bit4};
 ghost use Rattle.vs_net.specs.Network.{write_all};
 ghost use Rattle.vs_net.specs.Queue.{Fall, Rise};
-ghost use Rattle.vs_net.specs.Solution.{IsSlotEnd};
+ghost use Rattle.vs_net.specs.Solution.{IsSlotEnd, beginning};
 ghost use Rattle.vs_design.specs.Designs.{Design};
 ghost use Rattle.vs_design.specs.Expressions.{Signal, word_length};
 ghost use Rattle.vs_design.specs.Memories.{word_bits};
@@ -49,13 +49,13 @@ impl<W: Word> Model for Engine<W> {
 }
 
 impl<W: Word> Engine<W> {
-    /// An engine whose bits are idle in every lane, as they are before anything writes them (IEEE 1364-2005, 4.2). No other call takes
+    /// An engine whose bits have in every lane what they have before slot 0: what initial processes leave in them (IEEE 1364-2005, 9.9.1), and else what they have before anything writes them (IEEE 1364-2005, 4.2). No other call takes
     /// memory, and the only error is that there is none.
     pub fn new(alloc: Global, compiled: Compiled) -> Result<Engine<W>, AllocError>
         ensures program { IfOk result (λ e. e.program ≡ compiled) }
         ensures begun { IfOk result (λ e. e.begun ≡ false) }
-        ensures idle { IfOk result (λ e. (d : Design) (clock i : ℕ) → IsProgramOf d clock compiled → i < W.LANES
-            → state W.lane e i ≡ (network_of d clock).idle) }
+        ensures begins { IfOk result (λ e. (d : Design) (clock i : ℕ) → IsProgramOf d clock compiled → i < W.LANES
+            → state W.lane e i ≡ beginning (network_of d clock)) }
     {
         let file = PlaneFile::new(alloc, compiled.initial())?;
         Ok(Engine {

@@ -8,7 +8,7 @@ use Rattle.vs_net.specs.Queue.{Mode, Slot, Fall, Rise, Queue, drive, slots_of, f
 use Rattle.vs_writes.specs.Held.{state_of}
 use Rattle.vs_events.specs.declared.beginning.Role.{Role}
 use Rattle.vs_events.specs.declared.beginning.Role.TheVariants as R
-use Rattle.vs_events.specs.Held.{Events, Dues, queue_of, after_drive, dues_of, mode_at, mode_of}
+use Rattle.vs_events.specs.Held.{Events, Dues, queue_of, after_activate, after_drive, dues_of, mode_at, mode_of}
 use Rattle.vs_events.specs.Beginning.{is_assign, is_block, first_events, role_of, role_at, Drive, after_drives, drives_of, AreDriven, BeginningIsStart, DrivingIsNext}
 
 -- ---- drives
@@ -115,17 +115,24 @@ begins (r ∷ rs) zero k h = at r k h where
 begins (r ∷ rs) (suc p) k h = begins rs p k h
 
 pub beginning_is_start : BeginningIsStart
-beginning_is_start n roles values v vs ds kinds still there drives =
+beginning_is_start n roles values v vs firsts ds kinds first_there first_drives there drives =
     let e = first_events roles values in
-    let count : length e.waiting ≡ length roles = length-replicate (length roles) [] in
-    let driven = subst (λ c. AreDriven c ds) (sym count) there in
-    driven_queue e (Rise ∷ slots_of vs) ds driven
-    ∙ same_queue (state_of values) (state_of values) (mode_at e.unstarted (dues_of e)) (λ p. first_mode (kind (n.process p))) (pending_in e.applies e.pending) (λ p. None) (λ p. get_or e.active p []) n.initial
-    (λ p. get_or e.waiting p [] ++ drives_of ds p) (λ p. n.initial_updates p ++ drive (n.process p) (Fall v)) (Rise ∷ slots_of vs) refl
-    (fun_ext (λ p. begins roles p (kind (n.process p)) (kinds p)))
-    (fun_ext (λ p. ap (λ b. if b then Some (get_or e.pending p []) else None) (no_flag (length roles) p)))
-    (fun_ext (λ p. none_at (length roles) p ∙ sym (still p)))
-    (fun_ext (λ p. ap (λ us. us ++ drives_of ds p) (none_at (length roles) p) ∙ drives p))
+    let d = after_drives e firsts in
+    let a = after_activate d in
+    let s = stays e firsts in
+    let none : length e.waiting ≡ length roles = length-replicate (length roles) [] in
+    let none_active : length e.active ≡ length roles = length-replicate (length roles) [] in
+    let first_driven : AreDriven (length e.waiting) firsts = subst (λ c. AreDriven c firsts) (sym none) first_there in
+    let count : length a.waiting ≡ length roles = ap length s.active ∙ none_active in
+    let driven : AreDriven (length a.waiting) ds = subst (λ c. AreDriven c ds) (sym count) there in
+    driven_queue a (Rise ∷ slots_of vs) ds driven
+    ∙ same_queue (state_of a.values) (state_of values) (mode_at a.unstarted (dues_of a)) (λ p. first_mode (kind (n.process p))) (pending_in a.applies a.pending) (λ p. None) (λ p. get_or a.active p []) n.initial
+    (λ p. get_or a.waiting p [] ++ drives_of ds p) (λ p. n.initial_updates p ++ drive (n.process p) (Fall v)) (Rise ∷ slots_of vs) (ap state_of s.values)
+    (ap₂ (λ us (x : Dues). mode_at us x) s.unstarted (ap₂ (λ es rs. let x : Dues = record { evaluates = es; runs = rs } in x) s.evaluates s.runs)
+    ∙ fun_ext (λ p. begins roles p (kind (n.process p)) (kinds p)))
+    (ap₂ pending_in s.applies s.pending ∙ fun_ext (λ p. ap (λ b. if b then Some (get_or e.pending p []) else None) (no_flag (length roles) p)))
+    (fun_ext (λ p. all_driven e firsts p first_driven ∙ ap (λ us. us ++ drives_of firsts p) (none_at (length roles) p) ∙ first_drives p))
+    (fun_ext (λ p. ap (λ us. us ++ drives_of ds p) (ap (λ (lists : List (List Update)). get_or lists p []) s.active ∙ none_at (length roles) p) ∙ drives p))
 
 -- ---- flags
 

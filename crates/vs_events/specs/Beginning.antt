@@ -6,7 +6,7 @@ use Rattle.vs_net.specs.Queue.{Slot, Fall, Rise, Next, drive, slots_of, start, a
 use Rattle.vs_writes.specs.Held.{state_of}
 use Rattle.vs_events.specs.declared.beginning.Role.{Role}
 use Rattle.vs_events.specs.declared.beginning.Role.TheVariants as R
-use Rattle.vs_events.specs.Held.{Events, IsHeld, queue_of, after_drive}
+use Rattle.vs_events.specs.Held.{Events, IsHeld, queue_of, after_activate, after_drive}
 
 abbrev pub is_assign : Role → Bool
 is_assign R.Assign = true
@@ -63,10 +63,16 @@ drives_of (d ∷ ds) p = if p == d.process then (d.update ∷ drives_of ds p) el
 abbrev pub AreDriven : ℕ → List Drive → Type 0
 AreDriven count ds = (k : ℕ) (d : Drive) → slice_get ds k ≡ Some d → d.process < count
 
--- a run begins with the first slot's updates
+-- these updates are active, and then those wait
+abbrev pub begun : Events → (firsts ds : List Drive) → Events
+begun e firsts ds = after_drives (after_activate (after_drives e firsts)) ds
+
+-- a run begins with what initial processes write at once active, and with what they give by updates and the first slot's updates waiting
 abbrev pub BeginningIsStart : Type 0
-BeginningIsStart = (n : Network) (roles : List Role) (values : List Bit4) (v : State) (vs : List State) (ds : List Drive) → ((p : ℕ) → role_at roles p ≡ role_of (kind (n.process p))) → ((p : ℕ) → n.initial p ≡ []) → AreDriven (length roles) ds
-    → ((p : ℕ) → drives_of ds p ≡ n.initial_updates p ++ drive (n.process p) (Fall v)) → queue_of (after_drives (first_events roles values) ds) (Rise ∷ slots_of vs) ≡ start n (state_of values) v vs
+BeginningIsStart = (n : Network) (roles : List Role) (values : List Bit4) (v : State) (vs : List State) (firsts ds : List Drive) → ((p : ℕ) → role_at roles p ≡ role_of (kind (n.process p)))
+    → AreDriven (length roles) firsts → ((p : ℕ) → drives_of firsts p ≡ n.initial p)
+    → AreDriven (length roles) ds → ((p : ℕ) → drives_of ds p ≡ n.initial_updates p ++ drive (n.process p) (Fall v))
+    → queue_of (begun (first_events roles values) firsts ds) (Rise ∷ slots_of vs) ≡ start n (state_of values) v vs
 
 -- and where nothing waits, a slot begins with its updates
 abbrev pub DrivingIsNext : Type 0

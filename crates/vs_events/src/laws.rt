@@ -19,7 +19,7 @@ pub fn step_law()
     ensures activate { ActivateIsStep }
 {}
 
-/// A run begins with the lists of `Events::new` and what the environment drives in the first slot, and a later slot with what it drives in it, where nothing waits.
+/// A run begins with the lists of `Events::new`, with what initial processes write at once, which is driven and becomes active, and then with what they give by updates and what the environment drives in the first slot. A later slot begins with what the environment drives in it, where nothing waits.
 pub fn slot_law()
     ensures start { BeginningIsStart }
     ensures next { DrivingIsNext }

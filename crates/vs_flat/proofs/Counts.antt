@@ -9,7 +9,7 @@ use Rattle.vs_design.specs.Values.{count_from}
 use Rattle.vs_flat.specs.declared.processes.Signal.{Signal}
 use Rattle.vs_flat.specs.Arena.{Arena, signal_length, bit_count, inputs_from, top_inputs}
 use Rattle.vs_flat.specs.Trees.{signal_of, signals_from, signal_at, tree_at, statement_at}
-use Rattle.vs_flat.specs.DesignOf.{callee_of, scope_of, process_of, arena_signals, arena_trees, arena_statements, design_of}
+use Rattle.vs_flat.specs.DesignOf.{callee_of, scope_of, process_of, initial_of, arena_signals, arena_trees, arena_statements, design_of}
 use Rattle.vs_flat.specs.Laws.{HasCounts}
 use Rattle.vs_flat.proofs.Growing.{each_signal, length-signals, length-arena_trees, length-arena_statements}
 
@@ -30,6 +30,7 @@ counts a = record {
   signals = length-signals a;
   bits = signal_bits 0 a.signals;
   processes = length-map a.processes (process_of (signal_at (arena_signals a)) (tree_at (arena_trees a)) (statement_at (arena_statements a)));
+  initials = length-map a.initials (initial_of (statement_at (arena_statements a)));
   expressions = length-arena_trees a;
   statements = length-arena_statements a;
   functions = length-map (count_from 0 (length a.bodies)) (callee_of a (tree_at (arena_trees a))) ∙ length_count 0 (length a.bodies);

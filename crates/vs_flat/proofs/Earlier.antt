@@ -11,10 +11,11 @@ use Rattle.vs_flat.specs.declared.functions.Function.{Function}
 use Rattle.vs_flat.specs.declared.functions.Declared.{Declared}
 use Rattle.vs_flat.specs.declared.functions.Body.{Body}
 use Rattle.vs_flat.specs.declared.processes.Process.{Process}
+use Rattle.vs_flat.specs.declared.processes.Initial.{Initial}
 use Rattle.vs_flat.specs.declared.processes.Kind.{Kind}
 use Rattle.vs_flat.specs.declared.statements.Statement.{Statement}
-use Rattle.vs_flat.specs.Named.{all_below, node_signals, node_expressions, statement_expressions, statement_statements, kind_signals, kind_expressions, kind_statements, node_names_below, statement_names_below, kind_names_below, locals_in, covers_calls, covers_node, covers_statement, covers_process}
-use Rattle.vs_flat.specs.Arena.{Arena, placed, empty_arena, with_scope, with_signal, with_process, with_node, with_statement, with_function, with_body}
+use Rattle.vs_flat.specs.Named.{all_below, node_signals, node_expressions, statement_expressions, statement_statements, kind_signals, kind_expressions, kind_statements, node_names_below, statement_names_below, kind_names_below, locals_in, covers_calls, covers_node, covers_statement, covers_process, covers_initial}
+use Rattle.vs_flat.specs.Arena.{Arena, placed, empty_arena, with_scope, with_signal, with_process, with_initial, with_node, with_statement, with_function, with_body}
 use Rattle.vs_flat.specs.declared.processes.Scope.{Scope}
 use Rattle.vs_flat.specs.declared.processes.Signal.{Signal}
 use Rattle.vs_flat.specs.Lawful.{is_before, calls_below, calls_earlier, is_closed, are_rising, nodes_name_earlier, statements_name_earlier, NamesEarlier}
@@ -88,6 +89,13 @@ processes_more signals nodes statements signals' nodes' statements' (p ∷ ps) s
     let b = and_both (kind_names_below signals nodes statements p.kind) (list_all (λ (q : Process). kind_names_below signals nodes statements q.kind) ps) h in
     and_true (kind_names_below signals' nodes' statements' p.kind) (list_all (λ (q : Process). kind_names_below signals' nodes' statements' q.kind) ps)
     (kind_below_more signals nodes statements signals' nodes' statements' p.kind s n t b.0) (processes_more signals nodes statements signals' nodes' statements' ps s n t b.1)
+
+pub initials_more : (statements more : ℕ) (is : List Initial) → statements ≤ more → list_all (λ (i : Initial). nat_lt i.statement statements) is ≡ true → list_all (λ (i : Initial). nat_lt i.statement more) is ≡ true
+initials_more statements more [] le h = refl
+initials_more statements more (i ∷ is) le h =
+    let b = and_both (nat_lt i.statement statements) (list_all (λ (j : Initial). nat_lt j.statement statements) is) h in
+    let l = ltb-true i.statement statements b.0 in
+    and_true (nat_lt i.statement more) (list_all (λ (j : Initial). nat_lt j.statement more) is) (lt-ltb i.statement more (omega (arith, l, le))) (initials_more statements more is le b.1)
 
 -- one more at the end
 pub nodes_with : (signals first : ℕ) (nodes : List (Placed Node)) (n : Placed Node) → nodes_name_earlier signals first nodes ≡ true → node_names_below signals (first + length nodes) n.item ≡ true → nodes_name_earlier signals first (nodes ++ n ∷ []) ≡ true
@@ -278,15 +286,16 @@ covered_calls a (Choice c p q) e h = refl
 covered_calls a (Join parts) e h = refl
 
 pub names_empty : NamesEarlier empty_arena
-names_empty = record { nodes = refl; statements = refl; processes = refl; calls = refl; bodies = refl; matched = omega arith; rising = refl }
+names_empty = record { nodes = refl; statements = refl; processes = refl; initials = refl; calls = refl; bodies = refl; matched = omega arith; rising = refl }
 
 pub names_with_scope : (a : Arena) (s : Scope) → NamesEarlier a → NamesEarlier (with_scope a s)
-names_with_scope a s e = record { nodes = e.nodes; statements = e.statements; processes = e.processes; calls = e.calls; bodies = e.bodies; matched = e.matched; rising = e.rising }
+names_with_scope a s e = record { nodes = e.nodes; statements = e.statements; processes = e.processes; initials = e.initials; calls = e.calls; bodies = e.bodies; matched = e.matched; rising = e.rising }
 
 pub names_with_signal : (a : Arena) (s : Signal) → NamesEarlier a → NamesEarlier (with_signal a s)
 names_with_signal a s e =
     let le : length a.signals ≤ length (a.signals ++ s ∷ []) = omega (arith, length-append a.signals (s ∷ [])) in
     record {
+      initials = e.initials;
       nodes = nodes_more (length a.signals) (length (a.signals ++ s ∷ [])) 0 a.nodes le e.nodes;
       statements = e.statements;
       processes = processes_more (length a.signals) (length a.nodes) (length a.statements) (length (a.signals ++ s ∷ [])) (length a.nodes) (length a.statements) a.processes le (omega arith) (omega arith) e.processes;
@@ -297,13 +306,28 @@ names_with_signal a s e =
     }
 
 pub names_with_process : (a : Arena) (p : Process) → NamesEarlier a → covers_process a p ≡ true → NamesEarlier (with_process a p)
-names_with_process a p e h = record { nodes = e.nodes; statements = e.statements; processes = processes_with (length a.signals) (length a.nodes) (length a.statements) a.processes p e.processes h; calls = e.calls; bodies = e.bodies; matched = e.matched; rising = e.rising }
+names_with_process a p e h = record { nodes = e.nodes; statements = e.statements; processes = processes_with (length a.signals) (length a.nodes) (length a.statements) a.processes p e.processes h; initials = e.initials; calls = e.calls; bodies = e.bodies; matched = e.matched; rising = e.rising }
+
+pub names_with_initial : (a : Arena) (i : Initial) → NamesEarlier a → covers_initial a i ≡ true → NamesEarlier (with_initial a i)
+names_with_initial a i e h =
+    let test : Initial → Bool = λ j. nat_lt j.statement (length a.statements) in
+    record {
+      nodes = e.nodes;
+      statements = e.statements;
+      processes = e.processes;
+      initials = list_all-append test a.initials (i ∷ []) ∙ and_true (list_all test a.initials) (list_all test (i ∷ [])) e.initials (and_true (test i) true h refl);
+      calls = e.calls;
+      bodies = e.bodies;
+      matched = e.matched;
+      rising = e.rising;
+    }
 
 pub names_with_node : (a : Arena) (n : Node) (at : ℕ) → NamesEarlier a → covers_node a n ≡ true → NamesEarlier (with_node a n at)
 names_with_node a n at e h =
     let le : length a.nodes ≤ length (a.nodes ++ placed n at ∷ []) = omega (arith, length-append a.nodes (placed n at ∷ [])) in
     let c = and_both (node_names_below (length a.signals) (length a.nodes) n) (covers_calls a n) h in
     record {
+      initials = e.initials;
       nodes = nodes_with (length a.signals) 0 a.nodes (placed n at) e.nodes (subst (λ k. node_names_below (length a.signals) k n ≡ true) (omega arith) c.0);
       calls = calls_with a.functions a.bodies 0 a.nodes (placed n at) e.calls (subst (λ k. calls_below a.functions a.bodies k n ≡ true) (omega arith) (covered_calls a n e c.1));
       bodies = closed_more_nodes (length a.nodes) (length (a.nodes ++ placed n at ∷ [])) a.statements a.bodies le e.bodies;
@@ -317,6 +341,7 @@ pub names_with_statement : (a : Arena) (s : Statement) (at : ℕ) → NamesEarli
 names_with_statement a s at e h =
     let le : length a.statements ≤ length (a.statements ++ placed s at ∷ []) = omega (arith, length-append a.statements (placed s at ∷ [])) in
     record {
+      initials = initials_more (length a.statements) (length (a.statements ++ placed s at ∷ [])) a.initials le e.initials;
       nodes = e.nodes;
       calls = e.calls;
       bodies = closed_more_statements (length a.nodes) a.statements (placed s at) a.bodies e.bodies;
@@ -330,6 +355,7 @@ pub names_with_function : (a : Arena) (f : Function) → NamesEarlier a → Name
 names_with_function a f e =
     let d : Declared = record { function = f; nodes = length a.nodes; statements = length a.statements } in
     record {
+      initials = e.initials;
       nodes = e.nodes;
       statements = e.statements;
       processes = e.processes;
@@ -382,6 +408,7 @@ pub names_with_body : (a : Arena) (s : ℕ) → NamesEarlier a → length a.bodi
 names_with_body a s e m h =
     let b : Body = record { statement = s; nodes = length a.nodes; statements = length a.statements } in
     record {
+      initials = e.initials;
       nodes = e.nodes;
       statements = e.statements;
       processes = e.processes;

@@ -21,7 +21,7 @@ use Rattle.std.proofs.lemmas.List.Sums.{sum_by-cons}
 use Rattle.vs_flat.specs.Arena.{Arena, signal_length, bit_count, placed, IsWithinLimits}
 use Rattle.vs_flat.specs.Targets.{target_of}
 use Rattle.vs_flat.specs.Trees.{no_signal, no_expression, signal_at, tree_at, statement_at, target_tree}
-use Rattle.vs_flat.specs.DesignOf.{process_of, arena_signals, arena_trees, arena_statements}
+use Rattle.vs_flat.specs.DesignOf.{process_of, initial_of, arena_signals, arena_trees, arena_statements}
 use Rattle.vs_flat.specs.Lawful.{local_bits_from, has_locals, node_design, statement_design, trees_formed, statements_formed, is_target, has_target, assigns_target, IsLawful}
 use Rattle.vs_flat.proofs.Counts.{signal_bits}
 use Rattle.vs_flat.proofs.Earlier.{all_at}
@@ -38,6 +38,7 @@ within_limits a w = record {
   bodies = (let c = w.complete in omega (arith, c));
   bits = omega (arith, signal_bits 0 a.signals, w.design.few_bits);
   processes = omega (arith, length-map a.processes (process_of (signal_at (arena_signals a)) (tree_at (arena_trees a)) (statement_at (arena_statements a))), w.design.few_processes);
+  initials = omega (arith, length-map a.initials (initial_of (statement_at (arena_statements a))), w.design.few_processes);
 }
 
 trees_formed_at : (a : Arena) (first : ℕ) (es : List E.Expression) (i : ℕ) (e : E.Expression) → trees_formed a first es ≡ true → slice_get es i ≡ Some e → is_formed (node_design a (first + i)) e ≡ true

@@ -21,11 +21,12 @@ use Rattle.vs_design.specs.Values.{count_from}
 use Rattle.vs_flat.specs.declared.processes.Signal.{Signal}
 use Rattle.vs_flat.specs.declared.processes.Scope.{Scope}
 use Rattle.vs_flat.specs.declared.processes.Process.{Process}
+use Rattle.vs_flat.specs.declared.processes.Initial.{Initial}
 use Rattle.vs_flat.specs.declared.statements.Statement.{Statement}
-use Rattle.vs_flat.specs.Arena.{Arena, placed, with_scope, with_signal, with_process, with_node, with_statement, with_function, with_body, declared_at, body_at}
+use Rattle.vs_flat.specs.Arena.{Arena, placed, with_scope, with_signal, with_process, with_initial, with_node, with_statement, with_function, with_body, declared_at, body_at}
 use Rattle.vs_flat.specs.Named.{covers_calls, locals_in, all_below, kind_names_below, node_names_below, statement_names_below}
 use Rattle.vs_flat.specs.Trees.{no_signal, no_expression, signal_of, signals_from, signal_at, tree_at, statement_at, placed_tree, statement_tree, statement_trees}
-use Rattle.vs_flat.specs.DesignOf.{local_of, header_of, header_in, statement_in, callee_of, arena_names, scope_of, process_of, arena_signals, arena_trees, arena_statements, design_of}
+use Rattle.vs_flat.specs.DesignOf.{local_of, header_of, header_in, statement_in, callee_of, arena_names, scope_of, process_of, initial_of, arena_signals, arena_trees, arena_statements, design_of}
 use Rattle.vs_flat.specs.Lawful.{is_before, calls_below, is_closed, NamesEarlier}
 use Rattle.vs_flat.proofs.Agreeing.{EqualBelow, Agreed, agreed_by, map_agrees, and_true, and_both, node_agrees, statement_agrees, kind_agrees}
 use Rattle.vs_flat.proofs.Building.{grown, built, built_keeps, built-append, built_at, built_agrees, length-built, some_is, IsLocal}
@@ -167,6 +168,11 @@ each_process a n p at =
     let make = process_of (signal_at (arena_signals a)) (tree_at (arena_trees a)) (statement_at (arena_statements a)) in
     slice_get-map make a.processes n ∙ ap (option_map make) at
 
+pub each_initial : (a : Arena) (k : ℕ) (i : Initial) → slice_get a.initials k ≡ Some i → slice_get (design_of a).initials k ≡ Some (initial_of (statement_at (arena_statements a)) i)
+each_initial a k i at =
+    let make = initial_of (statement_at (arena_statements a)) in
+    slice_get-map make a.initials k ∙ ap (option_map make) at
+
 -- processes depend on what they name
 processes_agree : (signals nodes statements : ℕ) (s t : ℕ → E.Signal) (f g : ℕ → E.Expression) (v w : ℕ → T.Statement) (ps : List Process) → EqualBelow signals s t → EqualBelow nodes f g → EqualBelow statements v w
     → list_all (λ (p : Process). kind_names_below signals nodes statements p.kind) ps ≡ true → map (process_of s f v) ps ≡ map (process_of t g w) ps
@@ -176,6 +182,18 @@ processes_agree signals nodes statements s t f g v w (p ∷ ps) ss ff vv h =
     let head : process_of s f v p ≡ process_of t g w p = kind_agrees signals nodes statements s t f g v w p.at p.kind ss ff vv b.0 in
     let rest : map (process_of s f v) ps ≡ map (process_of t g w) ps = processes_agree signals nodes statements s t f g v w ps ss ff vv b.1 in
     cc
+
+initials_agree : (statements : ℕ) (v w : ℕ → T.Statement) (is : List Initial) → EqualBelow statements v w → list_all (λ (i : Initial). nat_lt i.statement statements) is ≡ true → map (initial_of v) is ≡ map (initial_of w) is
+initials_agree statements v w [] vv h = refl
+initials_agree statements v w (i ∷ is) vv h =
+    let b = and_both (nat_lt i.statement statements) (list_all (λ (j : Initial). nat_lt j.statement statements) is) h in
+    let head : initial_of v i ≡ initial_of w i = ap (λ (s : T.Statement). initial_of (λ k. s) i) (vv i.statement (ltb-true i.statement statements b.0)) in
+    let rest : map (initial_of v) is ≡ map (initial_of w) is = initials_agree statements v w is vv b.1 in
+    cc
+
+-- initial processes of the same statements
+initials_same : (a b : Arena) → b.initials ≡ a.initials → arena_statements b ≡ arena_statements a → (design_of b).initials ≡ (design_of a).initials
+initials_same a b i e = ap (λ is. map (initial_of (statement_at (arena_statements b))) is) i ∙ ap (λ ss. map (initial_of (statement_at ss)) a.initials) e
 
 -- a list with one more is the same below
 more_below : {A : Type 0} (xs more : List A) (d x : A) (n : ℕ) → length xs ≡ n → more ≡ xs ++ x ∷ [] → EqualBelow n (λ k. get_or more k d) (λ k. get_or xs k d)
@@ -189,6 +207,9 @@ pub process_added : (a : Arena) (p : Process)
     → design_of (with_process a p) ≡ record (design_of a) { processes = (design_of a).processes ++ process_of (signal_at (arena_signals a)) (tree_at (arena_trees a)) (statement_at (arena_statements a)) p ∷ [] }
 process_added a p =
     ap (λ xs. record (design_of a) { processes = xs }) (map-append (process_of (signal_at (arena_signals a)) (tree_at (arena_trees a)) (statement_at (arena_statements a))) a.processes (p ∷ []))
+
+pub initial_added : (a : Arena) (i : Initial) → design_of (with_initial a i) ≡ record (design_of a) { initials = (design_of a).initials ++ initial_of (statement_at (arena_statements a)) i ∷ [] }
+initial_added a i = ap (λ xs. record (design_of a) { initials = xs }) (map-append (initial_of (statement_at (arena_statements a))) a.initials (i ∷ []))
 
 signals_more : (a : Arena) (s : Signal) → EqualBelow (length a.signals) (signal_at (arena_signals (with_signal a s))) (signal_at (arena_signals a))
 signals_more a s = more_below (arena_signals a) (arena_signals (with_signal a s)) no_signal (signal_of (0 + length a.signals) s) (length a.signals) (length-signals_from 0 a.signals) (signals_from-append 0 a.signals s)
@@ -214,6 +235,7 @@ signal_added a s e =
     in
     ap (λ xs. record (design_of b) { signals = xs }) signals
     ∙ ap (λ xs. record (design_of b) { signals = arena_signals a ++ signal_of (length a.signals) s ∷ []; processes = xs }) processes
+    ∙ ap (λ xs. record (design_of b) { signals = arena_signals a ++ signal_of (length a.signals) s ∷ []; processes = (design_of a).processes; initials = xs }) (initials_same a b refl (statements_with_signal a s e))
     ∙ ap (λ xs. record (design_of a) { signals = arena_signals a ++ signal_of (length a.signals) s ∷ []; functions = xs }) (ap (functions_by a) (statements_with_signal a s e))
 
 pub trees_with_node : (a : Arena) (n : Node) (at : ℕ) → arena_trees (with_node a n at) ≡ arena_trees a ++ placed_tree (arena_names a) (tree_at (arena_trees a)) (placed n at) ∷ []
@@ -233,6 +255,7 @@ node_added a n at e =
     ap (λ xs. record (design_of b) { processes = xs })
     (processes_agree (length a.signals) (length a.nodes) (length a.statements) (signal_at (arena_signals a)) (signal_at (arena_signals a)) (tree_at (arena_trees b)) (tree_at (arena_trees a)) (statement_at (arena_statements b)) (statement_at (arena_statements a)) a.processes
     (λ k h. refl) (trees_more a n at) (λ k h. ap (λ trees. statement_at trees k) (statements_with_node a n at e)) e.processes)
+    ∙ ap (λ xs. record (design_of b) { processes = (design_of a).processes; initials = xs }) (initials_same a b refl (statements_with_node a n at e))
     ∙ ap (λ xs. record (design_of a) { functions = xs }) (ap (functions_by a) (statements_with_node a n at e))
 
 -- one statement more is no matter of the functions' statements
@@ -276,6 +299,7 @@ statement_added a s at e =
     ap (λ xs. record (design_of b) { processes = xs })
     (processes_agree (length a.signals) (length a.nodes) (length a.statements) (signal_at (arena_signals a)) (signal_at (arena_signals a)) (tree_at (arena_trees b)) (tree_at (arena_trees a)) (statement_at (arena_statements b)) (statement_at (arena_statements a)) a.processes
     (λ k h. refl) (λ k h. ap (λ trees. tree_at trees k) (trees_with_statement a s at e)) more e.processes)
+    ∙ ap (λ xs. record (design_of b) { processes = (design_of a).processes; initials = xs }) (initials_agree (length a.statements) (statement_at (arena_statements b)) (statement_at (arena_statements a)) a.initials more e.initials)
     ∙ ap (λ xs. record (design_of a) { functions = xs })
     (functions_agree (length a.bodies) (callee_by a (arena_statements b)) (callee_by a (arena_statements a))
     (λ k h. ap (with_statement_of (header_in (declared_at a k))) (ap (λ ts. statement_in ts (body_at a k)) (statements_with_statement a s at e) ∙ in_with_statement a e (arena_statements a) tree k (length-arena_statements a))))
@@ -325,6 +349,7 @@ function_added a f e =
     ap (λ xs. record (design_of b) { processes = xs })
     (processes_agree (length a.signals) (length a.nodes) (length a.statements) (signal_at (arena_signals a)) (signal_at (arena_signals a)) (tree_at (arena_trees b)) (tree_at (arena_trees a)) (statement_at (arena_statements b)) (statement_at (arena_statements a)) a.processes
     (λ k h. refl) (λ k h. ap (λ trees. tree_at trees k) (trees_with_function a f e)) (λ k h. ap (λ trees. statement_at trees k) (statements_with_function a f e)) e.processes)
+    ∙ ap (λ xs. record (design_of b) { processes = (design_of a).processes; initials = xs }) (initials_same a b refl (statements_with_function a f e))
     ∙ ap (λ xs. record (design_of a) { functions = xs })
     (functions_agree (length a.bodies) (callee_by b (arena_statements b)) (callee_by a (arena_statements a))
     (λ k h.
@@ -367,6 +392,7 @@ body_added a s e =
     ap (λ xs. record (design_of c) { processes = xs })
     (processes_agree (length a.signals) (length a.nodes) (length a.statements) (signal_at (arena_signals a)) (signal_at (arena_signals a)) (tree_at (arena_trees c)) (tree_at (arena_trees a)) (statement_at (arena_statements c)) (statement_at (arena_statements a)) a.processes
     (λ k h. refl) (λ k h. ap (λ trees. tree_at trees k) (trees_with_body a s e)) (λ k h. ap (λ trees. statement_at trees k) (statements_with_body a s e)) e.processes)
+    ∙ ap (λ xs. record (design_of c) { processes = (design_of a).processes; initials = xs }) (initials_same a c refl (statements_with_body a s e))
     ∙ ap (λ xs. record (design_of a) { functions = xs }) functions
   where
     c : Arena

@@ -5,5 +5,6 @@ pub mod Earlier
 pub mod Growing
 pub mod Counts
 pub mod Given
+pub mod TextOrder
 pub mod Different
 pub mod BitCounts

@@ -66,6 +66,7 @@ within_with_signal a s signals w room e = record {
   bodies = w.bodies;
   bits = omega (arith, room, bit_count-append a.signals s, ap bit_count e);
   processes = w.processes;
+  initials = w.initials;
 }
 
 -- the list of inputs, where this one is an input, and where it is none

@@ -6,6 +6,7 @@ use Rattle.vs_flat.specs.declared.expressions.Node.{Node}
 use Rattle.vs_flat.specs.declared.processes.Scope.{Scope}
 use Rattle.vs_flat.specs.declared.processes.Signal.{Signal}
 use Rattle.vs_flat.specs.declared.processes.Process.{Process}
+use Rattle.vs_flat.specs.declared.processes.Initial.{Initial}
 use Rattle.vs_flat.specs.declared.statements.Statement.{Statement}
 use Rattle.vs_flat.specs.declared.functions.Function.{Function}
 use Rattle.vs_flat.specs.declared.functions.Declared.{Declared}
@@ -15,6 +16,8 @@ pub record Arena : Type 0 where
   pub scopes : List Scope
   pub signals : List Signal
   pub processes : List Process
+  -- in the order of the text
+  pub initials : List Initial
   pub nodes : List (Placed Node)
   pub statements : List (Placed Statement)
   -- the functions, and the statements of those that have them
@@ -23,7 +26,7 @@ pub record Arena : Type 0 where
 
 -- nothing was added
 abbrev pub empty_arena : Arena
-empty_arena = record { scopes = []; signals = []; processes = []; nodes = []; statements = []; functions = []; bodies = [] }
+empty_arena = record { scopes = []; signals = []; processes = []; initials = []; nodes = []; statements = []; functions = []; bodies = [] }
 
 abbrev pub placed : {T : Type 0} → T → ℕ → Placed T
 placed item at = record { item = item; at = at }
@@ -37,6 +40,9 @@ with_signal a s = record a { signals = a.signals ++ s ∷ [] }
 
 abbrev pub with_process : Arena → Process → Arena
 with_process a p = record a { processes = a.processes ++ p ∷ [] }
+
+abbrev pub with_initial : Arena → Initial → Arena
+with_initial a i = record a { initials = a.initials ++ i ∷ [] }
 
 abbrev pub with_node : Arena → Node → ℕ → Arena
 with_node a n at = record a { nodes = a.nodes ++ placed n at ∷ [] }
@@ -85,7 +91,7 @@ inputs_from n (s ∷ ss) = if s.input then (n ∷ inputs_from (suc n) ss) else i
 abbrev pub top_inputs : Arena → List ℕ
 top_inputs a = inputs_from 0 a.signals
 
--- what every flat design keeps: as many of a kind as a number can count, 2^20 bits and 2^16 processes at most
+-- what every flat design keeps: as many of a kind as a number can count, 2^20 bits, 2^16 processes and 2^16 initial processes at most
 pub record IsWithinLimits (a : Arena) : Type 0 where
   pub scopes : length a.scopes < 2 ^ 32
   pub nodes : length a.nodes < 2 ^ 32
@@ -94,3 +100,4 @@ pub record IsWithinLimits (a : Arena) : Type 0 where
   pub bodies : length a.bodies ≤ length a.functions
   pub bits : bit_count a.signals ≤ 2 ^ 20
   pub processes : length a.processes ≤ 2 ^ 16
+  pub initials : length a.initials ≤ 2 ^ 16

@@ -1,4 +1,4 @@
--- The design `module top(input clk, input [3:0] a, output reg [3:0] q); always @(posedge clk) if (a[0]) q <= {2{a[1], 1'b0}}; else begin case (a[2 +: 2]) 2'd1: q[1] <= ~a[2]; default ; endcase end endmodule`.
+-- The design `module top(input clk, input [3:0] a, output reg [3:0] q); always @(posedge clk) if (a[0]) q <= {2{a[1], 1'b0}}; else begin case (a[2 +: 2]) 2'd1: q[1] <= ~a[2]; default ; endcase end initial q = 1; endmodule`.
 use Rattle.std.specs.Prelude.{ℕ, ◌+◌, true, false, [], ◌∷◌, None, Some}
 use Rattle.vs_four.specs.declared.Range.{Range}
 use Rattle.vs_four.specs.Numbers.{bits_of}
@@ -31,6 +31,7 @@ block_arena = record empty_arena {
       ∷ record { name = 113 ∷ []; scope = 0; net = false; input = false; range = Some four_bits; signed = false; first_bit = 5; words = None }
       ∷ [];
   processes = record { at = 58; kind = K.Block false (record { signal = 0; edge = G.Posedge } ∷ []) 5 } ∷ [];
+  initials = record { at = 183; behind = 1; statement = 6 } ∷ [];
   nodes =
       placed (N.Name 1) 84 ∷ placed (index 0) 86 ∷ placed (N.Bit 0 four_bits 1) 84
       ∷ placed (N.Name 2) 90
@@ -39,10 +40,12 @@ block_arena = record empty_arena {
       ∷ placed (N.Literal (bits_of 2 1) false true) 140
       ∷ placed (N.Name 2) 146 ∷ placed (index 1) 148 ∷ placed (N.Bit 13 four_bits 14) 146
       ∷ placed (N.Name 1) 155 ∷ placed (index 2) 157 ∷ placed (N.Bit 16 four_bits 17) 155 ∷ placed (N.Unary U.BitNot 18) 154
+      ∷ placed (N.Name 2) 191 ∷ placed (index 1) 195
       ∷ [];
   statements =
       placed (S.Assign 3 8 false) 90 ∷ placed (S.Assign 15 19 false) 146 ∷ placed S.Empty 169
       ∷ placed (S.Case C.Exact 11 (record { items = 12 ∷ []; statement = 1 } ∷ []) (Some 2)) 123 ∷ placed (S.Seq (3 ∷ [])) 117 ∷ placed (S.If 2 0 (Some 4)) 80
+      ∷ placed (S.Assign 20 21 true) 191
       ∷ [];
 }
 
@@ -78,5 +81,6 @@ block_design = record {
       (T.Assignment 146 (T.PartOf register_q (one_bit four_bits) (plain_index 148 1)) (E.At 154 (E.Unary E.BitNot (bit_of_a 155 2))) false)
       (T.Default T.Empty))))
       ∷ [];
+  initials = record { place = 183; behind = 1; statement = T.Assignment 191 (T.Whole register_q) (plain_index 195 1) true } ∷ [];
   functions = [];
 }

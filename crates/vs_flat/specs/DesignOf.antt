@@ -10,6 +10,7 @@ use Rattle.vs_flat.specs.declared.functions.Body.{Body}
 use Rattle.vs_flat.specs.declared.processes.Scope.{Scope}
 use Rattle.vs_flat.specs.declared.processes.Event.{Event}
 use Rattle.vs_flat.specs.declared.processes.Process.{Process}
+use Rattle.vs_flat.specs.declared.processes.Initial.{Initial}
 use Rattle.vs_flat.specs.declared.processes.Kind.{Kind}
 use Rattle.vs_flat.specs.declared.processes.Kind.TheVariants as K
 use Rattle.vs_flat.specs.Arena.{Arena, declared_at, body_at}
@@ -30,6 +31,9 @@ kind_of signal tree statement place (K.Block star events body) = D.Always place 
 
 abbrev pub process_of : (ℕ → E.Signal) → (ℕ → E.Expression) → (ℕ → T.Statement) → Process → D.Process
 process_of signal tree statement p = kind_of signal tree statement p.at p.kind
+
+abbrev pub initial_of : (ℕ → T.Statement) → Initial → D.Initial
+initial_of statement i = record { place = i.at; behind = i.behind; statement = statement i.statement }
 
 -- the signals of a flat design, and its trees
 abbrev pub arena_signals : Arena → List E.Signal
@@ -73,5 +77,6 @@ design_of a = record {
   scopes = map scope_of a.scopes;
   signals = arena_signals a;
   processes = map (process_of (signal_at (arena_signals a)) (tree_at (arena_trees a)) (statement_at (arena_statements a))) a.processes;
+  initials = map (initial_of (statement_at (arena_statements a))) a.initials;
   functions = map (callee_of a (tree_at (arena_trees a))) (count_from 0 (length a.bodies));
 }

@@ -44,5 +44,6 @@ example_design = record {
   scopes = record { name = 116 ∷ 111 ∷ 112 ∷ []; parent = None; instance = true } ∷ [];
   signals = plain_net (99 ∷ 108 ∷ 107 ∷ []) 0 true ∷ plain_a ∷ plain_b ∷ plain_y ∷ [];
   processes = D.Continuous 51 D.Written 58 (T.Whole plain_y) (E.At 62 (E.Binary E.BitAnd (E.At 62 (E.Name plain_a)) (E.At 66 (E.Name plain_b)))) ∷ [];
+  initials = [];
   functions = [];
 }

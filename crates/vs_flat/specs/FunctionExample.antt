@@ -56,5 +56,6 @@ function_design = record {
       D.Continuous 165 D.Written 172 (T.Whole (plain_vector (codes "y") 3 true false 9))
       (E.At 176 (E.Call plain_max.header plain_max.statement (E.items_of (E.At 180 (E.Name (plain_vector (codes "a") 1 true true 1)) ∷ E.At 183 (E.Name (plain_vector (codes "b") 2 true true 5)) ∷ []))))
       ∷ [];
+  initials = [];
   functions = plain_max ∷ [];
 }

@@ -1,5 +1,5 @@
 -- What elaboration gives of every design (IEEE 1364-2005, clause 12), as far as it can be told without the text.
-use Rattle.std.specs.Prelude.{◌≡◌, ◌≤◌, ◌<◌, ◌^◌, ℕ, suc, Bool, true, false, not, if◌then◌else◌, take, slice_get, nat_lt, Option, None, Some, ◌&&◌, List, [], ◌∷◌, ◌++◌, ◌+◌, ◌==◌, length, max, fold, slice_index_or, nat_eq, nat_le, is_some}
+use Rattle.std.specs.Prelude.{◌≡◌, ◌≤◌, ◌<◌, ◌^◌, ℕ, suc, Bool, true, false, not, if◌then◌else◌, take, slice_get, nat_lt, Option, None, Some, ◌&&◌, List, [], ◌∷◌, ◌++◌, ◌+◌, ◌==◌, map, length, max, fold, slice_index_or, nat_eq, nat_le, is_some}
 use Rattle.std.specs.List.{list_all, flat_map}
 use Rattle.std.specs.Cmp.Lexicographic.{pointwise}
 use Rattle.vs_four.specs.Lengths.{repeat}
@@ -13,6 +13,7 @@ use Rattle.vs_flat.specs.declared.placed.Placed.{Placed}
 use Rattle.vs_flat.specs.declared.expressions.Node.{Node}
 use Rattle.vs_flat.specs.declared.expressions.Node.TheVariants.{Join, Local, Call}
 use Rattle.vs_flat.specs.declared.processes.Process.{Process}
+use Rattle.vs_flat.specs.declared.processes.Initial.{Initial}
 use Rattle.vs_flat.specs.declared.processes.Port.{Port}
 use Rattle.vs_flat.specs.declared.processes.Port.TheVariants.{Input}
 use Rattle.vs_flat.specs.declared.processes.Kind.{Kind}
@@ -71,6 +72,7 @@ pub record NamesEarlier (a : Arena) : Type 0 where
   pub nodes : nodes_name_earlier (length a.signals) 0 a.nodes ≡ true
   pub statements : statements_name_earlier (length a.nodes) 0 a.statements ≡ true
   pub processes : list_all (λ (p : Process). kind_names_below (length a.signals) (length a.nodes) (length a.statements) p.kind) a.processes ≡ true
+  pub initials : list_all (λ (i : Initial). nat_lt i.statement (length a.statements)) a.initials ≡ true
   pub calls : calls_earlier a.functions a.bodies 0 a.nodes ≡ true
   pub bodies : list_all (is_closed (length a.nodes) a.statements) a.bodies ≡ true
   pub matched : length a.bodies ≤ length a.functions
@@ -108,7 +110,7 @@ named_expressions a =
     flat_map (λ (n : Placed Node). node_names n.item) a.nodes ++ (flat_map (λ (s : Placed Statement). statement_expressions s.item) a.statements ++ flat_map (λ (p : Process). kind_expressions p.kind) a.processes)
 
 abbrev pub named_statements : Arena → List ℕ
-named_statements a = flat_map (λ (s : Placed Statement). statement_statements s.item) a.statements ++ flat_map (λ (p : Process). kind_statements p.kind) a.processes
+named_statements a = flat_map (λ (s : Placed Statement). statement_statements s.item) a.statements ++ (flat_map (λ (p : Process). kind_statements p.kind) a.processes ++ map (λ (i : Initial). i.statement) a.initials)
 
 -- the greatest number of a kind on a chain from one of these, each naming the next
 abbrev pub deepest : List ℕ → List ℕ → ℕ
@@ -177,7 +179,7 @@ pub record IsLawful (a : Arena) : Type 0 where
   pub few_nodes : length a.nodes < 2 ^ 32
   pub few_statements : length a.statements < 2 ^ 32
   pub names : NamesEarlier a
-  -- also what no process comes to is formed as in a lawful design
+  -- also what no process and no initial process comes to is formed as in a lawful design
   pub expressions : trees_formed a 0 (arena_trees a) ≡ true
   pub statements : statements_formed a 0 (arena_statements a) ≡ true
   -- each function that was added has its statement

@@ -9,6 +9,7 @@ use Rattle.vs_flat.specs.declared.expressions.Node.TheVariants.{Call}
 use Rattle.vs_flat.specs.declared.processes.Scope.{Scope}
 use Rattle.vs_flat.specs.declared.processes.Signal.{Signal}
 use Rattle.vs_flat.specs.declared.processes.Process.{Process}
+use Rattle.vs_flat.specs.declared.processes.Initial.{Initial}
 use Rattle.vs_flat.specs.declared.processes.Port.{Port}
 use Rattle.vs_flat.specs.declared.processes.Kind.TheVariants as K
 use Rattle.vs_flat.specs.declared.statements.Statement.{Statement}
@@ -16,11 +17,11 @@ use Rattle.vs_flat.specs.declared.statements.Statement.TheVariants as S
 use Rattle.vs_flat.specs.declared.functions.Function.{Function}
 use Rattle.vs_flat.specs.declared.functions.Declared.{Declared}
 use Rattle.vs_flat.specs.declared.functions.Body.{Body}
-use Rattle.vs_flat.specs.Arena.{Arena, declared_at, with_function, with_body, placed, signal_length, bit_count, top_inputs, empty_arena, with_scope, with_signal, with_process, with_node, with_statement, IsWithinLimits}
-use Rattle.vs_flat.specs.Named.{covers_calls, node_names_below, statement_names_below, covers_process, covers_node, covers_statement}
+use Rattle.vs_flat.specs.Arena.{Arena, declared_at, with_function, with_body, placed, signal_length, bit_count, top_inputs, empty_arena, with_scope, with_signal, with_process, with_initial, with_node, with_statement, IsWithinLimits}
+use Rattle.vs_flat.specs.Named.{covers_calls, node_names_below, statement_names_below, covers_process, covers_initial, covers_node, covers_statement}
 use Rattle.vs_flat.specs.Trees.{signals_from, signal_of, signal_at, tree_at, statement_at, placed_tree, statement_tree, target_tree}
 use Rattle.vs_flat.specs.Targets.{target_of}
-use Rattle.vs_flat.specs.DesignOf.{local_of, header_of, header_in, arena_names, scope_of, process_of, arena_signals, arena_trees, arena_statements, design_of}
+use Rattle.vs_flat.specs.DesignOf.{local_of, header_of, header_in, arena_names, scope_of, process_of, initial_of, arena_signals, arena_trees, arena_statements, design_of}
 use Rattle.vs_flat.specs.Lawful.{NamesEarlier, node_design, statement_design, are_different, IsLawful}
 use Rattle.vs_flat.specs.Example.{example_arena, example_design}
 use Rattle.vs_flat.specs.BlockExample.{block_arena, block_design}
@@ -44,6 +45,9 @@ abbrev pub EachProcess : Type 0
 EachProcess = (a : Arena) (n : ℕ) (p : Process) → slice_get a.processes n ≡ Some p
     → slice_get (design_of a).processes n ≡ Some (process_of (signal_at (arena_signals a)) (tree_at (arena_trees a)) (statement_at (arena_statements a)) p)
 
+abbrev pub EachInitial : Type 0
+EachInitial = (a : Arena) (k : ℕ) (i : Initial) → slice_get a.initials k ≡ Some i → slice_get (design_of a).initials k ≡ Some (initial_of (statement_at (arena_statements a)) i)
+
 -- each function of the plain design, with its statement
 abbrev pub EachFunction : Type 0
 EachFunction = (a : Arena) (f : ℕ) (d : Declared) (b : Body) → slice_get a.functions f ≡ Some d → slice_get a.bodies f ≡ Some b
@@ -62,6 +66,7 @@ pub record HasCounts (a : Arena) : Type 0 where
   pub signals : length (design_of a).signals ≡ length a.signals
   pub bits : D.bit_count (design_of a) ≡ bit_count a.signals
   pub processes : length (design_of a).processes ≡ length a.processes
+  pub initials : length (design_of a).initials ≡ length a.initials
   pub expressions : length (arena_trees a) ≡ length a.nodes
   pub statements : length (arena_statements a) ≡ length a.statements
   pub functions : length (design_of a).functions ≡ length a.bodies
@@ -73,7 +78,7 @@ CountsStay = (a : Arena) → HasCounts a
 abbrev pub InputsStay : Type 0
 InputsStay = (a : Arena) → map (signal_at (arena_signals a)) (top_inputs a) ≡ D.top_inputs (design_of a)
 
--- what each expression, statement and process names is there, and earlier
+-- what each expression, statement, process and initial process names is there, and what an expression or a statement names of its own kind is earlier
 abbrev pub NodeNames : Type 0
 NodeNames = (a : Arena) → NamesEarlier a → (e : ℕ) (n : Placed Node) → slice_get a.nodes e ≡ Some n → node_names_below (length a.signals) e n.item ≡ true
 
@@ -104,6 +109,9 @@ StatementNames = (a : Arena) → NamesEarlier a → (n : ℕ) (s : Placed Statem
 abbrev pub ProcessNames : Type 0
 ProcessNames = (a : Arena) → NamesEarlier a → (n : ℕ) (p : Process) → slice_get a.processes n ≡ Some p → covers_process a p ≡ true
 
+abbrev pub InitialNames : Type 0
+InitialNames = (a : Arena) → NamesEarlier a → (k : ℕ) (i : Initial) → slice_get a.initials k ≡ Some i → covers_initial a i ≡ true
+
 -- what is named stays named as more is added
 abbrev pub NamesStay : Type 0
 NamesStay = NamesEarlier empty_arena
@@ -114,6 +122,7 @@ NamesStay = NamesEarlier empty_arena
     × ((a : Arena) (s : Statement) (at : ℕ) → NamesEarlier a → covers_statement a s ≡ true → NamesEarlier (with_statement a s at))
     × ((a : Arena) (f : Function) → NamesEarlier a → NamesEarlier (with_function a f))
     × ((a : Arena) (s : ℕ) → NamesEarlier a → length a.bodies < length a.functions → s < length a.statements → NamesEarlier (with_body a s))
+    × ((a : Arena) (i : Initial) → NamesEarlier a → covers_initial a i ≡ true → NamesEarlier (with_initial a i))
 
 -- one scope more, and nothing else
 abbrev pub ScopeAdded : Type 0
@@ -125,6 +134,9 @@ SignalAdded = (a : Arena) (s : Signal) → NamesEarlier a → design_of (with_si
 abbrev pub ProcessAdded : Type 0
 ProcessAdded = (a : Arena) (p : Process)
     → design_of (with_process a p) ≡ record (design_of a) { processes = (design_of a).processes ++ process_of (signal_at (arena_signals a)) (tree_at (arena_trees a)) (statement_at (arena_statements a)) p ∷ [] }
+
+abbrev pub InitialAdded : Type 0
+InitialAdded = (a : Arena) (i : Initial) → design_of (with_initial a i) ≡ record (design_of a) { initials = (design_of a).initials ++ initial_of (statement_at (arena_statements a)) i ∷ [] }
 
 -- an expression or a statement that nothing names yet leaves the design as it was
 abbrev pub NodeAdded : Type 0

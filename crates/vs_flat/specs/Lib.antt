@@ -6,6 +6,7 @@ pub mod Events
 pub mod Targets
 pub mod Trees
 pub mod DesignOf
+pub mod TextOrder
 pub mod Lawful
 pub mod Example
 pub mod BlockExample

@@ -6,6 +6,7 @@ use Rattle.vs_flat.specs.declared.expressions.Node.TheVariants.{Literal, Name, B
 use Rattle.vs_flat.specs.declared.processes.Scope.{Scope}
 use Rattle.vs_flat.specs.declared.processes.Signal.{Signal}
 use Rattle.vs_flat.specs.declared.processes.Process.{Process}
+use Rattle.vs_flat.specs.declared.processes.Initial.{Initial}
 use Rattle.vs_flat.specs.declared.processes.Event.{Event}
 use Rattle.vs_flat.specs.declared.processes.Kind.{Kind}
 use Rattle.vs_flat.specs.declared.processes.Kind.TheVariants as K
@@ -82,6 +83,9 @@ covers_signal a s = nat_lt s.scope (length a.scopes)
 
 abbrev pub covers_process : Arena → Process → Bool
 covers_process a p = kind_names_below (length a.signals) (length a.nodes) (length a.statements) p.kind
+
+abbrev pub covers_initial : Arena → Initial → Bool
+covers_initial a i = nat_lt i.statement (length a.statements)
 
 -- the local signals of a function
 abbrev pub locals_in : Option Declared → List Signal

@@ -80,5 +80,6 @@ word_design = record {
       D.Always 146 false (record { signal = word_clk; edge = D.Posedge } ∷ []) (T.Assignment 166 (T.WordOf plain_m (E.At 168 (E.Name plain_a))) (plain_call 174 (E.At 179 (E.Name plain_d))) false)
       ∷ D.Continuous 183 D.Written 190 (T.Whole plain_q) (plain_call 194 (E.At 199 (E.Word plain_m (E.At 201 (E.Name plain_a)))))
       ∷ [];
+  initials = [];
   functions = plain_next ∷ [];
 }

@@ -2,16 +2,17 @@
 
 ghost use Rattle.std.specs.Prelude.{◌≡◌, ◌+◌, ◌<◌, ◌≤◌, ◌^◌, ◌-◌, [], ◌∷◌, ◌++◌, length, slice_get, option_map, IsTrue, IfOk, OnOk, OnErr, vec_len, vec_capacity};
 
-use crate::{Body, Declared, Function, Node, Placed, Process, Scope, Signal, Statement};
+use crate::{Body, Declared, Function, Initial, Node, Placed, Process, Scope, Signal, Statement};
 use std::alloc::{AllocError, Global};
 use std::marker::Model;
 
-/// An elaborated design: its scopes, signals, processes, functions, expressions and statements, each kind numbered from 0 in the order in which they were added.
+/// An elaborated design: its scopes, signals, processes, initial processes, functions, expressions and statements, each kind numbered from 0 in the order in which they were added.
 #[derive(Drop)]
 pub struct Flat {
     scopes: Vec<Scope>,
     signals: Vec<Signal>,
     processes: Vec<Process>,
+    initials: Vec<Initial>,
     nodes: Vec<Placed<Node>>,
     statements: Vec<Placed<Statement>>,
     functions: Vec<Declared>,
@@ -32,8 +33,8 @@ impl Model for Flat {
 }
 
 impl Flat {
-    ghost use Rattle.vs_flat.specs.Arena.{empty_arena, with_scope, with_signal, with_process, with_node, with_statement, with_function, with_body, declared_at, body_at, signal_length, bit_count, top_inputs, node_at, statement_at, node_place, statement_place};
-    ghost use Rattle.vs_flat.specs.Named.{covers_scope, covers_signal, covers_process, covers_node, covers_statement};
+    ghost use Rattle.vs_flat.specs.Arena.{empty_arena, with_scope, with_signal, with_process, with_initial, with_node, with_statement, with_function, with_body, declared_at, body_at, signal_length, bit_count, top_inputs, node_at, statement_at, node_place, statement_place};
+    ghost use Rattle.vs_flat.specs.Named.{covers_scope, covers_signal, covers_process, covers_initial, covers_node, covers_statement};
 
     /// A design with nothing in it. It takes no memory.
     pub fn new(alloc: Global) -> Flat
@@ -43,6 +44,7 @@ impl Flat {
             scopes: Vec::new(alloc),
             signals: Vec::new(alloc),
             processes: Vec::new(alloc),
+            initials: Vec::new(alloc),
             nodes: Vec::new(alloc),
             statements: Vec::new(alloc),
             functions: Vec::new(alloc),
@@ -147,6 +149,35 @@ impl Flat {
         ensures { slice_get self.now.processes p ≡ Some result.now }
     {
         &self.processes[p as usize]
+    }
+
+    /// Adds an initial process and answers its number. There are at most 2^16.
+    pub fn add_initial(&mut self, initial: Initial) -> Result<u32, AllocError>
+        requires names { IsTrue (covers_initial self.old initial) }
+        requires room { length self.old.initials < 2 ^ 16 }
+        ensures number { IfOk result (λ n. n ≡ length self.old.initials) }
+        ensures ok { OnOk result (self.new ≡ with_initial self.old initial) }
+        ensures err { OnErr result (self.new ≡ self.old) }
+    {
+        let number = self.initials.len() as u32;
+        self.initials.push(initial)?;
+        Ok(number)
+    }
+
+    /// How many initial processes there are, at most 2^16.
+    pub fn initial_count(&self) -> u32
+        ensures count { result ≡ length self.now.initials }
+        ensures most { result ≤ 2 ^ 16 }
+    {
+        self.initials.len() as u32
+    }
+
+    /// Initial process k.
+    pub fn initial(&self, k: u32) -> Initial
+        requires { k < length self.now.initials }
+        ensures { slice_get self.now.initials k ≡ Some result }
+    {
+        self.initials[k as usize]
     }
 
     /// Adds an expression whose first token in the text has this number, and answers its number. No memory is also answered where 2^32 - 1 expressions were added already.

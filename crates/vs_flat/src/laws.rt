@@ -1,14 +1,16 @@
 //! What holds of every flat design.
 
-ghost use Rattle.vs_flat.specs.Laws.{NodeNames, NodeCalls, CallsEarlier, CallsBefore, BodiesThere, BodyNames, StatementNames, EachLocal, HeaderLocals, FunctionResults, LocalBits, ProcessNames, CountsStay, InputsStay, EachSignal, EachTree, EachStatement, EachProcess, EachFunction, NamesStay, TreesKept, ScopeAdded, SignalAdded, ProcessAdded, NodeAdded, StatementAdded, FunctionAdded, BodyAdded, LawfulIsDesign, LawfulIsWithinLimits, EachIsFormed, EachStatementIsFormed, AssignTargets, StatementTargets, DifferentIsOnce, ExamplesAreDesigns, ExamplesAreLawful};
+ghost use Rattle.vs_flat.specs.Laws.{NodeNames, NodeCalls, CallsEarlier, CallsBefore, BodiesThere, BodyNames, StatementNames, EachLocal, HeaderLocals, FunctionResults, LocalBits, ProcessNames, InitialNames, CountsStay, InputsStay, EachSignal, EachTree, EachStatement, EachProcess, EachInitial, EachFunction, NamesStay, TreesKept, ScopeAdded, SignalAdded, ProcessAdded, InitialAdded, NodeAdded, StatementAdded, FunctionAdded, BodyAdded, LawfulIsDesign, LawfulIsWithinLimits, EachIsFormed, EachStatementIsFormed, AssignTargets, StatementTargets, DifferentIsOnce, ExamplesAreDesigns, ExamplesAreLawful};
+ghost use Rattle.vs_flat.specs.TextOrder.{ProcessesInText, InitialsInText};
 ghost use Rattle.vs_flat.specs.Rows.{CopyRows, TargetRows, NameRows, ChainRows};
 
-/// What each expression, statement and process names is there, and what an expression or a statement names of its own kind is earlier.
+/// What each expression, statement, process and initial process names is there, and what an expression or a statement names of its own kind is earlier.
 pub fn names_law()
     ensures expressions { NodeNames }
     ensures calls { NodeCalls }
     ensures statements { StatementNames }
     ensures processes { ProcessNames }
+    ensures initials { InitialNames }
 {}
 
 /// A call comes after its function's statement, and all that the statement names before that. So a walk that goes from calls into statements comes to an end.
@@ -19,12 +21,13 @@ pub fn calls_law()
     ensures names { BodyNames }
 {}
 
-/// Each signal, expression, statement and process of the plain design is made of what it names, and there are as many of each kind.
+/// Each signal, expression, statement, process and initial process of the plain design is made of what it names, and there are as many of each kind.
 pub fn trees_law()
     ensures signals { EachSignal }
     ensures expressions { EachTree }
     ensures statements { EachStatement }
     ensures processes { EachProcess }
+    ensures initials { EachInitial }
     ensures functions { EachFunction }
     ensures locals { EachLocal }
     ensures headers { HeaderLocals }
@@ -39,6 +42,7 @@ pub fn adding_law()
     ensures scope { ScopeAdded }
     ensures signal { SignalAdded }
     ensures process { ProcessAdded }
+    ensures initial { InitialAdded }
     ensures expression { NodeAdded }
     ensures statement { StatementAdded }
     ensures function { FunctionAdded }
@@ -55,6 +59,12 @@ pub fn lawful_law()
     ensures statement_targets { StatementTargets }
     ensures results { FunctionResults }
     ensures local_bits { LocalBits }
+{}
+
+/// In the order of the text each process and each initial process stands with its number.
+pub fn text_law()
+    ensures processes { ProcessesInText }
+    ensures initials { InitialsInText }
 {}
 
 /// Numbers are different where none of them stands twice.

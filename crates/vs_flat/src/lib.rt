@@ -1,4 +1,4 @@
-//! An elaborated design as an arena (IEEE 1364-2005, clause 12): scopes, signals, processes, functions, expressions and statements, each kind numbered from 0 in the order in which they were added.
+//! An elaborated design as an arena (IEEE 1364-2005, clause 12): scopes, signals, processes, initial processes, functions, expressions and statements, each kind numbered from 0 in the order in which they were added.
 #![tactic(auto)]
 
 mod bits;
@@ -6,6 +6,7 @@ mod expressions;
 mod flat;
 mod functions;
 mod laws;
+mod order;
 mod placed;
 mod processes;
 mod statements;
@@ -15,8 +16,10 @@ pub use expressions::Node;
 pub use flat::Flat;
 pub use functions::{Body, Declared, Function};
 pub use laws::{
-    adding_law, calls_law, different_law, example_law, lawful_law, names_law, rows_law, trees_law,
+    adding_law, calls_law, different_law, example_law, lawful_law, names_law, rows_law, text_law,
+    trees_law,
 };
+pub use order::text_order;
 pub use placed::Placed;
-pub use processes::{Event, Kind, Port, Process, Scope, Signal, has_edge};
+pub use processes::{AnyProcess, Event, Initial, Kind, Port, Process, Scope, Signal, has_edge};
 pub use statements::{Arm, Statement};

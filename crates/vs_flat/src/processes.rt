@@ -44,6 +44,23 @@ pub struct Process {
     pub kind: Kind,
 }
 
+/// An initial process (IEEE 1364-2005, 9.9.1), or the initial value in a variable's declaration (IEEE 1364-2005, 6.2.1).
+#[derive(Clone, Copy, PartialEq, Eq, Debug)]
+pub struct Initial {
+    /// The number of its item's first token in the text.
+    pub at: u32,
+    /// How many of the processes stand before it in the text.
+    pub behind: u32,
+    pub statement: u32,
+}
+
+/// A process or an initial process, by its number among those of its kind.
+#[derive(Clone, Copy, PartialEq, Eq, Debug)]
+pub enum AnyProcess {
+    Process(u32),
+    Initial(u32),
+}
+
 /// What a process is.
 #[derive(Drop)]
 pub enum Kind {

@@ -6,7 +6,7 @@ use Rattle.vs_grammar.specs.Kinds.{number_of}
 use Rattle.vs_grammar.specs.Grammars.{Phrase, opt, star, depth}
 use Rattle.vs_grammar.specs.Grammars.Phrase.{last}
 use Rattle.vs_grammar.specs.Grammars.Tree.{leaf, both, former, latter, without, within, start, grown, nested, named}
-use Rattle.vs_grammar.specs.Verilog.{◌⨾◌, ◌∣◌, t, r, separated, signed_range, variable_name, wire_name, assignment, named_connection, overrides, reg_item, wire_item, local_item, assign_item, always_item, genvar_item, integer_item, instance_item, input_declaration, for_item, if_item, generate_case, Rule as rule}
+use Rattle.vs_grammar.specs.Verilog.{◌⨾◌, ◌∣◌, t, r, separated, signed_range, sign_and_range, declared_name, valued_name, assignment, named_connection, overrides, reg_item, wire_item, local_item, assign_item, always_item, initial_item, genvar_item, integer_item, instance_item, input_declaration, for_item, if_item, generate_case, port_item, Rule as rule}
 use Rattle.vs_grammar.specs.Trees.{Name, Variables, Declarator, Signals, Setting, Parameters, AndItem}
 use Rattle.vs_grammar.specs.Trees as tree
 use Rattle.vs_grammar.specs.Meaning.{D, each_onto, behind_sign, list_of, option_of}
@@ -28,9 +28,6 @@ control_flat (named (both a (former n))) = let f = flat a refl in let g = flat n
 control_flat (named (both a (latter (former z)))) = let f = flat a refl in let g = flat z refl in omega arith
 control_flat (named (both a (latter (latter (both o (both (former c) z)))))) = let f = flat a refl in let g = flat o refl in let h = flat c refl in let i = flat z refl in omega arith
 control_flat (named (both a (latter (latter (both o (both (latter (both e l)) z)))))) = let f = flat a refl in let g = flat o refl in let h = event_flat e in let i = events_flat refl l in let j = flat z refl in omega arith
-
-direction_flat : (d : D (r rule.Direction)) → depth d ≡ 0
-direction_flat (named d) = flat d refl
 
 -- ---- without what has no levels
 
@@ -63,21 +60,21 @@ module _ (bytes : ℕ → List ℕ) where
   value_is : (d : D (t kind.Assign ⨾ r rule.Expression)) → expr_depth (behind_sign (meaning.expr_of bytes) d) ≡ depth d
   value_is d = behind_is refl (meaning.expr_of bytes) expr_depth (expr_is bytes) d
 
-  wire_is : (d : D wire_name) → declarator_depth (meaning.wire_of bytes d) ≡ depth d
-  wire_is (both n (former g)) = let h = range_is bytes g in let f = flat n refl in omega arith
-  wire_is (both n (latter v)) = let h = option_is (behind_sign (meaning.expr_of bytes)) expr_depth value_is v in let f = flat n refl in omega arith
+  valued_is : (d : D valued_name) → declarator_depth (meaning.valued_of bytes d) ≡ depth d
+  valued_is (both n v) = let h = option_is (behind_sign (meaning.expr_of bytes)) expr_depth value_is v in let f = flat n refl in omega arith
 
-  variable_is : (d : D variable_name) → declarator_depth (meaning.variable_of bytes d) ≡ depth d
-  variable_is (both n g) = let h = option_is (meaning.range_of bytes) range_depth (range_is bytes) g in let f = flat n refl in omega arith
+  declarator_is : (d : D declared_name) → declarator_depth (meaning.declarator_of bytes d) ≡ depth d
+  declarator_is (both n (former g)) = let h = range_is bytes g in let f = flat n refl in omega arith
+  declarator_is (both n (latter v)) = let h = option_is (behind_sign (meaning.expr_of bytes)) expr_depth value_is v in let f = flat n refl in omega arith
 
-  declared_names_are : (d : D (separated variable_name)) → deepest declarator_depth (list_of (meaning.variable_of bytes) d) ≡ depth d
-  declared_names_are d = list_is (meaning.variable_of bytes) declarator_depth variable_is d
+  declarators_is : (d : D (separated declared_name)) → deepest declarator_depth (list_of (meaning.declarator_of bytes) d) ≡ depth d
+  declarators_is d = list_is (meaning.declarator_of bytes) declarator_depth declarator_is d
+
+  valued_names_is : (d : D (separated valued_name)) → deepest declarator_depth (list_of (meaning.valued_of bytes) d) ≡ depth d
+  valued_names_is d = list_is (meaning.valued_of bytes) declarator_depth valued_is d
 
   names_is : (d : D (r rule.Names)) → deepest declarator_depth (meaning.names_of bytes d) ≡ depth d
   names_is (named l) = list_is (meaning.plain_name bytes) declarator_depth name_is l
-
-  wires_is : (d : D (separated wire_name)) → deepest declarator_depth (list_of (meaning.wire_of bytes) d) ≡ depth d
-  wires_is d = list_is (meaning.wire_of bytes) declarator_depth wire_is d
 
   ended_is : {x : Phrase} (f : D x → List Declarator) → ((d : D x) → deepest declarator_depth (f d) ≡ depth d) → (d : D (x ⨾ t kind.Semicolon)) → deepest declarator_depth (meaning.ended bytes f d) ≡ depth d
   ended_is f h (both l z) = let i = h l in let g = flat z refl in omega arith
@@ -120,10 +117,10 @@ module _ (bytes : ℕ → List ℕ) where
   -- ---- items without blocks
 
   reg_is : (d : D reg_item) → item_depth (meaning.reg_item_of bytes d) ≡ depth d
-  reg_is (both (leaf a) d) = let h = signals_is a.place tree.Reg (meaning.ended bytes (list_of (meaning.variable_of bytes))) (ended_is (list_of (meaning.variable_of bytes)) declared_names_are) d in omega arith
+  reg_is (both (leaf a) d) = let h = signals_is a.place tree.Reg (meaning.ended bytes (list_of (meaning.declarator_of bytes))) (ended_is (list_of (meaning.declarator_of bytes)) declarators_is) d in omega arith
 
   wire_item_is : (d : D wire_item) → item_depth (meaning.wire_item_of bytes d) ≡ depth d
-  wire_item_is (both (leaf a) d) = let h = signals_is a.place tree.Wire (meaning.ended bytes (list_of (meaning.wire_of bytes))) (ended_is (list_of (meaning.wire_of bytes)) wires_is) d in omega arith
+  wire_item_is (both (leaf a) d) = let h = signals_is a.place tree.Wire (meaning.ended bytes (list_of (meaning.declarator_of bytes))) (ended_is (list_of (meaning.declarator_of bytes)) declarators_is) d in omega arith
 
   local_is : (d : D local_item) → item_depth (meaning.local_item_of bytes d) ≡ depth d
   local_is (both (leaf a) (both y (both l z))) = let h = parameters_is a.place true y (list_of (meaning.setting_of bytes) l) in let i = settings_is l in let f = flat z refl in omega arith
@@ -133,6 +130,9 @@ module _ (bytes : ℕ → List ℕ) where
 
   always_is : (d : D always_item) → item_depth (meaning.always_item_of bytes d) ≡ depth d
   always_is (both (leaf a) (both c d)) = let h = statement_is bytes d in let f = control_flat c in omega arith
+
+  initial_is : (d : D initial_item) → item_depth (meaning.initial_item_of bytes d) ≡ depth d
+  initial_is (both (leaf a) d) = let h = statement_is bytes d in omega arith
 
   genvar_is : (d : D genvar_item) → item_depth (meaning.genvar_item_of bytes d) ≡ depth d
   genvar_is (both (leaf a) (both (named l) z)) = let f = flat l refl in let g = flat z refl in omega arith
@@ -196,12 +196,13 @@ module _ (bytes : ℕ → List ℕ) (s : ℕ) (smaller : (d : D (r rule.Generate
   item_next (named (latter (latter (former i)))) w = local_is bytes i
   item_next (named (latter (latter (latter (former i))))) w = assigns_is bytes i
   item_next (named (latter (latter (latter (latter (former i)))))) w = always_is bytes i
-  item_next (named (latter (latter (latter (latter (latter (former i))))))) w = genvar_is bytes i
-  item_next (named (latter (latter (latter (latter (latter (latter (former i)))))))) w = integer_is bytes i
-  item_next (named (latter (latter (latter (latter (latter (latter (latter (former i))))))))) w = instances_is bytes i
-  item_next (named (latter (latter (latter (latter (latter (latter (latter (latter (former i)))))))))) w = for_is i (omega arith)
-  item_next (named (latter (latter (latter (latter (latter (latter (latter (latter (latter (former i))))))))))) w = if_is i (omega arith)
-  item_next (named (latter (latter (latter (latter (latter (latter (latter (latter (latter (latter i))))))))))) w = case_is i (omega arith)
+  item_next (named (latter (latter (latter (latter (latter (former i))))))) w = initial_is bytes i
+  item_next (named (latter (latter (latter (latter (latter (latter (former i)))))))) w = genvar_is bytes i
+  item_next (named (latter (latter (latter (latter (latter (latter (latter (former i))))))))) w = integer_is bytes i
+  item_next (named (latter (latter (latter (latter (latter (latter (latter (latter (former i)))))))))) w = instances_is bytes i
+  item_next (named (latter (latter (latter (latter (latter (latter (latter (latter (latter (former i))))))))))) w = for_is i (omega arith)
+  item_next (named (latter (latter (latter (latter (latter (latter (latter (latter (latter (latter (former i)))))))))))) w = if_is i (omega arith)
+  item_next (named (latter (latter (latter (latter (latter (latter (latter (latter (latter (latter (latter i)))))))))))) w = case_is i (omega arith)
 
 module _ (bytes : ℕ → List ℕ) where
   item_below : (s : ℕ) (d : D (r rule.GenerateItem)) → size d < s → item_depth (meaning.item_of bytes d) ≡ depth d
@@ -246,9 +247,18 @@ module _ (bytes : ℕ → List ℕ) where
 
   -- ---- modules
 
+  port_item_is : (d : D port_item) → item_depth (meaning.port_item_of bytes d) ≡ depth d
+  port_item_is (former (both (leaf a) (both w l))) =
+      let h = signals_is bytes a.place (meaning.input_kind w) (meaning.ended bytes (meaning.names_of bytes)) (ended_is bytes (meaning.names_of bytes) (names_is bytes)) l in let f = flat w refl in omega arith
+  port_item_is (latter (both (leaf a) (former (both w l)))) =
+      let h = signals_is bytes a.place tree.OutputReg (meaning.ended bytes (list_of (meaning.valued_of bytes))) (ended_is bytes (list_of (meaning.valued_of bytes)) (valued_names_is bytes)) l in
+      let f = flat w refl in
+      omega arith
+  port_item_is (latter (both (leaf a) (latter (both w l)))) =
+      let h = signals_is bytes a.place (meaning.output_kind w) (meaning.ended bytes (meaning.names_of bytes)) (ended_is bytes (meaning.names_of bytes) (names_is bytes)) l in let f = flat w refl in omega arith
+
   item_onto_is : (d : D (r rule.Item)) (rest : tree.Items) → items_depth (meaning.item_onto bytes d rest) ≡ max (depth d) (items_depth rest)
-  item_onto_is (named (former (both d l))) rest =
-      let h = signals_is bytes (meaning.first_place d) (meaning.port_kind d) (meaning.ended bytes (meaning.names_of bytes)) (ended_is bytes (meaning.names_of bytes) (names_is bytes)) l in let f = direction_flat d in omega arith
+  item_onto_is (named (former d)) rest = let h = port_item_is d in omega arith
   item_onto_is (named (latter (former (both (leaf a) (both y (both l z)))))) rest =
       let h = parameters_is bytes a.place false y (list_of (meaning.setting_of bytes) l) in let i = settings_is bytes l in let f = flat z refl in omega arith
   item_onto_is (named (latter (latter (former (both g (both l z)))))) rest = let h = generate_items_is l rest in let f = flat g refl in let i = flat z refl in omega arith
@@ -259,21 +269,36 @@ module _ (bytes : ℕ → List ℕ) where
   module_items_is (start z) rest = let f = flat z refl in omega arith
   module_items_is (grown l d) rest = let h = module_items_is l (meaning.item_onto bytes d rest) in let i = item_onto_is d rest in omega arith
 
-  port_name_is : (others : List Declarator) (n : D (t kind.Identifier)) → deepest declarator_depth (meaning.plain_name bytes n ∷ others) ≡ max (depth n) (deepest declarator_depth others)
-  port_name_is others n = let f = flat n refl in omega arith
+  declared_by_is : (place : ℕ) (k : tree.SignalKind) (d : D sign_and_range) (names : List Declarator) → signals_depth (meaning.declared_by bytes place k d names) ≡ max (depth d) (deepest declarator_depth names)
+  declared_by_is place k (both s g) names = let h = option_is (meaning.range_of bytes) range_depth (range_is bytes) g in let f = flat s refl in omega arith
 
-  port_is : (p : D (r rule.Port)) (others : List Declarator) → signals_depth (meaning.port_of bytes p others) ≡ max (depth p) (deepest declarator_depth others)
-  port_is (named (both d (both s (both g n)))) others =
-      let h = option_is (meaning.range_of bytes) range_depth (range_is bytes) g in let f = direction_flat d in let i = flat s refl in let j = flat n refl in omega arith
+  mutual
+    ports_is : (p : D (r rule.Port)) → deepest signals_depth (meaning.ports_from bytes p) ≡ depth p
+    ports_is (named (former (both (leaf a) (both w l)))) = let h = nets_is a.place (meaning.input_kind w) l in let f = flat w refl in omega arith
+    ports_is (named (latter (both (leaf a) (former (both w l))))) = let h = variables_are a.place l in let f = flat w refl in omega arith
+    ports_is (named (latter (both (leaf a) (latter (both w l))))) = let h = nets_is a.place (meaning.output_kind w) l in let f = flat w refl in omega arith
 
-  ports_is : (p : D (r rule.Port)) (l : D (star (t kind.Comma ⨾ (r rule.Port ∣ t kind.Identifier)))) (names : List Declarator) (ports : List Signals) → deepest signals_depth (meaning.ports_onto bytes p l names ports) ≡ max (depth p) (max (depth l) (max (deepest declarator_depth names) (deepest signals_depth ports)))
-  ports_is p (start z) names ports = let h = port_is p names in let f = flat z refl in omega arith
-  ports_is p (grown l (both c (former q))) names ports = let h = ports_is p l [] (meaning.port_of bytes q names ∷ ports) in let i = port_is q names in let f = flat c refl in omega arith
-  ports_is p (grown l (both c (latter n))) names ports = let h = ports_is p l (meaning.plain_name bytes n ∷ names) ports in let f = flat c refl in let g = flat n refl in omega arith
+    nets_is : (place : ℕ) (k : tree.SignalKind) (d : D (signed_range (t kind.Identifier ⨾ r rule.NetPorts))) → deepest signals_depth (meaning.nets_from bytes place k d) ≡ depth d
+    nets_is place k (both s (both g (both n l))) =
+        let h = declared_by_is place k (both s g) (meaning.plain_name bytes n ∷ meaning.net_names bytes l) in let i = net_ports_is l in let f = flat n refl in omega arith
+
+    variables_are : (place : ℕ) (d : D (signed_range (valued_name ⨾ r rule.VariablePorts))) → deepest signals_depth (meaning.variables_from bytes place d) ≡ depth d
+    variables_are place (both s (both g (both n l))) =
+        let h = declared_by_is place tree.OutputReg (both s g) (meaning.valued_of bytes n ∷ meaning.variable_names bytes l) in let i = variable_ports_is l in let j = valued_is bytes n in omega arith
+
+    net_ports_is : (d : D (r rule.NetPorts)) → max (deepest declarator_depth (meaning.net_names bytes d)) (deepest signals_depth (meaning.net_ports bytes d)) ≡ depth d
+    net_ports_is (named (former (both c (former p)))) = let h = ports_is p in let f = flat c refl in omega arith
+    net_ports_is (named (former (both c (latter (both n l))))) = let h = net_ports_is l in let f = flat c refl in let g = flat n refl in omega arith
+    net_ports_is (named (latter z)) = let f = flat z refl in omega arith
+
+    variable_ports_is : (d : D (r rule.VariablePorts)) → max (deepest declarator_depth (meaning.variable_names bytes d)) (deepest signals_depth (meaning.variable_ports bytes d)) ≡ depth d
+    variable_ports_is (named (former (both c (former p)))) = let h = ports_is p in let f = flat c refl in omega arith
+    variable_ports_is (named (former (both c (latter (both n l))))) = let h = variable_ports_is l in let f = flat c refl in let g = valued_is bytes n in omega arith
+    variable_ports_is (named (latter z)) = let f = flat z refl in omega arith
 
   port_list_is : (d : D (r rule.Ports)) → header_depth (meaning.ports_of bytes d) ≡ depth d
   port_list_is (named (former l)) = sym (flat l refl)
-  port_list_is (named (latter (both p l))) = let h = ports_is p l [] [] in omega arith
+  port_list_is (named (latter p)) = ports_is p
 
   header_is : (d : D (opt (t kind.OpenParen ⨾ opt (r rule.Ports) ⨾ t kind.CloseParen))) → header_depth (meaning.header_of bytes d) ≡ depth d
   header_is (former (both o (both (former p) z))) = let h = port_list_is p in let f = flat o refl in let g = flat z refl in omega arith

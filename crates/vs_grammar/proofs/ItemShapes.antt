@@ -6,14 +6,18 @@ use Rattle.vs_grammar.specs.Kinds.{number_of}
 use Rattle.vs_grammar.specs.Grammars.{Phrase, Terminal, opt, star}
 use Rattle.vs_grammar.specs.Grammars.Phrase.{last}
 use Rattle.vs_grammar.specs.Grammars.Tree.{leaf, both, former, latter, without, within, start, grown, nested, named}
-use Rattle.vs_grammar.specs.Verilog.{◌⨾◌, ◌∣◌, t, r, phrase_of, separated, signed_range, variable_name, wire_name, assignment, named_connection, overrides, reg_item, wire_item, local_item, assign_item, always_item, genvar_item, integer_item, instance_item, input_declaration, for_item, if_item, generate_case, Rule as rule}
+use Rattle.vs_grammar.specs.Verilog.{◌⨾◌, ◌∣◌, t, r, phrase_of, separated, signed_range, sign_and_range, declared_name, valued_name, assignment, named_connection, overrides, reg_item, wire_item, local_item, assign_item, always_item, initial_item, genvar_item, integer_item, instance_item, input_declaration, for_item, if_item, generate_case, port_item, Rule as rule}
 use Rattle.vs_grammar.specs.Trees.{Name, Variables, Declarator, Signals, Setting, Parameters, AndItem}
 use Rattle.vs_grammar.specs.Trees as tree
 use Rattle.vs_grammar.specs.Meaning.{D, each_onto, behind_sign, list_of, option_of}
 use Rattle.vs_grammar.specs.Meaning as meaning
-use Rattle.vs_grammar.specs.Shapes.{IsName, IsLiteral, Each, OneOrMore, Given, IsExpr, IsRange, AreVariables, IsVariable, IsNet, IsPort, is_port_kind, AreNames, AreSignals, IsSetting, AreParameters, IsAssign, IsEvent, IsControl, IsConnection, AreConnections, IsInstance, IsFunction, IsGenerateItem, IsBlock, IsBlockFallback, AreGenerateArms, HasGenerateArm, AreGenerateItems, IsItem, AreItems, ArePorts, AreHeaderParameters, IsHeader, IsModule}
+use Rattle.vs_grammar.specs.Shapes.{IsName, IsLiteral, Each, OneOrMore, Given, IsExpr, IsRange, AreVariables, IsStored, IsPort, IsVariablePort, is_port_kind, AreNames, AreSignals, IsSetting, AreParameters, IsAssign, IsEvent, IsControl, IsConnection, AreConnections, IsInstance, IsFunction, IsGenerateItem, IsBlock, IsBlockFallback, AreGenerateArms, HasGenerateArm, AreGenerateItems, IsItem, AreItems, ArePorts, AreHeaderParameters, IsHeader, IsModule}
 use Rattle.vs_grammar.proofs.DepthFacts.{size}
 use Rattle.vs_grammar.proofs.ShapeFacts.{Sound, name_ok, each_ok, behind_ok, list_ok, option_ok, expr_ok, labels_ok, range_ok, value_type_ok, input_type_ok, variables_ok, setting_ok, head_ok, target_ok, statement_ok}
+
+each_of_some : {A : Type 0} (P : A → Type 0) (l : List A) → OneOrMore P l → Each P l
+each_of_some P [] h = absurd h
+each_of_some P (x ∷ l) h = h
 
 module _ (bytes : ℕ → List ℕ) (numbers : (a : Terminal) → IsLiteral (meaning.literal_at bytes a)) where
   -- ---- declarations
@@ -24,21 +28,24 @@ module _ (bytes : ℕ → List ℕ) (numbers : (a : Terminal) → IsLiteral (mea
   value_ok : (d : D (t kind.Assign ⨾ r rule.Expression)) → Sound bytes d → IsExpr (behind_sign (meaning.expr_of bytes) d)
   value_ok d p = behind_ok bytes (meaning.expr_of bytes) IsExpr (expr_ok bytes numbers) d p
 
-  wire_ok : (d : D wire_name) → Sound bytes d → IsNet (meaning.wire_of bytes d)
-  wire_ok (both n (former g)) p = ((name_ok bytes n p.0, tt), range_ok bytes numbers g p.1, tt)
-  wire_ok (both n (latter v)) p = ((name_ok bytes n p.0, option_ok bytes (behind_sign (meaning.expr_of bytes)) IsExpr value_ok v p.1), tt, tt)
+  option_value_ok : (v : D (opt (t kind.Assign ⨾ r rule.Expression))) → Sound bytes v → Given IsExpr (meaning.value_of bytes v)
+  option_value_ok v p = option_ok bytes (behind_sign (meaning.expr_of bytes)) IsExpr value_ok v p
 
-  variable_ok : (d : D variable_name) → Sound bytes d → IsVariable (meaning.variable_of bytes d)
-  variable_ok (both n g) p = ((name_ok bytes n p.0, refl), option_ok bytes (meaning.range_of bytes) IsRange (range_ok bytes numbers) g p.1)
+  valued_ok : (d : D valued_name) → Sound bytes d → IsVariablePort (meaning.valued_of bytes d)
+  valued_ok (both n v) p = ((name_ok bytes n p.0, option_value_ok v p.1), refl)
 
-  declared_variables_ok : (d : D (separated variable_name)) → Sound bytes d → OneOrMore IsVariable (list_of (meaning.variable_of bytes) d)
-  declared_variables_ok d p = list_ok bytes (meaning.variable_of bytes) IsVariable variable_ok d p
+  declarator_ok : (d : D declared_name) → Sound bytes d → IsStored (meaning.declarator_of bytes d)
+  declarator_ok (both n (former g)) p = ((name_ok bytes n p.0, tt), range_ok bytes numbers g p.1, tt)
+  declarator_ok (both n (latter v)) p = ((name_ok bytes n p.0, option_value_ok v p.1), tt, tt)
+
+  declarators_ok : (d : D (separated declared_name)) → Sound bytes d → OneOrMore IsStored (list_of (meaning.declarator_of bytes) d)
+  declarators_ok d p = list_ok bytes (meaning.declarator_of bytes) IsStored declarator_ok d p
+
+  valued_names_ok : (d : D (separated valued_name)) → Sound bytes d → OneOrMore IsVariablePort (list_of (meaning.valued_of bytes) d)
+  valued_names_ok d p = list_ok bytes (meaning.valued_of bytes) IsVariablePort valued_ok d p
 
   names_ok : (d : D (r rule.Names)) → Sound bytes d → OneOrMore IsPort (meaning.names_of bytes d)
   names_ok (named l) p = list_ok bytes (meaning.plain_name bytes) IsPort plain_ok l p
-
-  wires_ok : (d : D (separated wire_name)) → Sound bytes d → OneOrMore IsNet (list_of (meaning.wire_of bytes) d)
-  wires_ok d p = list_ok bytes (meaning.wire_of bytes) IsNet wire_ok d p
 
   settings_ok : (d : D (separated (r rule.Setting))) → Sound bytes d → OneOrMore IsSetting (list_of (meaning.setting_of bytes) d)
   settings_ok d p = list_ok bytes (meaning.setting_of bytes) IsSetting (setting_ok bytes numbers) d p
@@ -55,11 +62,11 @@ module _ (bytes : ℕ → List ℕ) (numbers : (a : Terminal) → IsLiteral (mea
   ended_names : (d : D (r rule.Names ⨾ t kind.Semicolon)) → Sound bytes d → OneOrMore IsPort (meaning.ended bytes (meaning.names_of bytes) d)
   ended_names (both l z) p = names_ok l p.0
 
-  ended_variables : (d : D (separated variable_name ⨾ t kind.Semicolon)) → Sound bytes d → OneOrMore IsVariable (meaning.ended bytes (list_of (meaning.variable_of bytes)) d)
-  ended_variables (both l z) p = declared_variables_ok l p.0
+  ended_declarators : (d : D (separated declared_name ⨾ t kind.Semicolon)) → Sound bytes d → OneOrMore IsStored (meaning.ended bytes (list_of (meaning.declarator_of bytes)) d)
+  ended_declarators (both l z) p = declarators_ok l p.0
 
-  ended_wires : (d : D (separated wire_name ⨾ t kind.Semicolon)) → Sound bytes d → OneOrMore IsNet (meaning.ended bytes (list_of (meaning.wire_of bytes)) d)
-  ended_wires (both l z) p = wires_ok l p.0
+  ended_valued : (d : D (separated valued_name ⨾ t kind.Semicolon)) → Sound bytes d → OneOrMore IsVariablePort (meaning.ended bytes (list_of (meaning.valued_of bytes)) d)
+  ended_valued (both l z) p = valued_names_ok l p.0
 
   -- ---- items without blocks
 
@@ -100,11 +107,11 @@ module _ (bytes : ℕ → List ℕ) (numbers : (a : Terminal) → IsLiteral (mea
 
   reg_ok : (d : D reg_item) → Sound bytes d → IsGenerateItem (meaning.reg_item_of bytes d)
   reg_ok (both (leaf a) (both s (both g l))) p =
-      (signals_ok a.place tree.Reg (meaning.ended bytes (list_of (meaning.variable_of bytes))) ended_variables (both s (both g l)) p.1, refl)
+      (signals_ok a.place tree.Reg (meaning.ended bytes (list_of (meaning.declarator_of bytes))) ended_declarators (both s (both g l)) p.1, refl)
 
   wire_item_ok : (d : D wire_item) → Sound bytes d → IsGenerateItem (meaning.wire_item_of bytes d)
   wire_item_ok (both (leaf a) (both s (both g l))) p =
-      (signals_ok a.place tree.Wire (meaning.ended bytes (list_of (meaning.wire_of bytes))) ended_wires (both s (both g l)) p.1, refl)
+      (signals_ok a.place tree.Wire (meaning.ended bytes (list_of (meaning.declarator_of bytes))) ended_declarators (both s (both g l)) p.1, refl)
 
   local_ok : (d : D local_item) → Sound bytes d → IsGenerateItem (meaning.local_item_of bytes d)
   local_ok (both (leaf a) (both y (both l z))) p =
@@ -115,6 +122,9 @@ module _ (bytes : ℕ → List ℕ) (numbers : (a : Terminal) → IsLiteral (mea
 
   always_ok : (d : D always_item) → Sound bytes d → IsGenerateItem (meaning.always_item_of bytes d)
   always_ok (both (leaf a) (both c d)) p = (control_ok c p.1.0, statement_ok bytes numbers d p.1.1)
+
+  initial_ok : (d : D initial_item) → Sound bytes d → IsGenerateItem (meaning.initial_item_of bytes d)
+  initial_ok (both (leaf a) d) p = statement_ok bytes numbers d p.1
 
   genvar_ok : (d : D genvar_item) → Sound bytes d → IsGenerateItem (meaning.genvar_item_of bytes d)
   genvar_ok (both (leaf a) (both (named l) z)) p = list_ok bytes (meaning.name_of bytes) IsName (name_ok bytes) l p.1.0
@@ -191,12 +201,13 @@ module _ (bytes : ℕ → List ℕ) (numbers : (a : Terminal) → IsLiteral (mea
   item_next (named (latter (latter (former i)))) w p = local_ok bytes numbers i p
   item_next (named (latter (latter (latter (former i))))) w p = assigns_ok bytes numbers i p
   item_next (named (latter (latter (latter (latter (former i)))))) w p = always_ok bytes numbers i p
-  item_next (named (latter (latter (latter (latter (latter (former i))))))) w p = genvar_ok bytes numbers i p
-  item_next (named (latter (latter (latter (latter (latter (latter (former i)))))))) w p = integer_ok bytes numbers i p
-  item_next (named (latter (latter (latter (latter (latter (latter (latter (former i))))))))) w p = instances_ok bytes numbers i p
-  item_next (named (latter (latter (latter (latter (latter (latter (latter (latter (former i)))))))))) w p = for_ok i (omega arith) p
-  item_next (named (latter (latter (latter (latter (latter (latter (latter (latter (latter (former i))))))))))) w p = if_ok i (omega arith) p
-  item_next (named (latter (latter (latter (latter (latter (latter (latter (latter (latter (latter i))))))))))) w p = case_ok i (omega arith) p
+  item_next (named (latter (latter (latter (latter (latter (former i))))))) w p = initial_ok bytes numbers i p
+  item_next (named (latter (latter (latter (latter (latter (latter (former i)))))))) w p = genvar_ok bytes numbers i p
+  item_next (named (latter (latter (latter (latter (latter (latter (latter (former i))))))))) w p = integer_ok bytes numbers i p
+  item_next (named (latter (latter (latter (latter (latter (latter (latter (latter (former i)))))))))) w p = instances_ok bytes numbers i p
+  item_next (named (latter (latter (latter (latter (latter (latter (latter (latter (latter (former i))))))))))) w p = for_ok i (omega arith) p
+  item_next (named (latter (latter (latter (latter (latter (latter (latter (latter (latter (latter (former i)))))))))))) w p = if_ok i (omega arith) p
+  item_next (named (latter (latter (latter (latter (latter (latter (latter (latter (latter (latter (latter i)))))))))))) w p = case_ok i (omega arith) p
 
 module _ (bytes : ℕ → List ℕ) (numbers : (a : Terminal) → IsLiteral (meaning.literal_at bytes a)) where
   item_below : (s : ℕ) (d : D (r rule.GenerateItem)) → size d < s → Sound bytes d → IsGenerateItem (meaning.item_of bytes d)
@@ -209,6 +220,7 @@ module _ (bytes : ℕ → List ℕ) (numbers : (a : Terminal) → IsLiteral (mea
   item_in_module (tree.ParametersItem parameters) p = p.0
   item_in_module (tree.AssignsItem place assigns) p = p
   item_in_module (tree.AlwaysItem block) p = p
+  item_in_module (tree.InitialItem block) p = p
   item_in_module (tree.GenvarsItem place names) p = p
   item_in_module (tree.IntegersItem place names) p = p
   item_in_module (tree.InstancesItem instances) p = p
@@ -270,23 +282,33 @@ module _ (bytes : ℕ → List ℕ) (numbers : (a : Terminal) → IsLiteral (mea
 
   -- ---- modules
 
-  port_names : (k : D (r rule.Direction)) (names : List Declarator) → OneOrMore IsPort names → AreNames (meaning.port_kind k) names
-  port_names (named (former (both d (latter w)))) names p = p
-  port_names (named (former (both d (former w)))) names p = p
-  port_names (named (latter (both d (latter w)))) names p = p
-  port_names (named (latter (both d (former (former w))))) names p = p
-  port_names (named (latter (both d (former (latter w))))) names p = p
+  -- what a direction says, with or without the word `wire`
+  input_names : (w : D (opt (t kind.KeywordWire))) (names : List Declarator) → OneOrMore IsPort names → AreNames (meaning.input_kind w) names
+  input_names (former w) names p = p
+  input_names (latter z) names p = p
 
-  port_kind_ok : (k : D (r rule.Direction)) → is_port_kind (meaning.port_kind k) ≡ true
-  port_kind_ok (named (former (both d (latter w)))) = refl
-  port_kind_ok (named (former (both d (former w)))) = refl
-  port_kind_ok (named (latter (both d (latter w)))) = refl
-  port_kind_ok (named (latter (both d (former (former w))))) = refl
-  port_kind_ok (named (latter (both d (former (latter w))))) = refl
+  output_names : (w : D (opt (t kind.KeywordWire))) (names : List Declarator) → OneOrMore IsPort names → AreNames (meaning.output_kind w) names
+  output_names (former w) names p = p
+  output_names (latter z) names p = p
+
+  input_port : (w : D (opt (t kind.KeywordWire))) → is_port_kind (meaning.input_kind w) ≡ true
+  input_port (former w) = refl
+  input_port (latter z) = refl
+
+  output_port : (w : D (opt (t kind.KeywordWire))) → is_port_kind (meaning.output_kind w) ≡ true
+  output_port (former w) = refl
+  output_port (latter z) = refl
+
+  port_item_ok : (d : D port_item) → Sound bytes d → IsItem (meaning.port_item_of bytes d)
+  port_item_ok (former (both (leaf a) (both w l))) p =
+      signals_ok bytes numbers a.place (meaning.input_kind w) (meaning.ended bytes (meaning.names_of bytes)) (λ u v. input_names w (meaning.ended bytes (meaning.names_of bytes) u) (ended_names bytes numbers u v)) l p.1.1
+  port_item_ok (latter (both (leaf a) (former (both w l)))) p =
+      signals_ok bytes numbers a.place tree.OutputReg (meaning.ended bytes (list_of (meaning.valued_of bytes))) (ended_valued bytes numbers) l p.1.1
+  port_item_ok (latter (both (leaf a) (latter (both w l)))) p =
+      signals_ok bytes numbers a.place (meaning.output_kind w) (meaning.ended bytes (meaning.names_of bytes)) (λ u v. output_names w (meaning.ended bytes (meaning.names_of bytes) u) (ended_names bytes numbers u v)) l p.1.1
 
   item_onto_ok : (d : D (r rule.Item)) (rest : tree.Items) → Sound bytes d → AreItems rest → AreItems (meaning.item_onto bytes d rest)
-  item_onto_ok (named (former (both d l))) rest p q =
-      (signals_ok bytes numbers (meaning.first_place d) (meaning.port_kind d) (meaning.ended bytes (meaning.names_of bytes)) (λ u v. port_names d (meaning.ended bytes (meaning.names_of bytes) u) (ended_names bytes numbers u v)) l p.1, q)
+  item_onto_ok (named (former d)) rest p q = (port_item_ok d p, q)
   item_onto_ok (named (latter (former (both (leaf a) (both y (both l z)))))) rest p q =
       (parameters_ok bytes numbers a.place false y (list_of (meaning.setting_of bytes) l) p.1.0 (settings_ok bytes numbers l p.1.1.0), q)
   item_onto_ok (named (latter (latter (former (both g (both l z)))))) rest p q = generate_items_ok l rest p.1.0 q
@@ -297,23 +319,50 @@ module _ (bytes : ℕ → List ℕ) (numbers : (a : Terminal) → IsLiteral (mea
   items_ok (start z) rest p q = q
   items_ok (grown l d) rest p q = items_ok l (meaning.item_onto bytes d rest) p.0 (item_onto_ok d rest p.1 q)
 
-  port_ok : (p : D (r rule.Port)) (others : List Declarator) → Sound bytes p → Each IsPort others → ArePorts (meaning.port_of bytes p others)
-  port_ok (named (both d (both s (both g n)))) others p q = (
-    record {
-      range = option_ok bytes (meaning.range_of bytes) IsRange (range_ok bytes numbers) g p.1.1.0;
-      names = port_names d (meaning.plain_name bytes n ∷ others) (plain_ok bytes numbers n p.1.1.1, q);
-    },
-    port_kind_ok d,
-  )
+  declared_by_ok : (place : ℕ) (k : tree.SignalKind) (d : D sign_and_range) (names : List Declarator) → Sound bytes d → AreNames k names → is_port_kind k ≡ true → ArePorts (meaning.declared_by bytes place k d names)
+  declared_by_ok place k (both s g) names p q e = (record { range = option_ok bytes (meaning.range_of bytes) IsRange (range_ok bytes numbers) g p.1; names = q }, e)
 
-  ports_ok : (p : D (r rule.Port)) (l : D (star (t kind.Comma ⨾ (r rule.Port ∣ t kind.Identifier)))) (names : List Declarator) (ports : List Signals) → Sound bytes p → Sound bytes l → Each IsPort names → Each ArePorts ports → OneOrMore ArePorts (meaning.ports_onto bytes p l names ports)
-  ports_ok p (start z) names ports u v w x = (port_ok p names u w, x)
-  ports_ok p (grown l (both c (former q))) names ports u v w x = ports_ok p l [] (meaning.port_of bytes q names ∷ ports) u v.0 tt (port_ok q names v.1.1 w, x)
-  ports_ok p (grown l (both c (latter n))) names ports u v w x = ports_ok p l (meaning.plain_name bytes n ∷ names) ports u v.0 (plain_ok bytes numbers n v.1.1, w) x
+  mutual
+    ports_ok : (p : D (r rule.Port)) → Sound bytes p → OneOrMore ArePorts (meaning.ports_from bytes p)
+    ports_ok (named (former (both (leaf a) (both w l)))) q = nets_ok a.place (meaning.input_kind w) l (input_names w) (input_port w) q.1.1
+    ports_ok (named (latter (both (leaf a) (former (both w l))))) q = variables_from_ok a.place l q.1.1
+    ports_ok (named (latter (both (leaf a) (latter (both w l))))) q = nets_ok a.place (meaning.output_kind w) l (output_names w) (output_port w) q.1.1
+
+    nets_ok : (place : ℕ) (k : tree.SignalKind) (d : D (signed_range (t kind.Identifier ⨾ r rule.NetPorts))) → ((names : List Declarator) → OneOrMore IsPort names → AreNames k names) → is_port_kind k ≡ true → Sound bytes d → OneOrMore ArePorts (meaning.nets_from bytes place k d)
+    nets_ok place k (both s (both g (both n l))) f e p = (
+      declared_by_ok place k (both s g) (meaning.plain_name bytes n ∷ meaning.net_names bytes l) (p.0, p.1.0) (f (meaning.plain_name bytes n ∷ meaning.net_names bytes l) (plain_ok bytes numbers n p.1.1.0, net_names_ok l p.1.1.1)) e,
+      net_ports_ok l p.1.1.1,
+    )
+
+    variables_from_ok : (place : ℕ) (d : D (signed_range (valued_name ⨾ r rule.VariablePorts))) → Sound bytes d → OneOrMore ArePorts (meaning.variables_from bytes place d)
+    variables_from_ok place (both s (both g (both n l))) p = (
+      declared_by_ok place tree.OutputReg (both s g) (meaning.valued_of bytes n ∷ meaning.variable_names bytes l) (p.0, p.1.0) (valued_ok bytes numbers n p.1.1.0, variable_names_ok l p.1.1.1) refl,
+      variable_ports_ok l p.1.1.1,
+    )
+
+    net_names_ok : (d : D (r rule.NetPorts)) → Sound bytes d → Each IsPort (meaning.net_names bytes d)
+    net_names_ok (named (former (both c (former p)))) q = tt
+    net_names_ok (named (former (both c (latter (both n l))))) q = (plain_ok bytes numbers n q.1.0, net_names_ok l q.1.1)
+    net_names_ok (named (latter z)) q = tt
+
+    net_ports_ok : (d : D (r rule.NetPorts)) → Sound bytes d → Each ArePorts (meaning.net_ports bytes d)
+    net_ports_ok (named (former (both c (former p)))) q = each_of_some ArePorts (meaning.ports_from bytes p) (ports_ok p q.1)
+    net_ports_ok (named (former (both c (latter (both n l))))) q = net_ports_ok l q.1.1
+    net_ports_ok (named (latter z)) q = tt
+
+    variable_names_ok : (d : D (r rule.VariablePorts)) → Sound bytes d → Each IsVariablePort (meaning.variable_names bytes d)
+    variable_names_ok (named (former (both c (former p)))) q = tt
+    variable_names_ok (named (former (both c (latter (both n l))))) q = (valued_ok bytes numbers n q.1.0, variable_names_ok l q.1.1)
+    variable_names_ok (named (latter z)) q = tt
+
+    variable_ports_ok : (d : D (r rule.VariablePorts)) → Sound bytes d → Each ArePorts (meaning.variable_ports bytes d)
+    variable_ports_ok (named (former (both c (former p)))) q = each_of_some ArePorts (meaning.ports_from bytes p) (ports_ok p q.1)
+    variable_ports_ok (named (former (both c (latter (both n l))))) q = variable_ports_ok l q.1.1
+    variable_ports_ok (named (latter z)) q = tt
 
   port_list_ok : (d : D (r rule.Ports)) → Sound bytes d → IsHeader (meaning.ports_of bytes d)
   port_list_ok (named (former l)) p = list_ok bytes (meaning.name_of bytes) IsName (name_ok bytes) l p
-  port_list_ok (named (latter (both q l))) p = ports_ok q l [] [] p.0 p.1 tt tt
+  port_list_ok (named (latter q)) p = ports_ok q p
 
   header_ok : (d : D (opt (t kind.OpenParen ⨾ opt (r rule.Ports) ⨾ t kind.CloseParen))) → Sound bytes d → IsHeader (meaning.header_of bytes d)
   header_ok (former (both o (both (former q) z))) p = port_list_ok q p.1.0

@@ -59,8 +59,16 @@ loop : ex.HasDepth ex.loop_text 4
 unfolding is_in_range cut_text word_kind system_kind sign_kind signs keywords left_out_words system_names literal_bits is_signed_literal has_size literal_size number_bits
 loop = let f = found ex.loop_text refl refl refl refl in record { source = f.source; spelled = f.spelled; deep = refl }
 
+initial_block : ex.HasDepth (codes "module m; initial if (a) y = b; endmodule") 2
+unfolding is_in_range cut_text word_kind system_kind sign_kind signs keywords left_out_words system_names literal_bits is_signed_literal has_size literal_size number_bits
+initial_block = let f = found (codes "module m; initial if (a) y = b; endmodule") refl refl refl refl in record { source = f.source; spelled = f.spelled; deep = refl }
+
+initial_value : ex.HasDepth (codes "module m(output reg q = (a)); endmodule") 1
+unfolding is_in_range cut_text word_kind system_kind sign_kind signs keywords left_out_words system_names literal_bits is_signed_literal has_size literal_size number_bits
+initial_value = let f = found (codes "module m(output reg q = (a)); endmodule") refl refl refl refl in record { source = f.source; spelled = f.spelled; deep = refl }
+
 pub depths_are : ex.DepthsAre
-depths_are = record { flat = flat; operator = operator; chain = chain; brackets = brackets; select = select; parts = parts; call = call; application = application; word = word; choice = choice; statement = statement; loop = loop; block = block }
+depths_are = record { flat = flat; operator = operator; chain = chain; brackets = brackets; select = select; parts = parts; call = call; application = application; word = word; choice = choice; statement = statement; loop = loop; block = block; initial_block = initial_block; initial_value = initial_value }
 
 empty : ex.StopsAt [] 0
 unfolding is_in_range cut_text word_kind system_kind sign_kind signs keywords left_out_words system_names
@@ -114,5 +122,25 @@ generated_function : ex.StopsAt (codes "module m; if (a) function f; ; endfuncti
 unfolding is_in_range cut_text word_kind system_kind sign_kind signs keywords left_out_words system_names
 generated_function = stops_at (codes "module m; if (a) function f; ; endfunction endmodule") 7 (record { cut = refl; kept = refl; stopped = refl; left = refl })
 
+no_statement : ex.StopsAt (codes "module m; initial endmodule") 4
+unfolding is_in_range cut_text word_kind system_kind sign_kind signs keywords left_out_words system_names
+no_statement = stops_at (codes "module m; initial endmodule") 4 (record { cut = refl; kept = refl; stopped = refl; left = refl })
+
+memory_value : ex.StopsAt (codes "module m; reg w [0:3] = a; endmodule") 10
+unfolding is_in_range cut_text word_kind system_kind sign_kind signs keywords left_out_words system_names
+memory_value = stops_at (codes "module m; reg w [0:3] = a; endmodule") 10 (record { cut = refl; kept = refl; stopped = refl; left = refl })
+
+input_value : ex.StopsAt (codes "module m(input a = b); endmodule") 5
+unfolding is_in_range cut_text word_kind system_kind sign_kind signs keywords left_out_words system_names
+input_value = stops_at (codes "module m(input a = b); endmodule") 5 (record { cut = refl; kept = refl; stopped = refl; left = refl })
+
+net_value : ex.StopsAt (codes "module m; output y = a; endmodule") 5
+unfolding is_in_range cut_text word_kind system_kind sign_kind signs keywords left_out_words system_names
+net_value = stops_at (codes "module m; output y = a; endmodule") 5 (record { cut = refl; kept = refl; stopped = refl; left = refl })
+
+behind_variable : ex.StopsAt (codes "module m(output reg a = b, output c, d = e); endmodule") 13
+unfolding is_in_range cut_text word_kind system_kind sign_kind signs keywords left_out_words system_names
+behind_variable = stops_at (codes "module m(output reg a = b, output c, d = e); endmodule") 13 (record { cut = refl; kept = refl; stopped = refl; left = refl })
+
 pub faults_are : ex.FaultsAre
-faults_are = record { empty = empty; cut_off = cut_off; surplus_else = surplus_else; second_default = second_default; no_operand = no_operand; chained_targets = chained_targets; select_of_several = select_of_several; third_select = third_select; no_argument = no_argument; unnamed_block = unnamed_block; array_value = array_value; two_steps = two_steps; generated_function = generated_function }
+faults_are = record { empty = empty; cut_off = cut_off; surplus_else = surplus_else; second_default = second_default; no_operand = no_operand; chained_targets = chained_targets; select_of_several = select_of_several; third_select = third_select; no_argument = no_argument; unnamed_block = unnamed_block; array_value = array_value; two_steps = two_steps; generated_function = generated_function; no_statement = no_statement; memory_value = memory_value; input_value = input_value; net_value = net_value; behind_variable = behind_variable }

@@ -5,7 +5,7 @@ use Rattle.vs_grammar.specs.Grammars.{depth}
 use Rattle.vs_grammar.specs.Verilog.{phrase_of, Rule as rule}
 use Rattle.vs_grammar.specs.Meaning.{D, text_of}
 use Rattle.vs_grammar.specs.Trees.{Expr, Exprs, Select, RangeTree, ValueType, Variables, BlockScope, LoopHead, Target, Targets, Statement, Fallback, Statements, CaseArms, Declarator, Signals, Setting, Parameters, Assign, NamedConnection, Connections, Instance, Instances, Function, Item, GenerateBlock, BlockFallback, GenerateArms, Items, Header, Module, Source}
-use Rattle.vs_grammar.specs.Trees.{Number, Named, Apply, Unary, Binary, Choice, Concatenation, Replication, Call, Brackets, NoExpr, AndExpr, Whole, BitAt, Slice, OfWord, IntegerType, RangeType, NamedTarget, Targeted, NoTarget, AndTarget, Empty, Assignment, If, Case, Sequence, For, NoFallback, Otherwise, NoStatement, AndStatement, NoArm, AndArm, Unconnected, ByOrder, ByName, SignalsItem, ParametersItem, AssignsItem, AlwaysItem, GenvarsItem, IntegersItem, InstancesItem, FunctionItem, GenerateFor, GenerateIf, GenerateCase, NoBlock, Alone, Enclosed, NoBlockFallback, OtherwiseBlock, NoGenerateArm, AndGenerateArm, NoItem, AndItem, NoPorts, PlainPorts, DeclaredPorts}
+use Rattle.vs_grammar.specs.Trees.{Number, Named, Apply, Unary, Binary, Choice, Concatenation, Replication, Call, Brackets, NoExpr, AndExpr, Whole, BitAt, Slice, OfWord, IntegerType, RangeType, NamedTarget, Targeted, NoTarget, AndTarget, Empty, Assignment, If, Case, Sequence, For, NoFallback, Otherwise, NoStatement, AndStatement, NoArm, AndArm, Unconnected, ByOrder, ByName, SignalsItem, ParametersItem, AssignsItem, AlwaysItem, InitialItem, GenvarsItem, IntegersItem, InstancesItem, FunctionItem, GenerateFor, GenerateIf, GenerateCase, NoBlock, Alone, Enclosed, NoBlockFallback, OtherwiseBlock, NoGenerateArm, AndGenerateArm, NoItem, AndItem, NoPorts, PlainPorts, DeclaredPorts}
 
 -- the greatest depth of several, and that of one which may be missing
 abbrev pub deepest : {A : Type 0} → (A → ℕ) → List A → ℕ
@@ -131,6 +131,7 @@ abbrev mutual
   item_depth (ParametersItem parameters) = parameters_depth parameters
   item_depth (AssignsItem place assigns) = deepest assign_depth assigns
   item_depth (AlwaysItem block) = statement_depth block.statement
+  item_depth (InitialItem block) = statement_depth block.statement
   item_depth (GenvarsItem place names) = 0
   item_depth (IntegersItem place names) = 0
   item_depth (InstancesItem instances) = instances_depth instances

@@ -9,7 +9,7 @@ use Rattle.vs_grammar.specs.Grammars.{depth}
 use Rattle.vs_grammar.specs.Trees.{Declarator, PlainPorts, Name, RangeTree, ValueType, Variables, Expr, Exprs, UnaryOp, BinaryOp, SystemFunction, Assign, Item, Module, Source, items_list}
 use Rattle.vs_base.specs.declared.operators.UnaryOp.TheVariants as unary
 use Rattle.vs_base.specs.declared.operators.BinaryOp.TheVariants as binary
-use Rattle.vs_grammar.specs.Trees.{Alone, AlwaysItem, AndArm, AndExpr, AndGenerateArm, AndItem, AndStatement, AndTarget, Any, Apply, AsSigned, AsUnsigned, Assignment, AssignsItem, Between, Binary, BitAt, Brackets, ByName, ByOrder, Call, Case, CaseX, CaseZ, Choice, Clog2, Concatenation, DeclaredPorts, Downward, Empty, Enclosed, Exact, For, FunctionItem, GenerateCase, GenerateFor, GenerateIf, GenvarsItem, If, Input, InstancesItem, IntegersItem, IntegerType, Listed, Named, NamedTarget, Negedge, NoArm, NoBlock, NoBlockFallback, NoExpr, NoFallback, NoGenerateArm, NoItem, NoPorts, NoStatement, NoTarget, Number, OfWord, Otherwise, OtherwiseBlock, Output, OutputReg, OutputWire, ParametersItem, Posedge, RangeType, Reg, Replication, Sequence, SignalsItem, Slice, Star, Targeted, Unary, Unconnected, Upward, Whole, Wire}
+use Rattle.vs_grammar.specs.Trees.{Alone, AlwaysItem, AndArm, AndExpr, AndGenerateArm, AndItem, AndStatement, AndTarget, Any, Apply, AsSigned, AsUnsigned, Assignment, AssignsItem, Between, Binary, BitAt, Brackets, ByName, ByOrder, Call, Case, CaseX, CaseZ, Choice, Clog2, Concatenation, DeclaredPorts, Downward, Empty, Enclosed, Exact, For, FunctionItem, GenerateCase, GenerateFor, GenerateIf, GenvarsItem, If, Input, InstancesItem, InitialItem, IntegersItem, IntegerType, Listed, Named, NamedTarget, Negedge, NoArm, NoBlock, NoBlockFallback, NoExpr, NoFallback, NoGenerateArm, NoItem, NoPorts, NoStatement, NoTarget, Number, OfWord, Otherwise, OtherwiseBlock, Output, OutputReg, OutputWire, ParametersItem, Posedge, RangeType, Reg, Replication, Sequence, SignalsItem, Slice, Star, Targeted, Unary, Unconnected, Upward, Whole, Wire}
 use Rattle.vs_grammar.specs.Spelled.{Spells, HasSyntaxFault}
 
 -- ---- whole trees
@@ -337,6 +337,63 @@ loop_source =
           NoItem);
     } ∷ [])
 
+-- initial blocks, and initial values of variables (9.9.1, 6.2.1)
+abbrev pub initial_text : List ℕ
+initial_text = codes "module m; reg q = 0, r, w[1:0]; output reg y = a; initial q <= b; if (c) initial begin end endmodule"
+
+abbrev pub initial_source : Source
+initial_source =
+    modules_of (record {
+      place = 0;
+      name = name (codes "m") 1;
+      parameters = [];
+      header = NoPorts;
+      items =
+          AndItem
+          (SignalsItem (record {
+            place = 3;
+            kind = Reg;
+            signed = false;
+            range = None;
+            names =
+                record { name = name (codes "q") 4; addresses = None; value = Some (count 0 6) }
+                ∷ declared (codes "r") 8
+                ∷ record { name = name (codes "w") 10; addresses = Some (range 11 (count 1 12) (count 0 14)); value = None }
+                ∷ [];
+          }))
+          (AndItem (SignalsItem (record { place = 17; kind = OutputReg; signed = false; range = None; names = record { name = name (codes "y") 19; addresses = None; value = Some (read (codes "a") 21) } ∷ [] }))
+          (AndItem (InitialItem (record { place = 23; statement = Assignment (NamedTarget (name (codes "q") 24) Whole) (read (codes "b") 26) false }))
+          (AndItem (GenerateIf 28 (read (codes "c") 30) (Alone (InitialItem (record { place = 32; statement = Sequence 33 None NoStatement }))) NoBlockFallback) NoItem)));
+    } ∷ [])
+
+-- in a header only the names of an `output reg` have values, each of them (A.2.1.2)
+abbrev pub values_text : List ℕ
+values_text = codes "module m(input a, b, output reg [1:0] c = 0, d, e = a, output f, g); endmodule"
+
+abbrev pub values_source : Source
+values_source =
+    modules_of (record {
+      place = 0;
+      name = name (codes "m") 1;
+      parameters = [];
+      header = DeclaredPorts (
+          record { place = 3; kind = Input; signed = false; range = None; names = declared (codes "a") 4 ∷ declared (codes "b") 6 ∷ [] }
+          ∷ record {
+            place = 8;
+            kind = OutputReg;
+            signed = false;
+            range = Some (range 10 (count 1 11) (count 0 13));
+            names =
+                record { name = name (codes "c") 15; addresses = None; value = Some (count 0 17) }
+                ∷ declared (codes "d") 19
+                ∷ record { name = name (codes "e") 21; addresses = None; value = Some (read (codes "a") 23) }
+                ∷ [];
+          }
+          ∷ record { place = 25; kind = Output; signed = false; range = None; names = declared (codes "f") 26 ∷ declared (codes "g") 28 ∷ [] }
+          ∷ []);
+      items = NoItem;
+    } ∷ [])
+
 -- the variables of a named block (9.8.3)
 abbrev pub block_variables_text : List ℕ
 block_variables_text = codes "module m; always @* begin : b reg signed [1:0] t, u; integer n; t = a; end endmodule"
@@ -612,6 +669,8 @@ pub record DepthsAre : Type 0 where
   pub statement : HasDepth dangling_text 3
   pub loop : HasDepth loop_text 4
   pub block : HasDepth dangling_generate_text 2
+  pub initial_block : HasDepth (codes "module m; initial if (a) y = b; endmodule") 2
+  pub initial_value : HasDepth (codes "module m(output reg q = (a)); endmodule") 1
 
 -- ---- texts that spell nothing
 
@@ -640,6 +699,12 @@ pub record FaultsAre : Type 0 where
   pub array_value : StopsAt (codes "module m; wire p [0:3] = a; endmodule") 10
   pub two_steps : StopsAt (codes "module m; always @* for (i = 0; i < 4; i = i + 1, j = 2) ; endmodule") 21
   pub generated_function : StopsAt (codes "module m; if (a) function f; ; endfunction endmodule") 7
+  -- an initial block without its statement, and an initial value of a memory, of an input, of an output that is no variable, and behind one that is
+  pub no_statement : StopsAt (codes "module m; initial endmodule") 4
+  pub memory_value : StopsAt (codes "module m; reg w [0:3] = a; endmodule") 10
+  pub input_value : StopsAt (codes "module m(input a = b); endmodule") 5
+  pub net_value : StopsAt (codes "module m; output y = a; endmodule") 5
+  pub behind_variable : StopsAt (codes "module m(output reg a = b, output c, d = e); endmodule") 13
 
 -- ---- all of them
 
@@ -657,6 +722,8 @@ pub record TreesAre : Type 0 where
   pub selects : Spells selects_text selects_source
   pub region : Spells region_text region_source
   pub loop : Spells loop_text loop_source
+  pub initial : Spells initial_text initial_source
+  pub values : Spells values_text values_source
   pub block_variables : Spells block_variables_text block_variables_source
   pub function : Spells function_text function_source
   pub declared_function : Spells declared_function_text declared_function_source

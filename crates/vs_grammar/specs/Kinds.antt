@@ -94,10 +94,11 @@ number_of kind.Arrow = 83
 number_of kind.KeywordFunction = 84
 number_of kind.KeywordEndFunction = 85
 number_of kind.KeywordInteger = 86
+number_of kind.KeywordInitial = 87
 
 -- the kind of the end of a text
 abbrev pub end_of_text : ℕ
-end_of_text = 87
+end_of_text = 88
 
 abbrev pub numbers_of : List TokenKind → List ℕ
 numbers_of ks = map number_of ks

@@ -6,12 +6,12 @@ use Rattle.vs_grammar.specs.Kinds.{number_of}
 use Rattle.vs_grammar.specs.Grammars.{Phrase, Tree, Terminal, onto, opt, star}
 use Rattle.vs_grammar.specs.Grammars.Phrase.{seq, last}
 use Rattle.vs_grammar.specs.Grammars.Tree.{leaf, both, former, latter, without, within, start, grown, alone, behind, nested, named}
-use Rattle.vs_grammar.specs.Verilog.{◌⨾◌, ◌∣◌, verilog, t, r, phrase_of, separated, signed_range, sign_and_range, reg_type, variable_name, wire_name, assignment, named_connection, number, slice_sign, unary_operator, product_operator, sum_operator, shift_operator, relation_operator, equality_operator, xor_operator, reg_item, wire_item, local_item, assign_item, always_item, genvar_item, integer_item, overrides, instance_item, for_item, if_item, generate_case, input_declaration}
+use Rattle.vs_grammar.specs.Verilog.{◌⨾◌, ◌∣◌, verilog, t, r, phrase_of, separated, signed_range, sign_and_range, reg_type, value_behind, declared_name, valued_name, assignment, named_connection, number, slice_sign, unary_operator, product_operator, sum_operator, shift_operator, relation_operator, equality_operator, xor_operator, reg_item, wire_item, local_item, assign_item, always_item, initial_item, genvar_item, integer_item, overrides, instance_item, for_item, if_item, generate_case, port_item, input_declaration}
 use Rattle.vs_grammar.specs.Verilog.{Rule as rule}
 use Rattle.vs_grammar.specs.Trees.{Name, Literal, Expr, Exprs, Select, SliceKind, SystemFunction, UnaryOp, BinaryOp, RangeTree, ValueType, Variables, BlockScope, LoopHead, Target, Targets, CaseKind, Statement, Fallback, Statements, CaseArms, SignalKind, Declarator, Signals, Setting, Parameters, Assign, Edge, Event, EventControl, NamedConnection, Connections, Instance, Function, Item, GenerateBlock, BlockFallback, GenerateArms, Items, Header, Module, Source}
 use Rattle.vs_base.specs.declared.operators.UnaryOp.TheVariants as unary
 use Rattle.vs_base.specs.declared.operators.BinaryOp.TheVariants as binary
-use Rattle.vs_grammar.specs.Trees.{AsSigned, AsUnsigned, Clog2, Between, Upward, Downward, Number, Named, Apply, Unary, Binary, Choice, Concatenation, Replication, Call, Brackets, NoExpr, AndExpr, Whole, BitAt, Slice, OfWord, IntegerType, RangeType, NamedTarget, Targeted, NoTarget, AndTarget, Exact, CaseZ, CaseX, Empty, Assignment, If, Case, Sequence, For, NoFallback, Otherwise, NoStatement, AndStatement, NoArm, AndArm, Input, InputWire, Output, OutputWire, OutputReg, Reg, Wire, Any, Posedge, Negedge, Star, Listed, Unconnected, ByOrder, ByName, SignalsItem, ParametersItem, AssignsItem, AlwaysItem, GenvarsItem, IntegersItem, InstancesItem, FunctionItem, GenerateFor, GenerateIf, GenerateCase, NoBlock, Alone, Enclosed, NoBlockFallback, OtherwiseBlock, NoGenerateArm, AndGenerateArm, NoItem, AndItem, NoPorts, PlainPorts, DeclaredPorts}
+use Rattle.vs_grammar.specs.Trees.{AsSigned, AsUnsigned, Clog2, Between, Upward, Downward, Number, Named, Apply, Unary, Binary, Choice, Concatenation, Replication, Call, Brackets, NoExpr, AndExpr, Whole, BitAt, Slice, OfWord, IntegerType, RangeType, NamedTarget, Targeted, NoTarget, AndTarget, Exact, CaseZ, CaseX, Empty, Assignment, If, Case, Sequence, For, NoFallback, Otherwise, NoStatement, AndStatement, NoArm, AndArm, Input, InputWire, Output, OutputWire, OutputReg, Reg, Wire, Any, Posedge, Negedge, Star, Listed, Unconnected, ByOrder, ByName, SignalsItem, ParametersItem, AssignsItem, AlwaysItem, InitialItem, GenvarsItem, IntegersItem, InstancesItem, FunctionItem, GenerateFor, GenerateIf, GenerateCase, NoBlock, Alone, Enclosed, NoBlockFallback, OtherwiseBlock, NoGenerateArm, AndGenerateArm, NoItem, AndItem, NoPorts, PlainPorts, DeclaredPorts}
 
 -- a derivation of a phrase in the grammar of design texts
 abbrev pub D : Phrase → Type 0
@@ -112,12 +112,14 @@ abbrev pub is_blocking : D (t kind.Assign ∣ t kind.LessEqual) → Bool
 is_blocking (former o) = true
 is_blocking (latter o) = false
 
-abbrev pub port_kind : D (r rule.Direction) → SignalKind
-port_kind (named (former (both d (latter w)))) = Input
-port_kind (named (former (both d (former w)))) = InputWire
-port_kind (named (latter (both d (latter w)))) = Output
-port_kind (named (latter (both d (former (former w))))) = OutputWire
-port_kind (named (latter (both d (former (latter w))))) = OutputReg
+-- what a port is, by the word `wire` behind its direction
+abbrev pub input_kind : D (opt (t kind.KeywordWire)) → SignalKind
+input_kind (former w) = InputWire
+input_kind (latter z) = Input
+
+abbrev pub output_kind : D (opt (t kind.KeywordWire)) → SignalKind
+output_kind (former w) = OutputWire
+output_kind (latter z) = Output
 
 abbrev pub edge_of : D (opt (t kind.KeywordPosedge ∣ t kind.KeywordNegedge)) → Edge
 edge_of (former (former e)) = Posedge
@@ -349,12 +351,15 @@ module _ (bytes : ℕ → List ℕ) where
   abbrev pub plain_name : D (t kind.Identifier) → Declarator
   plain_name n = record { name = name_of n; addresses = None; value = None }
 
-  abbrev pub variable_of : D variable_name → Declarator
-  variable_of (both n g) = record { name = name_of n; addresses = option_of range_of g; value = None }
+  abbrev pub value_of : D value_behind → Option Expr
+  value_of v = option_of (behind_sign expr_of) v
 
-  abbrev pub wire_of : D wire_name → Declarator
-  wire_of (both n (former g)) = record { name = name_of n; addresses = Some (range_of g); value = None }
-  wire_of (both n (latter v)) = record { name = name_of n; addresses = None; value = option_of (behind_sign expr_of) v }
+  abbrev pub valued_of : D valued_name → Declarator
+  valued_of (both n v) = record { name = name_of n; addresses = None; value = value_of v }
+
+  abbrev pub declarator_of : D declared_name → Declarator
+  declarator_of (both n (former g)) = record { name = name_of n; addresses = Some (range_of g); value = None }
+  declarator_of (both n (latter v)) = record { name = name_of n; addresses = None; value = value_of v }
 
   abbrev pub names_of : D (r rule.Names) → List Declarator
   names_of (named l) = list_of plain_name l
@@ -406,10 +411,10 @@ module _ (bytes : ℕ → List ℕ) where
   block_name_of n = option_of (behind_sign name_of) n
 
   abbrev pub reg_item_of : D reg_item → Item
-  reg_item_of (both (leaf a) d) = SignalsItem (signals_of a.place Reg (ended (list_of variable_of)) d)
+  reg_item_of (both (leaf a) d) = SignalsItem (signals_of a.place Reg (ended (list_of declarator_of)) d)
 
   abbrev pub wire_item_of : D wire_item → Item
-  wire_item_of (both (leaf a) d) = SignalsItem (signals_of a.place Wire (ended (list_of wire_of)) d)
+  wire_item_of (both (leaf a) d) = SignalsItem (signals_of a.place Wire (ended (list_of declarator_of)) d)
 
   abbrev pub local_item_of : D local_item → Item
   local_item_of (both (leaf a) (both y (both l z))) = ParametersItem (parameters_of a.place true y (list_of setting_of l))
@@ -419,6 +424,9 @@ module _ (bytes : ℕ → List ℕ) where
 
   abbrev pub always_item_of : D always_item → Item
   always_item_of (both (leaf a) (both c s)) = AlwaysItem (record { place = a.place; control = control_of c; statement = statement_of s })
+
+  abbrev pub initial_item_of : D initial_item → Item
+  initial_item_of (both (leaf a) s) = InitialItem (record { place = a.place; statement = statement_of s })
 
   abbrev pub genvar_item_of : D genvar_item → Item
   genvar_item_of (both (leaf a) (both (named l) z)) = GenvarsItem a.place (list_of name_of l)
@@ -436,12 +444,13 @@ module _ (bytes : ℕ → List ℕ) where
     item_of (named (latter (latter (former i)))) = local_item_of i
     item_of (named (latter (latter (latter (former i))))) = assign_item_of i
     item_of (named (latter (latter (latter (latter (former i)))))) = always_item_of i
-    item_of (named (latter (latter (latter (latter (latter (former i))))))) = genvar_item_of i
-    item_of (named (latter (latter (latter (latter (latter (latter (former i)))))))) = integer_item_of i
-    item_of (named (latter (latter (latter (latter (latter (latter (latter (former i))))))))) = instance_item_of i
-    item_of (named (latter (latter (latter (latter (latter (latter (latter (latter (former i)))))))))) = for_item_of i
-    item_of (named (latter (latter (latter (latter (latter (latter (latter (latter (latter (former i))))))))))) = if_item_of i
-    item_of (named (latter (latter (latter (latter (latter (latter (latter (latter (latter (latter i))))))))))) = generate_case_of i
+    item_of (named (latter (latter (latter (latter (latter (former i))))))) = initial_item_of i
+    item_of (named (latter (latter (latter (latter (latter (latter (former i)))))))) = genvar_item_of i
+    item_of (named (latter (latter (latter (latter (latter (latter (latter (former i))))))))) = integer_item_of i
+    item_of (named (latter (latter (latter (latter (latter (latter (latter (latter (former i)))))))))) = instance_item_of i
+    item_of (named (latter (latter (latter (latter (latter (latter (latter (latter (latter (former i))))))))))) = for_item_of i
+    item_of (named (latter (latter (latter (latter (latter (latter (latter (latter (latter (latter (former i)))))))))))) = if_item_of i
+    item_of (named (latter (latter (latter (latter (latter (latter (latter (latter (latter (latter (latter i)))))))))))) = generate_case_of i
 
     pub for_item_of : D for_item → Item
     for_item_of (both h x) = GenerateFor (head_of h) (block_of x)
@@ -526,9 +535,56 @@ module _ (bytes : ℕ → List ℕ) where
   function_of (named (both (leaf a) (both y (both n (both h (both s z)))))) =
       record { place = a.place; name = name_of n; value_type = value_type_of y; inputs = head_inputs h; variables = head_variables h; statement = statement_of s }
 
+  -- ---- ports
+
+  abbrev pub port_item_of : D port_item → Item
+  port_item_of (former (both (leaf a) (both w l))) = SignalsItem (signals_of a.place (input_kind w) (ended names_of) l)
+  port_item_of (latter (both (leaf a) (former (both w l)))) = SignalsItem (signals_of a.place OutputReg (ended (list_of valued_of)) l)
+  port_item_of (latter (both (leaf a) (latter (both w l)))) = SignalsItem (signals_of a.place (output_kind w) (ended names_of) l)
+
+  -- what a port's names are declared with
+  abbrev pub declared_by : ℕ → SignalKind → D sign_and_range → List Declarator → Signals
+  declared_by place k (both s g) names = record { place = place; kind = k; signed = is_there s; range = option_of range_of g; names = names }
+
+  abbrev mutual
+    -- the declarations from a port on
+    pub ports_from : D (r rule.Port) → List Signals
+    ports_from (named (former (both (leaf a) (both w l)))) = nets_from a.place (input_kind w) l
+    ports_from (named (latter (both (leaf a) (former (both w l))))) = variables_from a.place l
+    ports_from (named (latter (both (leaf a) (latter (both w l))))) = nets_from a.place (output_kind w) l
+
+    pub nets_from : ℕ → SignalKind → D (signed_range (t kind.Identifier ⨾ r rule.NetPorts)) → List Signals
+    nets_from place k (both s (both g (both n l))) = declared_by place k (both s g) (plain_name n ∷ net_names l) ∷ net_ports l
+
+    pub variables_from : ℕ → D (signed_range (valued_name ⨾ r rule.VariablePorts)) → List Signals
+    variables_from place (both s (both g (both n l))) = declared_by place OutputReg (both s g) (valued_of n ∷ variable_names l) ∷ variable_ports l
+
+    -- the names behind that share the declaration of the one in front, and the declarations behind them
+    pub net_names : D (r rule.NetPorts) → List Declarator
+    net_names (named (former (both c (former p)))) = []
+    net_names (named (former (both c (latter (both n l))))) = plain_name n ∷ net_names l
+    net_names (named (latter z)) = []
+
+    pub net_ports : D (r rule.NetPorts) → List Signals
+    net_ports (named (former (both c (former p)))) = ports_from p
+    net_ports (named (former (both c (latter (both n l))))) = net_ports l
+    net_ports (named (latter z)) = []
+
+    pub variable_names : D (r rule.VariablePorts) → List Declarator
+    variable_names (named (former (both c (former p)))) = []
+    variable_names (named (former (both c (latter (both n l))))) = valued_of n ∷ variable_names l
+    variable_names (named (latter z)) = []
+
+    pub variable_ports : D (r rule.VariablePorts) → List Signals
+    variable_ports (named (former (both c (former p)))) = ports_from p
+    variable_ports (named (former (both c (latter (both n l))))) = variable_ports l
+    variable_ports (named (latter z)) = []
+
+  -- ---- items of a module
+
   -- an item of a module in front of others; `generate` and `endgenerate` leave nothing
   abbrev pub item_onto : D (r rule.Item) → Items → Items
-  item_onto (named (former (both d l))) rest = AndItem (SignalsItem (signals_of (first_place d) (port_kind d) (ended names_of) l)) rest
+  item_onto (named (former p)) rest = AndItem (port_item_of p) rest
   item_onto (named (latter (former (both (leaf a) (both y (both l z)))))) rest = AndItem (ParametersItem (parameters_of a.place false y (list_of setting_of l))) rest
   item_onto (named (latter (latter (former (both g (both l z)))))) rest = generate_items_onto l rest
   item_onto (named (latter (latter (latter (former f))))) rest = AndItem (FunctionItem (function_of f)) rest
@@ -540,19 +596,9 @@ module _ (bytes : ℕ → List ℕ) where
 
   -- ---- modules
 
-  -- a port, and the names behind it that share its declaration
-  abbrev pub port_of : D (r rule.Port) → List Declarator → Signals
-  port_of (named (both d l)) others = signals_of (first_place d) (port_kind d) (λ n. plain_name n ∷ others) l
-
-  -- the declarations of ports from the first one on, where the names and then the declarations behind are known
-  abbrev pub ports_onto : D (r rule.Port) → D (star (t kind.Comma ⨾ (r rule.Port ∣ t kind.Identifier))) → List Declarator → List Signals → List Signals
-  ports_onto p (start z) names ports = port_of p names ∷ ports
-  ports_onto p (grown l (both c (former q))) names ports = ports_onto p l [] (port_of q names ∷ ports)
-  ports_onto p (grown l (both c (latter n))) names ports = ports_onto p l (plain_name n ∷ names) ports
-
   abbrev pub ports_of : D (r rule.Ports) → Header
   ports_of (named (former l)) = PlainPorts (list_of name_of l)
-  ports_of (named (latter (both p l))) = DeclaredPorts (ports_onto p l [] [])
+  ports_of (named (latter p)) = DeclaredPorts (ports_from p)
 
   abbrev pub header_of : D (opt (t kind.OpenParen ⨾ opt (r rule.Ports) ⨾ t kind.CloseParen)) → Header
   header_of (former (both o (both (former p) z))) = ports_of p

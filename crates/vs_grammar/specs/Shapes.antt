@@ -8,7 +8,7 @@ use Rattle.vs_lexer.specs.Laws.{AreTokens}
 use Rattle.vs_grammar.specs.Depths.{source_depth}
 use Rattle.vs_grammar.specs.Spelled.{SpelledBy, depth_limit}
 use Rattle.vs_grammar.specs.Trees.{Name, Literal, Expr, Exprs, Select, RangeTree, ValueType, Variables, BlockScope, LoopHead, Target, Targets, Statement, Fallback, Statements, CaseArms, SignalKind, Declarator, Signals, Setting, Parameters, Assign, Event, EventControl, NamedConnection, Connections, Instance, Instances, Function, Item, GenerateBlock, BlockFallback, GenerateArms, Items, Header, Module, Source}
-use Rattle.vs_grammar.specs.Trees.{Number, Named, Apply, Unary, Binary, Choice, Concatenation, Replication, Call, Brackets, NoExpr, AndExpr, Whole, BitAt, Slice, OfWord, IntegerType, RangeType, NamedTarget, Targeted, NoTarget, AndTarget, Empty, Assignment, If, Case, Sequence, For, NoFallback, Otherwise, NoStatement, AndStatement, NoArm, AndArm, Reg, Wire, Star, Listed, Unconnected, ByOrder, ByName, SignalsItem, ParametersItem, AssignsItem, AlwaysItem, GenvarsItem, IntegersItem, InstancesItem, FunctionItem, GenerateFor, GenerateIf, GenerateCase, NoBlock, Alone, Enclosed, NoBlockFallback, OtherwiseBlock, NoGenerateArm, AndGenerateArm, NoItem, AndItem, NoPorts, PlainPorts, DeclaredPorts}
+use Rattle.vs_grammar.specs.Trees.{Number, Named, Apply, Unary, Binary, Choice, Concatenation, Replication, Call, Brackets, NoExpr, AndExpr, Whole, BitAt, Slice, OfWord, IntegerType, RangeType, NamedTarget, Targeted, NoTarget, AndTarget, Empty, Assignment, If, Case, Sequence, For, NoFallback, Otherwise, NoStatement, AndStatement, NoArm, AndArm, OutputReg, Reg, Wire, Star, Listed, Unconnected, ByOrder, ByName, SignalsItem, ParametersItem, AssignsItem, AlwaysItem, InitialItem, GenvarsItem, IntegersItem, InstancesItem, FunctionItem, GenerateFor, GenerateIf, GenerateCase, NoBlock, Alone, Enclosed, NoBlockFallback, OtherwiseBlock, NoGenerateArm, AndGenerateArm, NoItem, AndItem, NoPorts, PlainPorts, DeclaredPorts}
 
 -- a simple identifier that is no reserved word (IEEE 1364-2005, 3.7)
 abbrev pub IsName : Name → Type 0
@@ -151,27 +151,28 @@ is_port_kind Reg = false
 is_port_kind Wire = false
 is_port_kind _ = true
 
--- a variable may be a memory
-abbrev pub IsVariable : Declarator → Type 0
-IsVariable d = IsPlain d × Given IsRange d.addresses
-
 -- addresses or a value, or none of them
 abbrev pub HasOneAtMost : Option RangeTree → Option Expr → Type 0
 HasOneAtMost (Some addresses) (Some value) = ⊥
 HasOneAtMost addresses value = Unit {0}
 
--- a net may be an array of nets, or have a value
-abbrev pub IsNet : Declarator → Type 0
-IsNet d = IsDeclarator d × Given IsRange d.addresses × HasOneAtMost d.addresses d.value
+-- a variable may be a memory, and a net an array of nets, or have a value
+abbrev pub IsStored : Declarator → Type 0
+IsStored d = IsDeclarator d × Given IsRange d.addresses × HasOneAtMost d.addresses d.value
 
 -- a port is neither a memory nor an array
 abbrev pub IsPort : Declarator → Type 0
 IsPort d = IsPlain d × (d.addresses ≡ None)
 
--- only a `reg` and a `wire` have addresses, and only a `wire` is given a value where it is declared
+-- a port that is a variable may have a value
+abbrev pub IsVariablePort : Declarator → Type 0
+IsVariablePort d = IsDeclarator d × (d.addresses ≡ None)
+
+-- only a `reg` and a `wire` have addresses, and only these and an `output reg` are given a value where they are declared
 abbrev pub AreNames : SignalKind → List Declarator → Type 0
-AreNames Reg names = OneOrMore IsVariable names
-AreNames Wire names = OneOrMore IsNet names
+AreNames Reg names = OneOrMore IsStored names
+AreNames Wire names = OneOrMore IsStored names
+AreNames OutputReg names = OneOrMore IsVariablePort names
 AreNames k names = OneOrMore IsPort names
 
 pub record AreSignals (s : Signals) : Type 0 where
@@ -233,6 +234,7 @@ abbrev mutual
   IsGenerateItem (ParametersItem parameters) = AreParameters parameters × (parameters.is_local ≡ true)
   IsGenerateItem (AssignsItem place assigns) = OneOrMore IsAssign assigns
   IsGenerateItem (AlwaysItem block) = IsControl block.control × IsStatement block.statement
+  IsGenerateItem (InitialItem block) = IsStatement block.statement
   IsGenerateItem (GenvarsItem place names) = OneOrMore IsName names
   IsGenerateItem (IntegersItem place names) = OneOrMore IsName names
   IsGenerateItem (InstancesItem instances) = AreInstances instances

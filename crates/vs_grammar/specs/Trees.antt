@@ -149,7 +149,8 @@ mutual
 pub data SignalKind : Type 0 where
   Input InputWire Output OutputWire OutputReg Reg Wire : SignalKind
 
--- a declared name, the addresses of a memory or of an array of nets (4.9), and what a `wire` is assigned where it is declared (6.1.1)
+-- a declared name, the addresses of a memory or of an array of nets (4.9), and what a `wire` is assigned where it is declared (6.1.1), or the initial
+-- value of a variable (6.2.1)
 pub record Declarator : Type 0 where
   pub name : Name
   pub addresses : Option RangeTree
@@ -214,6 +215,11 @@ pub record AlwaysBlock : Type 0 where
   pub control : EventControl
   pub statement : Statement
 
+-- an `initial` block (9.9.1)
+pub record InitialBlock : Type 0 where
+  pub place : ℕ
+  pub statement : Statement
+
 -- instances of one module (12.1.2)
 pub record Instances : Type 0 where
   pub of : Name
@@ -236,6 +242,7 @@ mutual
     ParametersItem : (parameters : Parameters) → Item
     AssignsItem : (place : ℕ) (assigns : List Assign) → Item
     AlwaysItem : (block : AlwaysBlock) → Item
+    InitialItem : (block : InitialBlock) → Item
     GenvarsItem : (place : ℕ) (names : List Name) → Item
     -- integers (4.8)
     IntegersItem : (place : ℕ) (names : List Name) → Item
@@ -315,6 +322,7 @@ item_place (SignalsItem signals) = signals.place
 item_place (ParametersItem parameters) = parameters.place
 item_place (AssignsItem place assigns) = place
 item_place (AlwaysItem block) = block.place
+item_place (InitialItem block) = block.place
 item_place (GenvarsItem place names) = place
 item_place (IntegersItem place names) = place
 item_place (InstancesItem instances) = instances.of.place

@@ -19,7 +19,7 @@ x ∣ y = alt x y
 -- ---- the rules
 
 pub data Rule : Type 0 where
-  Source Module HeaderParameters ValueType Setting Range Ports Port Direction Names : Rule
+  Source Module HeaderParameters ValueType Setting Range Ports Port NetPorts VariablePorts Names : Rule
   VariableType Variables InputType FunctionInput FunctionInputs FunctionDeclaration FunctionHead Function : Rule
   Item GenerateItem Instance Connections GenerateCaseItem GenerateCaseDefault GenerateCases GenerateBlock : Rule
   EventControl Event BlockScope LoopHead Statement CaseItem CaseDefault Cases Target Select Part Arguments : Rule
@@ -29,7 +29,7 @@ pub data Rule : Type 0 where
 -- the rules by number
 abbrev pub rules : List Rule
 rules =
-    Source ∷ Module ∷ HeaderParameters ∷ ValueType ∷ Setting ∷ Range ∷ Ports ∷ Port ∷ Direction ∷ Names
+    Source ∷ Module ∷ HeaderParameters ∷ ValueType ∷ Setting ∷ Range ∷ Ports ∷ Port ∷ NetPorts ∷ VariablePorts ∷ Names
     ∷ VariableType ∷ Variables ∷ InputType ∷ FunctionInput ∷ FunctionInputs ∷ FunctionDeclaration ∷ FunctionHead ∷ Function
     ∷ Item ∷ GenerateItem ∷ Instance ∷ Connections ∷ GenerateCaseItem ∷ GenerateCaseDefault ∷ GenerateCases ∷ GenerateBlock
     ∷ EventControl ∷ Event ∷ BlockScope ∷ LoopHead ∷ Statement ∷ CaseItem ∷ CaseDefault ∷ Cases ∷ Target ∷ Select ∷ Part ∷ Arguments
@@ -38,7 +38,7 @@ rules =
 
 -- how many there are
 abbrev pub rule_count : ℕ
-rule_count = 53
+rule_count = 54
 
 abbrev pub index_of : Rule → ℕ
 index_of Source = 0
@@ -49,51 +49,52 @@ index_of Setting = 4
 index_of Range = 5
 index_of Ports = 6
 index_of Port = 7
-index_of Direction = 8
-index_of Names = 9
-index_of VariableType = 10
-index_of Variables = 11
-index_of InputType = 12
-index_of FunctionInput = 13
-index_of FunctionInputs = 14
-index_of FunctionDeclaration = 15
-index_of FunctionHead = 16
-index_of Function = 17
-index_of Item = 18
-index_of GenerateItem = 19
-index_of Instance = 20
-index_of Connections = 21
-index_of GenerateCaseItem = 22
-index_of GenerateCaseDefault = 23
-index_of GenerateCases = 24
-index_of GenerateBlock = 25
-index_of EventControl = 26
-index_of Event = 27
-index_of BlockScope = 28
-index_of LoopHead = 29
-index_of Statement = 30
-index_of CaseItem = 31
-index_of CaseDefault = 32
-index_of Cases = 33
-index_of Target = 34
-index_of Select = 35
-index_of Part = 36
-index_of Arguments = 37
-index_of Primary = 38
-index_of Unary = 39
-index_of Power = 40
-index_of Product = 41
-index_of Sum = 42
-index_of Shift = 43
-index_of Relation = 44
-index_of Equality = 45
-index_of BitAnd = 46
-index_of BitXor = 47
-index_of BitOr = 48
-index_of LogicalAnd = 49
-index_of LogicalOr = 50
-index_of Expression = 51
-index_of Text = 52
+index_of NetPorts = 8
+index_of VariablePorts = 9
+index_of Names = 10
+index_of VariableType = 11
+index_of Variables = 12
+index_of InputType = 13
+index_of FunctionInput = 14
+index_of FunctionInputs = 15
+index_of FunctionDeclaration = 16
+index_of FunctionHead = 17
+index_of Function = 18
+index_of Item = 19
+index_of GenerateItem = 20
+index_of Instance = 21
+index_of Connections = 22
+index_of GenerateCaseItem = 23
+index_of GenerateCaseDefault = 24
+index_of GenerateCases = 25
+index_of GenerateBlock = 26
+index_of EventControl = 27
+index_of Event = 28
+index_of BlockScope = 29
+index_of LoopHead = 30
+index_of Statement = 31
+index_of CaseItem = 32
+index_of CaseDefault = 33
+index_of Cases = 34
+index_of Target = 35
+index_of Select = 36
+index_of Part = 37
+index_of Arguments = 38
+index_of Primary = 39
+index_of Unary = 40
+index_of Power = 41
+index_of Product = 42
+index_of Sum = 43
+index_of Shift = 44
+index_of Relation = 45
+index_of Equality = 46
+index_of BitAnd = 47
+index_of BitXor = 48
+index_of BitOr = 49
+index_of LogicalAnd = 50
+index_of LogicalOr = 51
+index_of Expression = 52
+index_of Text = 53
 
 -- a token, and a rule, as parts of a phrase
 abbrev pub t : TokenKind → Phrase
@@ -140,13 +141,22 @@ case_default x = t kind.KeywordDefault ⨾ opt (t kind.Colon) ⨾ x
 abbrev pub case_items : Phrase → Phrase → Phrase
 case_items item default = (default ⨾ star item) ∣ (item ⨾ star item ⨾ opt (default ⨾ star item))
 
--- ID [range]
-abbrev pub variable_name : Phrase
-variable_name = t kind.Identifier ⨾ opt (r Range)
+-- ['=' expr]
+abbrev pub value_behind : Phrase
+value_behind = opt (t kind.Assign ⨾ r Expression)
 
 -- ID (range | ['=' expr])
-abbrev pub wire_name : Phrase
-wire_name = t kind.Identifier ⨾ (r Range ∣ opt (t kind.Assign ⨾ r Expression))
+abbrev pub declared_name : Phrase
+declared_name = t kind.Identifier ⨾ (r Range ∣ value_behind)
+
+-- ID ['=' expr]
+abbrev pub valued_name : Phrase
+valued_name = t kind.Identifier ⨾ value_behind
+
+-- 'input' ['wire'] x | 'output' ('reg' y | ['wire'] x)
+abbrev pub port_declaration : Phrase → Phrase → Phrase
+port_declaration x y =
+    (t kind.KeywordInput ⨾ opt (t kind.KeywordWire) ⨾ x) ∣ (t kind.KeywordOutput ⨾ ((t kind.KeywordReg ⨾ y) ∣ (opt (t kind.KeywordWire) ⨾ x)))
 
 -- lval '=' expr
 abbrev pub assignment : Phrase
@@ -252,13 +262,13 @@ event_list = t kind.OpenParen ⨾ (t kind.Star ∣ (r Event ⨾ star ((t kind.Ke
 
 -- ---- the items that may stand in a generate block
 
--- 'reg' ['signed'] [range] ID [range] {',' ID [range]} ';'
+-- 'reg' ['signed'] [range] ID (range | ['=' expr]) {',' ID (range | ['=' expr])} ';'
 abbrev pub reg_item : Phrase
-reg_item = t kind.KeywordReg ⨾ signed_range (separated variable_name ⨾ t kind.Semicolon)
+reg_item = t kind.KeywordReg ⨾ signed_range (separated declared_name ⨾ t kind.Semicolon)
 
 -- 'wire' ['signed'] [range] ID (range | ['=' expr]) {',' ID (range | ['=' expr])} ';'
 abbrev pub wire_item : Phrase
-wire_item = t kind.KeywordWire ⨾ signed_range (separated wire_name ⨾ t kind.Semicolon)
+wire_item = t kind.KeywordWire ⨾ signed_range (separated declared_name ⨾ t kind.Semicolon)
 
 -- 'localparam' type set {',' set} ';'
 abbrev pub local_item : Phrase
@@ -271,6 +281,10 @@ assign_item = t kind.KeywordAssign ⨾ separated assignment ⨾ t kind.Semicolon
 -- 'always' event stmt
 abbrev pub always_item : Phrase
 always_item = t kind.KeywordAlways ⨾ r EventControl ⨾ r Statement
+
+-- 'initial' stmt
+abbrev pub initial_item : Phrase
+initial_item = t kind.KeywordInitial ⨾ r Statement
 
 -- 'genvar' names ';'
 abbrev pub genvar_item : Phrase
@@ -299,6 +313,13 @@ if_item = conditional (r GenerateBlock)
 -- 'case' '(' expr ')' gcases 'endcase'
 abbrev pub generate_case : Phrase
 generate_case = t kind.KeywordCase ⨾ t kind.OpenParen ⨾ r Expression ⨾ t kind.CloseParen ⨾ r GenerateCases ⨾ t kind.KeywordEndCase
+
+-- ---- ports
+
+-- 'input' ['wire'] ['signed'] [range] names ';' | 'output' ['wire'] ['signed'] [range] names ';'
+-- | 'output' 'reg' ['signed'] [range] ID ['=' expr] {',' ID ['=' expr]} ';'
+abbrev pub port_item : Phrase
+port_item = port_declaration (signed_range (r Names ⨾ t kind.Semicolon)) (signed_range (separated valued_name ⨾ t kind.Semicolon))
 
 -- ---- functions
 
@@ -335,12 +356,14 @@ phrase_of ValueType = t kind.KeywordInteger ∣ sign_and_range
 phrase_of Setting = t kind.Identifier ⨾ t kind.Assign ⨾ r Expression
 -- '[' expr ':' expr ']'
 phrase_of Range = t kind.OpenBracket ⨾ r Expression ⨾ t kind.Colon ⨾ r Expression ⨾ t kind.CloseBracket
--- ID {',' ID} | port {',' (port | ID)}
-phrase_of Ports = separated (t kind.Identifier) ∣ (r Port ⨾ star (t kind.Comma ⨾ (r Port ∣ t kind.Identifier)))
--- dir ['signed'] [range] ID
-phrase_of Port = r Direction ⨾ signed_range (t kind.Identifier)
--- 'input' ['wire'] | 'output' ['wire' | 'reg']
-phrase_of Direction = (t kind.KeywordInput ⨾ opt (t kind.KeywordWire)) ∣ (t kind.KeywordOutput ⨾ opt (t kind.KeywordWire ∣ t kind.KeywordReg))
+-- ID {',' ID} | port
+phrase_of Ports = separated (t kind.Identifier) ∣ r Port
+-- 'input' ['wire'] ['signed'] [range] ID nports | 'output' ['wire'] ['signed'] [range] ID nports | 'output' 'reg' ['signed'] [range] ID ['=' expr] vports
+phrase_of Port = port_declaration (signed_range (t kind.Identifier ⨾ r NetPorts)) (signed_range (valued_name ⨾ r VariablePorts))
+-- [',' (port | ID nports)]
+phrase_of NetPorts = opt (t kind.Comma ⨾ (r Port ∣ (t kind.Identifier ⨾ r NetPorts)))
+-- [',' (port | ID ['=' expr] vports)]
+phrase_of VariablePorts = opt (t kind.Comma ⨾ (r Port ∣ (valued_name ⨾ r VariablePorts)))
 -- ID {',' ID}
 phrase_of Names = separated (t kind.Identifier)
 -- 'reg' ['signed'] [range] | 'integer'
@@ -359,16 +382,17 @@ phrase_of FunctionDeclaration = input_declaration ∣ r Variables
 phrase_of FunctionHead = inputs_in_brackets ∣ inputs_behind
 -- 'function' type ID fhead stmt 'endfunction'
 phrase_of Function = t kind.KeywordFunction ⨾ r ValueType ⨾ t kind.Identifier ⨾ r FunctionHead ⨾ r Statement ⨾ t kind.KeywordEndFunction
--- dir ['signed'] [range] names ';' | 'parameter' type set {',' set} ';' | 'generate' {gitem} 'endgenerate' | function | gitem
+-- port declaration | 'parameter' type set {',' set} ';' | 'generate' {gitem} 'endgenerate' | function | gitem
 phrase_of Item =
-    (r Direction ⨾ signed_range (r Names ⨾ t kind.Semicolon))
+    port_item
     ∣ (t kind.KeywordParameter ⨾ r ValueType ⨾ separated (r Setting) ⨾ t kind.Semicolon)
     ∣ (t kind.KeywordGenerate ⨾ star (r GenerateItem) ⨾ t kind.KeywordEndGenerate)
     ∣ r Function
     ∣ r GenerateItem
--- declarations of signals, of local parameters, of genvars and of integers, assigns, blocks, instances, and generate constructs
+-- declarations of signals, of local parameters, of genvars and of integers, assigns, blocks, initial processes, instances, and generate constructs
 phrase_of GenerateItem =
-    reg_item ∣ wire_item ∣ local_item ∣ assign_item ∣ always_item ∣ genvar_item ∣ integer_item ∣ instance_item ∣ for_item ∣ if_item ∣ generate_case
+    reg_item ∣ wire_item ∣ local_item ∣ assign_item ∣ always_item ∣ initial_item ∣ genvar_item ∣ integer_item ∣ instance_item ∣ for_item ∣ if_item
+    ∣ generate_case
 -- ID '(' conns ')'
 phrase_of Instance = t kind.Identifier ⨾ t kind.OpenParen ⨾ r Connections ⨾ t kind.CloseParen
 -- named {',' named} | [expr] {',' [expr]}
@@ -443,6 +467,8 @@ phrase_of Text = r Source ⨾ tok end_of_text
 
 abbrev pub derives_nothing : Rule → Bool
 derives_nothing ValueType = true
+derives_nothing NetPorts = true
+derives_nothing VariablePorts = true
 derives_nothing InputType = true
 derives_nothing Connections = true
 derives_nothing _ = false
@@ -458,8 +484,8 @@ expression_firsts =
 
 abbrev pub generate_item_firsts : List TokenKind
 generate_item_firsts =
-    kind.Identifier ∷ kind.KeywordReg ∷ kind.KeywordWire ∷ kind.KeywordLocalParam ∷ kind.KeywordAssign ∷ kind.KeywordAlways ∷ kind.KeywordGenvar
-    ∷ kind.KeywordInteger ∷ kind.KeywordFor ∷ kind.KeywordIf ∷ kind.KeywordCase ∷ []
+    kind.Identifier ∷ kind.KeywordReg ∷ kind.KeywordWire ∷ kind.KeywordLocalParam ∷ kind.KeywordAssign ∷ kind.KeywordAlways ∷ kind.KeywordInitial
+    ∷ kind.KeywordGenvar ∷ kind.KeywordInteger ∷ kind.KeywordFor ∷ kind.KeywordIf ∷ kind.KeywordCase ∷ []
 
 abbrev pub item_firsts : List TokenKind
 item_firsts = kind.KeywordInput ∷ kind.KeywordOutput ∷ kind.KeywordParameter ∷ kind.KeywordGenerate ∷ kind.KeywordFunction ∷ generate_item_firsts
@@ -481,7 +507,8 @@ firsts_of_rule Setting = kind.Identifier ∷ []
 firsts_of_rule Range = kind.OpenBracket ∷ []
 firsts_of_rule Ports = kind.Identifier ∷ kind.KeywordInput ∷ kind.KeywordOutput ∷ []
 firsts_of_rule Port = kind.KeywordInput ∷ kind.KeywordOutput ∷ []
-firsts_of_rule Direction = kind.KeywordInput ∷ kind.KeywordOutput ∷ []
+firsts_of_rule NetPorts = kind.Comma ∷ []
+firsts_of_rule VariablePorts = kind.Comma ∷ []
 firsts_of_rule Names = kind.Identifier ∷ []
 firsts_of_rule VariableType = variable_firsts
 firsts_of_rule Variables = variable_firsts
@@ -569,8 +596,9 @@ follows_of_rule ValueType = kind.Identifier ∷ []
 follows_of_rule Setting = kind.CloseParen ∷ kind.Semicolon ∷ kind.Comma ∷ []
 follows_of_rule Range = kind.Identifier ∷ kind.Semicolon ∷ kind.Comma ∷ []
 follows_of_rule Ports = kind.CloseParen ∷ []
-follows_of_rule Port = kind.CloseParen ∷ kind.Comma ∷ []
-follows_of_rule Direction = kind.Identifier ∷ kind.KeywordSigned ∷ kind.OpenBracket ∷ []
+follows_of_rule Port = kind.CloseParen ∷ []
+follows_of_rule NetPorts = kind.CloseParen ∷ []
+follows_of_rule VariablePorts = kind.CloseParen ∷ []
 follows_of_rule Names = kind.Semicolon ∷ []
 follows_of_rule VariableType = kind.Identifier ∷ []
 follows_of_rule Variables = kind.KeywordEnd ∷ kind.KeywordInput ∷ variable_firsts ++ statement_firsts

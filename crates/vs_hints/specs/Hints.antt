@@ -5,7 +5,7 @@ use Rattle.vs_refusal.specs.declared.names.BareName.TheVariants.{Usage, TooLong,
 use Rattle.vs_refusal.specs.declared.names.AtName.{AtName}
 use Rattle.vs_refusal.specs.declared.names.AtName.TheVariants.{NoToken, OpenComment, BadLiteral, TooManyTokens, BadDirective, UnknownMacro, MacroLoop, MacroArguments, MacroLimit, LeftOut, Syntax, TooDeep, NotConstant, UnknownConstant, DuplicateModule, UnknownModule, UnknownName, DuplicateName, BadRange, PortCount, UnknownPort, InstanceDepth, TooManyInstances, GenerateTurns, WrongKind, TooManyBits, TooManyProcesses, LoopTurns, LoopVariable, FunctionRule, Recursion, TooWide, Division, MixedAssign, FunctionLatch}
 use Rattle.vs_refusal.specs.declared.names.ProcessName.{ProcessName}
-use Rattle.vs_refusal.specs.declared.names.ProcessName.TheVariants.{ClockRead, NotTheClock, TimeZero, ResetForm}
+use Rattle.vs_refusal.specs.declared.names.ProcessName.TheVariants.{InitialForm, ClockRead, NotTheClock, TimeZero, ResetForm}
 use Rattle.vs_refusal.specs.declared.names.LaneName.{LaneName}
 use Rattle.vs_refusal.specs.declared.names.LaneName.TheVariants.{BadHeader, FirstUnknown, NoVector, TooManyVectors, StimulusTooLong, NoExpectation}
 use Rattle.vs_refusal.specs.declared.names.LineName.{LineName}
@@ -100,12 +100,14 @@ at_remedy MixedAssign = codes "use the other assignment"
 at_remedy FunctionLatch = codes "assign it on every path, as by a default at the top"
 
 abbrev pub process_sentence : ProcessName → List ℕ
+process_sentence InitialForm = codes "an initial process reads a signal, calls a function, or has an index that isn't constant"
 process_sentence ClockRead = codes "a process reads the clock as a value"
 process_sentence NotTheClock = codes "a clocked block's events aren't one posedge of the clock, or that and one edge of a reset"
 process_sentence TimeZero = codes "a combinational block may or may not run at time zero, by the order of events"
 process_sentence ResetForm = codes "a clocked block with a reset isn't one if on that reset with constants in its first branch"
 
 abbrev pub process_remedy : ProcessName → List ℕ
+process_remedy InitialForm = codes "let it give constants, and set what depends on more by a reset"
 process_remedy ClockRead = codes "use an enable in place of a gated clock"
 process_remedy NotTheClock = codes "one clock, rising edge; posedge or negedge of one reset"
 process_remedy TimeZero = codes "let it read an input, or write an assign in its place"

@@ -135,6 +135,8 @@ fn process_sentence(name: ProcessName) -> &'static str
     ensures { result.now ≡ spec.process_sentence name }
 {
     match name {
+        ProcessName::InitialForm =>
+            "an initial process reads a signal, calls a function, or has an index that isn't constant",
         ProcessName::ClockRead => "a process reads the clock as a value",
         ProcessName::NotTheClock =>
             "a clocked block's events aren't one posedge of the clock, or that and one edge of a reset",
@@ -150,6 +152,8 @@ fn process_remedy(name: ProcessName) -> &'static str
     ensures { result.now ≡ spec.process_remedy name }
 {
     match name {
+        ProcessName::InitialForm =>
+            "let it give constants, and set what depends on more by a reset",
         ProcessName::ClockRead => "use an enable in place of a gated clock",
         ProcessName::NotTheClock => "one clock, rising edge; posedge or negedge of one reset",
         ProcessName::TimeZero => "let it read an input, or write an assign in its place",

@@ -11,5 +11,5 @@ mod targets;
 mod values;
 mod words;
 
-pub use processes::{assigned, run_block};
+pub use processes::{assigned, run_block, run_initial};
 pub use public::{assigned_value, assignment_writes, own_value, run, value};

@@ -4,7 +4,8 @@ ghost use Rattle.std.specs.Prelude.{◌≡◌, ◌<◌, ◌≤◌, ℕ, length, 
 ghost use Rattle.std.specs.List.{list_all};
 ghost use Rattle.vs_net.specs.Network as N;
 ghost use Rattle.vs_design.specs.Designs as D;
-ghost use Rattle.vs_design.specs.Fits.{fits_process};
+ghost use Rattle.vs_design.specs.Bodies.{body};
+ghost use Rattle.vs_design.specs.Fits.{fits_initial, fits_process};
 ghost use Rattle.vs_design.specs.Networks.{process_of};
 ghost use Rattle.vs_flat.specs.DesignOf.{design_of};
 ghost use Rattle.vs_writes.specs.Held.{state_of};
@@ -14,7 +15,7 @@ use std::alloc::{AllocError, Global};
 use vs_design::within_law;
 use vs_flat::{Kind, lawful_law, trees_law};
 use vs_four::Bit4;
-use vs_reads::fit_process;
+use vs_reads::{fit_initial, fit_process};
 use vs_shape::Shapes;
 use vs_writes::{Effect, Update};
 
@@ -68,4 +69,30 @@ pub fn run_block(
             Ok(done)
         }
     }
+}
+
+/// Runs initial process k whole (IEEE 1364-2005, 9.9.1): the bits get its blocking writes, and what it did is answered. Want of memory is the only error; the values are then left between.
+pub fn run_initial(
+    alloc: Global,
+    shapes: &Shapes,
+    values: &mut [Bit4],
+    k: u32,
+) -> Result<Effect, AllocError>
+    requires there { k < length shapes.now.initials }
+    requires fits { list_all fits_initial (design_of shapes.now).initials ≡ true }
+    requires values { D.bit_count (design_of shapes.now) ≤ length values.old }
+    ensures effect { IfOk result (λ f. (i : D.Initial) → slice_get (design_of shapes.now).initials k ≡ Some i
+        → (f.writes ≡ (body i.statement (state_of values.old)).writes) × (f.updates ≡ (body i.statement (state_of values.old)).updates)) }
+    ensures state { (i : D.Initial) → slice_get (design_of shapes.now).initials k ≡ Some i → OnOk result (state_of values.new ≡ N.write_all (state_of values.old) (body i.statement (state_of values.old)).writes) }
+{
+    trees_law();
+    let mut done = Effect::new(alloc);
+    run(
+        alloc,
+        shapes,
+        values,
+        fit_initial(shapes, k).statement,
+        &mut done,
+    )?;
+    Ok(done)
 }

@@ -1,4 +1,4 @@
--- The faults of an always block.
+-- The faults of an always block, and of an initial one.
 use Rattle.std.proofs.Common.{◌≡◌, ℕ, Bool, true, false, ◌-◌, List, ◌++◌, Option, ap, sym, ◌∙◌, subst}
 use Rattle.vs_grammar.specs.Trees as tree
 use Rattle.vs_const.specs.declared.faults.Fault.{Fault}
@@ -9,7 +9,7 @@ use Rattle.vs_const.proofs.Least.{least_append}
 use Rattle.vs_elaborated.specs.Environments.{Env, named}
 use Rattle.vs_elaborated.specs.Limits.{Limits}
 use Rattle.vs_elaborated.specs.Statements.{Body, unrolled_within, is_clocked_by}
-use Rattle.vs_elaborated.specs.Surveys.{Loops, block_statement}
+use Rattle.vs_elaborated.specs.Surveys.{Loops, block_statement, initial_body, initial_statement}
 use Rattle.vs_bodies.specs.declared.said.StatementSaid.{StatementSaid}
 use Rattle.vs_bodies.specs.Said.{IsSaid}
 
@@ -23,6 +23,11 @@ pub statement_said : (limits : Limits) (env : Env) (loops : Loops) (b : tree.Alw
 statement_said limits env loops b said left clocked h k s =
     subst (λ (n : ℕ). IsSaid said (unrolled_within n b.statement (alone_body (is_clocked_by b.control)) (named env))) h
     (subst (λ (c : Bool). IsSaid said (unrolled_within left b.statement (alone_body c) (named env))) k s)
+
+-- the statement of an initial block
+pub initial_statement_said : (limits : Limits) (env : Env) (loops : Loops) (b : tree.InitialBlock) (said : StatementSaid) (left : ℕ) → left ≡ limits.copies - loops.copies
+    → IsSaid said (unrolled_within left b.statement initial_body (named env)) → IsSaid said (initial_statement limits env loops b)
+initial_statement_said limits env loops b said left h s = subst (λ (n : ℕ). IsSaid said (unrolled_within n b.statement initial_body (named env))) h s
 
 -- the first of three lists
 pub first_of_three : (a b c later both : Option Fault) (fs gs hs : List Fault) → both ≡ better a later → later ≡ better b c → a ≡ least fs → b ≡ least gs → c ≡ least hs → both ≡ least (fs ++ (gs ++ hs))

@@ -1,5 +1,5 @@
 -- The faults of items, one after the other.
-use Rattle.std.proofs.Common.{◌≡◌, ℕ, ◌+◌, ◌-◌, ◌<◌, ◌≤◌, false, List, [], ◌∷◌, ◌++◌, length, get_or, take, map, flat_map, Option, Some, None, refl, sym, ap, ◌∙◌, append_assoc, arith, add-zero}
+use Rattle.std.proofs.Common.{◌≡◌, ℕ, ◌+◌, ◌-◌, ◌<◌, ◌≤◌, false, List, [], ◌∷◌, ◌++◌, length, get_or, take, map, flat_map, Option, Some, None, refl, sym, ap, ◌∙◌, append_assoc, arith, add-zero, Bool}
 use Rattle.std.proofs.lemmas.List.{append-nil, length-map, length-take-le}
 use Rattle.vs_grammar.specs.Trees as tree
 use Rattle.vs_ast.specs.declared.items.Item.{Item}
@@ -17,13 +17,14 @@ use Rattle.vs_elaborated.specs.Pieces.{all_said}
 use Rattle.vs_elaborated.specs.Instances.{Around}
 use Rattle.vs_elaborated.specs.Limits.{Limits}
 use Rattle.vs_elaborated.specs.Heads.{Head, shared_heads}
-use Rattle.vs_elaborated.specs.Surveys.{Loops, assign_said, wire_said, block_body, block_heads, block_said, item_said, items_said, loops_after, loops_behind}
+use Rattle.vs_elaborated.specs.Signals.{is_reg}
+use Rattle.vs_elaborated.specs.Surveys.{Loops, assign_said, declarator_said, signals_said, ports_said, block_body, block_heads, block_said, initial_body, initial_heads, initial_said, item_said, items_said, loops_after, loops_behind}
 use Rattle.vs_items.specs.declared.counts.Count.{Count}
 use Rattle.vs_items.specs.Counts.{IsCounted}
 use Rattle.vs_items.specs.Loops.{SeeTheSame}
-use Rattle.vs_items.specs.Items.{assign_faults, value_faults, wire_faults}
+use Rattle.vs_items.specs.Items.{assign_faults, value_faults, declarator_faults}
 use Rattle.vs_items.proofs.HeadFacts.{heads_alike}
-use Rattle.vs_items.proofs.ItemFaults.{assigns_have, wires_have}
+use Rattle.vs_items.proofs.ItemFaults.{assigns_have, declarators_have}
 use Rattle.vs_items.proofs.ItemLists.{made_at, made_more}
 use Rattle.vs_items.proofs.Repeats.{one_more}
 
@@ -37,21 +38,39 @@ module _ (e1 e2 : Env) (h : named e1 ≡ named e2) where
   assign_alike : (a : tree.Assign) → assign_faults e1 a ≡ assign_faults e2 a
   assign_alike a = ap (λ (find : Find). (typed_target a.target find false).faults ++ (typed a.e find false).faults) h
 
-  value_alike : (n : tree.Name) (v : Option tree.Expr) → value_faults e1 n v ≡ value_faults e2 n v
-  value_alike n None = refl
-  value_alike n (Some e) = ap (λ (find : Find). (target_base false n.place false (find n.bytes)).faults ++ (typed e find false).faults) h
+  value_alike : (variable : Bool) (n : tree.Name) (v : Option tree.Expr) → value_faults e1 variable n v ≡ value_faults e2 variable n v
+  value_alike variable n None = refl
+  value_alike variable n (Some e) = ap (λ (find : Find). (target_base variable n.place false (find n.bytes)).faults ++ (typed e find false).faults) h
 
   pub assigns_alike : (place : ℕ) (xs : List tree.Assign) → (all_said (assign_said e1 place) xs).faults ≡ (all_said (assign_said e2 place) xs).faults
   assigns_alike place xs = assigns_have e1 place xs ∙ flat_alike (assign_faults e1) (assign_faults e2) assign_alike xs ∙ sym (assigns_have e2 place xs)
 
-  pub wires_alike : (place : ℕ) (xs : List tree.Declarator) → (all_said (wire_said e1 place) xs).faults ≡ (all_said (wire_said e2 place) xs).faults
-  wires_alike place xs = wires_have e1 place xs ∙ flat_alike (wire_faults e1) (wire_faults e2) (λ d. value_alike d.name d.value) xs ∙ sym (wires_have e2 place xs)
+  pub declarators_alike : (place : ℕ) (kind : tree.SignalKind) (xs : List tree.Declarator) → (all_said (declarator_said e1 place kind) xs).faults ≡ (all_said (declarator_said e2 place kind) xs).faults
+  declarators_alike place kind xs =
+      declarators_have e1 place kind xs ∙ flat_alike (declarator_faults e1 (is_reg kind)) (declarator_faults e2 (is_reg kind)) (λ d. value_alike (is_reg kind) d.name d.value) xs ∙ sym (declarators_have e2 place kind xs)
+
+  pub signals_alike : (t : tree.Signals) → (signals_said e1 t).faults ≡ (signals_said e2 t).faults
+  signals_alike t = declarators_alike t.place t.kind t.names
+
+  all_ports_alike : (ts : List tree.Signals) → (all_said (signals_said e1) ts).faults ≡ (all_said (signals_said e2) ts).faults
+  all_ports_alike [] = refl
+  all_ports_alike (t ∷ ts) = ap (λ fs. fs ++ (all_said (signals_said e1) ts).faults) (signals_alike t) ∙ ap (λ fs. (signals_said e2 t).faults ++ fs) (all_ports_alike ts)
+
+  pub ports_alike : (header : tree.Header) → (ports_said e1 header).faults ≡ (ports_said e2 header).faults
+  ports_alike tree.NoPorts = refl
+  ports_alike (tree.PlainPorts names) = refl
+  ports_alike (tree.DeclaredPorts ports) = all_ports_alike ports
 
 module _ (limits : Limits) (loops : Loops) (e1 e2 : Env) (h : SeeTheSame e1 e2) where
   pub block_alike : (b : tree.AlwaysBlock) → (block_said limits e1 loops b).faults ≡ (block_said limits e2 loops b).faults
   block_alike b =
       ap (λ (find : Find). (typed_control b.control find).faults ++ ((unrolled_within (limits.copies - loops.copies) b.statement (block_body b) find).faults ++ shared_heads loops.headed (block_heads e1 b))) h.names
       ∙ ap (λ (hs : List Head). (typed_control b.control (named e2)).faults ++ ((unrolled_within (limits.copies - loops.copies) b.statement (block_body b) (named e2)).faults ++ shared_heads loops.headed hs)) (heads_alike e1 e2 h.finds b.statement [])
+
+  pub initial_alike : (b : tree.InitialBlock) → (initial_said limits e1 loops b).faults ≡ (initial_said limits e2 loops b).faults
+  initial_alike b =
+      ap (λ (find : Find). (unrolled_within (limits.copies - loops.copies) b.statement initial_body find).faults ++ shared_heads loops.headed (initial_heads e1 b)) h.names
+      ∙ ap (λ (hs : List Head). (unrolled_within (limits.copies - loops.copies) b.statement initial_body (named e2)).faults ++ shared_heads loops.headed hs) (heads_alike e1 e2 h.finds b.statement [])
 
   pub after_alike : (i : tree.Item) → loops_after limits e1 loops i ≡ loops_after limits e2 loops i
   after_alike (tree.SignalsItem t) = refl
@@ -61,6 +80,10 @@ module _ (limits : Limits) (loops : Loops) (e1 e2 : Env) (h : SeeTheSame e1 e2) 
       let behind : ℕ → List Head → Loops = λ n hs. record { copies = loops.copies + n; headed = loops.headed ++ map (λ (x : Head). x.integer) hs } in
       ap (λ (find : Find). behind (unrolled_within (limits.copies - loops.copies) b.statement (block_body b) find).copies (block_heads e1 b)) h.names
       ∙ ap (λ hs. behind (unrolled_within (limits.copies - loops.copies) b.statement (block_body b) (named e2)).copies hs) (heads_alike e1 e2 h.finds b.statement [])
+  after_alike (tree.InitialItem b) =
+      let behind : ℕ → List Head → Loops = λ n hs. record { copies = loops.copies + n; headed = loops.headed ++ map (λ (x : Head). x.integer) hs } in
+      ap (λ (find : Find). behind (unrolled_within (limits.copies - loops.copies) b.statement initial_body find).copies (initial_heads e1 b)) h.names
+      ∙ ap (λ hs. behind (unrolled_within (limits.copies - loops.copies) b.statement initial_body (named e2)).copies hs) (heads_alike e1 e2 h.finds b.statement [])
   after_alike (tree.GenvarsItem place names) = refl
   after_alike (tree.IntegersItem place names) = refl
   after_alike (tree.InstancesItem t) = refl

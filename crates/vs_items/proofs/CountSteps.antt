@@ -1,5 +1,5 @@
 -- One piece more is counted.
-use Rattle.std.proofs.Common.{◌≡◌, ℕ, ◌+◌, ◌<◌, ◌≤◌, Bool, true, false, List, [], ◌∷◌, ◌++◌, map, take, length, Option, Some, None, if◌then◌else◌, nat_lt, refl, sym, ap, ◌∙◌, subst, append_assoc, arith, get_or, add-zero}
+use Rattle.std.proofs.Common.{◌≡◌, ℕ, ◌+◌, ◌<◌, ◌≤◌, Bool, true, false, List, [], ◌∷◌, ◌++◌, map, take, length, Option, Some, None, if◌then◌else◌, nat_lt, refl, sym, ap, ◌∙◌, subst, append_assoc, arith, get_or, add-zero, Vec, Global}
 use Rattle.std.specs.Borrow.{Bor}
 use Rattle.std.specs.Prelude.{is_some, sum_by}
 use Rattle.std.proofs.lemmas.List.{append-nil, get_or_default}
@@ -10,14 +10,20 @@ use Rattle.vs_const.specs.declared.faults.Fault.{Fault}
 use Rattle.vs_const.specs.Faults.{least, fault}
 use Rattle.vs_const.specs.declared.rules.Rule.TheVariants.{TooManyProcesses}
 use Rattle.vs_ast.specs.declared.expressions.Expr.{Expr}
+use Rattle.vs_ast.specs.declared.items.Signals.{Signals}
+use Rattle.vs_ast.specs.declared.modules.Header.{Header}
+use Rattle.vs_ast.specs.declared.modules.Header.TheVariants.{NoPorts, Plain, Declared}
 use Rattle.vs_ast.specs.Views as view
 use Rattle.vs_build.specs.Writable.{wire_assign, assign_process}
 use Rattle.vs_elaborated.specs.Environments.{Env, named}
+use Rattle.vs_elaborated.specs.Statements.{assignment}
+use Rattle.vs_elaborated.specs.Signals.{is_reg}
+use Rattle.vs_const.specs.Expressions.{typed}
 use Rattle.vs_elaborated.specs.Parameters.{Override}
 use Rattle.vs_elaborated.specs.Ports.{find_module}
 use Rattle.vs_elaborated.specs.Instances.{Around, instance_said, said_overrides, instances_said}
-use Rattle.vs_elaborated.specs.Pieces.{Piece, Own, Within, Task, Said, all_said}
-use Rattle.vs_elaborated.specs.Surveys.{processes_over, piece_processes, piece_place, wire_said}
+use Rattle.vs_elaborated.specs.Pieces.{Piece, Own, Initially, Within, Task, Said, all_said}
+use Rattle.vs_elaborated.specs.Surveys.{processes_over, piece_processes, piece_place, initial_body, value_said, wire_said, declarator_said, ports_said}
 use Rattle.vs_items.specs.declared.counts.Count.{Count}
 use Rattle.vs_items.specs.declared.interfaces.Interface.{Interface}
 use Rattle.vs_items.specs.Counts.{IsCounted}
@@ -136,15 +142,25 @@ pub viewed : (v : Option Expr) → is_some (view.option view.expr v) ≡ is_some
 viewed None = refl
 viewed (Some e) = refl
 
-pub wire_counted : (env : Env) (place : ℕ) (n : tree.Name) (a : Option tree.RangeTree) (v : Option tree.Expr) → is_some v ≡ true → (Q : List Piece → Type 0)
-    → ((p : Piece) → piece_processes p ≡ 1 → piece_place p ≡ place → Q (p ∷ [])) → (let d : tree.Declarator = record { name = n; addresses = a; value = v } in Q (wire_said env place d).pieces)
-wire_counted env place n a None h Q k = cc
-wire_counted env place n a (Some e) h Q k = k (Own (assign_process place (wire_assign n e) (named env))) refl refl
+pub declarator_counted : (env : Env) (place : ℕ) (kind : tree.SignalKind) (n : tree.Name) (a : Option tree.RangeTree) (v : Option tree.Expr) → is_some v ≡ true → (at : ℕ) → at ≡ (if is_reg kind then n.place else place) → (Q : List Piece → Type 0)
+    → ((p : Piece) → piece_processes p ≡ 1 → piece_place p ≡ at → Q (p ∷ [])) → (let d : tree.Declarator = record { name = n; addresses = a; value = v } in Q (declarator_said env place kind d).pieces)
+declarator_counted env place kind n a None h at i Q k = cc
+declarator_counted env place kind n a (Some e) h at i Q k = of (is_reg kind) i
+  where
+    of : (b : Bool) → at ≡ (if b then n.place else place) → Q (if b then value_said env n e else wire_said env place n e).pieces
+    of true j = k (Initially n.place (assignment initial_body (tree.NamedTarget n tree.Whole) (named env) (typed e (named env) false) true).statement) refl (sym j)
+    of false j = k (Own (assign_process place (wire_assign n e) (named env))) refl (sym j)
 
-pub wire_uncounted : (env : Env) (place : ℕ) (n : tree.Name) (a : Option tree.RangeTree) (v : Option tree.Expr) → is_some v ≡ false → (c : Count) (before : ℕ) (ps : List Piece) → IsCounted c before ps
-    → (let d : tree.Declarator = record { name = n; addresses = a; value = v } in IsCounted c before (ps ++ (wire_said env place d).pieces))
-wire_uncounted env place n a None h c before ps k = counted_nothing c before ps k
-wire_uncounted env place n a (Some e) h c before ps k = cc
+pub declarator_uncounted : (env : Env) (place : ℕ) (kind : tree.SignalKind) (n : tree.Name) (a : Option tree.RangeTree) (v : Option tree.Expr) → is_some v ≡ false → (c : Count) (before : ℕ) (ps : List Piece) → IsCounted c before ps
+    → (let d : tree.Declarator = record { name = n; addresses = a; value = v } in IsCounted c before (ps ++ (declarator_said env place kind d).pieces))
+declarator_uncounted env place kind n a None h c before ps k = counted_nothing c before ps k
+declarator_uncounted env place kind n a (Some e) h c before ps k = cc
+
+-- a header that declares nothing
+pub undeclared_counted : (env : Env) (h : Header) → ((all : Vec Signals Global) → h ≡ Declared all → ⊥) → (c : Count) (before : ℕ) (ps : List Piece) → IsCounted c before ps → IsCounted c before (ps ++ (ports_said env (view.header h)).pieces)
+undeclared_counted env NoPorts f c before ps k = counted_nothing c before ps k
+undeclared_counted env (Plain names) f c before ps k = counted_nothing c before ps k
+undeclared_counted env (Declared all) f c before ps k = absurd (f all refl)
 
 -- instances of a module that the text doesn't have
 none_said : (around : Around) (place : ℕ) (os : List Override) (is : List tree.Instance) → (all_said (instance_said around place None os) is).pieces ≡ []

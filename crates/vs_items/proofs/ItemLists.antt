@@ -7,6 +7,7 @@ use Rattle.vs_ast.specs.declared.items.Item as code
 use Rattle.vs_ast.specs.declared.items.Signals.{Signals}
 use Rattle.vs_ast.specs.declared.items.Assign.{Assign}
 use Rattle.vs_ast.specs.declared.items.AlwaysBlock.{AlwaysBlock}
+use Rattle.vs_ast.specs.declared.items.InitialBlock.{InitialBlock}
 use Rattle.vs_ast.specs.declared.items.Instances.{Instances}
 use Rattle.vs_ast.specs.Views as view
 use Rattle.vs_elaborated.specs.Generate.{Nested, Made, nothing_made}
@@ -71,6 +72,7 @@ abbrev pub IsOther : tree.Item → Type 0
 IsOther (tree.SignalsItem t) = ⊥
 IsOther (tree.AssignsItem place assigns) = ⊥
 IsOther (tree.AlwaysItem b) = ⊥
+IsOther (tree.InitialItem b) = ⊥
 IsOther (tree.InstancesItem t) = ⊥
 IsOther item = Unit {0}
 
@@ -78,6 +80,7 @@ pub other_counted : (limits : Limits) (source : tree.Source) (around : Around) (
 other_counted limits source around loops (tree.SignalsItem t) made c before ps o k = absurd o
 other_counted limits source around loops (tree.AssignsItem place assigns) made c before ps o k = absurd o
 other_counted limits source around loops (tree.AlwaysItem b) made c before ps o k = absurd o
+other_counted limits source around loops (tree.InitialItem b) made c before ps o k = absurd o
 other_counted limits source around loops (tree.InstancesItem t) made c before ps o k = absurd o
 other_counted limits source around loops (tree.ParametersItem t) made c before ps o k = blocks_counted around made.blocks c before ps k
 other_counted limits source around loops (tree.IntegersItem place names) made c before ps o k = blocks_counted around made.blocks c before ps k
@@ -89,15 +92,16 @@ other_counted limits source around loops (tree.GenerateCase place subject arms o
 
 -- an item of another kind
 pub are_others : (x : Item) → ((s : Signals) → x ≡ code.Signals s → ⊥) → ((place : ℕ) (all : Vec Assign Global) → x ≡ code.Assigns place all → ⊥) → ((b : AlwaysBlock) → x ≡ code.Always b → ⊥)
-    → ((t : Instances) → x ≡ code.Instances t → ⊥) → IsOther (view.item x)
-are_others (code.Signals s) f g h k = f s refl
-are_others (code.Parameters p) f g h k = tt
-are_others (code.Assigns place all) f g h k = g place all refl
-are_others (code.Always b) f g h k = h b refl
-are_others (code.Genvars place names) f g h k = tt
-are_others (code.Integers place names) f g h k = tt
-are_others (code.Function fn) f g h k = tt
-are_others (code.Instances t) f g h k = k t refl
-are_others (code.GenerateFor' head p b) f g h k = tt
-are_others (code.GenerateIf' place e p b other) f g h k = tt
-are_others (code.GenerateCase' place e shape all other) f g h k = tt
+    → ((b : InitialBlock) → x ≡ code.Initial b → ⊥) → ((t : Instances) → x ≡ code.Instances t → ⊥) → IsOther (view.item x)
+are_others (code.Signals s) f g h i k = f s refl
+are_others (code.Parameters p) f g h i k = tt
+are_others (code.Assigns place all) f g h i k = g place all refl
+are_others (code.Always b) f g h i k = h b refl
+are_others (code.Initial b) f g h i k = i b refl
+are_others (code.Genvars place names) f g h i k = tt
+are_others (code.Integers place names) f g h i k = tt
+are_others (code.Function fn) f g h i k = tt
+are_others (code.Instances t) f g h i k = k t refl
+are_others (code.GenerateFor' head p b) f g h i k = tt
+are_others (code.GenerateIf' place e p b other) f g h i k = tt
+are_others (code.GenerateCase' place e shape all other) f g h i k = tt

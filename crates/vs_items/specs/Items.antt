@@ -1,5 +1,5 @@
--- The faults of assigns.
-use Rattle.std.specs.Prelude.{false, List, [], ◌++◌, Option, Some, None}
+-- The faults of assigns, and of values where names are declared.
+use Rattle.std.specs.Prelude.{Bool, false, List, [], ◌++◌, Option, Some, None}
 use Rattle.vs_grammar.specs.Trees as tree
 use Rattle.vs_const.specs.declared.faults.Fault.{Fault}
 use Rattle.vs_const.specs.Expressions.{typed}
@@ -10,11 +10,11 @@ use Rattle.vs_elaborated.specs.Targets.{target_base, typed_target}
 abbrev pub assign_faults : Env → tree.Assign → List Fault
 assign_faults env a = (typed_target a.target (named env) false).faults ++ (typed a.e (named env) false).faults
 
--- of a name with this value
-abbrev pub value_faults : Env → tree.Name → Option tree.Expr → List Fault
-value_faults env name None = []
-value_faults env name (Some e) = (target_base false name.place false (named env name.bytes)).faults ++ (typed e (named env) false).faults
+-- of a net, or of a variable, with this value
+abbrev pub value_faults : Env → (variable : Bool) → tree.Name → Option tree.Expr → List Fault
+value_faults env variable name None = []
+value_faults env variable name (Some e) = (target_base variable name.place false (named env name.bytes)).faults ++ (typed e (named env) false).faults
 
 -- of a declared name
-abbrev pub wire_faults : Env → tree.Declarator → List Fault
-wire_faults env d = value_faults env d.name d.value
+abbrev pub declarator_faults : Env → (variable : Bool) → tree.Declarator → List Fault
+declarator_faults env variable d = value_faults env variable d.name d.value

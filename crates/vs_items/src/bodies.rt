@@ -1,4 +1,4 @@
-//! The faults of all items of a scope, and how many processes they have (IEEE 1364-2005, A.1.4).
+//! The faults of the header and of all items of a scope, and how many processes they have (IEEE 1364-2005, A.1.4).
 
 ghost use Rattle.std.specs.Prelude.{◌≡◌, ◌≤◌, [], ◌∷◌, List, IfOk, OnOk, map, length};
 ghost use Rattle.vs_grammar.specs.Trees as tree;
@@ -9,17 +9,17 @@ ghost use Rattle.vs_elaborated.specs.Environments.{Env};
 ghost use Rattle.vs_elaborated.specs.Generate.{Made};
 ghost use Rattle.vs_elaborated.specs.Instances.{Around};
 ghost use Rattle.vs_elaborated.specs.Surveys.{item_said, items_said, loops_after, loops_behind};
-ghost use Rattle.vs_scope.specs.Contents.{contents_items};
+ghost use Rattle.vs_scope.specs.Contents.{contents_header, contents_items};
 ghost use Rattle.vs_scope.specs.Frames.{view_env};
 ghost use Rattle.vs_items.specs.Loops.{SeeTheSame};
 ghost use Rattle.vs_items.specs.Modules.{AreOf};
-ghost use Rattle.vs_items.specs.Said.{IsSaid};
-ghost use Rattle.vs_items.specs.Stated.{AreStated, IsStated};
+ghost use Rattle.vs_items.specs.Said.{IsSaid, scope_said};
+ghost use Rattle.vs_items.specs.Stated.{AreStated, IsStated, IsStatedHeader};
 
-use crate::blocks::block_fault;
-use crate::counts::{Count, count_contents};
+use crate::blocks::{block_fault, initial_fault};
+use crate::counts::{Count, count_contents, count_header};
 use crate::instances::instances_fault;
-use crate::items::{assigns_fault, wires_fault};
+use crate::items::{assigns_fault, header_fault, signals_fault};
 use crate::loops::Loops;
 use crate::modules::{Known, seen_by};
 use std::alloc::{AllocError, Global};
@@ -42,9 +42,10 @@ fn item_fault<'a>(
     ensures loops { (env : Env) → SeeTheSame env (view_env here.now) → OnOk result (loops.new ≡ loops_after the_limits env loops.old (view.item item.now)) }
 {
     match item {
-        Item::Signals(s) => wires_fault(alloc, &s.names, here),
+        Item::Signals(s) => signals_fault(alloc, s, here),
         Item::Assigns { assigns, .. } => assigns_fault(alloc, assigns, here),
         Item::Always(b) => block_fault(alloc, b, here, loops),
+        Item::Initial(b) => initial_fault(alloc, b, here, loops),
         Item::Instances(t) => instances_fault(alloc, seen_by(modules, &t.of), t, here),
         _ => Ok(None),
     }
@@ -108,7 +109,7 @@ fn contents_fault<'a>(
     }
 }
 
-/// What is found of the items of a scope.
+/// What is found of the header and the items of a scope.
 #[derive(Clone, Copy)]
 pub struct SaidItems {
     /// The first rule that they break.
@@ -117,7 +118,7 @@ pub struct SaidItems {
     pub processes: u32,
 }
 
-/// What is found of the items of a scope, in a text of these modules. `here` is the scope with its own names, `total` how many processes there are
+/// What is found of the header and the items of a scope, in a text of these modules. `here` is the scope with its own names, `total` how many processes there are
 /// before it and `most` how many there may be, and `loops` is what loops did before its items, and then behind them. What generate constructs make is no
 /// matter: neither their faults nor those of their blocks are looked for.
 ///
@@ -125,10 +126,10 @@ pub struct SaidItems {
 /// - `UnknownModule`: an instance of a module that the text doesn't have (12.1.2).
 /// - `DuplicateName`, `PortCount`, `UnknownPort`: a name that is connected or overridden twice, a wrong number of connections or too many overrides, and
 ///   a name that the module doesn't have (12.2.2, 12.3.5, 12.3.6).
-/// - `WrongKind`: what is assigned to, or connected to an output, is no net where it has to be one, or no variable (6.1, 9.2, 12.3.9.2), or a block without an
-///   edge among its events writes a word of a memory (4.9).
+/// - `WrongKind`: what is assigned to, or connected to an output, is no net where it has to be one, or no variable (6.1, 6.2.1, 9.2, 12.3.9.2), or an always
+///   block without an edge among its events writes a word of a memory (4.9).
 /// - `LoopTurns`: a loop takes more than 4,096 turns, or with its block all loops so far copy more than 1,048,576 statements, at the `for` (9.6).
-/// - `LoopVariable`: an integer heads a loop within another one of it, or loops of two always blocks, at its name (9.6).
+/// - `LoopVariable`: an integer heads a loop within another one of it, or loops of two blocks, at its name (9.6).
 /// - `TooManyProcesses`: where the first piece begins with which there are more than `most`.
 ///
 /// An error is want of memory; more copies than 32 bits count are too many, too.
@@ -141,21 +142,25 @@ pub fn said_items<'a>(
     total: u32,
     loops: &mut Loops,
 ) -> Result<SaidItems, AllocError>
+    requires header { IsStatedHeader (contents_header contents) }
     requires stated { AreStated (contents_items contents) }
     requires few { total ≤ most }
     ensures said { (source : tree.Source) (around : Around) (made : List Made) → AreOf modules.now source → SeeTheSame around.env (view_env here.now) → length made ≡ length (contents_items contents.entry)
-        → IfOk result (λ r. IsSaid r most total (items_said the_limits source around loops.old (contents_items contents.entry) made)) }
+        → IfOk result (λ r. IsSaid r most total (scope_said source around loops.old contents.entry made)) }
     ensures loops { (env : Env) → SeeTheSame env (view_env here.now) → OnOk result (loops.new ≡ loops_behind the_limits env loops.old (contents_items contents.entry)) }
 {
+    let first = header_fault(alloc, contents, here)?;
     let found = contents_fault(alloc, modules, contents, here, loops)?;
+    let fault = first_of(first, found);
     let mut count = Count {
         most,
         total,
         over: None,
     };
+    count_header(contents, &mut count);
     count_contents(alloc, modules, contents, &mut count)?;
     Ok(SaidItems {
-        fault: first_of(found, count.over),
+        fault: first_of(fault, count.over),
         processes: count.total,
     })
 }

@@ -1,4 +1,4 @@
-//! How many processes the pieces of a scope have (IEEE 1364-2005, 6.1, 9.9.2 and 12.3.9.2).
+//! How many processes the pieces of a scope have, initial ones among them (IEEE 1364-2005, 6.1, 6.2.1, 9.9 and 12.3.9.2).
 
 ghost use Rattle.std.specs.Prelude.{◌≡◌, ◌++◌, [], ◌∷◌, ℕ, List, Some, IfOk, OnOk, map, option_map, length, if◌then◌else◌};
 ghost use Rattle.vs_grammar.specs.Trees as tree;
@@ -10,9 +10,10 @@ ghost use Rattle.vs_elaborated.specs.Parameters.{Override};
 ghost use Rattle.vs_elaborated.specs.Pieces.{Piece, all_said};
 ghost use Rattle.vs_elaborated.specs.Surveys as survey;
 ghost use Rattle.vs_elaborated.specs.Surveys.{piece_place, piece_processes};
+ghost use Rattle.vs_elaborated.specs.Signals as signals;
 ghost use Rattle.vs_elaborated.specs.Instances as spec;
 ghost use Rattle.vs_elaborated.specs.Ports as spec_ports;
-ghost use Rattle.vs_scope.specs.Contents.{contents_items};
+ghost use Rattle.vs_scope.specs.Contents.{contents_header, contents_items};
 ghost use Rattle.vs_maps.specs.MapViews.{pairs};
 ghost use Rattle.vs_items.specs.Counts.{HasNames, IsCounted};
 ghost use Rattle.vs_items.specs.Interfaces.{IsInterface};
@@ -26,10 +27,13 @@ use crate::noted::note;
 use crate::outputs::is_target;
 use crate::ports::{Port, Ports};
 use std::alloc::{AllocError, Global};
-use vs_ast::{Assign, Connections, Declarator, Expr, Instance, Instances, Item, NamedConnection};
+use vs_ast::{
+    Assign, Connections, Declarator, Expr, Header, Instance, Instances, Item, NamedConnection,
+    SignalKind, Signals,
+};
 use vs_const::{Fault, Rule};
 use vs_maps::NameMap;
-use vs_scope::{BlockItems, Contents};
+use vs_scope::{BlockItems, Contents, is_reg};
 
 /// A count of processes, which goes up to the most that there may be.
 #[derive(Clone, Copy)]
@@ -61,23 +65,71 @@ impl Count {
     }
 }
 
-/// The process of a declared name, if it has a value.
-fn count_wire(d: &Declarator, place: u32, count: &mut Count)
-    ensures most { count.new.most ≡ count.old.most }
-    ensures counted { (env : Env) (before : ℕ) (ps : List Piece) → IsCounted count.old before ps → IsCounted count.new before (ps ++ (survey.wire_said env place (view.declarator d.now)).pieces) }
+/// Where the process of a declared value begins: an assign where the declaration does, and an initial process at the name.
+fn value_place(d: &Declarator, kind: SignalKind, place: u32) -> u32
+    ensures { result ≡ (if signals.is_reg (view.signal_kind kind) then d.now.name.place else place) }
 {
+    if is_reg(kind) { d.name.place } else { place }
+}
+
+/// The process of a declared name of this kind, if it has a value.
+fn count_declarator(d: &Declarator, kind: SignalKind, place: u32, count: &mut Count)
+    ensures most { count.new.most ≡ count.old.most }
+    ensures counted { (env : Env) (before : ℕ) (ps : List Piece) → IsCounted count.old before ps → IsCounted count.new before (ps ++ (survey.declarator_said env place (view.signal_kind kind) (view.declarator d.now)).pieces) }
+{
+    let at = value_place(d, kind, place);
     if d.value.is_some() {
-        count.add(1, place);
+        count.add(1, at);
     }
 }
 
-/// The processes of the names of a declaration that begins at this place: each that has a value has one.
-pub(crate) fn count_wires(names: &[Declarator], place: u32, count: &mut Count)
+/// The processes of the names of a declaration of this kind that begins at this place: each that has a value has one.
+fn count_declarators(names: &[Declarator], kind: SignalKind, place: u32, count: &mut Count)
     ensures most { count.new.most ≡ count.old.most }
-    ensures counted { (env : Env) (before : ℕ) (ps : List Piece) → IsCounted count.old before ps → IsCounted count.new before (ps ++ (all_said (survey.wire_said env place) (map view.declarator names.now)).pieces) }
+    ensures counted { (env : Env) (before : ℕ) (ps : List Piece) → IsCounted count.old before ps → IsCounted count.new before (ps ++ (all_said (survey.declarator_said env place (view.signal_kind kind)) (map view.declarator names.now)).pieces) }
 {
     for d in names {
-        count_wire(d, place, count);
+        count_declarator(d, kind, place, count);
+    }
+}
+
+/// The processes of a declaration.
+fn count_signals(s: &Signals, count: &mut Count)
+    ensures most { count.new.most ≡ count.old.most }
+    ensures counted { (env : Env) (before : ℕ) (ps : List Piece) → IsCounted count.old before ps → IsCounted count.new before (ps ++ (survey.signals_said env (view.signals s.now)).pieces) }
+{
+    count_declarators(&s.names, s.kind, s.place, count);
+}
+
+/// The processes of declarations of ports.
+fn count_ports(ports: &[Signals], count: &mut Count)
+    ensures most { count.new.most ≡ count.old.most }
+    ensures counted { (env : Env) (before : ℕ) (ps : List Piece) → IsCounted count.old before ps → IsCounted count.new before (ps ++ (all_said (survey.signals_said env) (map view.signals ports.now)).pieces) }
+{
+    for s in ports {
+        count_signals(s, count);
+    }
+}
+
+/// The processes of a header.
+fn count_values(header: &Header, count: &mut Count)
+    ensures most { count.new.most ≡ count.old.most }
+    ensures counted { (env : Env) (before : ℕ) (ps : List Piece) → IsCounted count.old before ps → IsCounted count.new before (ps ++ (survey.ports_said env (view.header header.now)).pieces) }
+{
+    match header {
+        Header::Declared(ports) => count_ports(ports, count),
+        _ => {}
+    }
+}
+
+/// The processes of a scope's header, if it has one.
+pub(crate) fn count_header(contents: Contents<'_>, count: &mut Count)
+    ensures most { count.new.most ≡ count.old.most }
+    ensures counted { (env : Env) (before : ℕ) (ps : List Piece) → IsCounted count.old before ps → IsCounted count.new before (ps ++ (survey.ports_said env (contents_header contents.entry)).pieces) }
+{
+    match contents {
+        Contents::Module(m) => count_values(&m.header, count),
+        Contents::Block(_) => {}
     }
 }
 
@@ -247,7 +299,7 @@ fn count_item<'a>(
 {
     match item {
         Item::Signals(s) => {
-            count_wires(&s.names, s.place, count);
+            count_signals(s, count);
             Ok(())
         }
         Item::Assigns { place, assigns } => {
@@ -255,6 +307,10 @@ fn count_item<'a>(
             Ok(())
         }
         Item::Always(b) => {
+            count.add(1, b.place);
+            Ok(())
+        }
+        Item::Initial(b) => {
             count.add(1, b.place);
             Ok(())
         }

@@ -1,4 +1,4 @@
-//! The integers that head loops of always blocks (IEEE 1364-2005, 9.6).
+//! The integers that head loops of blocks (IEEE 1364-2005, 9.6).
 
 ghost use Rattle.std.specs.Prelude.{◌≡◌, ◌++◌, [], ◌∷◌, List, IfOk, OnOk, map, is_some};
 ghost use Rattle.vs_ast.specs.Views as view;
@@ -170,7 +170,7 @@ fn push_arms<'b>(
     Ok(())
 }
 
-/// The integers of scopes that head loops in the statement of an always block, in the order of the text, each with where the loop names it.
+/// The integers of scopes that head loops in the statement of a block, in the order of the text, each with where the loop names it.
 pub(crate) fn heads_of(
     alloc: Global,
     s: &Statement,

@@ -181,7 +181,7 @@ attributes : left_out_of (cut_text (codes "(* ) (*) @(*) ( * a ( *")) ≡ 10 ∷
 unfolding is_in_range cut_text word_kind system_kind sign_kind signs keywords left_out_words system_names token left_from left_out_of
 attributes = refl
 
-left_out_kinds : left_out_of (cut_text (codes "wait a ** b -> $time initial")) ≡ 0 ∷ 4 ∷ 5 ∷ 6 ∷ []
+left_out_kinds : left_out_of (cut_text (codes "wait a ** b -> $time disable")) ≡ 0 ∷ 4 ∷ 5 ∷ 6 ∷ []
 unfolding is_in_range cut_text word_kind system_kind sign_kind signs keywords left_out_words system_names token left_from left_out_of
 left_out_kinds = refl
 

@@ -31,7 +31,8 @@ keywords =
     (codes "if", kind.KeywordIf) ∷ (codes "else", kind.KeywordElse) ∷ (codes "case", kind.KeywordCase) ∷ (codes "casez", kind.KeywordCasez) ∷
     (codes "casex", kind.KeywordCasex) ∷ (codes "endcase", kind.KeywordEndCase) ∷ (codes "default", kind.KeywordDefault) ∷ (codes "begin", kind.KeywordBegin) ∷
     (codes "end", kind.KeywordEnd) ∷ (codes "posedge", kind.KeywordPosedge) ∷ (codes "negedge", kind.KeywordNegedge) ∷ (codes "or", kind.KeywordOr) ∷
-    (codes "function", kind.KeywordFunction) ∷ (codes "endfunction", kind.KeywordEndFunction) ∷ (codes "integer", kind.KeywordInteger) ∷ []
+    (codes "function", kind.KeywordFunction) ∷ (codes "endfunction", kind.KeywordEndFunction) ∷ (codes "integer", kind.KeywordInteger) ∷
+    (codes "initial", kind.KeywordInitial) ∷ []
 
 -- the other keywords of the standard (annex B): reserved, and left out
 unfoldable pub left_out_words : List (List ℕ)
@@ -39,7 +40,7 @@ left_out_words =
     codes "and" ∷ codes "automatic" ∷ codes "buf" ∷ codes "bufif0" ∷ codes "bufif1" ∷ codes "cell" ∷ codes "cmos" ∷ codes "config" ∷ codes "deassign" ∷ codes "defparam" ∷
     codes "design" ∷ codes "disable" ∷ codes "edge" ∷ codes "endconfig" ∷ codes "endprimitive" ∷ codes "endspecify" ∷ codes "endtable" ∷
     codes "endtask" ∷ codes "event" ∷ codes "force" ∷ codes "forever" ∷ codes "fork" ∷ codes "highz0" ∷ codes "highz1" ∷ codes "ifnone" ∷
-    codes "incdir" ∷ codes "include" ∷ codes "initial" ∷ codes "inout" ∷ codes "instance" ∷ codes "join" ∷ codes "large" ∷ codes "liblist" ∷
+    codes "incdir" ∷ codes "include" ∷ codes "inout" ∷ codes "instance" ∷ codes "join" ∷ codes "large" ∷ codes "liblist" ∷
     codes "library" ∷ codes "macromodule" ∷ codes "medium" ∷ codes "nand" ∷ codes "nmos" ∷ codes "nor" ∷ codes "noshowcancelled" ∷ codes "not" ∷ codes "notif0" ∷
     codes "notif1" ∷ codes "pmos" ∷ codes "primitive" ∷ codes "pull0" ∷ codes "pull1" ∷ codes "pulldown" ∷ codes "pullup" ∷ codes "pulsestyle_ondetect" ∷
     codes "pulsestyle_onevent" ∷ codes "rcmos" ∷ codes "real" ∷ codes "realtime" ∷ codes "release" ∷ codes "repeat" ∷ codes "rnmos" ∷ codes "rpmos" ∷ codes "rtran" ∷

@@ -53,7 +53,7 @@ pub(crate) const SIGNS: [(&[u8], TokenKind); 46] = [
 ];
 
 /// The keywords of the grammar (IEEE 1364-2005, 3.7.2, annex B).
-pub(crate) const KEYWORDS: [(&[u8], TokenKind); 30] = [
+pub(crate) const KEYWORDS: [(&[u8], TokenKind); 31] = [
     (b"module", TokenKind::KeywordModule),
     (b"endmodule", TokenKind::KeywordEndModule),
     (b"parameter", TokenKind::KeywordParameter),
@@ -84,10 +84,11 @@ pub(crate) const KEYWORDS: [(&[u8], TokenKind); 30] = [
     (b"function", TokenKind::KeywordFunction),
     (b"endfunction", TokenKind::KeywordEndFunction),
     (b"integer", TokenKind::KeywordInteger),
+    (b"initial", TokenKind::KeywordInitial),
 ];
 
 /// The keywords that no rule of the grammar has (IEEE 1364-2005, annex B).
-pub(crate) const LEFT_OUT_WORDS: [&[u8]; 94] = [
+pub(crate) const LEFT_OUT_WORDS: [&[u8]; 93] = [
     b"and",
     b"automatic",
     b"buf",
@@ -115,7 +116,6 @@ pub(crate) const LEFT_OUT_WORDS: [&[u8]; 94] = [
     b"ifnone",
     b"incdir",
     b"include",
-    b"initial",
     b"inout",
     b"instance",
     b"join",

@@ -180,6 +180,8 @@ pub enum TokenKind {
     KeywordEndFunction,
     /// `integer`
     KeywordInteger,
+    /// `initial`
+    KeywordInitial,
 }
 
 /// The bytes `start..end` of a text.

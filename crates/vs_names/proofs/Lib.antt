@@ -1,3 +1,4 @@
 pub mod Found
 pub mod Added
 pub mod Around
+mod Placed

@@ -1,8 +1,8 @@
 -- A design and the tokens of its text.
-use Rattle.std.specs.Prelude.{ℕ, Bool, ◌&&◌, ◌==◌, List, find, Option, Some, None, option_map, option_and_then, slice_get, bytes_eq}
+use Rattle.std.specs.Prelude.{ℕ, ◌-◌, Bool, ◌&&◌, ◌==◌, nat_lt, if◌then◌else◌, List, [], ◌∷◌, find, Option, Some, None, option_map, option_and_then, slice_get, bytes_eq}
 use Rattle.vs_lexer.specs.declared.token.Token.{Token}
 use Rattle.vs_design.specs.Expressions.{Signal, signal_length}
-use Rattle.vs_design.specs.Designs.{Process, process_place}
+use Rattle.vs_design.specs.Designs.{Process, Initial, process_place}
 use Rattle.vs_flat.specs.Arena.{Arena}
 use Rattle.vs_flat.specs.DesignOf.{design_of}
 
@@ -16,8 +16,22 @@ abbrev pub byte_of : Drawn → Process → Option ℕ
 byte_of d q = option_map (λ (t : Token). t.at) (slice_get d.tokens (process_place q))
 
 -- of the process of this number; none where there is no such process either
+abbrev pub own_byte : Drawn → ℕ → Option ℕ
+own_byte d p = option_and_then (byte_of d) (slice_get (design_of d.flat).processes p)
+
+-- the token that begins the process behind so many processes and initial ones of the text, where the initial ones stand in its order
+abbrev pub place_numbered : List Process → List Initial → ℕ → Option ℕ
+place_numbered ps [] n = option_map process_place (slice_get ps n)
+place_numbered ps (i ∷ is) n =
+    if n == i.behind then Some i.place else if nat_lt n i.behind then option_map process_place (slice_get ps n) else place_numbered ps is (n - 1)
+
+-- the byte of the text at which a reader finds a token; none where there is no such token
+abbrev pub token_byte : Drawn → ℕ → Option ℕ
+token_byte d at = option_map (λ (t : Token). t.at) (slice_get d.tokens at)
+
+-- and the process that has this number in the text, initial ones too: it stands behind so many
 abbrev pub process_byte : Drawn → ℕ → Option ℕ
-process_byte d p = option_and_then (byte_of d) (slice_get (design_of d.flat).processes p)
+process_byte d n = option_and_then (token_byte d) (place_numbered (design_of d.flat).processes (design_of d.flat).initials n)
 
 -- the top declares the signal, by this name
 abbrev pub is_port : List ℕ → Signal → Bool

@@ -1,9 +1,10 @@
 //! A design and the tokens of its text.
 
-ghost use Rattle.std.specs.Prelude.{◌≡◌, ◌++◌, Some, IfOk, OnOk, map};
+ghost use Rattle.std.specs.Prelude.{◌≡◌, ◌++◌, Some, IfOk, OnOk, map, option_map, slice_get};
+ghost use Rattle.vs_design.specs.Designs.{process_place};
 ghost use Rattle.vs_flat.specs.DesignOf.{design_of};
 ghost use Rattle.vs_names.specs.Names as spec;
-ghost use Rattle.vs_names.specs.Drawn.{byte_of, process_byte, port_bits as spec_bits};
+ghost use Rattle.vs_names.specs.Drawn.{byte_of, own_byte, place_numbered, process_byte, port_bits as spec_bits};
 
 use crate::bits::{port_bits, push_bit, push_signal};
 use std::alloc::{AllocError, Global};
@@ -27,6 +28,36 @@ impl Model for Drawing {
     ghost view = { λ d. record { tokens = d.tokens.items; flat = d.flat } };
 }
 
+/// The token that begins process p.
+fn place_of_process(flat: &Flat, process: u32) -> Option<u32>
+    ensures { result ≡ option_map process_place (slice_get (design_of flat.now).processes process) }
+{
+    trees_law();
+    if process >= flat.process_count() {
+        return None;
+    }
+    Some(flat.process(process).at)
+}
+
+/// The token that begins the process behind so many processes and initial ones of the text.
+fn place_of_number(flat: &Flat, number: u32) -> Option<u32>
+    ensures { result ≡ place_numbered (design_of flat.now).processes (design_of flat.now).initials number }
+{
+    trees_law();
+    let mut process = number;
+    for k in 0..flat.initial_count() {
+        let initial = flat.initial(k);
+        if process == initial.behind {
+            return Some(initial.at);
+        }
+        if process < initial.behind {
+            return place_of_process(flat, process);
+        }
+        process -= 1;
+    }
+    place_of_process(flat, process)
+}
+
 impl Drawing {
     /// These tokens and this design. It takes no memory.
     pub fn of(tokens: Vec<Token>, flat: Flat) -> Drawing
@@ -35,10 +66,9 @@ impl Drawing {
         Drawing { tokens, flat }
     }
 
-    /// The byte of the text at which a reader finds a process: where it begins, or, where a macro gave it, where the outermost use begins that it came from.
-    /// None where the design has no such process.
-    pub fn process_byte(&self, process: u32) -> Option<u32>
-        ensures { result ≡ process_byte self.now process }
+    /// The byte of the text at which a reader finds process p.
+    fn own_byte(&self, process: u32) -> Option<u32>
+        ensures { result ≡ own_byte self.now process }
     {
         trees_law();
         if process >= self.flat.process_count() {
@@ -48,14 +78,23 @@ impl Drawing {
         Some(self.tokens.get(at as usize)?.at)
     }
 
-    /// Of each process, by number, the byte of the text at which a reader finds it. The only error is that memory ran out.
+    /// The byte of the text at which a reader finds the process that has this number in a report, behind as many processes and initial ones: where it begins, or, where a
+    /// macro gave it, where the outermost use begins that it came from. None where the design has no such process.
+    pub fn process_byte(&self, process: u32) -> Option<u32>
+        ensures { result ≡ process_byte self.now process }
+    {
+        let at = place_of_number(&self.flat, process)?;
+        Some(self.tokens.get(at as usize)?.at)
+    }
+
+    /// Of each process, initial ones left out, the byte of the text at which a reader finds it. The only error is that memory ran out.
     pub fn process_bytes(&self, alloc: Global) -> Result<Vec<Option<u32>>, AllocError>
         ensures { IfOk result (λ v. v.items ≡ map (byte_of self.now) (design_of self.now.flat).processes) }
     {
         trees_law();
         let mut bytes = Vec::new(alloc);
         for process in 0..self.flat.process_count() {
-            let byte = self.process_byte(process);
+            let byte = self.own_byte(process);
             bytes.push(byte)?;
         }
         Ok(bytes)

@@ -2,8 +2,9 @@
 use Rattle.std.specs.Prelude.{◌≡◌, ℕ, ◌-◌, ◌^◌, Bool, true, List, ◌∷◌, All, length, map, min}
 use Rattle.vs_net.specs.Network.{State}
 use Rattle.vs_net.specs.Queue.{Choice, IsCompleted, IsFirst, ends, start}
-use Rattle.vs_design.specs.Designs.{Design}
-use Rattle.vs_design.specs.Networks.{idle_value, network_of}
+use Rattle.vs_design.specs.Designs.{Initial, Design}
+use Rattle.vs_design.specs.Initials.{IsOrderOf}
+use Rattle.vs_design.specs.Networks.{idle_value, network_in, network_of}
 use Rattle.vs_queue.specs.Chosen.{IsChosen}
 use Rattle.vs_queue.specs.Ordered.{driven_bits, drawn_values, seed_after}
 use Rattle.vs_rounds.specs.Drives.{Vector, vector_state}
@@ -24,10 +25,10 @@ pub record AreValid (d : Design) (clock : ℕ) (vectors : List Vector) (first : 
   pub known : vector_known first ≡ true
   pub resets : All (λ (vector : Vector). known_in_resets (data_inputs d clock) vector ≡ true) later
 
--- The text is the dump of every completed run of the queue on these vectors, whatever it begins with and whatever the order of its steps (11.4.2).
+-- The text is the dump of every completed run of the queue on these vectors, whatever it begins with and whatever the order of its steps (11.4.2) and of its initial processes.
 abbrev pub IsEveryDump : Bool → Design → ℕ → ℕ → Vector → List Vector → List ℕ → Type 0
 IsEveryDump share d clock half first later text =
-    let n = network_of d clock in
+    (initials : List Initial) → IsOrderOf d.initials initials → let n = network_in d clock initials in
     (idle : State) → IsFirst n idle → let q = start n idle (vector_state d clock first) (map (vector_state d clock) later) in (choices : List Choice) → IsCompleted n q choices → text ≡ text_of share d half (ends n q choices)
 
 -- The run that the number chooses has so many steps, as far as 64 bits can count.

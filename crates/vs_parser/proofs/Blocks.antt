@@ -95,9 +95,6 @@ added (x ∷ before) i v rest e = ap (λ z. tree.AndItem (view.item x) z) (added
 pub one_more : (before list : List ItemNode) (i : Item) (v : ItemNode) → i ≡ view.item v → list ≡ before ++ (v ∷ []) → (rest : Items) → items_from (map view.item before) (tree.AndItem i rest) ≡ items_from (map view.item list) rest
 one_more before list i v e q rest = added before i v rest e ∙ ap (λ z. items_from (map view.item z) rest) (sym q)
 
-pub ports_put : (b : ℕ → List ℕ) (p : D part.ports_item) (rest : Items) → meaning.item_onto b (named (former p)) rest ≡ tree.AndItem (part.ports_item_tree b p) rest
-ports_put b (both d l) rest = refl
-
 pub parameters_put : (b : ℕ → List ℕ) (p : D part.parameters_item) (rest : Items) → meaning.item_onto b (named (latter (former p))) rest ≡ tree.AndItem (part.parameters_item_tree b p) rest
 parameters_put b (both (leaf a) (both y (both l z))) rest = refl
 

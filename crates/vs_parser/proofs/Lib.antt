@@ -1,4 +1,5 @@
 pub mod Pieces
+pub mod Directions
 pub mod Fronts
 pub mod Blocks
 pub mod Headers

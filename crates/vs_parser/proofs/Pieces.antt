@@ -19,15 +19,6 @@ use Rattle.vs_statements.specs.Reading.{kind_at, IsBeside, Picked, Chosen}
 use Rattle.vs_statements.proofs.Places.{known}
 use Rattle.vs_statements.proofs.Tables.{chosen_tok, chosen_former, chosen_latter}
 
-pub input_made : (d : D (t kind.KeywordInput)) (w : D (opt (t kind.KeywordWire))) (b : Bool) (k : SignalKind) → is_there w ≡ b → view.signal_kind k ≡ part.input_kind b → meaning.port_kind (part.as_input (both d w)) ≡ view.signal_kind k
-input_made d (former w) b k e f = ap part.input_kind e ∙ sym f
-input_made d (latter z) b k e f = ap part.input_kind e ∙ sym f
-
-pub output_made : (b : ℕ → List ℕ) (d : D (t kind.KeywordOutput)) (w : D part.output_words) (k : SignalKind) → part.output_kind b w ≡ view.signal_kind k → meaning.port_kind (part.as_output (both d w)) ≡ view.signal_kind k
-output_made b d (former (former w)) k e = e
-output_made b d (former (latter w)) k e = e
-output_made b d (latter z) k e = e
-
 -- ---- connections
 
 pub is_ordered : (b : ℕ → List ℕ) (list : List (Option Expr)) → meaning.by_order b list ≡ part.by_order list

@@ -5,11 +5,11 @@ use Rattle.vs_grammar.specs.Grammars.{Phrase, opt, star}
 use Rattle.vs_grammar.specs.Grammars.Phrase.{last}
 use Rattle.vs_grammar.specs.Grammars.Tree.{leaf, both, former, latter, nested, named}
 use Rattle.vs_grammar.specs.Kinds.{number_of, numbers_of}
-use Rattle.vs_grammar.specs.Verilog.{◌⨾◌, ◌∣◌, t, r, separated, signed_range}
+use Rattle.vs_grammar.specs.Verilog.{◌⨾◌, ◌∣◌, t, r, separated}
 use Rattle.vs_grammar.specs.Verilog as grammar
 use Rattle.vs_grammar.specs.Verilog.{Rule as rule}
-use Rattle.vs_grammar.specs.Trees.{Expr, Item, SignalKind, SignalsItem, ParametersItem, Input, InputWire, Output, OutputWire, OutputReg, Connections, Unconnected, ByOrder, Event, Any, EventControl, Star, Listed, GenerateBlock, GenerateArms, BlockFallback}
-use Rattle.vs_grammar.specs.Meaning.{D, list_of, expr_of, signals_of, first_place, port_kind, ended, names_of, parameters_of, setting_of, name_of, event_of, each_onto, behind_sign, block_of, generate_arms, default_block}
+use Rattle.vs_grammar.specs.Trees.{Expr, Declarator, Item, SignalKind, ParametersItem, Input, InputWire, Output, OutputWire, OutputReg, Connections, Unconnected, ByOrder, Event, Any, EventControl, Star, Listed, GenerateBlock, GenerateArms, BlockFallback}
+use Rattle.vs_grammar.specs.Meaning.{D, list_of, expr_of, plain_name, valued_of, names_of, parameters_of, setting_of, name_of, event_of, each_onto, behind_sign, block_of, generate_arms, default_block}
 use Rattle.vs_ast.specs.Views as view
 use Rattle.vs_ast.specs.declared.items.GenerateArm.{GenerateArm}
 use Rattle.vs_parser.specs.declared.items.GenerateParts.{GenerateParts}
@@ -25,41 +25,42 @@ item_kinds = numbers_of grammar.item_firsts
 abbrev pub block_kinds : List ℕ
 block_kinds = numbers_of (kind.KeywordBegin ∷ kind.Semicolon ∷ grammar.generate_item_firsts)
 
-abbrev pub ports_item : Phrase
-ports_item = r rule.Direction ⨾ signed_range (r rule.Names ⨾ t kind.Semicolon)
+-- a port that is a variable, whose names may have initial values
+abbrev pub is_variable : SignalKind → Bool
+is_variable OutputReg = true
+is_variable _ = false
 
-abbrev pub ports_item_tree : (ℕ → List ℕ) → D ports_item → Item
-ports_item_tree b (both d l) = SignalsItem (signals_of b (first_place d) (port_kind d) (ended b (names_of b)) l)
+-- a name of a port, where it is a variable and where not
+abbrev pub port_name : Bool → Phrase
+port_name true = grammar.valued_name
+port_name false = t kind.Identifier
+
+abbrev pub port_name_of : (v : Bool) → (ℕ → List ℕ) → D (port_name v) → Declarator
+port_name_of true b n = valued_of b n
+port_name_of false b n = plain_name b n
+
+abbrev pub port_names : Bool → Phrase
+port_names true = separated grammar.valued_name
+port_names false = r rule.Names
+
+abbrev pub port_names_of : (v : Bool) → (ℕ → List ℕ) → D (port_names v) → List Declarator
+port_names_of true b l = list_of (valued_of b) l
+port_names_of false b l = names_of b l
+
+-- what a port is, by the word `wire` behind its direction
+abbrev pub input_kind : Bool → SignalKind
+input_kind true = InputWire
+input_kind false = Input
+
+abbrev pub output_kind : Bool → SignalKind
+output_kind true = OutputWire
+output_kind false = Output
 
 abbrev pub parameters_item : Phrase
 parameters_item = t kind.KeywordParameter ⨾ r rule.ValueType ⨾ separated (r rule.Setting) ⨾ t kind.Semicolon
 
 abbrev pub parameters_item_tree : (ℕ → List ℕ) → D parameters_item → Item
 parameters_item_tree b (both (leaf a) (both y (both l z))) = ParametersItem (parameters_of b a.place false y (list_of (setting_of b) l))
-
-abbrev pub input_direction : Phrase
-input_direction = t kind.KeywordInput ⨾ opt (t kind.KeywordWire)
-
-abbrev pub as_input : D input_direction → D (r rule.Direction)
-as_input d = named (former d)
-
-abbrev pub input_kind : Bool → SignalKind
-input_kind true = InputWire
-input_kind false = Input
-
-abbrev pub output_words : Phrase
-output_words = opt (t kind.KeywordWire ∣ t kind.KeywordReg)
-
-abbrev pub output_direction : Phrase
-output_direction = t kind.KeywordOutput ⨾ output_words
-
-abbrev pub as_output : D output_direction → D (r rule.Direction)
-as_output d = named (latter d)
-
-abbrev pub output_kind : (ℕ → List ℕ) → D output_words → SignalKind
-output_kind b (former (former w)) = OutputWire
-output_kind b (former (latter w)) = OutputReg
-output_kind b (latter z) = Output
 
 -- ---- instances
 

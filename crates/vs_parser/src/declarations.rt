@@ -1,6 +1,6 @@
 //! Declarations (IEEE 1364-2005, A.2).
 
-ghost use Rattle.std.specs.Prelude.{◌≡◌, ◌≤◌, Ok, false, map};
+ghost use Rattle.std.specs.Prelude.{◌≡◌, ◌≤◌, Ok, false, map, MatchResult};
 ghost use Rattle.vs_lexer.specs.declared.token.TokenKind.TheVariants as kind;
 ghost use Rattle.vs_grammar.specs.Grammars.{opt};
 ghost use Rattle.vs_grammar.specs.Verilog.{Rule as rule, r, t, separated, ◌⨾◌};
@@ -8,6 +8,7 @@ ghost use Rattle.vs_grammar.specs.Verilog as grammar;
 ghost use Rattle.vs_grammar.specs.Meaning as meaning;
 ghost use Rattle.vs_ast.specs.Views as view;
 ghost use Rattle.vs_parser.specs.Parts as part;
+ghost use Rattle.vs_parser.specs.Directions.{Directed, HasNoDirection};
 ghost use Rattle.vs_grammar.specs.Trees as tree;
 ghost use Rattle.vs_statements.specs.Reading.{Answers};
 
@@ -56,7 +57,7 @@ fn optional_value(
 }
 
 /// A declared name.
-pub(crate) fn plain_declarator(
+fn plain_declarator(
     input: &Input<'_>,
     at: u32,
     depth: Depth,
@@ -102,62 +103,59 @@ fn plain_declarators(
     })
 }
 
-/// A declared variable, and the addresses of a memory (4.9).
-fn variable_declarator(
+/// A declared name, which may have an initial value behind it (6.2.1).
+fn valued_declarator(
     input: &Input<'_>,
     at: u32,
     depth: Depth,
 ) -> Result<Found<Declarator>, ParseError>
-    ensures { Answers input.now grammar.variable_name meaning.variable_of view.declarator depth at result }
+    ensures { Answers input.now grammar.valued_name meaning.valued_of view.declarator depth at result }
 {
     let name = identifier(input, at)?;
-    let addresses = optional_range(input, name.to, depth);
-    let (name, addresses) = both(name, addresses)?;
+    let value = optional_value(input, name.to, depth);
+    let (name, value) = both(name, value)?;
     Ok(Found {
         value: Declarator {
             name: name.value,
-            addresses: addresses.value,
-            value: None,
+            addresses: None,
+            value: value.value,
         },
-        to: addresses.to,
+        to: value.to,
     })
 }
 
-/// A declared variable, as a part of a list.
-struct VariablePart;
+/// A declared name with its initial value, as a part of a list.
+struct ValuedPart;
 
-impl Part for VariablePart {
+impl Part for ValuedPart {
     type Value = Declarator;
 
     ghost Tree = { tree.Declarator };
 
-    ghost phrase = { grammar.variable_name };
+    ghost phrase = { grammar.valued_name };
 
-    ghost meaning = { meaning.variable_of };
+    ghost meaning = { meaning.valued_of };
 
     ghost view = { view.declarator };
 }
 
-/// Declared variables, with commas between them.
-fn variable_declarators(
+/// Declared names with their initial values, with commas between them.
+fn valued_declarators(
     input: &Input<'_>,
     at: u32,
     depth: Depth,
 ) -> Result<Found<Vec<Declarator>>, ParseError>
-    ensures { Answers input.now (separated grammar.variable_name) (λ b d. meaning.list_of (meaning.variable_of b) d) (λ v. map view.declarator v.items) depth at result }
+    ensures { Answers input.now (separated grammar.valued_name) (λ b d. meaning.list_of (meaning.valued_of b) d) (λ v. map view.declarator v.items) depth at result }
 {
-    comma_list::<VariablePart, _>(input, at, depth, |place, inner| {
-        variable_declarator(input, place, inner)
+    comma_list::<ValuedPart, _>(input, at, depth, |place, inner| {
+        valued_declarator(input, place, inner)
     })
 }
 
-/// A declared net, with the addresses of an array of nets (4.9), or with what it is assigned.
-fn wire_declarator(
-    input: &Input<'_>,
-    at: u32,
-    depth: Depth,
-) -> Result<Found<Declarator>, ParseError>
-    ensures { Answers input.now grammar.wire_name meaning.wire_of view.declarator depth at result }
+/// A declared variable or net, with the addresses of a memory or of an array of nets (4.9), or with its initial value or what it is
+/// assigned.
+fn declarator(input: &Input<'_>, at: u32, depth: Depth) -> Result<Found<Declarator>, ParseError>
+    ensures { Answers input.now grammar.declared_name meaning.declarator_of view.declarator depth at result }
 {
     let name = identifier(input, at)?;
     if stands(input, name.to, TokenKind::OpenBracket) {
@@ -185,31 +183,31 @@ fn wire_declarator(
     }
 }
 
-/// A declared net, as a part of a list.
-struct WirePart;
+/// A declared variable or net, as a part of a list.
+struct DeclaredPart;
 
-impl Part for WirePart {
+impl Part for DeclaredPart {
     type Value = Declarator;
 
     ghost Tree = { tree.Declarator };
 
-    ghost phrase = { grammar.wire_name };
+    ghost phrase = { grammar.declared_name };
 
-    ghost meaning = { meaning.wire_of };
+    ghost meaning = { meaning.declarator_of };
 
     ghost view = { view.declarator };
 }
 
-/// Declared nets, with commas between them.
-fn wire_declarators(
+/// Declared variables or nets, with commas between them.
+fn declarators(
     input: &Input<'_>,
     at: u32,
     depth: Depth,
 ) -> Result<Found<Vec<Declarator>>, ParseError>
-    ensures { Answers input.now (separated grammar.wire_name) (λ b d. meaning.list_of (meaning.wire_of b) d) (λ v. map view.declarator v.items) depth at result }
+    ensures { Answers input.now (separated grammar.declared_name) (λ b d. meaning.list_of (meaning.declarator_of b) d) (λ v. map view.declarator v.items) depth at result }
 {
-    comma_list::<WirePart, _>(input, at, depth, |place, inner| {
-        wire_declarator(input, place, inner)
+    comma_list::<DeclaredPart, _>(input, at, depth, |place, inner| {
+        declarator(input, place, inner)
     })
 }
 
@@ -220,7 +218,7 @@ pub(crate) fn regs(input: &Input<'_>, at: u32, depth: Depth) -> Result<Found<Ite
     let word = take(input, at, TokenKind::KeywordReg)?;
     let signed = optional(input, word, depth, TokenKind::KeywordSigned);
     let range = optional_range(input, signed.to, depth)?;
-    let names = variable_declarators(input, range.to, depth);
+    let names = declarators(input, range.to, depth);
     let (range, names) = both(range, names)?;
     let end = take(input, names.to, TokenKind::Semicolon);
     let (declared, end) = both((range.value, names.value), end)?;
@@ -242,7 +240,7 @@ pub(crate) fn wires(input: &Input<'_>, at: u32, depth: Depth) -> Result<Found<It
     let word = take(input, at, TokenKind::KeywordWire)?;
     let signed = optional(input, word, depth, TokenKind::KeywordSigned);
     let range = optional_range(input, signed.to, depth)?;
-    let names = wire_declarators(input, range.to, depth);
+    let names = declarators(input, range.to, depth);
     let (range, names) = both(range, names)?;
     let end = take(input, names.to, TokenKind::Semicolon);
     let (declared, end) = both((range.value, names.value), end)?;
@@ -257,19 +255,11 @@ pub(crate) fn wires(input: &Input<'_>, at: u32, depth: Depth) -> Result<Found<It
     Ok(Found { value, to: end })
 }
 
-/// The direction of a port, and what it is.
-pub(crate) fn direction(
-    input: &Input<'_>,
-    at: u32,
-    depth: Depth,
-) -> Result<Found<SignalKind>, ParseError>
-    ensures { Answers input.now (r rule.Direction) (λ b d. meaning.port_kind d) view.signal_kind depth at result }
+/// Whether a port is a variable, whose names may have values.
+fn is_variable(kind: SignalKind) -> bool
+    ensures { result ≡ part.is_variable (view.signal_kind kind) }
 {
-    if stands(input, at, TokenKind::KeywordInput) {
-        input_direction(input, at, depth)
-    } else {
-        output_direction(input, at, depth)
-    }
+    matches!(kind, SignalKind::OutputReg)
 }
 
 /// What an input is, with or without the word `wire`.
@@ -283,59 +273,77 @@ fn input_kind(wire: bool) -> SignalKind
     }
 }
 
-/// An input.
-fn input_direction(
+/// What an output that is no variable is, with or without the word `wire`.
+fn output_kind(wire: bool) -> SignalKind
+    ensures { view.signal_kind result ≡ part.output_kind wire }
+{
+    if wire {
+        SignalKind::OutputWire
+    } else {
+        SignalKind::Output
+    }
+}
+
+/// The words that a declaration of ports begins with: which kind of ports they declare.
+pub(crate) fn direction(
     input: &Input<'_>,
     at: u32,
     depth: Depth,
 ) -> Result<Found<SignalKind>, ParseError>
-    ensures { Answers input.now (part.input_direction) (λ b d. meaning.port_kind (part.as_input d)) view.signal_kind depth at result }
+    ensures { MatchResult result (λ f. Directed input.now.tokens.now depth.value at (view.signal_kind f.value) f.to) (λ e. HasNoDirection input.now.tokens.now depth.value at e) }
 {
-    let word = take(input, at, TokenKind::KeywordInput)?;
+    if stands(input, at, TokenKind::KeywordInput) {
+        let word = take(input, at, TokenKind::KeywordInput)?;
+        let wire = optional(input, word, depth, TokenKind::KeywordWire);
+        return Ok(Found {
+            value: input_kind(wire.value),
+            to: wire.to,
+        });
+    }
+    let word = take(input, at, TokenKind::KeywordOutput)?;
+    if stands(input, word, TokenKind::KeywordReg) {
+        let reg = take(input, word, TokenKind::KeywordReg)?;
+        return Ok(Found {
+            value: SignalKind::OutputReg,
+            to: reg,
+        });
+    }
     let wire = optional(input, word, depth, TokenKind::KeywordWire);
     Ok(Found {
-        value: input_kind(wire.value),
+        value: output_kind(wire.value),
         to: wire.to,
     })
 }
 
-/// An output.
-fn output_direction(
+/// A name of a port of this kind, which has a value only where it may.
+pub(crate) fn port_name(
     input: &Input<'_>,
     at: u32,
     depth: Depth,
-) -> Result<Found<SignalKind>, ParseError>
-    ensures { Answers input.now (part.output_direction) (λ b d. meaning.port_kind (part.as_output d)) view.signal_kind depth at result }
+    kind: SignalKind,
+) -> Result<Found<Declarator>, ParseError>
+    ensures { Answers input.now (part.port_name (part.is_variable (view.signal_kind kind))) (part.port_name_of (part.is_variable (view.signal_kind kind))) view.declarator depth at result }
 {
-    let word = take(input, at, TokenKind::KeywordOutput)?;
-    let kind = output_kind(input, word, depth)?;
-    Ok(Found {
-        value: kind.value,
-        to: kind.to,
-    })
+    if is_variable(kind) {
+        valued_declarator(input, at, depth)
+    } else {
+        plain_declarator(input, at, depth)
+    }
 }
 
-/// What an output is, by the word behind it.
-fn output_kind(input: &Input<'_>, at: u32, depth: Depth) -> Result<Found<SignalKind>, ParseError>
-    ensures { Answers input.now (part.output_words) part.output_kind view.signal_kind depth at result }
+/// Names of ports of this kind, with commas between them.
+fn port_names(
+    input: &Input<'_>,
+    at: u32,
+    depth: Depth,
+    kind: SignalKind,
+) -> Result<Found<Vec<Declarator>>, ParseError>
+    ensures { Answers input.now (part.port_names (part.is_variable (view.signal_kind kind))) (part.port_names_of (part.is_variable (view.signal_kind kind))) (λ v. map view.declarator v.items) depth at result }
 {
-    if stands(input, at, TokenKind::KeywordWire) {
-        let wire = take(input, at, TokenKind::KeywordWire)?;
-        Ok(Found {
-            value: SignalKind::OutputWire,
-            to: wire,
-        })
-    } else if stands(input, at, TokenKind::KeywordReg) {
-        let reg = take(input, at, TokenKind::KeywordReg)?;
-        Ok(Found {
-            value: SignalKind::OutputReg,
-            to: reg,
-        })
+    if is_variable(kind) {
+        valued_declarators(input, at, depth)
     } else {
-        Ok(Found {
-            value: SignalKind::Output,
-            to: at,
-        })
+        plain_declarators(input, at, depth)
     }
 }
 
@@ -345,12 +353,12 @@ pub(crate) fn ports_item(
     at: u32,
     depth: Depth,
 ) -> Result<Found<Item>, ParseError>
-    ensures { Answers input.now (part.ports_item) part.ports_item_tree view.item depth at result }
+    ensures { Answers input.now grammar.port_item meaning.port_item_of view.item depth at result }
 {
     let kind = direction(input, at, depth)?;
     let signed = optional(input, kind.to, depth, TokenKind::KeywordSigned);
     let range = optional_range(input, signed.to, depth)?;
-    let names = plain_declarators(input, range.to, depth);
+    let names = port_names(input, range.to, depth, kind.value);
     let (range, names) = both(range, names)?;
     let end = take(input, names.to, TokenKind::Semicolon);
     let (declared, end) = both((range.value, names.value), end)?;

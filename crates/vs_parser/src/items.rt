@@ -15,7 +15,7 @@ ghost use Rattle.vs_statements.specs.Reading.{Refused, kind_at, Answers};
 use crate::declarations::{local_parameters, parameters, ports_item, regs, wires};
 use crate::functions::function;
 use crate::instances::instances;
-use crate::processes::{always, assigns};
+use crate::processes::{always, assigns, initial};
 use vs_ast::{GenerateArm, GenerateBlock, Item};
 use vs_lexer::TokenKind;
 use vs_statements::ParseError;
@@ -27,13 +27,14 @@ use vs_statements::types::{identifiers, loop_head};
 use vs_statements::words::label;
 
 /// What an item begins with that may stand in a generate block.
-const GENERATE_ITEM_KINDS: [TokenKind; 11] = [
+const GENERATE_ITEM_KINDS: [TokenKind; 12] = [
     TokenKind::Identifier,
     TokenKind::KeywordReg,
     TokenKind::KeywordWire,
     TokenKind::KeywordLocalParam,
     TokenKind::KeywordAssign,
     TokenKind::KeywordAlways,
+    TokenKind::KeywordInitial,
     TokenKind::KeywordGenvar,
     TokenKind::KeywordInteger,
     TokenKind::KeywordFor,
@@ -42,7 +43,7 @@ const GENERATE_ITEM_KINDS: [TokenKind; 11] = [
 ];
 
 /// What an item of a module begins with.
-const ITEM_KINDS: [TokenKind; 16] = [
+const ITEM_KINDS: [TokenKind; 17] = [
     TokenKind::KeywordInput,
     TokenKind::KeywordOutput,
     TokenKind::KeywordParameter,
@@ -54,6 +55,7 @@ const ITEM_KINDS: [TokenKind; 16] = [
     TokenKind::KeywordLocalParam,
     TokenKind::KeywordAssign,
     TokenKind::KeywordAlways,
+    TokenKind::KeywordInitial,
     TokenKind::KeywordGenvar,
     TokenKind::KeywordInteger,
     TokenKind::KeywordFor,
@@ -62,7 +64,7 @@ const ITEM_KINDS: [TokenKind; 16] = [
 ];
 
 /// What a generate block begins with.
-const BLOCK_KINDS: [TokenKind; 13] = [
+const BLOCK_KINDS: [TokenKind; 14] = [
     TokenKind::KeywordBegin,
     TokenKind::Semicolon,
     TokenKind::Identifier,
@@ -71,6 +73,7 @@ const BLOCK_KINDS: [TokenKind; 13] = [
     TokenKind::KeywordLocalParam,
     TokenKind::KeywordAssign,
     TokenKind::KeywordAlways,
+    TokenKind::KeywordInitial,
     TokenKind::KeywordGenvar,
     TokenKind::KeywordInteger,
     TokenKind::KeywordFor,
@@ -107,6 +110,8 @@ fn generate_item(input: &Input<'_>, at: u32, depth: Depth) -> Result<Found<Item>
         assigns(input, at, depth)
     } else if stands(input, at, TokenKind::KeywordAlways) {
         always(input, at, depth)
+    } else if stands(input, at, TokenKind::KeywordInitial) {
+        initial(input, at, depth)
     } else if stands(input, at, TokenKind::KeywordGenvar) {
         genvars(input, at, depth)
     } else if stands(input, at, TokenKind::KeywordInteger) {

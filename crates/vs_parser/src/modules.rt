@@ -7,10 +7,11 @@ ghost use Rattle.vs_grammar.specs.Verilog.{Rule as rule, r};
 ghost use Rattle.vs_grammar.specs.Meaning as meaning;
 ghost use Rattle.vs_ast.specs.Views as view;
 ghost use Rattle.vs_parser.specs.Headings as part;
+ghost use Rattle.vs_parser.specs.Parts.{is_variable};
 ghost use Rattle.vs_parser.specs.Headings.{ParametersRead, ParametersStep, PortRead, PortsRead, PortsStep};
 ghost use Rattle.vs_statements.specs.Reading.{Refused, Answers};
 
-use crate::declarations::{direction, plain_declarator};
+use crate::declarations::{direction, port_name};
 use crate::items::items;
 use std::alloc::Global;
 use vs_ast::{Declarator, Header, Module, Parameters, Setting, Signals, Source, ValueType};
@@ -195,7 +196,7 @@ fn port(input: &Input<'_>, at: u32, depth: Depth) -> Result<Found<Signals>, Pars
     let kind = direction(input, at, depth)?;
     let signed = optional(input, kind.to, depth, TokenKind::KeywordSigned);
     let range = optional_range(input, signed.to, depth)?;
-    let name = plain_declarator(input, range.to, depth);
+    let name = port_name(input, range.to, depth, kind.value);
     let (range, name) = both(range, name)?;
     let names = one(input.alloc, name.value);
     let (range, names) = both(range.value, names)?;
@@ -246,7 +247,7 @@ fn port_or_name(
     depth: Depth,
     state: PortsSoFar,
 ) -> Result<PortsSoFar, ParseError>
-    ensures { MatchResult result (λ s. PortsStep input.now (map view.signals state.list.items) (view.signals state.last) depth.value at (map view.signals s.list.items) (view.signals s.last) s.to) (λ e. Refused input.now.tokens.now depth.value part.port_step at e) }
+    ensures { MatchResult result (λ s. PortsStep input.now (map view.signals state.list.items) (view.signals state.last) depth.value at (map view.signals s.list.items) (view.signals s.last) s.to) (λ e. Refused input.now.tokens.now depth.value (part.port_step (is_variable (view.signals state.last).kind)) at e) }
 {
     let PortsSoFar { list, last, .. } = state;
     if stands_any(
@@ -265,7 +266,7 @@ fn port_or_name(
             to: next.to,
         })
     } else {
-        let more = plain_declarator(input, at, depth);
+        let more = port_name(input, at, depth, last.kind);
         let (before, more) = both((list, last), more)?;
         let (list, last) = before;
         let last = with_name(last, more.value);
@@ -285,7 +286,7 @@ fn more_ports(
     depth: Depth,
     first: Signals,
 ) -> Result<Found<Vec<Signals>>, ParseError>
-    ensures { MatchResult result (λ f. PortsRead input.now (view.signals first) depth.value at (map view.signals f.value.items) f.to) (λ e. Refused input.now.tokens.now depth.value part.more_ports at e) }
+    ensures { MatchResult result (λ f. PortsRead input.now (view.signals first) depth.value at (map view.signals f.value.items) f.to) (λ e. Refused input.now.tokens.now depth.value (part.tail (is_variable (view.signals first).kind)) at e) }
 {
     let mut state = PortsSoFar {
         list: Vec::new(input.alloc),

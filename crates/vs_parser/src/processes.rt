@@ -1,4 +1,4 @@
-//! Continuous assignments and `always` blocks (IEEE 1364-2005, A.6).
+//! Continuous assignments, and `always` and `initial` blocks (IEEE 1364-2005, A.6).
 
 ghost use Rattle.std.specs.Prelude.{◌≡◌, ◌≤◌, MatchOption, Ok, false, [], ◌++◌, map};
 ghost use Rattle.vs_lexer.specs.declared.token.TokenKind.TheVariants as kind;
@@ -12,7 +12,7 @@ ghost use Rattle.vs_parser.specs.Parts as part;
 ghost use Rattle.vs_grammar.specs.Trees as tree;
 ghost use Rattle.vs_statements.specs.Reading.{Answers, Chosen, kind_at};
 
-use vs_ast::{AlwaysBlock, Assign, Event, EventControl, Item};
+use vs_ast::{AlwaysBlock, Assign, Event, EventControl, InitialBlock, Item};
 use vs_base::Edge;
 use vs_lexer::TokenKind;
 use vs_statements::ParseError;
@@ -264,6 +264,22 @@ pub(crate) fn always(input: &Input<'_>, at: u32, depth: Depth) -> Result<Found<I
     let value = Item::Always(AlwaysBlock {
         place: at,
         control: control.value,
+        statement: statement.value,
+    });
+    Ok(Found {
+        value,
+        to: statement.to,
+    })
+}
+
+/// An `initial` block.
+pub(crate) fn initial(input: &Input<'_>, at: u32, depth: Depth) -> Result<Found<Item>, ParseError>
+    ensures { Answers input.now grammar.initial_item meaning.initial_item_of view.item depth at result }
+{
+    let word = take(input, at, TokenKind::KeywordInitial)?;
+    let statement = statement(input, word, depth)?;
+    let value = Item::Initial(InitialBlock {
+        place: at,
         statement: statement.value,
     });
     Ok(Found {

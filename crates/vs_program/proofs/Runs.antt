@@ -1,12 +1,10 @@
 -- A program of a design gives the solution.
-use Rattle.std.proofs.Common.{◌≡◌, ℕ, Bool, true, false, List, [], ◌∷◌, sym, ◌∙◌, subst, refl}
-use mathlib.Core.Path.{fun_ext}
+use Rattle.std.proofs.Common.{ℕ, Bool, true, false, List, [], ◌∷◌, subst}
 use Rattle.vs_four.specs.declared.Bit4.{Bit4}
 use Rattle.vs_four.specs.declared.Bit4.TheVariants.{Zero, One, X}
 use Rattle.vs_net.specs.Network as N
 use Rattle.vs_net.specs.Queue.{Fall, Rise, slots_of}
 use Rattle.vs_net.specs.Solution.{beginning, IsSolution}
-use Rattle.vs_net.proofs.Beginning.{begins_none}
 use Rattle.vs_design.specs.Designs.{Design}
 use Rattle.vs_design.specs.Networks.{network_of}
 use Rattle.vs_code.specs.Calls.{State}
@@ -15,10 +13,6 @@ use Rattle.vs_program.specs.Masks.{HaveMasks}
 use Rattle.vs_program.specs.Program.{Program, values, initial_slots}
 use Rattle.vs_program.specs.Compiled.{IsProgramOf, IsEnd, IsReached, EndsAreReached}
 use Rattle.vs_program.specs.Runs.{IsFall, AreRounds, values_after, RoundsSolve}
-
--- the network of a design has no initial processes, so each of its bits begins idle
-begins_idle : (d : Design) (clock : ℕ) → beginning (network_of d clock) ≡ (network_of d clock).idle
-begins_idle d clock = fun_ext (begins_none (network_of d clock) (λ p. refl))
 
 pub ends_are_reached : EndsAreReached
 ends_are_reached d clock p level before slot after end = record {
@@ -54,7 +48,7 @@ module _ (d : Design) (clock : ℕ) (p : Program) (is : IsProgramOf d clock p) w
   solves : (vs : List N.State) (ends : List State) → AreRounds false p (initial_slots p) vs ends
       → IsSolution (network_of d clock) (beginning (network_of d clock)) (slots_of vs) (values_after p clock (slots_of vs) ends)
   unfolding MayBegin
-  solves vs ends rounds = subst (λ (s : N.State). IsSolution (network_of d clock) s (slots_of vs) (values_after p clock (slots_of vs) ends)) (is.idle ∙ sym (begins_idle d clock))
+  solves vs ends rounds = subst (λ (s : N.State). IsSolution (network_of d clock) s (slots_of vs) (values_after p clock (slots_of vs) ends)) is.starts
       (solve false X (initial_slots p) (is.constants, is.begins) vs ends rounds)
 
 pub rounds_solve : RoundsSolve

@@ -4,7 +4,7 @@ use Rattle.vs_four.specs.declared.Bit4.{Bit4}
 use Rattle.vs_four.specs.declared.Bit4.TheVariants.{Zero, One, X}
 use Rattle.vs_net.specs.Network as N
 use Rattle.vs_net.specs.Queue.{Slot, Fall, Rise}
-use Rattle.vs_net.specs.Solution.{IsSlotEnd}
+use Rattle.vs_net.specs.Solution.{beginning, IsSlotEnd}
 use Rattle.vs_design.specs.Expressions.{Signal, signal_length}
 use Rattle.vs_design.specs.Values.{count_from}
 use Rattle.vs_design.specs.Designs.{Design, bit_count}
@@ -70,9 +70,9 @@ pub record IsProgramOf (d : Design) (clock : ℕ) (p : Program) : Type 0 where
   pub inputs : p.inputs ≡ data_bits d clock
   pub clocks : (b : ℕ) → contains p.clocks b ≡ contains (own_nets d clock) b
   pub signals : p.signals ≡ map span_of (shown_signals d)
-  -- it begins with the constants, and with the values that the bits have before anything writes them (4.2)
+  -- it begins with the constants, and with the values that the bits have before slot 0: what initial processes leave in them (9.9.1), and else those before anything writes them (4.2)
   pub constants : HasConstants (initial_slots p)
-  pub idle : values p.bits clock X (initial_slots p) ≡ (network_of d clock).idle
+  pub starts : values p.bits clock X (initial_slots p) ≡ beginning (network_of d clock)
   pub begins : HaveMasks d clock p.bits X (initial_slots p)
   -- in a first slot the clock falls: whatever the values at its beginning, where the masks fit them the program leaves those at its end
   pub first : (level : Bit4) (vector : N.State) (before fallen after : State) → HasConstants before → HaveMasks d clock p.bits level before

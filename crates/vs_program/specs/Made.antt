@@ -5,11 +5,11 @@ use Rattle.vs_net.specs.Network.{Sleeper}
 use Rattle.vs_design.specs.Designs.{Process, Design, bit_count}
 use Rattle.vs_design.specs.Sizes.{register_bits}
 use Rattle.vs_design.specs.Footprints.{contains, ascending}
+use Rattle.vs_design.specs.Initials.{start_value}
 use Rattle.vs_design.specs.Clocks.{own_nets}
 use Rattle.vs_design.specs.Resets.{reset_of}
 use Rattle.vs_design.specs.Sleepers.{sleeper_of}
 use Rattle.vs_design.specs.Levels.{is_level_order}
-use Rattle.vs_design.specs.Networks.{network_of}
 use Rattle.vs_design.specs.Accepted.{IsAcceptedDesign}
 use Rattle.vs_cone.specs.Cones.{cone, but_ports}
 use Rattle.vs_cone.specs.Given.{data_bits, fall_bits}
@@ -79,7 +79,8 @@ pub record IsMadeOf (d : Design) (clock : ℕ) (order regs : List ℕ) (l : Layo
   pub registers : AreRegisters d regs
   pub signals : p.signals ≡ map span_of (shown_signals d)
   pub constants : HasConstants (initial_slots p)
-  pub idle : values p.bits clock X (initial_slots p) ≡ (network_of d clock).idle
+  -- the bits begin with what initial processes leave in them
+  pub starts : values p.bits clock X (initial_slots p) ≡ start_value d
   pub masks : (q : ℕ) → contains (sleepers d) q ≡ true → initial_slots p (mask_of d q) ≡ Zero
   -- where the clock falls the resets come first
   pub resets : List Call

@@ -1,11 +1,11 @@
 -- The processes that take steps, and what the steps write.
-use Rattle.std.proofs.Common.{◌≡◌, ℕ, zero, suc, ◌<◌, Bool, true, false, not, ◌&&◌, ◌==◌, if◌then◌else◌, List, [], ◌∷◌, ◌||◌, set, length, get_or, eqb-true, eq-eqb, refl, ap, ◌∙◌, subst, arith, Some}
+use Rattle.std.proofs.Common.{◌≡◌, ℕ, zero, suc, ◌+◌, ◌<◌, ◌≤◌, Bool, true, false, not, ◌&&◌, ◌==◌, if◌then◌else◌, List, [], ◌∷◌, ◌||◌, set, length, get_or, eqb-true, eq-eqb, refl, ap, ◌∙◌, subst, arith, Some}
 use Rattle.std.specs.Prelude.{slice_get, nat_lt, is_some}
 use mathlib.Core.Path.{fun_ext}
 use Rattle.std.proofs.lemmas.Bool.{and_parts, ltb-true}
 use Rattle.vs_four.specs.declared.Bit4.{Bit4}
 use Rattle.vs_four.specs.Tables.{same}
-use Rattle.vs_net.specs.Network.{State, Write, Network, kind, put, is_written, write_all}
+use Rattle.vs_net.specs.Network.{State, Write, Network, kind, put, is_written, write_all, made, updates}
 use Rattle.vs_net.specs.Queue.{Choice, Start, Evaluate, Apply, Run, Take}
 use Rattle.vs_net.specs.LevelRun.{is_empty}
 use Rattle.vs_net.specs.Checked.{is_assign, is_block, is_due, is_unstarted, is_possible}
@@ -41,18 +41,38 @@ assign_found d clock p = by_kind d clock (λ p x. is_assign (kind x) ≡ true �
   inputs = λ p i s l e f h. cc;
   clock = λ p i s l e f h. cc;
   spare = λ p l f h. cc;
+  keeper = λ p l b bs e h. cc;
   none = λ p h. cc;
 }) p
 
-block_found : (d : Design) (clock p : ℕ) → is_block (kind ((network_of d clock).process p)) ≡ true → IsFound d p false
-block_found d clock p = by_kind d clock (λ p x. is_block (kind x) ≡ true → IsFound d p false) (record {
-  assigns = λ p place port target_place target e at h. cc;
-  combs = λ p place star events st at k h. (Always place star events st, at, refl);
-  clocked = λ p place star events st at k h. (Always place star events st, at, refl);
-  inputs = λ p i s l e f h. cc;
-  clock = λ p i s l e f h. cc;
-  spare = λ p l f h. cc;
-  none = λ p h. cc;
+block_found : (d : Design) (clock p : ℕ) → p < length d.processes → is_block (kind ((network_of d clock).process p)) ≡ true → IsFound d p false
+block_found d clock p = by_kind d clock (λ p x. p < length d.processes → is_block (kind x) ≡ true → IsFound d p false) (record {
+  assigns = λ p place port target_place target e at m h. cc;
+  combs = λ p place star events st at k m h. (Always place star events st, at, refl);
+  clocked = λ p place star events st at k m h. (Always place star events st, at, refl);
+  inputs = λ p i s l e f m h. cc;
+  clock = λ p i s l e f m h. cc;
+  spare = λ p l f m h. cc;
+  keeper = λ p l b bs e m h. absurd (omega (arith, l, m));
+  none = λ p m h. cc;
+}) p
+
+pub found_below : {A : Type 0} (xs : List A) (k : ℕ) (x : A) → slice_get xs k ≡ Some x → k < length xs
+found_below [] k x h = cc
+found_below (y ∷ ys) zero x h = omega arith
+found_below (y ∷ ys) (suc k) x h = let l = found_below ys k x h in omega (arith, l)
+
+-- a block past the processes of the design does nothing
+pub past_idle : (d : Design) (clock p : ℕ) (s : State) → length d.processes ≤ p → is_block (kind ((network_of d clock).process p)) ≡ true → (made ((network_of d clock).process p) s ≡ []) × (updates ((network_of d clock).process p) s ≡ [])
+past_idle d clock p s = by_kind d clock (λ p x. length d.processes ≤ p → is_block (kind x) ≡ true → (made x s ≡ []) × (updates x s ≡ [])) (record {
+  assigns = λ p place port target_place target e at m h. cc;
+  combs = λ p place star events st at k m h. absurd (let b = found_below d.processes p (Always place star events st) at in omega (arith, b, m));
+  clocked = λ p place star events st at k m h. absurd (let b = found_below d.processes p (Always place star events st) at in omega (arith, b, m));
+  inputs = λ p i s l e f m h. cc;
+  clock = λ p i s l e f m h. cc;
+  spare = λ p l f m h. cc;
+  keeper = λ p l b bs e m h. (refl, refl);
+  none = λ p m h. cc;
 }) p
 
 module _ (d : Design) (clock : ℕ) (e : Events) (sound : IsSound (network_of d clock) e) where
@@ -70,10 +90,13 @@ module _ (d : Design) (clock : ℕ) (e : Events) (sound : IsSound (network_of d 
       let parts = and_parts (nat_lt p n.count && is_assign (kind (n.process p))) (is_due ((queue_of e []).mode p)) (here (Evaluate p) i at) in
       made_of p true (assign_found d clock p (and_parts (nat_lt p n.count) (is_assign (kind (n.process p))) parts.0).1)
 
-  pub runs : (p i : ℕ) → slice_get (steps_of e) i ≡ Some (Run p) → IsProcess d clock p false
-  runs p i at =
+  pub is_running : (p i : ℕ) → slice_get (steps_of e) i ≡ Some (Run p) → is_block (kind (n.process p)) ≡ true
+  is_running p i at =
       let parts = and_parts (nat_lt p n.count && is_block (kind (n.process p))) (is_due ((queue_of e []).mode p)) (here (Run p) i at) in
-      made_of p false (block_found d clock p (and_parts (nat_lt p n.count) (is_block (kind (n.process p))) parts.0).1)
+      (and_parts (nat_lt p n.count) (is_block (kind (n.process p))) parts.0).1
+
+  pub runs : (p i : ℕ) → p < length d.processes → slice_get (steps_of e) i ≡ Some (Run p) → IsProcess d clock p false
+  runs p i l at = made_of p false (block_found d clock p l (is_running p i at))
 
   there : (p : ℕ) → nat_lt p n.count ≡ true → p < length e.assigns
   there p h = let l = ltb-true p n.count h in let m = sound.count in omega (arith, l, m)
@@ -85,11 +108,6 @@ module _ (d : Design) (clock : ℕ) (e : Events) (sound : IsSound (network_of d 
   step_below i (S.Apply p) at = there p (and_parts (nat_lt p n.count) (is_some ((queue_of e []).pending p)) (here (Apply p) i at)).0
   step_below i (S.Run p) at = there p (and_parts (nat_lt p n.count) (is_block (kind (n.process p))) (and_parts (nat_lt p n.count && is_block (kind (n.process p))) (is_due ((queue_of e []).mode p)) (here (Run p) i at)).0).0
   step_below i (S.Take p) at = there p (and_parts (nat_lt p n.count) (not (is_empty ((queue_of e []).active p))) (here (Take p) i at)).0
-
-pub found_below : {A : Type 0} (xs : List A) (k : ℕ) (x : A) → slice_get xs k ≡ Some x → k < length xs
-found_below [] k x h = cc
-found_below (y ∷ ys) zero x h = omega arith
-found_below (y ∷ ys) (suc k) x h = let l = found_below ys k x h in omega (arith, l)
 
 -- ---- the values after writes
 

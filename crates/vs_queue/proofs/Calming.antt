@@ -9,6 +9,7 @@ use Rattle.vs_net.specs.LevelRun.{Pass, Activates, Takes, Runs, after_all, below
 use Rattle.vs_design.specs.Designs.{Design}
 use Rattle.vs_design.specs.Networks.{network_of}
 use Rattle.vs_design.specs.Laws.{AcceptedIsLawful}
+use Rattle.vs_design.proofs.Starts.{same_order}
 use Rattle.vs_clock.specs.Clocked.{Clocked}
 use Rattle.vs_ranked.specs.Members.{members}
 use Rattle.vs_events.specs.Beginning.{Drive, after_drives}
@@ -35,7 +36,7 @@ driven_spent ds e now spent is p = ap (λ (us : List (List Update)). get_or us p
 -- a combinational block leaves no updates
 pub comb_none : AcceptedIsLawful → (d : Design) (c : Clocked) → IsAcceptedBy d c → (p : ℕ) (q : Queue) → kind ((network_of d c.bit).process p) ≡ AComb → updates ((network_of d c.bit).process p) q.now ≡ []
 comb_none lawful d c b =
-    subst (λ k. (p : ℕ) (q : Queue) → kind ((network_of d k).process p) ≡ AComb → updates ((network_of d k).process p) q.now ≡ []) (sym (bit_is d c b)) (λ p q h. (lawful d b.name b.accepted).comb_updates p q.now h)
+    subst (λ k. (p : ℕ) (q : Queue) → kind ((network_of d k).process p) ≡ AComb → updates ((network_of d k).process p) q.now ≡ []) (sym (bit_is d c b)) (λ p q h. (lawful d b.name b.accepted d.initials (same_order d.initials)).comb_updates p q.now h)
 
 any_same : (f g : ℕ → Bool) (ps : List ℕ) → ((p : ℕ) → f p ≡ g p) → list_any f ps ≡ list_any g ps
 any_same f g [] h = refl

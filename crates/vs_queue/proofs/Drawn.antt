@@ -8,7 +8,8 @@ use Rattle.vs_net.specs.Network.{State, Network, AnAssign, put, kind, writes}
 use Rattle.vs_net.specs.Network as N
 use Rattle.vs_design.specs.Designs.{Process, Continuous, Always, Design, bit_count, top_inputs}
 use Rattle.vs_design.specs.Footprints.{contains, net_bits}
-use Rattle.vs_design.specs.Networks.{network_of, idle_value, process_of, writer_of, spare_writers, at_or_input}
+use Rattle.vs_design.specs.Initials.{sole_bits}
+use Rattle.vs_design.specs.Networks.{network_of, idle_value, process_of, writer_of, spare_writers, keeper_of, at_or_input}
 use Rattle.vs_design.specs.Values.{count_from}
 use Rattle.vs_queue.specs.Chosen.{next_seed, drawn}
 use Rattle.vs_queue.specs.Laws.{DrawnIsFirst}
@@ -55,7 +56,7 @@ kept n test (b ∷ bs) h = at (test b) refl (kept n test bs h) where
 all_driven : (d : Design) (clock : ℕ) → AreDriven (network_of d clock) (driven_bits d)
 all_driven d clock =
     kept (network_of d clock) (λ b. contains (net_bits d) b && list_any (drives b) d.processes) (count_from 0 (bit_count d))
-    (λ b h. driver d clock b d.processes (map (writer_of clock) (top_inputs d) ++ spare_writers d clock) (right (contains (net_bits d) b) (list_any (drives b) d.processes) h))
+    (λ b h. driver d clock b d.processes (map (writer_of clock) (top_inputs d) ++ (spare_writers d clock ++ keeper_of clock (sole_bits d))) (right (contains (net_bits d) b) (list_any (drives b) d.processes) h))
 
 -- ---- their values
 

@@ -14,16 +14,18 @@ use Rattle.vs_design.specs.Expressions.{Signal, signal_length}
 use Rattle.vs_design.specs.Values.{count_from, bits_of_signal, read}
 use Rattle.vs_design.specs.Designs.{Process, Continuous, Always, is_clocked, Design, bit_count, top_inputs}
 use Rattle.vs_design.specs.Elaborated.{have_bits_from, IsLawfulDesign}
-use Rattle.vs_design.specs.Networks.{process_of, block_process, writer_of, spare_writers, at_or_input, network_of}
+use Rattle.vs_design.specs.Initials.{sole_bits}
+use Rattle.vs_design.specs.Networks.{process_of, block_process, writer_of, spare_writers, keeper_of, at_or_input, network_of}
 use Rattle.vs_events.specs.Held.{Events, after_drive}
 use Rattle.vs_events.specs.Beginning.{Drive, after_drives, drives_of, AreDriven}
 use Rattle.vs_events.proofs.Woken.{not_same}
 use Rattle.vs_queue.specs.Driven.{each_drive, drives_from, spare_drives, slot_drives}
-use Rattle.vs_queue.specs.Spare.{is_spare, spare_count, value_count}
+use Rattle.vs_queue.specs.Initially.{AllDriven}
+use Rattle.vs_queue.specs.Spare.{is_spare, spare_count, value_count, keeper_count}
 use Rattle.vs_queue.specs.Given.{given}
 use Rattle.vs_queue.specs.Running.{IsInside, IsRunning}
 use Rattle.vs_queue.specs.Sound.{DrivesKeep}
-use Rattle.vs_queue.proofs.Spares.{spare_one, network_count, clock_valued}
+use Rattle.vs_queue.proofs.Spares.{spare_one, network_count, with_keeper, clock_valued}
 use Rattle.vs_queue.proofs.Stepwise.{AreInside, inside_both, flat_both}
 
 eq_self : (a : ℕ) → (a == a) ≡ true
@@ -83,7 +85,7 @@ all_given d clock slot (x ∷ ps) q p i e f (suc j) =
     let next : i + suc j ≡ suc i + j = omega arith in
     ap (drives_of (drives_from clock slot q (top_inputs d))) next ∙ all_given d clock slot ps q (suc p) (suc i) (omega (arith, e)) (omega (arith, f)) j
 
-both_of : (ds es : List Drive) (p : ℕ) → drives_of (ds ++ es) p ≡ drives_of ds p ++ drives_of es p
+pub both_of : (ds es : List Drive) (p : ℕ) → drives_of (ds ++ es) p ≡ drives_of ds p ++ drives_of es p
 both_of [] es p = refl
 both_of (d ∷ ds) es p = go (p == d.process) (both_of ds es p)
   where
@@ -118,6 +120,17 @@ joined [] ws slot f before at p = ap f (let e : p ≡ 0 + p = omega arith in e) 
 joined (x ∷ xs) ws slot f before at zero = ap (λ us. drive x slot ++ us) (before 0 (omega arith)) ∙ append_nil (drive x slot)
 joined (x ∷ xs) ws slot f before at (suc p) = joined xs ws slot (λ q. f (suc q)) (λ q l. before (suc q) (omega (arith, l))) (λ j. ap f (let e : suc (length xs + j) ≡ suc (length xs) + j = omega arith in e) ∙ at j) p
 
+-- what keeps bits that initial processes alone write isn't driven
+keeper_undriven : (clock : ℕ) (bs : List ℕ) (slot : Slot) (j : ℕ) → drive (at_or_input (keeper_of clock bs) j) slot ≡ []
+keeper_undriven clock [] slot j = refl
+keeper_undriven clock (b ∷ bs) slot zero = refl
+keeper_undriven clock (b ∷ bs) slot (suc j) = refl
+
+undriven_behind : (xs ks : List N.Process) (slot : Slot) → ((j : ℕ) → drive (at_or_input ks j) slot ≡ []) → (p : ℕ) → drive (at_or_input (xs ++ ks) p) slot ≡ drive (at_or_input xs p) slot
+undriven_behind [] ks slot h p = h p
+undriven_behind (x ∷ xs) ks slot h zero = refl
+undriven_behind (x ∷ xs) ks slot h (suc p) = undriven_behind xs ks slot h p
+
 pub each_given : (d : Design) (clock : ℕ) (slot : Slot) (p : ℕ) → drives_of (slot_drives d clock slot) p ≡ drive ((network_of d clock).process p) slot
 each_given d clock slot p =
     let q = length d.processes + length (top_inputs d) in
@@ -129,12 +142,10 @@ each_given d clock slot p =
     ∙ ap (λ us. us ++ drives_of (spare_of c q clock slot) p) (ap (drives_of own) (let e : p ≡ 0 + p = omega arith in e) ∙ all_given d clock slot d.processes (length d.processes) 0 0 (omega arith) refl p)
     ∙ joined xs (spare_writers d clock) slot (drives_of (spare_of c q clock slot)) (λ r l. spare_before c q r clock slot (omega (arith, l, long))) (λ j. ap (λ k. drives_of (spare_of c q clock slot) (k + j)) long ∙ spare_at c q j clock slot) p
     ∙ ap (λ (ps : List N.Process). drive (at_or_input ps p) slot) (append_assoc (map (process_of d clock) d.processes) (map (writer_of clock) (top_inputs d)) (spare_writers d clock))
+    ∙ sym (undriven_behind (map (process_of d clock) d.processes ++ (map (writer_of clock) (top_inputs d) ++ spare_writers d clock)) (keeper_of clock (sole_bits d)) slot (keeper_undriven clock (sole_bits d) slot) p)
+    ∙ ap (λ (ps : List N.Process). drive (at_or_input ps p) slot) (with_keeper d clock)
 
 -- ---- they are there
-
-abbrev pub AllDriven : (count bits : ℕ) → List Drive → Type 0
-AllDriven count bits [] = Unit {0}
-AllDriven count bits (d ∷ ds) = (d.process < count) × AreInside bits d.update × AllDriven count bits ds
 
 pub are_driven : (count bits : ℕ) (ds : List Drive) → AllDriven count bits ds → AreDriven count ds
 are_driven count bits [] h k d at = cc
@@ -144,7 +155,11 @@ are_driven count bits (x ∷ ds) h zero d at = subst (λ (y : Drive). y.process 
     same x d e = cc
 are_driven count bits (x ∷ ds) h (suc k) d at = are_driven count bits ds h.2 k d at
 
-join_driven : (count bits : ℕ) (ds es : List Drive) → AllDriven count bits ds → AllDriven count bits es → AllDriven count bits (ds ++ es)
+pub wider_driven : (count few many : ℕ) (ds : List Drive) → few ≤ many → AllDriven count few ds → AllDriven count many ds
+wider_driven count few many [] l h = tt
+wider_driven count few many (d ∷ ds) l h = (h.0, (λ b w. (let k = h.1 b w in omega (arith, k, l))), wider_driven count few many ds l h.2)
+
+pub join_driven : (count bits : ℕ) (ds es : List Drive) → AllDriven count bits ds → AllDriven count bits es → AllDriven count bits (ds ++ es)
 join_driven count bits [] es h k = k
 join_driven count bits (d ∷ ds) es h k = (h.0, h.1, join_driven count bits ds es h.2 k)
 
@@ -234,7 +249,7 @@ all_driven d clock slot l k =
     join_driven (network_of d clock).count many (drives_from clock slot (length d.processes) (top_inputs d)) (spare_drives d clock slot)
     (inputs_driven (network_of d clock).count many clock slot (length d.processes) (top_inputs d) valued (λ i s at. (let h = input_below d l i s at in omega (arith, h))) (omega (arith, count))) (go (is_spare d clock) refl count valued)
   where
-    go : (c : Bool) → is_spare d clock ≡ c → (network_of d clock).count ≡ length d.processes + (length (top_inputs d) + spare_count d clock) → clock < value_count d clock
+    go : (c : Bool) → is_spare d clock ≡ c → (network_of d clock).count ≡ length d.processes + (length (top_inputs d) + (spare_count d clock + keeper_count d)) → clock < value_count d clock
         → AllDriven (network_of d clock).count (value_count d clock) (if c then each_drive (length d.processes + length (top_inputs d)) (drive (N.Clock clock) slot) else [])
     go false h count valued = tt
     go true h count valued =

@@ -17,7 +17,7 @@ use Rattle.vs_writes.specs.Held.{state_of}
 use Rattle.vs_events.specs.declared.listener.Listener.{Listener}
 use Rattle.vs_events.specs.Held.{Events, after_evaluate, after_apply, after_run, after_take, first_update}
 use Rattle.vs_events.specs.Wired.{AreBelow}
-use Rattle.vs_queue.specs.Spare.{spare_count, value_count}
+use Rattle.vs_queue.specs.Spare.{spare_count, value_count, keeper_count}
 use Rattle.vs_queue.specs.Listens.{listeners_of, DesignIsWired}
 use Rattle.vs_queue.specs.Machines.{IsAcceptedBy, IsProcess}
 use Rattle.vs_queue.specs.Running.{IsRunning}
@@ -36,7 +36,7 @@ module _ (d : Design) (c : Clocked) (b : IsAcceptedBy d c) where
   pub made_in : BitsOfDesign → AcceptedIsLawful → (p : ℕ) (s : State) → AreInside (value_count d c.bit) (made (n.process p) s)
   made_in bits lawful p s = subst (λ k. AreInside (value_count d k) (made ((network_of d k).process p) s)) (sym (bit_is d c b)) (within bits lawful d b.name b.accepted p s).made_in
 
-  pub count_is : n.count ≡ length d.processes + (length (top_inputs d) + spare_count d c.bit)
+  pub count_is : n.count ≡ length d.processes + (length (top_inputs d) + (spare_count d c.bit + keeper_count d))
   count_is = network_count d c.bit
 
   module _ (e : Events) (r : IsRunning d c.bit e) where
@@ -50,8 +50,8 @@ module _ (d : Design) (c : Clocked) (b : IsAcceptedBy d c) where
     pub inside_values : (ws : List Write) → AreInside (value_count d c.bit) ws → (k : ℕ) → is_written ws k ≡ true → k < length e.values
     inside_values ws h k w = let l = h k w in let m = r.inside.values in omega (arith, l, m)
 
-    pub hear_below : DesignIsWired → (k : ℕ) → AreBelow (length e.assigns) (get_or (listeners_of d) k [])
-    hear_below law k i l at = let h = (listeners_by d c b law).below k i l at in let m = r.sound.count in let j = count_is in omega (arith, h, m, j)
+    pub hear_below : DesignIsWired → (k : ℕ) → AreBelow (length e.assigns) (get_or (listeners_of d c.bit) k [])
+    hear_below law k i l at = let h = (listeners_by d c b law).below k i l at in let m = r.sound.count in omega (arith, h, m)
 
     -- what an assign is evaluated to, and what a block does
     pub update_is : (p : ℕ) (assign : Bool) (x : IsProcess d c.bit p assign) (ws : List Write) (s : State) → ws ≡ made (process_of d c.bit x.process) s → ws ≡ made (n.process p) s

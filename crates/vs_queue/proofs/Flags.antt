@@ -43,7 +43,7 @@ contains_at [] k x is l = absurd (omega (arith, l))
 contains_at (b ∷ bits) zero x is l = ap (λ c. c || contains bits x) (eq-eqb x b is)
 contains_at (b ∷ bits) (suc k) x is l = ap (λ c. (x == b) || c) (contains_at bits k x is (omega (arith, l))) ∙ or_true (x == b)
 
-any_default : (bits : List ℕ) (k c d : ℕ) → k < length bits → get_or bits k c ≡ get_or bits k d
+pub any_default : (bits : List ℕ) (k c d : ℕ) → k < length bits → get_or bits k c ≡ get_or bits k d
 any_default [] k c d l = absurd (omega (arith, l))
 any_default (b ∷ bits) zero c d l = refl
 any_default (b ∷ bits) (suc k) c d l = any_default bits k c d (omega (arith, l))
@@ -137,7 +137,7 @@ any_next f [] k x at = cc
 any_next f (y ∷ ys) zero x at = let same : y ≡ x = cc in or_none (f y) ∙ ap f same
 any_next f (y ∷ ys) (suc k) x at = ap (λ c. f y || c) (any_next f ys k x at) ∙ sym (or_assoc (f y) (list_any f (take k ys)) (f x))
 
-any_more : {A : Type 0} (f : A → Bool) (xs : List A) (k : ℕ) (x : A) → slice_get xs k ≡ Some x → list_any f (take (k + 1) xs) ≡ (list_any f (take k xs) || f x)
+pub any_more : {A : Type 0} (f : A → Bool) (xs : List A) (k : ℕ) (x : A) → slice_get xs k ≡ Some x → list_any f (take (k + 1) xs) ≡ (list_any f (take k xs) || f x)
 any_more f xs k x at = ap (λ m. list_any f (take m xs)) (let e : k + 1 ≡ suc k = omega arith in e) ∙ any_next f xs k x at
 
 pub record AreDriven (ps : List Process) (flags : List Bool) (count k : ℕ) : Type 0 where

@@ -1,6 +1,6 @@
 -- The turns of processes in level order, by what the lists tell of them.
 use Rattle.std.proofs.Common.{◌≡◌, ℕ, zero, suc, ◌<◌, ◌≤◌, Bool, true, false, not, ◌&&◌, ◌||◌, if◌then◌else◌, List, [], ◌∷◌, length, map, get_or, refl, sym, ap, ap₂, ◌∙◌, subst, arith, Option, Some, None}
-use Rattle.std.specs.Prelude.{slice_get, is_some}
+use Rattle.std.specs.Prelude.{slice_get, is_some, nat_le}
 use Rattle.std.proofs.lemmas.Bool.{both_ways, and_parts}
 use Rattle.std.specs.List.{list_any}
 use Rattle.vs_net.specs.Network.{Write, Update, Network, Kind, AnInput, TheClock, AnAssign, AComb, AClocked, kind, made}
@@ -233,17 +233,54 @@ process_clocked d clock (D.Always place star events s) = go (D.is_clocked (D.Alw
     go true x = refl
     go false x = refl
 
--- none past the processes of the design is
-pub past_unclocked : (d : Design) (clock p : ℕ) → length d.processes ≤ p → is_clocked_kind (kind ((network_of d clock).process p)) ≡ false
-past_unclocked d clock p = by_kind d clock (λ p x. length d.processes ≤ p → is_clocked_kind (kind x) ≡ false) (record {
-  assigns = λ p place port target_place target e at l. refl;
-  combs = λ p place star events st at k l. refl;
-  clocked = λ p place star events st at k l. absurd (let b = found_below d.processes p (D.Always place star events st) at in omega (arith, b, l));
-  inputs = λ p i s l e f h. refl;
-  clock = λ p i s l e f h. refl;
-  spare = λ p l f h. refl;
-  none = λ p h. refl;
+-- a block past the processes of the design is
+past_clocked : (d : Design) (clock p : ℕ) → length d.processes ≤ p → C.is_block (kind ((network_of d clock).process p)) ≡ true → is_clocked_kind (kind ((network_of d clock).process p)) ≡ true
+past_clocked d clock p = by_kind d clock (λ p x. length d.processes ≤ p → C.is_block (kind x) ≡ true → is_clocked_kind (kind x) ≡ true) (record {
+  assigns = λ p place port target_place target e at l h. cc;
+  combs = λ p place star events st at k l h. absurd (let b = found_below d.processes p (D.Always place star events st) at in omega (arith, b, l));
+  clocked = λ p place star events st at k l h. refl;
+  inputs = λ p i s l e f m h. cc;
+  clock = λ p i s l e f m h. cc;
+  spare = λ p l f m h. cc;
+  keeper = λ p l b bs e m h. refl;
+  none = λ p m h. cc;
 }) p
+
+le_is : (a b : ℕ) → nat_le a b ≡ true → a ≤ b
+le_is a b h = grind (arith, h)
+
+-- what is told of a process: a clocked block of the design is one, and past the design's processes each may be one
+pub past_may : (k : Bool) (m n : ℕ) → m ≤ n → true ≡ (k || nat_le m n)
+past_may true m n l = refl
+past_may false m n l = go (nat_le m n) refl
+  where
+    go : (c : Bool) → nat_le m n ≡ c → true ≡ c
+    go true h = refl
+    go false h = absurd (let z : ⊥ = grind (arith, h, l) in z)
+
+pub within_may : (k c : Bool) (m n : ℕ) → k ≡ c → n < m → c ≡ (k || nat_le m n)
+within_may true c m n e l = sym e
+within_may false c m n e l = sym e ∙ go (nat_le m n) refl
+  where
+    go : (b : Bool) → nat_le m n ≡ b → false ≡ b
+    go false h = refl
+    go true h = absurd (let k = le_is m n h in omega (arith, k, l))
+
+pub may_not : (k c : Bool) → (k || c) ≡ false → k ≡ false
+may_not true c h = cc
+may_not false c h = refl
+
+-- and such a one that is due is one
+pub due_is : (d : Design) (clock : ℕ) (e : Events) → IsSound (network_of d clock) e → (p : ℕ) → let k = is_clocked_kind (kind ((network_of d clock).process p)) in (k || nat_le (length d.processes) p) ≡ true → has_member e.runs p ≡ true → k ≡ true
+due_is d clock e sound p h on = go (is_clocked_kind (kind ((network_of d clock).process p))) refl
+  where
+    or_right : (k c : Bool) → k ≡ false → (k || c) ≡ true → c ≡ true
+    or_right true c e h = cc
+    or_right false c e h = h
+
+    go : (k : Bool) → is_clocked_kind (kind ((network_of d clock).process p)) ≡ k → is_clocked_kind (kind ((network_of d clock).process p)) ≡ true
+    go true is = is
+    go false is = past_clocked d clock p (le_is (length d.processes) p (or_right (is_clocked_kind (kind ((network_of d clock).process p))) (nat_le (length d.processes) p) is h)) (sound.runs p on)
 
 module _ (trees : EachProcess) (a : Arena) (clock p : ℕ) (q : Process) (at : slice_get a.processes p ≡ Some q) where
   abbrev d : Design

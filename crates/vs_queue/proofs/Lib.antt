@@ -38,3 +38,6 @@ pub mod LevelTurns
 pub mod Plainly
 pub mod Calming
 pub mod Levelling
+pub mod Alone
+pub mod Owners
+pub mod Giving

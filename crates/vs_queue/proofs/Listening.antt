@@ -1,5 +1,5 @@
 -- What a process of a flat design listens to.
-use Rattle.std.proofs.Common.{◌≡◌, ℕ, zero, suc, ◌+◌, ◌<◌, ◌≤◌, Bool, true, false, ◌&&◌, ◌||◌, List, [], ◌∷◌, map, take, replicate, length, refl, sym, ap, ap₂, ◌∙◌, subst, arith, Some}
+use Rattle.std.proofs.Common.{◌≡◌, ℕ, zero, suc, ◌+◌, ◌<◌, ◌≤◌, Bool, true, false, ◌&&◌, ◌||◌, if◌then◌else◌, List, [], ◌∷◌, ◌++◌, map, take, replicate, length, refl, sym, ap, ap₂, ◌∙◌, subst, arith, append-nil, Some}
 use Rattle.std.proofs.lemmas.List.{length-replicate, take_all}
 use Rattle.std.specs.Prelude.{slice_get, nat_lt, Result, Ok, Err, OnOk}
 use Rattle.std.proofs.lemmas.Bool.{and_parts, ltb-true}
@@ -24,9 +24,11 @@ use Rattle.vs_flat.specs.Laws.{EachProcess, ProcessNames}
 use Rattle.vs_reads.specs.Footprint.{Footprint, footprints_of, reads_at, waits_at}
 use Rattle.vs_reads.specs.Laws.{EachIsOfItsProcess}
 use Rattle.vs_events.specs.declared.listener.Listener.{Listener}
-use Rattle.vs_events.specs.Wired.{Sensitivity, after_listens}
+use Rattle.vs_events.specs.declared.listener.Change.TheVariants as C
+use Rattle.vs_events.specs.Wired.{Sensitivity, after_listen, after_listens}
 use Rattle.vs_queue.specs.There.{AllThere}
-use Rattle.vs_queue.specs.Listens.{to_bit, to_event, block_listens, process_listens, listens_from}
+use Rattle.vs_queue.specs.Listens.{to_bit, to_event, block_listens, process_listens, listens_from, listeners_of}
+use Rattle.vs_queue.specs.Spare.{value_count, has_keeper, keeper_at}
 use Rattle.vs_queue.proofs.Listened.{both_listen, listens_length, one_process_more}
 
 some_is : {A : Type 0} (x y : A) → Some x ≡ Some y → x ≡ y
@@ -79,26 +81,45 @@ process_at [] k h = absurd (omega (arith, h))
 process_at (x ∷ xs) zero h = (x, refl)
 process_at (x ∷ xs) (suc k) h = process_at xs k (omega (arith, h))
 
--- the listeners of the first processes
-pub record AreWired (count : ℕ) (ps : List D.Process) (wiring : List (List Listener)) (k : ℕ) : Type 0 where
-  pub told : wiring ≡ after_listens (replicate count []) (listens_from count 0 (take k ps))
-  pub long : length wiring ≡ count
+-- the listeners of the first processes, for so many bits
+pub record AreWired (size count : ℕ) (ps : List D.Process) (wiring : List (List Listener)) (k : ℕ) : Type 0 where
+  pub told : wiring ≡ after_listens (replicate size []) (listens_from count 0 (take k ps))
+  pub long : length wiring ≡ size
 
-pub wired_more : (count : ℕ) (ps : List D.Process) (wiring next : List (List Listener)) (k : ℕ) → k < length ps → ((x : D.Process) → slice_get ps k ≡ Some x → next ≡ after_listens wiring (process_listens count k x)) → AreWired count ps wiring k → AreWired count ps next (k + 1)
-wired_more count ps wiring next k l is r =
+pub wired_more : (size count : ℕ) (ps : List D.Process) (wiring next : List (List Listener)) (k : ℕ) → k < length ps → ((x : D.Process) → slice_get ps k ≡ Some x → next ≡ after_listens wiring (process_listens count k x)) → AreWired size count ps wiring k → AreWired size count ps next (k + 1)
+wired_more size count ps wiring next k l is r =
     let x = process_at ps k l in
     let now = is x.0 x.1 in
     record {
-      told = now ∙ ap (λ (w : List (List Listener)). after_listens w (process_listens count k x.0)) r.told ∙ sym (both_listen (listens_from count 0 (take k ps)) (process_listens count k x.0) (replicate count []))
-          ∙ ap (after_listens (replicate count [])) (sym (one_process_more count k ps x.0 x.1));
+      told = now ∙ ap (λ (w : List (List Listener)). after_listens w (process_listens count k x.0)) r.told ∙ sym (both_listen (listens_from count 0 (take k ps)) (process_listens count k x.0) (replicate size []))
+          ∙ ap (after_listens (replicate size [])) (sym (one_process_more count k ps x.0 x.1));
       long = ap length now ∙ listens_length (process_listens count k x.0) wiring ∙ r.long;
     }
 
-pub wired_all : (count : ℕ) (ps : List D.Process) (wiring : List (List Listener)) (k : ℕ) → length ps ≤ k → AreWired count ps wiring k → wiring ≡ after_listens (replicate count []) (listens_from count 0 ps)
-wired_all count ps wiring k l r = r.told ∙ ap (λ (xs : List D.Process). after_listens (replicate count []) (listens_from count 0 xs)) (take_all k ps l)
+pub wired_all : (size count : ℕ) (ps : List D.Process) (wiring : List (List Listener)) (k : ℕ) → length ps ≤ k → AreWired size count ps wiring k → wiring ≡ after_listens (replicate size []) (listens_from count 0 ps)
+wired_all size count ps wiring k l r = r.told ∙ ap (λ (xs : List D.Process). after_listens (replicate size []) (listens_from count 0 xs)) (take_all k ps l)
 
-pub none_wired : (count : ℕ) (ps : List D.Process) (wiring : List (List Listener)) → wiring ≡ replicate count [] → AreWired count ps wiring 0
-none_wired count ps wiring is = record { told = is; long = ap length is ∙ length-replicate count [] }
+pub none_wired : (size count : ℕ) (ps : List D.Process) (wiring : List (List Listener)) → wiring ≡ replicate size [] → AreWired size count ps wiring 0
+none_wired size count ps wiring is = record { told = is; long = ap length is ∙ length-replicate size [] }
+
+-- the block that keeps what initial processes alone write listens behind them, or there is none
+abbrev keeper_entry : D.Design → ℕ → Sensitivity
+keeper_entry d clock = record { bit = clock; listener = record { process = keeper_at d clock; change = C.Pos } }
+
+abbrev with_entry : D.Design → ℕ → Bool → List (List Listener)
+with_entry d clock c = after_listens (replicate (value_count d clock) []) (listens_from (D.bit_count d) 0 d.processes ++ (if c then keeper_entry d clock ∷ [] else []))
+
+pub keeper_listened : (d : D.Design) (clock : ℕ) (wiring now : List (List Listener)) (keeper : Bool) (bit process : ℕ) → keeper ≡ has_keeper d → keeper ≡ true → bit ≡ clock → process ≡ keeper_at d clock
+    → wiring ≡ after_listens (replicate (value_count d clock) []) (listens_from (D.bit_count d) 0 d.processes) → now ≡ after_listen wiring (record { bit = bit; listener = record { process = process; change = C.Pos } }) → now ≡ listeners_of d clock
+keeper_listened d clock wiring now keeper bit process told there b p is listened =
+    listened ∙ ap₂ (λ (x y : ℕ). after_listen wiring (record { bit = x; listener = record { process = y; change = C.Pos } })) b p
+    ∙ ap (λ (w : List (List Listener)). after_listen w (keeper_entry d clock)) is
+    ∙ sym (both_listen (listens_from (D.bit_count d) 0 d.processes) (keeper_entry d clock ∷ []) (replicate (value_count d clock) []))
+    ∙ ap (with_entry d clock) (sym there ∙ told)
+
+pub keeper_unheard : (d : D.Design) (clock : ℕ) (wiring : List (List Listener)) (keeper : Bool) → keeper ≡ has_keeper d → keeper ≡ false → wiring ≡ after_listens (replicate (value_count d clock) []) (listens_from (D.bit_count d) 0 d.processes) → wiring ≡ listeners_of d clock
+keeper_unheard d clock wiring keeper told none is =
+    is ∙ ap (after_listens (replicate (value_count d clock) [])) (sym (append-nil (listens_from (D.bit_count d) 0 d.processes))) ∙ ap (with_entry d clock) (sym none ∙ told)
 
 -- what a process listens to is there, and is told
 module _ (trees : EachProcess) (law : EachIsOfItsProcess) (a : Arena) (p : ℕ) (q : Process) (at : slice_get a.processes p ≡ Some q) (wiring : List (List Listener)) where

@@ -1,16 +1,17 @@
 -- The measure of a run within a slot: how many steps there are at most, and that the slots to come are no matter to it.
-use Rattle.std.proofs.Common.{◌≡◌, ℕ, zero, suc, ◌≤◌, ◌<◌, Bool, true, false, not, ◌&&◌, max, List, [], ◌∷◌, ◌++◌, length, if◌then◌else◌, refl, sym, ap, ap₂, ◌∙◌, subst, arith, Option, Some, None}
+use Rattle.std.proofs.Common.{◌≡◌, ℕ, zero, suc, ◌+◌, ◌≤◌, ◌<◌, Bool, true, false, not, ◌&&◌, max, List, [], ◌∷◌, ◌++◌, length, if◌then◌else◌, refl, sym, ap, ap₂, ◌∙◌, subst, arith, Option, Some, None}
 use Rattle.std.specs.Prelude.{slice_get, nat_le}
 use Rattle.std.specs.List.{list_any, list_all}
 use Rattle.std.proofs.lemmas.Bool.{and_parts}
 use Rattle.vs_four.specs.declared.Bit4.{Bit4}
 use Rattle.vs_four.specs.Tables.{same}
-use Rattle.vs_net.specs.Network.{State, Write, Update, put, Input, Network, senses, made, updates}
+use Rattle.vs_net.specs.Network.{State, Write, Update, put, Input, AnInput, AClocked, kind, Network, senses, made, updates}
 use Rattle.vs_net.specs.Queue.{Waiting, Slot, Queue, Choice, Start, Evaluate, Apply, Run, Take, Activate, Next, after, change, changes, woken, took, start}
 use Rattle.vs_net.specs.Bound.{bound, IsPartOfRun, HasNoNext}
 use Rattle.vs_design.specs.Expressions.{Signal}
 use Rattle.vs_design.specs.Designs.{Design, bit_count}
-use Rattle.vs_design.specs.Fits.{fits_process}
+use Rattle.vs_design.specs.Fits.{fits_process, fits_initial}
+use Rattle.vs_design.specs.Initials.{has_other_start, clashed_bits}
 use Rattle.vs_design.specs.Sizes.{size}
 use Rattle.vs_design.specs.Rules.{function_latches, mixed_assigns, missing_bits, latches, shared_bits}
 use Rattle.vs_design.specs.Clocks.{clock_input, clock_nets, root_of, reads_clock, has_other_clock}
@@ -18,13 +19,15 @@ use Rattle.vs_design.specs.Resets.{has_other_form}
 use Rattle.vs_design.specs.Levels.{level_order, has_no_cycle}
 use Rattle.vs_design.specs.Races.{has_no_race}
 use Rattle.vs_design.specs.TimeZero.{families, is_uncertain}
-use Rattle.vs_design.specs.Elaborated.{are_scopes, are_numbered, have_bits_from, is_declared, is_lawful_memory, is_formed_process, is_formed_function, has_clocked_words, IsLawfulDesign}
+use Rattle.vs_design.specs.Elaborated.{are_scopes, are_numbered, have_bits_from, is_declared, is_lawful_memory, is_formed_process, is_formed_initial, are_behind, is_formed_function, has_clocked_words, IsLawfulDesign}
 use Rattle.vs_design.specs.Networks.{network_of, all_processes}
 use Rattle.vs_design.specs.Accepted.{IsAcceptedDesign, is_empty}
 use Rattle.vs_design.specs.Bounds.{size_of, feeds_of}
 use Rattle.vs_design.proofs.Bounded.{bound_of}
 use Rattle.vs_design.proofs.Lawful.{lawful}
 use Rattle.vs_design.proofs.Parts.{beyond_count}
+use Rattle.vs_design.proofs.Starts.{same_order}
+use Rattle.vs_design.proofs.Begun.{initial_clocked}
 use Rattle.vs_queue.specs.Chosen.{open_steps, or_else, activation, beginning, possible_steps}
 use Rattle.vs_queue.specs.Longest.{begins_slot, greatest, longest, IsWithinSlot}
 use Rattle.vs_queue.specs.Reached.{IsReached}
@@ -105,13 +108,13 @@ longest_slots n (suc k) q slots = all_ahead n k q slots (λ x. longest_slots n k
 abbrev lawful_tests : Design → Bool
 lawful_tests d =
     are_scopes d.scopes && (are_numbered 0 0 d.signals && (have_bits_from 0 d.signals && (list_all (is_declared d) d.signals && (list_all is_lawful_memory d.signals && (list_all (is_formed_process d) d.processes
-    && (list_all (is_formed_function d) d.functions && (list_all has_clocked_words d.processes && (nat_le (bit_count d) 1048576 && nat_le (length d.processes) 65536))))))))
+    && (list_all (is_formed_initial d) d.initials && (are_behind 0 (length d.processes) d.initials && (list_all (is_formed_function d) d.functions && (list_all has_clocked_words d.processes && (nat_le (bit_count d) 1048576 && nat_le (length d.processes + length d.initials) 65536))))))))))
 
 abbrev rule_tests : Design → Signal → Bool
 rule_tests d clock =
-    list_all fits_process d.processes && (nat_le (size d) 16777216 && (is_empty (function_latches d.functions) && (list_all (λ p. is_empty (mixed_assigns p)) d.processes && (list_all (λ p. is_empty (missing_bits p)) d.processes
-    && (list_all (λ p. is_empty (latches p)) d.processes && (is_empty (shared_bits d) && (not (list_any (reads_clock (clock_nets d clock.first)) d.processes) && (not (list_any (has_other_clock (clock_nets d clock.first) (root_of d clock.first)) d.processes)
-    && (not (list_any (has_other_form (clock_nets d clock.first) (root_of d clock.first)) d.processes) && (has_no_cycle d && (has_no_race d && not (list_any (is_uncertain d (families d clock.first (level_order d))) d.processes))))))))))))
+    list_all fits_process d.processes && (list_all fits_initial d.initials && (nat_le (size d) 16777216 && (is_empty (function_latches d.functions) && (not (list_any has_other_start d.initials) && (list_all (λ p. is_empty (mixed_assigns p)) d.processes
+    && (list_all (λ p. is_empty (missing_bits p)) d.processes && (list_all (λ p. is_empty (latches p)) d.processes && (is_empty (shared_bits d) && (is_empty (clashed_bits d) && (not (list_any (reads_clock (clock_nets d clock.first)) d.processes) && (not (list_any (has_other_clock (clock_nets d clock.first) (root_of d clock.first)) d.processes)
+    && (not (list_any (has_other_form (clock_nets d clock.first) (root_of d clock.first)) d.processes) && (has_no_cycle d && (has_no_race d && not (list_any (is_uncertain d (families d clock.first (level_order d))) d.processes)))))))))))))))
 
 le_is : (a b : ℕ) → nat_le a b ≡ true → a ≤ b
 le_is a b h = grind (arith, h)
@@ -142,11 +145,14 @@ lawful_by d h =
     let i = and_parts _ _ g.1 in
     let j = and_parts _ _ i.1 in
     let k = and_parts _ _ j.1 in
-    record { scopes = a.0; numbered = b.0; bits_numbered = c.0; declared = e.0; memories = f.0; formed = g.0; functions = i.0; clocked_words = j.0; few_bits = le_is _ _ k.0; few_processes = le_is _ _ k.1 }
+    let m = and_parts _ _ k.1 in
+    let o = and_parts _ _ m.1 in
+    record { scopes = a.0; numbered = b.0; bits_numbered = c.0; declared = e.0; memories = f.0; formed = g.0; initials = i.0; behind = j.0; functions = k.0; clocked_words = m.0; few_bits = le_is _ _ o.0; few_processes = le_is _ _ o.1 }
 
 lawful_passes : (d : Design) → IsLawfulDesign d → lawful_tests d ≡ true
 lawful_passes d l =
-    both _ _ l.scopes (both _ _ l.numbered (both _ _ l.bits_numbered (both _ _ l.declared (both _ _ l.memories (both _ _ l.formed (both _ _ l.functions (both _ _ l.clocked_words (both _ _ (is_le _ _ l.few_bits) (is_le _ _ l.few_processes)))))))))
+    both _ _ l.scopes (both _ _ l.numbered (both _ _ l.bits_numbered (both _ _ l.declared (both _ _ l.memories (both _ _ l.formed (both _ _ l.initials (both _ _ l.behind
+    (both _ _ l.functions (both _ _ l.clocked_words (both _ _ (is_le _ _ l.few_bits) (is_le _ _ l.few_processes)))))))))))
 
 accepted_by : (d : Design) (name : Option (List ℕ)) (clock : Signal) → clock_input d name ≡ Some clock → lawful_tests d ≡ true → rule_tests d clock ≡ true → IsAcceptedDesign d name
 accepted_by d name clock found l h =
@@ -162,32 +168,38 @@ accepted_by d name clock found l h =
     let m = and_parts _ _ k.1 in
     let o = and_parts _ _ m.1 in
     let p = and_parts _ _ o.1 in
+    let q = and_parts _ _ p.1 in
+    let r = and_parts _ _ q.1 in
+    let s = and_parts _ _ r.1 in
     record {
       lawful = lawful_by d l;
       fit = a.0;
-      small = le_is _ _ b.0;
-      no_function_latch = c.0;
-      unmixed = e.0;
-      sensitive = f.0;
-      no_latch = g.0;
-      one_driver = i.0;
+      fit_initials = b.0;
+      small = le_is _ _ c.0;
+      no_function_latch = e.0;
+      initial_form = not_is _ f.0;
+      unmixed = g.0;
+      sensitive = i.0;
+      no_latch = j.0;
+      one_driver = k.0;
+      no_clash = m.0;
       clock = clock;
       clock_found = found;
-      clock_unread = not_is _ j.0;
-      one_clock = not_is _ k.0;
-      reset_forms = not_is _ m.0;
-      no_cycle = o.0;
-      no_race = p.0;
-      awake = not_is _ p.1;
+      clock_unread = not_is _ o.0;
+      one_clock = not_is _ p.0;
+      reset_forms = not_is _ q.0;
+      no_cycle = r.0;
+      no_race = s.0;
+      awake = not_is _ s.1;
     }
 
 rules_pass : (d : Design) (name : Option (List ℕ)) (a : IsAcceptedDesign d name) → rule_tests d a.clock ≡ true
 rules_pass d name a =
-    both _ _ a.fit (both _ _ (is_le _ _ a.small) (both _ _ a.no_function_latch (both _ _ a.unmixed (both _ _ a.sensitive (both _ _ a.no_latch (both _ _ a.one_driver (both _ _ (is_not _ a.clock_unread) (both _ _ (is_not _ a.one_clock)
-    (both _ _ (is_not _ a.reset_forms) (both _ _ a.no_cycle (both _ _ a.no_race (is_not _ a.awake))))))))))))
+    both _ _ a.fit (both _ _ a.fit_initials (both _ _ (is_le _ _ a.small) (both _ _ a.no_function_latch (both _ _ (is_not _ a.initial_form) (both _ _ a.unmixed (both _ _ a.sensitive (both _ _ a.no_latch (both _ _ a.one_driver (both _ _ a.no_clash
+    (both _ _ (is_not _ a.clock_unread) (both _ _ (is_not _ a.one_clock) (both _ _ (is_not _ a.reset_forms) (both _ _ a.no_cycle (both _ _ a.no_race (is_not _ a.awake)))))))))))))))
 
 bound_by : (d : Design) (name : Option (List ℕ)) → IsAcceptedDesign d name → ℕ
-bound_by d name a = let b = bound_of d name a in bound (network_of d a.clock.first) b.0 b.1
+bound_by d name a = let b = bound_of d name a d.initials (same_order d.initials) in bound (network_of d a.clock.first) b.0 b.1
 
 most_for : (d : Design) (name : Option (List ℕ)) (clock : Signal) → clock_input d name ≡ Some clock → (l r : Bool) → lawful_tests d ≡ l → rule_tests d clock ≡ r → ℕ
 most_for d name clock found true true l r = bound_by d name (accepted_by d name clock found l r)
@@ -212,13 +224,17 @@ module _ (d : Design) (name : Option (List ℕ)) (a : IsAcceptedDesign d name) w
   beyond : (p : ℕ) → n.count ≤ p → n.process p ≡ Input []
   beyond p h = beyond_count (all_processes d a.clock.first) p h
 
+  -- and no initial process writes to what lies there
+  none_beyond : (p : ℕ) → n.count ≤ p → (n.initial p ≡ []) × (n.initial_updates p ≡ [])
+  none_beyond p h = initial_clocked (n.process p) d.initials (λ k. let e : AnInput ≡ AClocked = sym (ap kind (beyond p h)) ∙ k in cc)
+
   -- few in every acceptance by this clock, on whatever vectors
   few_by : (b : IsAcceptedDesign d name) → b.clock ≡ a.clock → (first v : State) (vs : List State) (earlier steps : List Choice) → IsPartOfRun n (start n first v vs) (earlier ++ steps) → HasNoNext steps → length steps ≤ bound_by d name b
   unfolding bound_by
   few_by b is =
-      let weighed = bound_of d name b in
+      let weighed = bound_of d name b d.initials (same_order d.initials) in
       subst (λ (m : Network). (first v : State) (vs : List State) (earlier steps : List Choice) → IsPartOfRun m (start m first v vs) (earlier ++ steps) → HasNoNext steps → length steps ≤ bound_by d name b)
-      (ap (λ (s : Signal). network_of d s.first) is) (few_steps (network_of d b.clock.first) (lawful d name b) (feeds_of d b.clock.first) (size_of d) weighed.0 weighed.1 weighed.2)
+      (ap (λ (s : Signal). network_of d s.first) is) (few_steps (network_of d b.clock.first) (lawful d name b d.initials (same_order d.initials)) (feeds_of d b.clock.first) (size_of d) weighed.0 weighed.1 weighed.2)
 
   abbrev pub Few : ℕ → Type 0
   Few most = (first v : State) (vs : List State) (earlier steps : List Choice) → IsPartOfRun n (start n first v vs) (earlier ++ steps) → HasNoNext steps → length steps ≤ most
@@ -244,7 +260,7 @@ module _ (d : Design) (name : Option (List ℕ)) (a : IsAcceptedDesign d name) w
   pub few_left : (first v : State) (vs : List State) (order : ℕ) (q : Queue) (seed : ℕ) (values : List (List Bit4)) (steps : ℕ) → IsReached n (start n first v vs) order q seed values steps → AreFew n (most_steps d name) q
   few_left first v vs order q seed values steps reached cs h =
       let from = start n first v vs in
-      let part = drawn_part n beyond reached.done cs from order (λ p e. first_waits _ e) (rests_first n beyond (λ p e. (refl, refl)) first v vs) reached.drawn (subst (λ (x : Queue). IsWithinSlot n x cs) (sym reached.queue) h) in
+      let part = drawn_part n beyond reached.done cs from order (λ p e. first_waits _ e) (rests_first n beyond none_beyond first v vs) reached.drawn (subst (λ (x : Queue). IsWithinSlot n x cs) (sym reached.queue) h) in
       few first v vs reached.done cs part.0 part.1
 
 -- each step within a slot makes the measure smaller, whatever slots are to come

@@ -9,6 +9,7 @@ use Rattle.vs_net.specs.Laws.{IsKnownVector, AreKnownResets}
 use Rattle.vs_design.specs.Designs.{Design, top_inputs}
 use Rattle.vs_design.specs.Networks.{network_of, idle_value}
 use Rattle.vs_design.specs.Laws.{AcceptedIsLawful, EveryOrderOfDesign}
+use Rattle.vs_design.proofs.Starts.{same_order}
 use Rattle.vs_clock.specs.Clocked.{Clocked}
 use Rattle.vs_writes.specs.Held.{state_of}
 use Rattle.vs_events.specs.Held.{Events, queue_of}
@@ -83,4 +84,4 @@ solved completed begun lawful every d c b order first later values steps = subst
     let n = network_of d b.accepted.clock.first in
     let from = drawn_values (driven_bits d) order (idle_value d) in
     subst (λ (ss : List State). IsSolution n (beginning n) (slots_of (first ∷ later)) ss) (sym run.values_are)
-    (every d b.name b.accepted from first later ((begun d b.accepted.clock.first order).0) k r run.choices (completed n (lawful d b.name b.accepted) from first later (seed_after (driven_bits d) order) run.choices run.chosen)))
+    (every d b.name b.accepted d.initials (same_order d.initials) from first later ((begun d b.accepted.clock.first order).0) k r run.choices (completed n (lawful d b.name b.accepted d.initials (same_order d.initials)) from first later (seed_after (driven_bits d) order) run.choices run.chosen)))

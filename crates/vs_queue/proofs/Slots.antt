@@ -1,7 +1,7 @@
 -- A run begins, and its slots.
-use Rattle.std.proofs.Common.{◌≡◌, ℕ, zero, suc, ◌+◌, ◌<◌, ◌≤◌, ◌%◌, ◌^◌, Bool, true, false, ◌==◌, if◌then◌else◌, List, [], ◌∷◌, ◌++◌, map, replicate, length, get_or, refl, sym, ap, ap₂, ◌∙◌, subst, arith, Some, length-append}
+use Rattle.std.proofs.Common.{◌≡◌, ℕ, zero, suc, ◌+◌, ◌<◌, ◌≤◌, ◌%◌, ◌^◌, Bool, true, false, ◌==◌, not, if◌then◌else◌, List, [], ◌∷◌, ◌++◌, map, replicate, length, get_or, refl, sym, ap, ap₂, ◌∙◌, subst, arith, Some, append-nil, append_assoc}
 use Rattle.std.specs.Prelude.{slice_get, nat_lt, IfSome, is_some, Option, None}
-use Rattle.std.proofs.lemmas.List.{length-map, length-replicate}
+use Rattle.std.proofs.lemmas.List.{length-map}
 use Rattle.vs_four.specs.declared.Bit4.{Bit4}
 use Rattle.vs_net.specs.Network.{State, Update, is_written, flatten, kind}
 use Rattle.vs_net.specs.Network as N
@@ -12,89 +12,111 @@ use Rattle.vs_design.specs.Designs.{Design, Process, Continuous, Always, is_cloc
 use Rattle.vs_design.specs.Values.{bits_of_signal}
 use Rattle.vs_design.specs.Clocks.{clock_input, spare_clock}
 use Rattle.vs_design.specs.Elaborated.{have_bits_from}
-use Rattle.vs_design.specs.Networks.{process_of, block_process, writer_of, spare_writers, at_or_input, network_of}
+use Rattle.vs_design.specs.Initials.{sole_bits}
+use Rattle.vs_design.specs.RefusalLaws.{is_some_of}
+use Rattle.vs_design.specs.Networks.{process_of, block_process, writer_of, spare_writers, keeper_of, all_processes, at_or_input, network_of}
 use Rattle.vs_clock.specs.Clocked.{Clocked}
 use Rattle.vs_writes.specs.Held.{state_of}
 use Rattle.vs_events.specs.declared.beginning.Role.{Role}
 use Rattle.vs_events.specs.declared.beginning.Role.TheVariants as R
-use Rattle.vs_events.specs.Beginning.{first_events, role_at, role_of, AreDriven, after_drives, BeginningIsStart, DrivingIsNext}
-use Rattle.vs_events.specs.Held.{Events, queue_of}
+use Rattle.vs_events.specs.Beginning.{first_events, role_at, role_of, Drive, AreDriven, after_drives, BeginningIsStart, DrivingIsNext}
+use Rattle.vs_events.specs.Held.{Events, queue_of, after_activate}
 use Rattle.vs_queue.specs.Chosen.{next_seed, drawn}
-use Rattle.vs_queue.specs.Beginnings.{role_of_process, roles_of, all_roles}
-use Rattle.vs_queue.specs.Spare.{is_spare, spare_count, value_count}
+use Rattle.vs_queue.specs.Beginnings.{role_of_process, roles_of, driven_roles, all_roles}
+use Rattle.vs_queue.specs.Spare.{is_spare, value_count, has_keeper}
+use Rattle.vs_queue.specs.Initially.{AllDriven, HasBegun}
 use Rattle.vs_queue.specs.Driven.{slot_drives}
 use Rattle.vs_queue.specs.Machines.{IsAcceptedBy}
 use Rattle.vs_queue.specs.Reached.{IsReached, counted}
 use Rattle.vs_queue.specs.Running.{IsRunning, IsInside}
 use Rattle.vs_queue.specs.Runs.{IsCopied, IsEnded}
-use Rattle.vs_queue.specs.Sound.{BeginningIsSound, DrivesKeep}
+use Rattle.vs_queue.specs.Sound.{BeginningIsSound, DrivesKeep, ActivationKeeps}
 use Rattle.vs_queue.specs.Turns.{IsRested}
-use Rattle.vs_queue.proofs.Drives.{each_given, are_driven, all_driven, drives_run, drives_values, below_sum, AllDriven}
-use Rattle.vs_queue.proofs.Inputs.{few_inputs}
+use Rattle.vs_queue.proofs.Drives.{each_given, are_driven, both_of, join_driven, wider_driven, all_driven, drives_run, drives_values, below_sum}
+use Rattle.vs_queue.proofs.Inputs.{few_inputs, both_drives}
 use Rattle.vs_queue.proofs.Reaching.{next_more, reached_first}
-use Rattle.vs_queue.proofs.Spares.{spare_one, spare_none, spare_small, network_count}
+use Rattle.vs_queue.proofs.Spares.{spare_small, keeper_small, network_count}
 use Rattle.vs_queue.proofs.Turning.{mod_one}
 
 -- ---- roles
 
-none_at : (k p : ℕ) → get_or (replicate k R.Input) p R.Input ≡ R.Input
-none_at zero p = refl
-none_at (suc k) zero = refl
-none_at (suc k) (suc p) = none_at k p
+abbrev role : N.Process → Role
+role x = role_of (kind x)
 
-spare_role : (clock : ℕ) (c : Bool) (p : ℕ) → role_of (kind (at_or_input (if c then [] else (N.Clock clock ∷ [])) p)) ≡ R.Input
-spare_role clock true p = refl
-spare_role clock false zero = refl
-spare_role clock false (suc p) = refl
+map_append : {A B : Type 0} (f : A → B) (xs ys : List A) → map f (xs ++ ys) ≡ map f xs ++ map f ys
+map_append f [] ys = refl
+map_append f (x ∷ xs) ys = ap (λ zs. f x ∷ zs) (map_append f xs ys)
 
-input_role : (d : Design) (clock : ℕ) (ss : List Signal) (p : ℕ) → role_of (kind (at_or_input (map (writer_of clock) ss ++ spare_writers d clock) p)) ≡ R.Input
-input_role d clock [] p = spare_role clock (nat_lt clock (bit_count d)) p
-input_role d clock (s ∷ ss) zero = go (s.first == clock)
-  where
-    go : (c : Bool) → role_of (kind (if c then N.Clock clock else N.Input (bits_of_signal s))) ≡ R.Input
-    go true = refl
-    go false = refl
-input_role d clock (s ∷ ss) (suc p) = input_role d clock ss p
+role_there : (xs : List N.Process) (p : ℕ) → get_or (map role xs) p R.Input ≡ role (at_or_input xs p)
+role_there [] p = refl
+role_there (x ∷ xs) zero = refl
+role_there (x ∷ xs) (suc p) = role_there xs p
 
-process_role : (d : Design) (clock : ℕ) (x : Process) → role_of_process x ≡ role_of (kind (process_of d clock x))
+process_role : (d : Design) (clock : ℕ) (x : Process) → role (process_of d clock x) ≡ role_of_process x
 process_role d clock (Continuous place port target_place target e) = refl
 process_role d clock (Always place star events s) = go (is_clocked (Always place star events s)) (Always place star events s)
   where
-    go : (c : Bool) (x : Process) → R.Block ≡ role_of (kind (block_process d clock c x events s))
+    go : (c : Bool) (x : Process) → role (block_process d clock c x events s) ≡ R.Block
     go true x = refl
     go false x = refl
 
-roles_at : (d : Design) (clock : ℕ) (ps : List Process) (ss : List Signal) (k p : ℕ) → get_or (map role_of_process ps ++ replicate k R.Input) p R.Input ≡ role_of (kind (at_or_input (map (process_of d clock) ps ++ (map (writer_of clock) ss ++ spare_writers d clock)) p))
-roles_at d clock [] ss k p = none_at k p ∙ sym (input_role d clock ss p)
-roles_at d clock (x ∷ ps) ss k zero = process_role d clock x
-roles_at d clock (x ∷ ps) ss k (suc p) = roles_at d clock ps ss k p
+process_roles : (d : Design) (clock : ℕ) (ps : List Process) → map role (map (process_of d clock) ps) ≡ map role_of_process ps
+process_roles d clock [] = refl
+process_roles d clock (x ∷ ps) = ap₂ (λ (r : Role) (rs : List Role). r ∷ rs) (process_role d clock x) (process_roles d clock ps)
 
-input_more : (rs : List Role) (p : ℕ) → get_or (rs ++ R.Input ∷ []) p R.Input ≡ get_or rs p R.Input
-input_more [] zero = refl
-input_more [] (suc p) = refl
-input_more (r ∷ rs) zero = refl
-input_more (r ∷ rs) (suc p) = input_more rs p
-
-pub roles_are : (d : Design) (clock p : ℕ) → role_at (all_roles d clock) p ≡ role_of (kind ((network_of d clock).process p))
-roles_are d clock p = go (is_spare d clock) ∙ roles_at d clock d.processes (top_inputs d) (length (top_inputs d)) p
+input_role : (clock : ℕ) (s : Signal) → role (writer_of clock s) ≡ R.Input
+input_role clock s = go (s.first == clock)
   where
-    go : (c : Bool) → role_at (if c then roles_of d ++ R.Input ∷ [] else roles_of d) p ≡ role_at (roles_of d) p
-    go true = input_more (roles_of d) p
+    go : (c : Bool) → role (if c then N.Clock clock else N.Input (bits_of_signal s)) ≡ R.Input
+    go true = refl
     go false = refl
 
-own_length : (d : Design) → length (roles_of d) ≡ length d.processes + length (top_inputs d)
-own_length d =
-    length-append (map role_of_process d.processes) (replicate (length (top_inputs d)) R.Input) ∙ ap₂ ◌+◌ (length-map d.processes role_of_process) (length-replicate (length (top_inputs d)) R.Input)
+input_roles : (clock : ℕ) (ss : List Signal) → map role (map (writer_of clock) ss) ≡ replicate (length ss) R.Input
+input_roles clock [] = refl
+input_roles clock (s ∷ ss) = ap₂ (λ (r : Role) (rs : List Role). r ∷ rs) (input_role clock s) (input_roles clock ss)
 
-roles_length : (d : Design) (clock : ℕ) → length (all_roles d clock) ≡ length d.processes + (length (top_inputs d) + spare_count d clock)
-roles_length d clock = go (is_spare d clock) refl (own_length d)
-  where
-    go : (c : Bool) → is_spare d clock ≡ c → length (roles_of d) ≡ length d.processes + length (top_inputs d) → length (if c then roles_of d ++ R.Input ∷ [] else roles_of d) ≡ length d.processes + (length (top_inputs d) + spare_count d clock)
-    go true h own = let one = spare_one d clock h in let more = length-append (roles_of d) (R.Input ∷ []) in omega (arith, one, more, own)
-    go false h own = let none = spare_none d clock h in omega (arith, none, own)
+abbrev spare_part : Bool → List Role
+spare_part c = if c then R.Input ∷ [] else []
+
+abbrev keeper_part : Bool → List Role
+keeper_part c = if c then R.Block ∷ [] else []
+
+spare_roles : (clock : ℕ) (c : Bool) → map role (if c then [] else (N.Clock clock ∷ [])) ≡ spare_part (not c)
+spare_roles clock true = refl
+spare_roles clock false = refl
+
+keeper_roles : (clock : ℕ) (bs : List ℕ) → map role (keeper_of clock bs) ≡ keeper_part (is_some_of bs)
+keeper_roles clock [] = refl
+keeper_roles clock (b ∷ bs) = refl
+
+with_part : (rs : List Role) (r : Role) (c : Bool) → (if c then rs ++ r ∷ [] else rs) ≡ rs ++ (if c then r ∷ [] else [])
+with_part rs r true = refl
+with_part rs r false = sym (append-nil rs)
+
+-- the roles are those of the network's processes
+roles_all : (d : Design) (clock : ℕ) → all_roles d clock ≡ map role (all_processes d clock)
+roles_all d clock =
+    let ps = map role_of_process d.processes in
+    let is = replicate (length (top_inputs d)) R.Input in
+    let ss = spare_part (is_spare d clock) in
+    let ks = keeper_part (has_keeper d) in
+    let ws = map (writer_of clock) (top_inputs d) in
+    let spare = spare_writers d clock in
+    let keeper = keeper_of clock (sole_bits d) in
+    with_part (driven_roles d clock) R.Block (has_keeper d)
+    ∙ ap (λ (rs : List Role). rs ++ ks) (with_part (roles_of d) R.Input (is_spare d clock))
+    ∙ append_assoc (ps ++ is) ss ks
+    ∙ append_assoc ps is (ss ++ ks)
+    ∙ sym (map_append role (map (process_of d clock) d.processes) (ws ++ (spare ++ keeper))
+    ∙ ap₂ (λ (xs ys : List Role). xs ++ ys) (process_roles d clock d.processes) (map_append role ws (spare ++ keeper)
+    ∙ ap₂ (λ (xs ys : List Role). xs ++ ys) (input_roles clock (top_inputs d)) (map_append role spare keeper
+    ∙ ap₂ (λ (xs ys : List Role). xs ++ ys) (spare_roles clock (nat_lt clock (bit_count d))) (keeper_roles clock (sole_bits d)))))
+
+pub roles_are : (d : Design) (clock p : ℕ) → role_at (all_roles d clock) p ≡ role_of (kind ((network_of d clock).process p))
+roles_are d clock p = ap (λ (rs : List Role). get_or rs p R.Input) (roles_all d clock) ∙ role_there (all_processes d clock) p
 
 pub roles_count : (d : Design) (clock : ℕ) → length (all_roles d clock) ≡ (network_of d clock).count
-roles_count d clock = roles_length d clock ∙ sym (network_count d clock)
+roles_count d clock = ap length (roles_all d clock) ∙ length-map (all_processes d clock) role
 
 -- ---- the first lists
 
@@ -144,27 +166,49 @@ module _ (d : Design) (c : Clocked) (b : IsAcceptedBy d c) where
   few_roles =
       let p = b.accepted.lawful.few_processes in
       let i = few_inputs d b.accepted.lawful in
-      let n = roles_length d c.bit in
+      let n = roles_count d c.bit ∙ network_count d c.bit in
       let s = spare_small d c.bit in
-      omega (arith, p, i, n, s)
+      let k = keeper_small d in
+      omega (arith, p, i, n, s, k)
 
-  pub begun_copied : BeginningIsSound → DrivesKeep → (v : State) (values : List Bit4) (shadow : List Bit4) → length values ≡ value_count d c.bit → shadow ≡ values → IsCopied d c.bit (after_drives (first_events (all_roles d c.bit) values) (slot_drives d c.bit (Fall v))) shadow
-  begun_copied sound keep v values shadow long same =
+  -- where what initial processes write was given
+  pub given_running : DrivesKeep → ActivationKeeps → (e now : Events) → IsRunning d c.bit e → HasBegun d c.bit e now → IsRunning d c.bit now
+  given_running keep activation e now r h =
+      let n = network_of d c.bit in
+      let many = value_count d c.bit in
+      let few : bit_count d ≤ many = omega arith in
+      let one = after_drives e h.firsts in
+      let first = drives_run keep d c.bit h.firsts e r (wider_driven n.count (bit_count d) many h.firsts few h.firsts_there) in
+      let active : IsRunning d c.bit (after_activate one) = record { sound = activation n one first.sound; inside = record { values = first.inside.values; pending = first.inside.pending; active = first.inside.waiting; waiting = first.inside.active } } in
+      subst (IsRunning d c.bit) (sym h.now_is) (drives_run keep d c.bit h.lates (after_activate one) active (wider_driven n.count (bit_count d) many h.lates few h.lates_there))
+
+  given_values : (e now : Events) → HasBegun d c.bit e now → now.values ≡ e.values
+  given_values e now h = ap (λ (x : Events). x.values) h.now_is ∙ drives_values h.lates (after_activate (after_drives e h.firsts)) ∙ drives_values h.firsts e
+
+  pub begun_copied : DrivesKeep → ActivationKeeps → (v : State) (e now : Events) (shadow : List Bit4) → IsRunning d c.bit e → HasBegun d c.bit e now → shadow ≡ e.values → IsCopied d c.bit (after_drives now (slot_drives d c.bit (Fall v))) shadow
+  begun_copied keep activation v e now shadow r h same =
       let ds = slot_drives d c.bit (Fall v) in
-      let e = first_events (all_roles d c.bit) values in
-      let stays = drives_values ds e in
+      let stays = drives_values ds now ∙ given_values e now h in
       record {
-        running = drives_run keep d c.bit ds e (first_running sound values long) (driven (Fall v));
+        running = drives_run keep d c.bit ds now (given_running keep activation e now r h) (driven (Fall v));
         shadow_is = ap state_of (same ∙ sym stays);
         long = ap length (same ∙ sym stays);
       }
 
-  pub begun_start : BeginningIsStart → (v : State) (later : List State) (values : List Bit4)
-      → queue_of (after_drives (first_events (all_roles d c.bit) values) (slot_drives d c.bit (Fall v))) (Rise ∷ slots_of later) ≡ start (network_of d c.bit) (state_of values) v later
-  begun_start law v later values =
+  pub begun_start : BeginningIsStart → (v : State) (later : List State) (values : List Bit4) (now : Events) → HasBegun d c.bit (first_events (all_roles d c.bit) values) now
+      → queue_of (after_drives now (slot_drives d c.bit (Fall v))) (Rise ∷ slots_of later) ≡ start (network_of d c.bit) (state_of values) v later
+  begun_start law v later values now h =
       let n = network_of d c.bit in
       let ds = slot_drives d c.bit (Fall v) in
-      law n (all_roles d c.bit) values v later ds (roles_are d c.bit) (λ p. refl) (subst (λ k. AreDriven k ds) (sym (roles_count d c.bit)) (are_driven n.count (value_count d c.bit) ds (driven (Fall v)))) (each_given d c.bit (Fall v))
+      let e = first_events (all_roles d c.bit) values in
+      let there = λ (xs : List Drive) (k : AllDriven n.count (value_count d c.bit) xs). subst (λ m. AreDriven m xs) (sym (roles_count d c.bit)) (are_driven n.count (value_count d c.bit) xs k) in
+      let few : bit_count d ≤ value_count d c.bit = omega arith in
+      let firsts = wider_driven n.count (bit_count d) (value_count d c.bit) h.firsts few h.firsts_there in
+      let lates = wider_driven n.count (bit_count d) (value_count d c.bit) h.lates few h.lates_there in
+      ap (λ (x : Events). queue_of (after_drives x ds) (Rise ∷ slots_of later)) h.now_is
+      ∙ ap (λ (x : Events). queue_of x (Rise ∷ slots_of later)) (sym (both_drives h.lates ds (after_activate (after_drives e h.firsts))))
+      ∙ law n (all_roles d c.bit) values v later h.firsts (h.lates ++ ds) (roles_are d c.bit) (there h.firsts firsts) h.firsts_are (there (h.lates ++ ds) (join_driven n.count (value_count d c.bit) h.lates ds lates (driven (Fall v))))
+      (λ p. both_of h.lates ds p ∙ ap₂ (λ (us ts : List Update). us ++ ts) (h.lates_are p) (each_given d c.bit (Fall v) p))
 
   pub begun_reached : (first v : State) (later : List State) (seed : ℕ) (values : List Bit4) → state_of values ≡ first → (e : Events) → queue_of e (Rise ∷ slots_of later) ≡ start (network_of d c.bit) (state_of values) v later
       → IsReached (network_of d c.bit) (start (network_of d c.bit) first v later) seed (queue_of e (Rise ∷ slots_of later)) seed [] 0

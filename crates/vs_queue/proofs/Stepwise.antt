@@ -17,7 +17,10 @@ use Rattle.vs_design.specs.Footprints.{contains, all_reads, writes_of, waits_of}
 use Rattle.vs_design.specs.Networks.{network_of}
 use Rattle.vs_design.specs.Accepted.{IsAcceptedDesign}
 use Rattle.vs_design.specs.Laws.{BitsOfDesign, AcceptedIsLawful}
+use Rattle.vs_design.specs.Footprints.{is_variable}
 use Rattle.vs_design.proofs.Parts.{by_kind}
+use Rattle.vs_design.proofs.LawfulParts.{kind_below, sole_variable}
+use Rattle.vs_design.proofs.Starts.{same_order}
 use Rattle.vs_ranked.specs.Members.{has_member, members, members_from}
 use Rattle.vs_writes.specs.Held.{state_of}
 use Rattle.vs_events.specs.declared.listener.Listener.{Listener}
@@ -27,7 +30,7 @@ use Rattle.vs_events.specs.Choices.{steps_of}
 use Rattle.vs_events.specs.Laws.{StartIsStep, EvaluateIsStep, ApplyIsStep, RunIsStep, TakeIsStep, ActivateIsStep}
 use Rattle.vs_events.proofs.Woken.{not_same}
 use Rattle.vs_queue.specs.Chosen.{open_steps}
-use Rattle.vs_queue.specs.Spare.{spare_count, value_count}
+use Rattle.vs_queue.specs.Spare.{spare_count, value_count, keeper_count}
 use Rattle.vs_queue.specs.Sound.{IsSound}
 use Rattle.vs_queue.specs.Listens.{listeners_of, AreListeners, DesignIsWired}
 use Rattle.vs_queue.specs.Running.{IsInside, IsRunning, stepped, IsStepped, StepsRun, ActivationRuns}
@@ -201,7 +204,7 @@ module _ (bits : BitsOfDesign) (lawful : AcceptedIsLawful) (d : Design) (name : 
   many = value_count d a.clock.first
 
   L : IsLawful n
-  L = lawful d name a
+  L = lawful d name a d.initials (same_order d.initials)
 
   append_has : (bs cs : List ℕ) (b : ℕ) → contains (bs ++ cs) b ≡ (contains bs b || contains cs b)
   append_has bs cs b = list_any-append (λ c. b == c) bs cs
@@ -222,6 +225,7 @@ module _ (bits : BitsOfDesign) (lawful : AcceptedIsLawful) (d : Design) (name : 
     inputs = λ p i s l e f h w. cc;
     clock = λ p i s l e f h w. cc;
     spare = λ p l f h w. cc;
+    keeper = λ p l k bs e h w. further b (kind_below d name a a.clock.first is_variable b (sole_variable d name a a.clock.first b (subst (λ (ks : List ℕ). contains ks b ≡ true) (sym e) w)));
     none = λ p h w. cc;
   }) p
 
@@ -265,7 +269,7 @@ module _ (bits : BitsOfDesign) (lawful : AcceptedIsLawful) (d : Design) (name : 
 
   -- ---- its lists
 
-  count_is : n.count ≡ length d.processes + (length (top_inputs d) + spare_count d a.clock.first)
+  count_is : n.count ≡ length d.processes + (length (top_inputs d) + (spare_count d a.clock.first + keeper_count d))
   count_is = network_count d a.clock.first
 
   module _ (wired : DesignIsWired) (e : Events) (r : IsRunning d a.clock.first e) where
@@ -279,13 +283,13 @@ module _ (bits : BitsOfDesign) (lawful : AcceptedIsLawful) (d : Design) (name : 
     inside = r.inside
 
     abbrev table : List (List Listener)
-    table = listeners_of d
+    table = listeners_of d a.clock.first
 
     hears : AreListeners d a.clock.first
     hears = wired d name a
 
     below : (b : ℕ) → AreBelow (length e.assigns) (get_or table b [])
-    below b k l at = let h = hears.below b k l at in let c = sound.count ∙ count_is in omega (arith, h, c)
+    below b k l at = let h = hears.below b k l at in let c = sound.count in omega (arith, h, c)
 
     here : (c : Choice) (i : ℕ) → slice_get (steps_of e) i ≡ Some c → is_possible n (queue_of e []) c ≡ true
     here c i at = all_at (is_possible n (queue_of e [])) (open_steps n (queue_of e [])) i c (open_good n (queue_of e [])) (subst (λ cs. slice_get cs i ≡ Some c) (steps_are_possible n e [] sound) at)

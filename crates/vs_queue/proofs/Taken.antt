@@ -134,7 +134,7 @@ module _ (d : Design) (clock : ℕ) where
       (taken_then (λ q. sweeps n order q ss) (λ q. sweeps n order q ts) e m now before shadow a b) (λ slots. sweeps_both order ss ts (queue_of e slots))
 
 -- what the machine does for a step
-pub step_taken : StepsRun → (d : Design) (c : Clocked) (b : IsAcceptedBy d c) (e now : Events) (table : List (List Listener)) (shadow next : List Bit4) → table ≡ listeners_of d → IsCopied d c.bit e shadow
+pub step_taken : StepsRun → (d : Design) (c : Clocked) (b : IsAcceptedBy d c) (e now : Events) (table : List (List Listener)) (shadow next : List Bit4) → table ≡ listeners_of d c.bit → IsCopied d c.bit e shadow
     → (s : Step) → is_open e s ≡ true → now ≡ stepped (network_of d c.bit) table e (choice_of s) → state_of next ≡ state_of now.values → length next ≡ length shadow → HasTaken d c.bit (λ q. choice_of s ∷ []) e now next
 step_taken law d c b e now table shadow next same r s h is state long =
     let rank = open_rank e s h in

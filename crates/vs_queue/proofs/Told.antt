@@ -25,5 +25,5 @@ module _ (d : Design) (c : Clocked) (b : IsAcceptedBy d c) where
   pub listeners_by : DesignIsWired → AreListeners d c.bit
   listeners_by law = subst (AreListeners d) (sym bit_is) (law d b.name b.accepted)
 
-  pub step_by : StepsRun → (e : Events) (i : ℕ) (x : Choice) → IsRunning d c.bit e → slice_get (steps_of e) i ≡ Some x → IsStepped d c.bit e x (stepped (network_of d c.bit) (listeners_of d) e x)
-  step_by law e i x = subst (λ k. IsRunning d k e → slice_get (steps_of e) i ≡ Some x → IsStepped d k e x (stepped (network_of d k) (listeners_of d) e x)) (sym bit_is) (law d b.name b.accepted e i x)
+  pub step_by : StepsRun → (e : Events) (i : ℕ) (x : Choice) → IsRunning d c.bit e → slice_get (steps_of e) i ≡ Some x → IsStepped d c.bit e x (stepped (network_of d c.bit) (listeners_of d c.bit) e x)
+  step_by law e i x = subst (λ k. IsRunning d k e → slice_get (steps_of e) i ≡ Some x → IsStepped d k e x (stepped (network_of d k) (listeners_of d k) e x)) (sym bit_is) (law d b.name b.accepted e i x)

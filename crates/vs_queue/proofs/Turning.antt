@@ -46,7 +46,7 @@ pub record IsTaken (d : Design) (clock : ℕ) (e : Events) (seed : ℕ) (c : Cho
   pub drawn_is : slice_get (steps_of e) (drawn seed % length (steps_of e)) ≡ Some c
   pub step_is : IsStepped d clock e c now
 
-pub is_taken : StepsRun → (d : Design) (c : Clocked) (b : IsAcceptedBy d c) (e now : Events) (table : List (List Listener)) → table ≡ listeners_of d → IsRunning d c.bit e → (seed count place : ℕ) → count ≡ length (steps_of e) → place ≡ drawn seed % count
+pub is_taken : StepsRun → (d : Design) (c : Clocked) (b : IsAcceptedBy d c) (e now : Events) (table : List (List Listener)) → table ≡ listeners_of d c.bit → IsRunning d c.bit e → (seed count place : ℕ) → count ≡ length (steps_of e) → place ≡ drawn seed % count
     → (x : Choice) → slice_get (steps_of e) place ≡ Some x → now ≡ stepped (network_of d c.bit) table e x → IsTaken d c.bit e seed x now
 is_taken law d c b e now table same r seed count place many which x at is =
     let here : slice_get (steps_of e) (drawn seed % length (steps_of e)) ≡ Some x = ap (λ k. slice_get (steps_of e) (drawn seed % k)) (sym many) ∙ ap (slice_get (steps_of e)) (sym which) ∙ at in

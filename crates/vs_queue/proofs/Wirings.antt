@@ -6,7 +6,7 @@ use Rattle.std.proofs.lemmas.Bool.{eqb-true, eqb-false, ltb-true, and_parts}
 use Rattle.std.proofs.lemmas.List.{get_or-set_same, get_or-set_other, length-set, length-replicate}
 use Rattle.std.proofs.lemmas.List.Folds.{list_any-append}
 use Rattle.vs_four.specs.declared.Bit4.{Bit4}
-use Rattle.vs_net.specs.Network.{Network, Write, posedge, senses, resets}
+use Rattle.vs_net.specs.Network.{Write, posedge, senses, resets}
 use Rattle.vs_net.specs.Network as N
 use Rattle.vs_design.specs.Expressions.{Signal, signal_length, Name}
 use Rattle.vs_design.specs.Statements.{Statement}
@@ -15,7 +15,10 @@ use Rattle.vs_design.specs.Footprints.{contains, all_reads, writes_of, waits_of,
 use Rattle.vs_design.specs.Clocks.{Events, ByClock, ByBoth, edge_bit, is_clock_net, is_clock_event, is_reset_event, events_of, clock_bit, has_other_clock, clock_nets, root_of}
 use Rattle.vs_design.specs.Resets.{reset_branch, has_form, has_other_form, net_edge, reset_with, reset_by}
 use Rattle.vs_design.specs.Values.{bits_of_signal}
-use Rattle.vs_design.specs.Networks.{process_of, block_process, writer_of, spare_writers, at_or_input}
+use Rattle.vs_design.specs.Initials.{sole_bits}
+use Rattle.vs_design.specs.RefusalLaws.{is_some_of}
+use Rattle.vs_design.specs.Networks.{process_of, block_process, writer_of, spare_writers, keeper_of, at_or_input, network_of}
+use Rattle.vs_design.proofs.ClockNets.{ClockAt, among, beyond, clock_at}
 use Rattle.vs_design.proofs.Parts.{all_at, none_at}
 use Rattle.vs_design.specs.Elaborated.{is_formed_event, are_formed_events, is_formed_process, is_nil, is_plain}
 use Rattle.vs_design.specs.Accepted.{IsAcceptedDesign}
@@ -26,7 +29,11 @@ use Rattle.vs_events.specs.Hearing.{is_change, hears}
 use Rattle.vs_events.specs.Wired.{Sensitivity, after_listen, after_listens, is_sensitive, AreBits, AreBelow, ListeningIsHeard}
 use Rattle.vs_events.proofs.Woken.{not_same}
 use Rattle.vs_queue.specs.There.{AllThere}
-use Rattle.vs_queue.specs.Listens.{change_of, to_bit, to_event, block_listens, process_listens, listens_from, listens_of, AreListeners, DesignIsWired}
+use Rattle.vs_events.specs.declared.listener.Change.TheVariants as C
+use Rattle.vs_queue.specs.Listens.{change_of, to_bit, to_event, block_listens, process_listens, listens_from, keeper_listens, listens_of, AreListeners, DesignIsWired}
+use Rattle.vs_queue.specs.Spare.{value_count, has_keeper, keeper_at}
+use Rattle.vs_queue.proofs.Drives.{input_below}
+use Rattle.vs_queue.proofs.Spares.{network_count, keeper_one, before_keeper, with_keeper, clock_valued}
 
 -- ---- Booleans and numbers
 
@@ -197,6 +204,10 @@ join_there : (count processes : ℕ) (ss ts : List Sensitivity) → AllThere cou
 join_there count processes [] ts h k = k
 join_there count processes (s ∷ ss) ts h k = (h.0, h.1, join_there count processes ss ts h.2 k)
 
+wider_there : (count few many processes : ℕ) (ss : List Sensitivity) → count ≤ many → processes ≤ few → AllThere count processes ss → AllThere many few ss
+wider_there count few many processes [] l m h = tt
+wider_there count few many processes (s ∷ ss) l m h = let b = h.0 in let p = h.1 in (omega (arith, b, l), omega (arith, p, m), wider_there count few many processes ss l m h.2)
+
 bits_there : (count processes r : ℕ) (bs : List ℕ) → ((b : ℕ) → contains bs b ≡ true → b < count) → r < processes → AllThere count processes (map (to_bit r) bs)
 bits_there count processes r [] h l = tt
 bits_there count processes r (c ∷ bs) h l = (h c (ap (λ x. x || contains bs c) (eq_self c)), l, bits_there count processes r bs (λ b k. h b (or_right (b == c) (contains bs b) k)) l)
@@ -288,6 +299,34 @@ module _ (has : AscendingHas) (d : Design) (clock : ℕ) where
   listens_events : (c : Bool) (r : ℕ) (x : Process) (events : List Event) → c ≡ true → block_listens (bit_count d) r c x events ≡ map (to_event r) events
   listens_events true r x events h = refl
   listens_events false r x events h = cc
+
+-- what is heard behind these processes is heard by those behind them
+or_none_of : (c : Bool) → (c || false) ≡ c
+or_none_of true = refl
+or_none_of false = refl
+
+behind : (xs ks : List N.Process) (old : Bit4) (w : Write) (f : ℕ → Bool) → ((p : ℕ) → p < length xs → f p ≡ false) → ((j : ℕ) → f (length xs + j) ≡ senses (at_or_input ks j) old w) → (p : ℕ)
+    → (senses (at_or_input xs p) old w || f p) ≡ senses (at_or_input (xs ++ ks) p) old w
+behind [] ks old w f before at p = ap f (let e : p ≡ 0 + p = omega arith in e) ∙ at p
+behind (x ∷ xs) ks old w f before at zero = ap (λ c. senses x old w || c) (before 0 (omega arith)) ∙ or_none_of (senses x old w)
+behind (x ∷ xs) ks old w f before at (suc p) = behind xs ks old w (λ q. f (suc q)) (λ q l. before (suc q) (omega (arith, l))) (λ j. ap f (let e : suc (length xs + j) ≡ suc (length xs) + j = omega arith in e) ∙ at j) p
+
+-- a block that keeps bits hears the clock rise
+no_one : (x z : Bool) → ((x && (false && z)) || false) ≡ false
+no_one true z = refl
+no_one false z = refl
+
+keeper_off : (k clock : ℕ) (bs : List ℕ) (p b : ℕ) (old new : Bit4) → (p ≡ k → ⊥) → is_sensitive (if is_some_of bs then (record { bit = clock; listener = record { process = k; change = C.Pos } } ∷ []) else []) p b old new ≡ false
+keeper_off k clock [] p b old new far = refl
+keeper_off k clock (c ∷ bs) p b old new far = ap (λ q. ((b == clock) && (q && posedge old new)) || false) (eq_off p k far) ∙ no_one (b == clock) (posedge old new)
+
+keeper_on : (k clock : ℕ) (bs : List ℕ) (j b : ℕ) (old new : Bit4)
+    → is_sensitive (if is_some_of bs then (record { bit = clock; listener = record { process = k; change = C.Pos } } ∷ []) else []) (k + j) b old new ≡ senses (at_or_input (keeper_of clock bs) j) old (record { bit = b; value = new })
+keeper_on k clock [] j b old new = refl
+keeper_on k clock (c ∷ bs) zero b old new =
+    let here : k + 0 ≡ k = omega arith in
+    ap (λ q. ((b == clock) && (q && posedge old new)) || false) (ap (λ q. q == k) here ∙ eq_self k) ∙ ap (λ x. (x && posedge old new) || false) (eq_flip b clock)
+keeper_on k clock (c ∷ bs) (suc j) b old new = keeper_off k clock (c ∷ bs) (k + suc j) b old new (λ e. omega (arith, e))
 
 append_has : (bs cs : List ℕ) (b : ℕ) → contains (bs ++ cs) b ≡ (contains bs b || contains cs b)
 append_has bs cs b = list_any-append (λ c. b == c) bs cs
@@ -432,15 +471,61 @@ module _ (bits : BitsOfDesign) (has : AscendingHas) (formed : FormedIsWithin) (d
   each_heard j x at = process_case j (0 + j) x at
 
   -- what one of them listens to is there
-  pub process_there : (p : ℕ) (x : Process) → p < length d.processes → slice_get d.processes p ≡ Some x → AllThere (bit_count d) (length d.processes) (process_listens (bit_count d) p x)
-  process_there p x l at = (process_case p p x at).there l
+  pub process_there : (p : ℕ) (x : Process) → p < length d.processes → slice_get d.processes p ≡ Some x → AllThere (value_count d clock) (length d.processes) (process_listens (bit_count d) p x)
+  process_there p x l at = wider_there (bit_count d) (length d.processes) (value_count d clock) (length d.processes) (process_listens (bit_count d) p x) (omega arith) (omega arith) ((process_case p p x at).there l)
+
+  -- ---- and the block that keeps what initial processes alone write
+
+  clock_below : clock ≤ bit_count d
+  clock_below = go (clock_at d name a)
+    where
+      go : ClockAt d a.clock → clock ≤ bit_count d
+      go (among i at long) = let h = input_below d a.lawful i a.clock at in omega (arith, h)
+      go (beyond is) = let e : clock ≡ bit_count d = ap (λ (s : Signal). s.first) is in omega (arith, e)
+
+  -- the clock has a value
+  pub clock_there : clock < value_count d clock
+  clock_there = clock_valued d clock clock_below
+
+  keeper_there : (c : Bool) → has_keeper d ≡ c → AllThere (value_count d clock) (network_of d clock).count (if c then (record { bit = clock; listener = record { process = keeper_at d clock; change = C.Pos } } ∷ []) else [])
+  keeper_there true h = let n = network_count d clock in let k = keeper_one d h in (clock_there, omega (arith, n, k), tt)
+  keeper_there false h = tt
+
+  abbrev keepers : List N.Process
+  keepers = keeper_of clock (sole_bits d)
+
+  abbrev all_others : List N.Process
+  all_others = map (process_of d clock) d.processes ++ others
+
+  keeper_hears : (p b : ℕ) (old new : Bit4) → (senses (at_or_input all_others p) old (record { bit = b; value = new }) || is_sensitive (keeper_listens d clock) p b old new) ≡ senses ((network_of d clock).process p) old (record { bit = b; value = new })
+  keeper_hears p b old new =
+      behind all_others keepers old (record { bit = b; value = new }) (λ q. is_sensitive (keeper_listens d clock) q b old new)
+      (λ q l. keeper_off (keeper_at d clock) clock (sole_bits d) q b old new (λ e. let n = before_keeper d clock in omega (arith, e, l, n)))
+      (λ j. ap (λ k. is_sensitive (keeper_listens d clock) (k + j) b old new) (before_keeper d clock) ∙ keeper_on (keeper_at d clock) clock (sole_bits d) j b old new)
+      p
+      ∙ ap (λ (ps : List N.Process). senses (at_or_input ps p) old (record { bit = b; value = new })) (with_keeper d clock)
+
+  -- ---- all of them
+
+  heard_exactly : (p b : ℕ) (old new : Bit4) → is_sensitive (listens_of d clock) p b old new ≡ senses ((network_of d clock).process p) old (record { bit = b; value = new })
+  heard_exactly p b old new =
+      list_any-append (λ (s : Sensitivity). (b == s.bit) && ((p == s.listener.process) && hears s.listener old new)) (listens_from (bit_count d) 0 d.processes) (keeper_listens d clock)
+      ∙ ap (λ c. c || is_sensitive (keeper_listens d clock) p b old new)
+      (ap (λ q. is_sensitive (listens_from (bit_count d) 0 d.processes) q b old new) (let e : p ≡ 0 + p = omega arith in e) ∙ from d.processes 0 p b old new each_heard)
+      ∙ keeper_hears p b old new
 
   pub listeners : ListeningIsHeard → AreListeners d clock
   listeners heard =
-      let there = all_there d.processes 0 each_heard (omega arith) in
+      let n = network_count d clock in
+      let there =
+      join_there (value_count d clock) (network_of d clock).count (listens_from (bit_count d) 0 d.processes) (keeper_listens d clock)
+      (wider_there (bit_count d) (network_of d clock).count (value_count d clock) (length d.processes) (listens_from (bit_count d) 0 d.processes) (omega arith) (omega (arith, n)) (all_there d.processes 0 each_heard (omega arith)))
+      (keeper_there (has_keeper d) refl)
+      in
       record {
-        wired = record { exactly = λ p old w. sym (heard (bit_count d) (listens_of d) (are_bits (bit_count d) (length d.processes) (listens_of d) there) p w.bit old w.value ∙ (ap (λ q. is_sensitive (listens_of d) q w.bit old w.value) (let e : p ≡ 0 + p = omega arith in e) ∙ from d.processes 0 p w.bit old w.value each_heard)) };
-        below = all_below (length d.processes) (listens_of d) (replicate (bit_count d) []) (subst (λ n. AllThere n (length d.processes) (listens_of d)) (sym (length-replicate (bit_count d) [])) there) (none_below (length d.processes) (bit_count d));
+        wired = record { exactly = λ p old w. sym (heard (value_count d clock) (listens_of d clock) (are_bits (value_count d clock) (network_of d clock).count (listens_of d clock) there) p w.bit old w.value ∙ heard_exactly p w.bit old w.value) };
+        below = all_below (network_of d clock).count (listens_of d clock) (replicate (value_count d clock) [])
+            (subst (λ n. AllThere n (network_of d clock).count (listens_of d clock)) (sym (length-replicate (value_count d clock) [])) there) (none_below (network_of d clock).count (value_count d clock));
       }
 
 pub design_is_wired : ListeningIsHeard → BitsOfDesign → AscendingHas → FormedIsWithin → DesignIsWired

@@ -8,6 +8,7 @@ use Rattle.vs_flat.specs.Arena.{Arena}
 use Rattle.vs_flat.specs.DesignOf.{design_of}
 use Rattle.vs_clock.specs.Clocked.{Clocked, IsClockOf}
 use Rattle.vs_events.specs.declared.listener.Listener.{Listener}
+use Rattle.vs_queue.specs.Spare.{has_keeper}
 use Rattle.vs_queue.specs.Listens.{listeners_of}
 
 -- the design is accepted by some name of its clock, or without a clock, and this is what is told of that clock
@@ -16,10 +17,11 @@ pub record IsAcceptedBy (d : Design) (c : Clocked) : Type 0 where
   pub accepted : IsAcceptedDesign d name
   pub clock : IsClockOf d name c
 
--- it is accepted, and these are its listeners
-pub record IsMachine (a : Arena) (c : Clocked) (wiring : List (List Listener)) : Type 0 where
+-- it is accepted, these are its listeners, and it is told whether initial processes alone write some bits
+pub record IsMachine (a : Arena) (c : Clocked) (wiring : List (List Listener)) (keeper : Bool) : Type 0 where
   pub accepted : IsAcceptedBy (design_of a) c
-  pub wiring_is : wiring ≡ listeners_of (design_of a)
+  pub wiring_is : wiring ≡ listeners_of (design_of a) c.bit
+  pub keeper_is : keeper ≡ has_keeper (design_of a)
 
 -- the process of this number is an assign or a block of the design, and that in its network
 pub record IsProcess (d : Design) (clock p : ℕ) (assign : Bool) : Type 0 where

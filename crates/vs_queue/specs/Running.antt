@@ -41,7 +41,7 @@ pub record IsStepped (d : Design) (clock : ℕ) (e : Events) (c : Choice) (now :
 
 -- each step of a process does so
 abbrev pub StepsRun : Type 0
-StepsRun = (d : Design) (name : Option (List ℕ)) (a : IsAcceptedDesign d name) (e : Events) (i : ℕ) (c : Choice) → IsRunning d a.clock.first e → slice_get (steps_of e) i ≡ Some c → IsStepped d a.clock.first e c (stepped (network_of d a.clock.first) (listeners_of d) e c)
+StepsRun = (d : Design) (name : Option (List ℕ)) (a : IsAcceptedDesign d name) (e : Events) (i : ℕ) (c : Choice) → IsRunning d a.clock.first e → slice_get (steps_of e) i ≡ Some c → IsStepped d a.clock.first e c (stepped (network_of d a.clock.first) (listeners_of d a.clock.first) e c)
 
 -- and so does the activation, where no step of a process is possible
 abbrev pub ActivationRuns : Type 0

@@ -107,7 +107,7 @@ impl Machine<'_> {
 
     /// The environment writes the inputs of the top: the clock, where it is one, and where that falls the data inputs, each by one update.
     fn drive_inputs(&self, events: &mut Events, vector: Option<&Vector>) -> Result<(), AllocError>
-        requires machine { IsMachine self.now.typed.now self.now.clocks.now self.now.wiring.now }
+        requires machine { IsMachine self.now.typed.now self.now.clocks.now self.now.wiring.now self.now.keeper }
         requires running { IsRunning (design_of self.now.typed.now) self.now.clocks.now.bit events.old }
         requires slot { (slot : Slot) × IsSlotOf (design_of self.now.typed.now) self.now.clocks.now.bit (option_map (λ v. v.now) vector) slot }
         ensures driven { (slot : Slot) → IsSlotOf (design_of self.now.typed.now) self.now.clocks.now.bit (option_map (λ v. v.now) vector.entry) slot
@@ -127,7 +127,7 @@ impl Machine<'_> {
 
     /// The environment writes a clock that is none of the design's bits.
     fn drive_spare(&self, events: &mut Events, vector: Option<&Vector>) -> Result<(), AllocError>
-        requires machine { IsMachine self.now.typed.now self.now.clocks.now self.now.wiring.now }
+        requires machine { IsMachine self.now.typed.now self.now.clocks.now self.now.wiring.now self.now.keeper }
         requires held { length events.old.assigns ≡ (network_of (design_of self.now.typed.now) self.now.clocks.now.bit).count }
         ensures { (slot : Slot) → IsSlotOf (design_of self.now.typed.now) self.now.clocks.now.bit (option_map (λ v. v.now) vector.entry) slot
             → OnOk result (events.new ≡ after_drives events.old (spare_drives (design_of self.now.typed.now) self.now.clocks.now.bit slot)) }
@@ -151,7 +151,7 @@ impl Machine<'_> {
         events: &mut Events,
         vector: Option<&Vector>,
     ) -> Result<(), AllocError>
-        requires machine { IsMachine self.now.typed.now self.now.clocks.now self.now.wiring.now }
+        requires machine { IsMachine self.now.typed.now self.now.clocks.now self.now.wiring.now self.now.keeper }
         requires running { IsRunning (design_of self.now.typed.now) self.now.clocks.now.bit events.old }
         requires slot { (slot : Slot) × IsSlotOf (design_of self.now.typed.now) self.now.clocks.now.bit (option_map (λ v. v.now) vector) slot }
         ensures { (slot : Slot) → IsSlotOf (design_of self.now.typed.now) self.now.clocks.now.bit (option_map (λ v. v.now) vector.entry) slot

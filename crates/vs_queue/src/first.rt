@@ -1,16 +1,17 @@
 //! What a run of a design begins with (IEEE 1364-2005, 4.2 and 11.4).
 
-ghost use Rattle.std.specs.Prelude.{◌≡◌, ◌<◌, ◌+◌, ◌≤◌, ◌||◌, ◌&&◌, not, ◌∷◌, ℕ, Bool, List, length, map, filter, replicate, slice_set, false, true, if◌then◌else◌, IfOk, OnOk};
+ghost use Rattle.std.specs.Prelude.{◌≡◌, ◌<◌, ◌+◌, ◌≤◌, ◌^◌, ◌||◌, ◌&&◌, not, ◌∷◌, ℕ, Bool, List, length, map, filter, replicate, slice_set, false, true, if◌then◌else◌, IfOk, OnOk};
 ghost use Rattle.std.specs.List.{list_any};
 ghost use Rattle.vs_design.specs.Designs as D;
 ghost use Rattle.vs_design.specs.Footprints.{contains, net_bits};
 ghost use Rattle.vs_design.specs.Networks.{idle_value};
 ghost use Rattle.vs_design.specs.Values.{count_from};
 ghost use Rattle.vs_flat.specs.DesignOf.{design_of};
+ghost use Rattle.vs_flat.specs.Lawful.{IsLawful};
 ghost use Rattle.vs_reads.specs.Footprint.{footprints_of};
 ghost use Rattle.vs_writes.specs.Held.{state_of};
-ghost use Rattle.vs_queue.specs.Beginnings.{all_roles, role_of_kind, roles_of};
-ghost use Rattle.vs_queue.specs.Spare.{is_spare, spare_count, value_count};
+ghost use Rattle.vs_queue.specs.Beginnings.{all_roles, driven_roles, role_of_kind, roles_of};
+ghost use Rattle.vs_queue.specs.Spare.{has_keeper, is_spare, keeper_at, spare_count, value_count};
 ghost use Rattle.vs_queue.specs.First.{first_seed, first_value, flag_at, flagged, idle_by, is_assign_kind, plain_value};
 ghost use Rattle.vs_queue.specs.Ordered.{driven_bits, drawn_values, drives, seed_after, x_or_z, x_values};
 
@@ -76,13 +77,43 @@ pub(crate) fn spare_count(flat: &Flat, clock: u32) -> u32
     if is_spare(flat, clock) { 1 } else { 0 }
 }
 
+/// How many processes there are besides the block that keeps what initial processes alone write: those of the design, its inputs, and a clock that is none of its bits. It is the number of that block.
+pub(crate) fn keeper_at(flat: &Flat, clock: u32) -> u32
+    requires { IsLawful flat.now }
+    ensures is { result ≡ keeper_at (design_of flat.now) clock }
+    ensures most { result < 2 ^ 31 }
+{
+    trees_law();
+    lawful_law();
+    let inputs = flat.top_inputs().len() as u32;
+    flat.process_count() + inputs + spare_count(flat, clock)
+}
+
 /// The roles of the processes, of the inputs of the top, and of a clock that is none of the design's bits. The only error is that there is no memory.
-pub(crate) fn all_roles(alloc: Global, flat: &Flat, clock: u32) -> Result<Vec<Role>, AllocError>
-    ensures { IfOk result (λ v. v.items ≡ all_roles (design_of flat.now) clock) }
+fn driven_roles(alloc: Global, flat: &Flat, clock: u32) -> Result<Vec<Role>, AllocError>
+    ensures { IfOk result (λ v. v.items ≡ driven_roles (design_of flat.now) clock) }
 {
     let mut roles = roles_of(alloc, flat)?;
     if is_spare(flat, clock) {
         roles.push(Role::Input)?;
+        return Ok(roles);
+    }
+    Ok(roles)
+}
+
+/// These, and that of the block that keeps what initial processes alone write, where there is one. The only error is that there is no memory.
+pub(crate) fn all_roles(
+    alloc: Global,
+    flat: &Flat,
+    clock: u32,
+    keeper: bool,
+) -> Result<Vec<Role>, AllocError>
+    requires { keeper ≡ has_keeper (design_of flat.now) }
+    ensures { IfOk result (λ v. v.items ≡ all_roles (design_of flat.now) clock) }
+{
+    let mut roles = driven_roles(alloc, flat, clock)?;
+    if keeper {
+        roles.push(Role::Block)?;
         return Ok(roles);
     }
     Ok(roles)
@@ -97,7 +128,7 @@ fn set_flag(flags: &mut Vec<bool>, bit: usize)
 }
 
 /// Sets the flags of these bits.
-fn flag_bits(flags: &mut Vec<bool>, bits: &[u32])
+pub(crate) fn flag_bits(flags: &mut Vec<bool>, bits: &[u32])
     requires { (b : ℕ) → contains bits.now b ≡ true → b < length flags.old.items }
     ensures count { length flags.new.items ≡ length flags.old.items }
     ensures flags { (b : ℕ) → flag_at flags.new.items b ≡ (flag_at flags.old.items b || contains bits.now b) }

@@ -11,6 +11,7 @@ mod parts;
 mod plain;
 mod run;
 mod seeds;
+mod starts;
 mod turns;
 mod vector;
 mod wires;

@@ -1,6 +1,6 @@
 //! The steps of a design's queue, executed (IEEE 1364-2005, 11.3 and 11.4).
 
-ghost use Rattle.std.specs.Prelude.{◌≡◌, ◌<◌, ℕ, length, slice_get, Some, IfOk, OnOk};
+ghost use Rattle.std.specs.Prelude.{◌≡◌, ◌<◌, ◌≤◌, ℕ, length, slice_get, Some, IfOk, OnOk};
 ghost use Rattle.vs_net.specs.Queue as Q;
 ghost use Rattle.vs_design.specs.Networks.{network_of};
 ghost use Rattle.vs_events.specs.Choices.{choice_of, steps_of};
@@ -26,19 +26,20 @@ use vs_interpret::{assigned, run_block};
 use vs_typed::Typed;
 use vs_writes::write_all;
 
-/// What the queue of an accepted design is executed with: memory, the design with its clock, and the listeners of its bits.
+/// What the queue of an accepted design is executed with: memory, the design with its clock, the listeners of its bits, and whether initial processes alone write some of them.
 #[derive(Clone, Copy)]
 pub(crate) struct Machine<'a> {
     pub(crate) alloc: Global,
     pub(crate) typed: &'a Typed,
     pub(crate) clocks: &'a Clocks,
     pub(crate) wiring: &'a Wiring,
+    pub(crate) keeper: bool,
 }
 
 impl Machine<'_> {
     /// The assign is evaluated.
     fn evaluate(&self, events: &mut Events, p: u32) -> Result<(), AllocError>
-        requires machine { IsMachine self.now.typed.now self.now.clocks.now self.now.wiring.now }
+        requires machine { IsMachine self.now.typed.now self.now.clocks.now self.now.wiring.now self.now.keeper }
         requires running { IsRunning (design_of self.now.typed.now) self.now.clocks.now.bit events.old }
         requires possible { (rank : ℕ) × (slice_get (steps_of events.old) rank ≡ Some (Q.Evaluate p)) }
         ensures { OnOk result (events.new ≡ stepped (network_of (design_of self.now.typed.now) self.now.clocks.now.bit) self.now.wiring.now events.old (Q.Evaluate p)) }
@@ -52,9 +53,15 @@ impl Machine<'_> {
         Ok(())
     }
 
-    /// The block runs whole. It runs on the shadow, and then its writes are made one by one.
-    fn run(&self, events: &mut Events, shadow: &mut [Bit4], p: u32) -> Result<(), AllocError>
-        requires machine { IsMachine self.now.typed.now self.now.clocks.now self.now.wiring.now }
+    /// The block of the design runs whole. It runs on the shadow, and then its writes are made one by one.
+    fn run_process(
+        &self,
+        events: &mut Events,
+        shadow: &mut [Bit4],
+        p: u32,
+    ) -> Result<(), AllocError>
+        requires there { p < length (design_of self.now.typed.now).processes }
+        requires machine { IsMachine self.now.typed.now self.now.clocks.now self.now.wiring.now self.now.keeper }
         requires running { IsRunning (design_of self.now.typed.now) self.now.clocks.now.bit events.old }
         requires shadow { state_of shadow.old ≡ state_of events.old.values }
         requires long { length shadow.old ≡ length events.old.values }
@@ -72,9 +79,40 @@ impl Machine<'_> {
         events.run(self.wiring, p, writes.as_slice(), updates)
     }
 
+    /// The block that keeps what initial processes alone write runs: it does nothing.
+    fn run_keeper(&self, events: &mut Events, p: u32) -> Result<(), AllocError>
+        requires past { length (design_of self.now.typed.now).processes ≤ p }
+        requires machine { IsMachine self.now.typed.now self.now.clocks.now self.now.wiring.now self.now.keeper }
+        requires running { IsRunning (design_of self.now.typed.now) self.now.clocks.now.bit events.old }
+        requires possible { (rank : ℕ) × (slice_get (steps_of events.old) rank ≡ Some (Q.Run p)) }
+        ensures events { OnOk result (events.new ≡ stepped (network_of (design_of self.now.typed.now) self.now.clocks.now.bit) self.now.wiring.now events.old (Q.Run p)) }
+        ensures values { OnOk result (events.new.values ≡ events.old.values) }
+    {
+        listeners_law();
+        events.run(self.wiring, p, &[], Vec::new(self.alloc))
+    }
+
+    /// The block runs whole, on the shadow too.
+    fn run(&self, events: &mut Events, shadow: &mut [Bit4], p: u32) -> Result<(), AllocError>
+        requires machine { IsMachine self.now.typed.now self.now.clocks.now self.now.wiring.now self.now.keeper }
+        requires running { IsRunning (design_of self.now.typed.now) self.now.clocks.now.bit events.old }
+        requires shadow { state_of shadow.old ≡ state_of events.old.values }
+        requires long { length shadow.old ≡ length events.old.values }
+        requires possible { (rank : ℕ) × (slice_get (steps_of events.old) rank ≡ Some (Q.Run p)) }
+        ensures events { OnOk result (events.new ≡ stepped (network_of (design_of self.now.typed.now) self.now.clocks.now.bit) self.now.wiring.now events.old (Q.Run p)) }
+        ensures shadow { OnOk result (state_of shadow.new ≡ state_of events.new.values) }
+    {
+        trees_law();
+        let flat = self.typed.flat();
+        if p >= flat.process_count() {
+            return self.run_keeper(events, p);
+        }
+        self.run_process(events, shadow, p)
+    }
+
     /// What the assign has pending is applied, to both copies of the values.
     fn apply(&self, events: &mut Events, shadow: &mut [Bit4], p: u32)
-        requires machine { IsMachine self.now.typed.now self.now.clocks.now self.now.wiring.now }
+        requires machine { IsMachine self.now.typed.now self.now.clocks.now self.now.wiring.now self.now.keeper }
         requires running { IsRunning (design_of self.now.typed.now) self.now.clocks.now.bit events.old }
         requires shadow { state_of shadow.old ≡ state_of events.old.values }
         requires long { length shadow.old ≡ length events.old.values }
@@ -89,7 +127,7 @@ impl Machine<'_> {
 
     /// The first active update of the writer is applied, to both copies of the values.
     fn take(&self, events: &mut Events, shadow: &mut [Bit4], p: u32)
-        requires machine { IsMachine self.now.typed.now self.now.clocks.now self.now.wiring.now }
+        requires machine { IsMachine self.now.typed.now self.now.clocks.now self.now.wiring.now self.now.keeper }
         requires running { IsRunning (design_of self.now.typed.now) self.now.clocks.now.bit events.old }
         requires shadow { state_of shadow.old ≡ state_of events.old.values }
         requires long { length shadow.old ≡ length events.old.values }
@@ -109,7 +147,7 @@ impl Machine<'_> {
         shadow: &mut [Bit4],
         step: Step,
     ) -> Result<(), AllocError>
-        requires machine { IsMachine self.now.typed.now self.now.clocks.now self.now.wiring.now }
+        requires machine { IsMachine self.now.typed.now self.now.clocks.now self.now.wiring.now self.now.keeper }
         requires running { IsRunning (design_of self.now.typed.now) self.now.clocks.now.bit events.old }
         requires shadow { state_of shadow.old ≡ state_of events.old.values }
         requires long { length shadow.old ≡ length events.old.values }
@@ -142,7 +180,7 @@ impl Machine<'_> {
         shadow: &mut [Bit4],
         seed: u64,
     ) -> Result<bool, AllocError>
-        requires machine { IsMachine self.now.typed.now self.now.clocks.now self.now.wiring.now }
+        requires machine { IsMachine self.now.typed.now self.now.clocks.now self.now.wiring.now self.now.keeper }
         requires running { IsRunning (design_of self.now.typed.now) self.now.clocks.now.bit events.old }
         requires shadow { state_of shadow.old ≡ state_of events.old.values }
         requires long { length shadow.old ≡ length events.old.values }

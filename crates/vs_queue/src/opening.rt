@@ -7,6 +7,7 @@ ghost use Rattle.vs_design.specs.Designs as D;
 ghost use Rattle.vs_design.specs.Networks.{network_of};
 ghost use Rattle.vs_events.specs.Held.{queue_of};
 ghost use Rattle.vs_flat.specs.DesignOf.{design_of};
+ghost use Rattle.vs_reads.specs.Footprint.{footprints_of};
 ghost use Rattle.vs_writes.specs.Held.{state_of};
 ghost use Rattle.vs_queue.specs.Driven.{AreGiven, data_inputs};
 ghost use Rattle.vs_queue.specs.Machines.{IsMachine};
@@ -20,14 +21,17 @@ use crate::vector::Vector;
 use std::alloc::AllocError;
 use vs_events::{Events, slot_law};
 use vs_four::Bit4;
+use vs_reads::Footprints;
 
-/// The state of the queue at the beginning of a run from these values, in the first slot of which the clock falls with this vector; and the second copy of the values. The only error is that there is no memory.
+/// The state of the queue at the beginning of a run from these values: what initial processes write is active or waits, and in the first slot the clock falls with this vector; and the second copy of the values. The only error is that there is no memory.
 pub(crate) fn open(
     machine: &Machine,
+    footprints: &Footprints,
     vector: &Vector,
     values: Vec<Bit4>,
 ) -> Result<(Events, Vec<Bit4>), AllocError>
-    requires machine { IsMachine machine.now.typed.now machine.now.clocks.now machine.now.wiring.now }
+    requires machine { IsMachine machine.now.typed.now machine.now.clocks.now machine.now.wiring.now machine.now.keeper }
+    requires footprints { footprints.now ≡ footprints_of (design_of machine.now.typed.now) }
     requires long { length values.items ≡ value_count (design_of machine.now.typed.now) machine.now.clocks.now.bit }
     requires given { (v : State) × AreGiven (data_inputs machine.now.clocks.now.bit (D.top_inputs (design_of machine.now.typed.now))) vector.now v }
     ensures copied { IfOk result (λ r. IsCopied (design_of machine.now.typed.now) machine.now.clocks.now.bit r.0 r.1.items) }
@@ -39,8 +43,9 @@ pub(crate) fn open(
     let alloc = machine.alloc;
     let clock = machine.clocks.bit();
     let shadow = Vec::from_slice(alloc, values.as_slice())?;
-    let roles = all_roles(alloc, machine.typed.flat(), clock)?;
+    let roles = all_roles(alloc, machine.typed.flat(), clock, machine.keeper)?;
     let mut events = Events::new(alloc, roles.as_slice(), values)?;
+    machine.give_initial(&mut events, footprints)?;
     machine.drive(&mut events, Some(vector))?;
     Ok((events, shadow))
 }

@@ -26,6 +26,7 @@ use crate::laws::{chosen_law, first_law};
 use crate::machine::Machine;
 use crate::opening::open;
 use crate::run::Run;
+use crate::starts::has_keeper;
 use crate::vector::Vector;
 use crate::wires::wiring_of;
 use std::alloc::{AllocError, Global};
@@ -42,7 +43,7 @@ fn begin(
     vector: &Vector,
     order: u64,
 ) -> Result<Run, AllocError>
-    requires machine { IsMachine machine.now.typed.now machine.now.clocks.now machine.now.wiring.now }
+    requires machine { IsMachine machine.now.typed.now machine.now.clocks.now machine.now.wiring.now machine.now.keeper }
     requires footprints { footprints.now ≡ footprints_of (design_of machine.now.typed.now) }
     requires given { (v : State) × AreGiven (data_inputs machine.now.clocks.now.bit (D.top_inputs (design_of machine.now.typed.now))) vector.now v }
     ensures copied { IfOk result (λ r. IsCopied (design_of machine.now.typed.now) machine.now.clocks.now.bit r.events r.shadow.items) }
@@ -54,7 +55,7 @@ fn begin(
     let alloc = machine.alloc;
     let clock = machine.clocks.bit();
     let (values, seed) = all_values(alloc, machine.typed, footprints, clock, order)?;
-    let (events, shadow) = open(machine, vector, values)?;
+    let (events, shadow) = open(machine, footprints, vector, values)?;
     let ends = Ends::new(alloc);
     Ok(Run {
         events,
@@ -72,7 +73,7 @@ fn first_period(
     vectors: &[Vector],
     order: u64,
 ) -> Result<Run, AllocError>
-    requires machine { IsMachine machine.now.typed.now machine.now.clocks.now machine.now.wiring.now }
+    requires machine { IsMachine machine.now.typed.now machine.now.clocks.now machine.now.wiring.now machine.now.keeper }
     requires footprints { footprints.now ≡ footprints_of (design_of machine.now.typed.now) }
     requires drive { IsDrive (design_of machine.now.typed.now) machine.now.clocks.now.bit vectors.now }
     requires there { 0 < length vectors.now }
@@ -93,7 +94,7 @@ fn next_period(
     vectors: &[Vector],
     k: usize,
 ) -> Result<(), AllocError>
-    requires machine { IsMachine machine.now.typed.now machine.now.clocks.now machine.now.wiring.now }
+    requires machine { IsMachine machine.now.typed.now machine.now.clocks.now machine.now.wiring.now machine.now.keeper }
     requires drive { IsDrive (design_of machine.now.typed.now) machine.now.clocks.now.bit vectors.now }
     requires there { k < length vectors.now }
     requires copied { IsCopied (design_of machine.now.typed.now) machine.now.clocks.now.bit run.old.events run.old.shadow.items }
@@ -139,12 +140,14 @@ pub fn ordered_run(
     if vectors.is_empty() {
         return Ok((Ends::new(alloc), 0));
     }
-    let wiring = wiring_of(alloc, typed, footprints, clocks)?;
+    let keeper = has_keeper(alloc, typed, footprints)?;
+    let wiring = wiring_of(alloc, typed, footprints, clocks, keeper)?;
     let machine = Machine {
         alloc,
         typed,
         clocks,
         wiring: &wiring,
+        keeper,
     };
     let mut run = first_period(&machine, footprints, vectors, order)?;
     for k in 1..vectors.len() {

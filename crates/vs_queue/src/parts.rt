@@ -12,31 +12,31 @@ ghost use Rattle.vs_queue.specs.Runs.{IsCopied};
 ghost use Rattle.vs_queue.specs.Sweeps.{HasTaken, IsCalm, waiting_parts, first_parts, slot_parts};
 ghost use Rattle.vs_queue.specs.Turns.{IsRested, IsSpent};
 
-use crate::first::spare_count;
+use crate::first::keeper_at;
 use crate::laws::keeping_law;
 use crate::machine::Machine;
 use std::alloc::AllocError;
 use vs_design::lawful_law;
 use vs_events::{Events, step_law};
-use vs_flat::trees_law;
 use vs_four::Bit4;
 use vs_level::Order;
 
 impl Machine<'_> {
-    /// How many processes there are: those of the design, its inputs, and a clock that is none of its bits.
+    /// How many processes there are: those of the design, its inputs, a clock that is none of its bits, and the block that keeps what initial processes alone write.
     fn writer_count(&self) -> u32
-        requires machine { IsMachine self.now.typed.now self.now.clocks.now self.now.wiring.now }
+        requires machine { IsMachine self.now.typed.now self.now.clocks.now self.now.wiring.now self.now.keeper }
         ensures { result ≡ (network_of (design_of self.now.typed.now) self.now.clocks.now.bit).count }
     {
-        trees_law();
-        let flat = self.typed.flat();
-        let inputs = flat.top_inputs().len() as u32;
-        flat.process_count() + inputs + spare_count(flat, self.clocks.bit())
+        let others = keeper_at(self.typed.flat(), self.clocks.bit());
+        if self.keeper {
+            return others + 1;
+        }
+        others
     }
 
     /// Each block starts.
     fn start_all(&self, events: &mut Events, shadow: &mut [Bit4]) -> Result<(), AllocError>
-        requires machine { IsMachine self.now.typed.now self.now.clocks.now self.now.wiring.now }
+        requires machine { IsMachine self.now.typed.now self.now.clocks.now self.now.wiring.now self.now.keeper }
         requires copied { IsCopied (design_of self.now.typed.now) self.now.clocks.now.bit events.old shadow.old }
         ensures { (order : List ℕ) → OnOk result (HasTaken (design_of self.now.typed.now) self.now.clocks.now.bit (λ q. sweep (network_of (design_of self.now.typed.now) self.now.clocks.now.bit) order q Starts) events.old events.new shadow.new) }
     {
@@ -48,7 +48,7 @@ impl Machine<'_> {
 
     /// The active updates are applied, writer by writer.
     fn take_all(&self, events: &mut Events, shadow: &mut [Bit4]) -> Result<(), AllocError>
-        requires machine { IsMachine self.now.typed.now self.now.clocks.now self.now.wiring.now }
+        requires machine { IsMachine self.now.typed.now self.now.clocks.now self.now.wiring.now self.now.keeper }
         requires copied { IsCopied (design_of self.now.typed.now) self.now.clocks.now.bit events.old shadow.old }
         ensures { (order : List ℕ) → OnOk result (HasTaken (design_of self.now.typed.now) self.now.clocks.now.bit (λ q. sweep (network_of (design_of self.now.typed.now) self.now.clocks.now.bit) order q Takes) events.old events.new shadow.new) }
     {
@@ -60,7 +60,7 @@ impl Machine<'_> {
 
     /// The due clocked blocks run.
     fn run_all(&self, events: &mut Events, shadow: &mut [Bit4]) -> Result<(), AllocError>
-        requires machine { IsMachine self.now.typed.now self.now.clocks.now self.now.wiring.now }
+        requires machine { IsMachine self.now.typed.now self.now.clocks.now self.now.wiring.now self.now.keeper }
         requires copied { IsCopied (design_of self.now.typed.now) self.now.clocks.now.bit events.old shadow.old }
         ensures { (order : List ℕ) → OnOk result (HasTaken (design_of self.now.typed.now) self.now.clocks.now.bit (λ q. sweep (network_of (design_of self.now.typed.now) self.now.clocks.now.bit) order q Runs) events.old events.new shadow.new) }
     {
@@ -77,7 +77,7 @@ impl Machine<'_> {
         events: &mut Events,
         shadow: &mut [Bit4],
     ) -> Result<(), AllocError>
-        requires machine { IsMachine self.now.typed.now self.now.clocks.now self.now.wiring.now }
+        requires machine { IsMachine self.now.typed.now self.now.clocks.now self.now.wiring.now self.now.keeper }
         requires order { is_level_order (design_of self.now.typed.now) order.now ≡ true }
         requires copied { IsCopied (design_of self.now.typed.now) self.now.clocks.now.bit events.old shadow.old }
         ensures { OnOk result (HasTaken (design_of self.now.typed.now) self.now.clocks.now.bit (λ q. sweep (network_of (design_of self.now.typed.now) self.now.clocks.now.bit) order.now q Pass) events.old events.new shadow.new) }
@@ -91,7 +91,7 @@ impl Machine<'_> {
 
     /// What waits becomes active, if anything does. Nothing is active before.
     fn activate(&self, events: &mut Events)
-        requires machine { IsMachine self.now.typed.now self.now.clocks.now self.now.wiring.now }
+        requires machine { IsMachine self.now.typed.now self.now.clocks.now self.now.wiring.now self.now.keeper }
         requires running { IsRunning (design_of self.now.typed.now) self.now.clocks.now.bit events.old }
         requires spent { IsSpent events.old }
         ensures taken { (order : List ℕ) (shadow : List Bit4) → IsCopied (design_of self.now.typed.now) self.now.clocks.now.bit events.old shadow
@@ -112,7 +112,7 @@ impl Machine<'_> {
         events: &mut Events,
         shadow: &mut [Bit4],
     ) -> Result<(), AllocError>
-        requires machine { IsMachine self.now.typed.now self.now.clocks.now self.now.wiring.now }
+        requires machine { IsMachine self.now.typed.now self.now.clocks.now self.now.wiring.now self.now.keeper }
         requires order { is_level_order (design_of self.now.typed.now) order.now ≡ true }
         requires copied { IsCopied (design_of self.now.typed.now) self.now.clocks.now.bit events.old shadow.old }
         requires spent { IsSpent events.old }
@@ -132,7 +132,7 @@ impl Machine<'_> {
         events: &mut Events,
         shadow: &mut [Bit4],
     ) -> Result<(), AllocError>
-        requires machine { IsMachine self.now.typed.now self.now.clocks.now self.now.wiring.now }
+        requires machine { IsMachine self.now.typed.now self.now.clocks.now self.now.wiring.now self.now.keeper }
         requires order { is_level_order (design_of self.now.typed.now) order.now ≡ true }
         requires copied { IsCopied (design_of self.now.typed.now) self.now.clocks.now.bit events.old shadow.old }
         requires spent { IsSpent events.old }
@@ -152,7 +152,7 @@ impl Machine<'_> {
         events: &mut Events,
         shadow: &mut [Bit4],
     ) -> Result<(), AllocError>
-        requires machine { IsMachine self.now.typed.now self.now.clocks.now self.now.wiring.now }
+        requires machine { IsMachine self.now.typed.now self.now.clocks.now self.now.wiring.now self.now.keeper }
         requires order { is_level_order (design_of self.now.typed.now) order.now ≡ true }
         requires copied { IsCopied (design_of self.now.typed.now) self.now.clocks.now.bit events.old shadow.old }
         ensures taken { OnOk result (HasTaken (design_of self.now.typed.now) self.now.clocks.now.bit (λ q. sweeps (network_of (design_of self.now.typed.now) self.now.clocks.now.bit) order.now q first_parts) events.old events.new shadow.new) }

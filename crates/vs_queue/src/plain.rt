@@ -27,6 +27,7 @@ use crate::first::plain_values;
 use crate::laws::{first_law, keeping_law};
 use crate::machine::Machine;
 use crate::opening::open;
+use crate::starts::has_keeper;
 use crate::vector::Vector;
 use crate::wires::wiring_of;
 use std::alloc::{AllocError, Global};
@@ -54,7 +55,7 @@ fn first_slot(
     order: &Order,
     vector: &Vector,
 ) -> Result<Levelled, AllocError>
-    requires machine { IsMachine machine.now.typed.now machine.now.clocks.now machine.now.wiring.now }
+    requires machine { IsMachine machine.now.typed.now machine.now.clocks.now machine.now.wiring.now machine.now.keeper }
     requires footprints { footprints.now ≡ footprints_of (design_of machine.now.typed.now) }
     requires order { is_level_order (design_of machine.now.typed.now) order.now ≡ true }
     requires given { (v : State) × AreGiven (data_inputs machine.now.clocks.now.bit (D.top_inputs (design_of machine.now.typed.now))) vector.now v }
@@ -68,7 +69,7 @@ fn first_slot(
     let alloc = machine.alloc;
     let clock = machine.clocks.bit();
     let values = plain_values(alloc, machine.typed, footprints, clock)?;
-    let (mut events, mut shadow) = open(machine, vector, values)?;
+    let (mut events, mut shadow) = open(machine, footprints, vector, values)?;
     machine.run_first_slot(order, &mut events, shadow.as_mut_slice())?;
     let ends = Ends::new(alloc);
     Ok(Levelled {
@@ -85,7 +86,7 @@ fn next_slot(
     run: &mut Levelled,
     vector: Option<&Vector>,
 ) -> Result<(), AllocError>
-    requires machine { IsMachine machine.now.typed.now machine.now.clocks.now machine.now.wiring.now }
+    requires machine { IsMachine machine.now.typed.now machine.now.clocks.now machine.now.wiring.now machine.now.keeper }
     requires order { is_level_order (design_of machine.now.typed.now) order.now ≡ true }
     requires copied { IsCopied (design_of machine.now.typed.now) machine.now.clocks.now.bit run.old.events run.old.shadow.items }
     requires calm { IsCalm run.old.events }
@@ -111,7 +112,7 @@ fn first_plain_period(
     order: &Order,
     vectors: &[Vector],
 ) -> Result<Levelled, AllocError>
-    requires machine { IsMachine machine.now.typed.now machine.now.clocks.now machine.now.wiring.now }
+    requires machine { IsMachine machine.now.typed.now machine.now.clocks.now machine.now.wiring.now machine.now.keeper }
     requires footprints { footprints.now ≡ footprints_of (design_of machine.now.typed.now) }
     requires order { is_level_order (design_of machine.now.typed.now) order.now ≡ true }
     requires drive { IsDrive (design_of machine.now.typed.now) machine.now.clocks.now.bit vectors.now }
@@ -134,7 +135,7 @@ fn next_plain_period(
     vectors: &[Vector],
     k: usize,
 ) -> Result<(), AllocError>
-    requires machine { IsMachine machine.now.typed.now machine.now.clocks.now machine.now.wiring.now }
+    requires machine { IsMachine machine.now.typed.now machine.now.clocks.now machine.now.wiring.now machine.now.keeper }
     requires order { is_level_order (design_of machine.now.typed.now) order.now ≡ true }
     requires drive { IsDrive (design_of machine.now.typed.now) machine.now.clocks.now.bit vectors.now }
     requires there { k < length vectors.now }
@@ -178,12 +179,14 @@ pub fn plain_run(
     if vectors.is_empty() {
         return Ok(Ends::new(alloc));
     }
-    let wiring = wiring_of(alloc, typed, footprints, clocks)?;
+    let keeper = has_keeper(alloc, typed, footprints)?;
+    let wiring = wiring_of(alloc, typed, footprints, clocks, keeper)?;
     let machine = Machine {
         alloc,
         typed,
         clocks,
         wiring: &wiring,
+        keeper,
     };
     let mut run = first_plain_period(&machine, footprints, order, vectors)?;
     for k in 1..vectors.len() {

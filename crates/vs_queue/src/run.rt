@@ -36,7 +36,7 @@ pub(crate) struct Run {
 impl Machine<'_> {
     /// Takes steps until none is left in the slot. Want of memory is the only error, here as in all that follows; the run is then of no use.
     pub(crate) fn settle(&self, run: &mut Run) -> Result<(), AllocError>
-        requires machine { IsMachine self.now.typed.now self.now.clocks.now self.now.wiring.now }
+        requires machine { IsMachine self.now.typed.now self.now.clocks.now self.now.wiring.now self.now.keeper }
         requires copied { IsCopied (design_of self.now.typed.now) self.now.clocks.now.bit run.old.events run.old.shadow.items }
         requires under_way { IsUnderWay (design_of self.now.typed.now) self.now.clocks.now.bit run.old.events run.old.seed run.old.ends run.old.steps }
         ensures copied { OnOk result (IsCopied (design_of self.now.typed.now) self.now.clocks.now.bit run.new.events run.new.shadow.items) }
@@ -58,7 +58,7 @@ impl Machine<'_> {
         run: &mut Run,
         vector: Option<&Vector>,
     ) -> Result<(), AllocError>
-        requires machine { IsMachine self.now.typed.now self.now.clocks.now self.now.wiring.now }
+        requires machine { IsMachine self.now.typed.now self.now.clocks.now self.now.wiring.now self.now.keeper }
         requires copied { IsCopied (design_of self.now.typed.now) self.now.clocks.now.bit run.old.events run.old.shadow.items }
         requires ended { IsEnded (design_of self.now.typed.now) self.now.clocks.now.bit run.old.events }
         requires slot { (slot : Slot) × IsSlotOf (design_of self.now.typed.now) self.now.clocks.now.bit (option_map (λ v. v.now) vector) slot }
@@ -79,7 +79,7 @@ impl Machine<'_> {
 
     /// Ends the slot in which the clock has fallen, lets it rise, and takes the steps of that slot.
     pub(crate) fn rise(&self, run: &mut Run) -> Result<(), AllocError>
-        requires machine { IsMachine self.now.typed.now self.now.clocks.now self.now.wiring.now }
+        requires machine { IsMachine self.now.typed.now self.now.clocks.now self.now.wiring.now self.now.keeper }
         requires copied { IsCopied (design_of self.now.typed.now) self.now.clocks.now.bit run.old.events run.old.shadow.items }
         requires under_way { (u : IsUnderWay (design_of self.now.typed.now) self.now.clocks.now.bit run.old.events run.old.seed run.old.ends run.old.steps) × (slots : List Slot) × (u.slots ≡ Rise ∷ slots) }
         ensures copied { OnOk result (IsCopied (design_of self.now.typed.now) self.now.clocks.now.bit run.new.events run.new.shadow.items) }

@@ -1,6 +1,6 @@
 //! The turns of processes in a run in level order, the order in which a levelised simulator evaluates (IEEE 1364-2005, 11.4.2: the order of active events is free).
 
-ghost use Rattle.std.specs.Prelude.{◌≡◌, [], ◌∷◌, true, OnOk};
+ghost use Rattle.std.specs.Prelude.{◌≡◌, ◌||◌, nat_le, length, [], ◌∷◌, true, OnOk};
 ghost use Rattle.vs_net.specs.Lawful.{Settles};
 ghost use Rattle.vs_net.specs.Network.{kind};
 ghost use Rattle.vs_design.specs.Networks.{network_of};
@@ -26,7 +26,7 @@ impl Machine<'_> {
         shadow: &mut [Bit4],
         step: Step,
     ) -> Result<(), AllocError>
-        requires machine { IsMachine self.now.typed.now self.now.clocks.now self.now.wiring.now }
+        requires machine { IsMachine self.now.typed.now self.now.clocks.now self.now.wiring.now self.now.keeper }
         requires copied { IsCopied (design_of self.now.typed.now) self.now.clocks.now.bit events.old shadow.old }
         requires possible { is_open events.old step ≡ true }
         ensures { OnOk result (HasTaken (design_of self.now.typed.now) self.now.clocks.now.bit (λ q. choice_of step ∷ []) events.old events.new shadow.new) }
@@ -42,7 +42,7 @@ impl Machine<'_> {
         shadow: &mut [Bit4],
         p: u32,
     ) -> Result<(), AllocError>
-        requires machine { IsMachine self.now.typed.now self.now.clocks.now self.now.wiring.now }
+        requires machine { IsMachine self.now.typed.now self.now.clocks.now self.now.wiring.now self.now.keeper }
         requires copied { IsCopied (design_of self.now.typed.now) self.now.clocks.now.bit events.old shadow.old }
         ensures { OnOk result (HasTaken (design_of self.now.typed.now) self.now.clocks.now.bit (λ q. start_turn q p) events.old events.new shadow.new) }
     {
@@ -60,7 +60,7 @@ impl Machine<'_> {
         shadow: &mut [Bit4],
         p: u32,
     ) -> Result<(), AllocError>
-        requires machine { IsMachine self.now.typed.now self.now.clocks.now self.now.wiring.now }
+        requires machine { IsMachine self.now.typed.now self.now.clocks.now self.now.wiring.now self.now.keeper }
         requires copied { IsCopied (design_of self.now.typed.now) self.now.clocks.now.bit events.old shadow.old }
         requires possible { is_open events.old (S.Evaluate p) ≡ true }
         ensures { OnOk result (HasTaken (design_of self.now.typed.now) self.now.clocks.now.bit (λ q. settle_turn (network_of (design_of self.now.typed.now) self.now.clocks.now.bit) q p) events.old events.new shadow.new) }
@@ -80,7 +80,7 @@ impl Machine<'_> {
         shadow: &mut [Bit4],
         p: u32,
     ) -> Result<(), AllocError>
-        requires machine { IsMachine self.now.typed.now self.now.clocks.now self.now.wiring.now }
+        requires machine { IsMachine self.now.typed.now self.now.clocks.now self.now.wiring.now self.now.keeper }
         requires copied { IsCopied (design_of self.now.typed.now) self.now.clocks.now.bit events.old shadow.old }
         requires settles { Settles (kind ((network_of (design_of self.now.typed.now) self.now.clocks.now.bit).process p)) }
         ensures { OnOk result (HasTaken (design_of self.now.typed.now) self.now.clocks.now.bit (λ q. settle_turn (network_of (design_of self.now.typed.now) self.now.clocks.now.bit) q p) events.old events.new shadow.new) }
@@ -102,7 +102,7 @@ impl Machine<'_> {
         shadow: &mut [Bit4],
         p: u32,
     ) -> Result<(), AllocError>
-        requires machine { IsMachine self.now.typed.now self.now.clocks.now self.now.wiring.now }
+        requires machine { IsMachine self.now.typed.now self.now.clocks.now self.now.wiring.now self.now.keeper }
         requires copied { IsCopied (design_of self.now.typed.now) self.now.clocks.now.bit events.old shadow.old }
         ensures { OnOk result (HasTaken (design_of self.now.typed.now) self.now.clocks.now.bit (λ q. take_turn q p) events.old events.new shadow.new) }
     {
@@ -113,14 +113,14 @@ impl Machine<'_> {
         Ok(())
     }
 
-    /// Whether the process is a clocked block.
-    fn is_clocked(&self, p: u32) -> bool
-        ensures { result ≡ is_clocked_kind (kind ((network_of (design_of self.now.typed.now) self.now.clocks.now.bit).process p)) }
+    /// Whether the process is a clocked block of the design, or none of its processes.
+    fn may_be_clocked(&self, p: u32) -> bool
+        ensures { result ≡ (is_clocked_kind (kind ((network_of (design_of self.now.typed.now) self.now.clocks.now.bit).process p)) || nat_le (length (design_of self.now.typed.now).processes) p) }
     {
         trees_law();
         let flat = self.typed.flat();
         if p >= flat.process_count() {
-            return false;
+            return true;
         }
         match &flat.process(p).kind {
             Kind::Assign { .. } => false,
@@ -135,11 +135,11 @@ impl Machine<'_> {
         shadow: &mut [Bit4],
         p: u32,
     ) -> Result<(), AllocError>
-        requires machine { IsMachine self.now.typed.now self.now.clocks.now self.now.wiring.now }
+        requires machine { IsMachine self.now.typed.now self.now.clocks.now self.now.wiring.now self.now.keeper }
         requires copied { IsCopied (design_of self.now.typed.now) self.now.clocks.now.bit events.old shadow.old }
         ensures { OnOk result (HasTaken (design_of self.now.typed.now) self.now.clocks.now.bit (λ q. run_turn (network_of (design_of self.now.typed.now) self.now.clocks.now.bit) q p) events.old events.new shadow.new) }
     {
-        if !self.is_clocked(p) {
+        if !self.may_be_clocked(p) {
             return Ok(());
         }
         let run = Step::Run { p };

@@ -1,20 +1,23 @@
 //! Who listens to the bits of a design (IEEE 1364-2005, 9.7.2, 9.7.5 and 11.6.1).
 
-ghost use Rattle.std.specs.Prelude.{◌≡◌, ◌<◌, ℕ, length, map, slice_get, Some, IfOk, OnOk};
+ghost use Rattle.std.specs.Prelude.{◌≡◌, ◌<◌, ℕ, [], length, map, replicate, slice_get, Some, IfOk, OnOk};
 ghost use Rattle.vs_design.specs.Designs as D;
 ghost use Rattle.vs_events.specs.Wired.{after_listen, after_listens};
 ghost use Rattle.vs_flat.specs.DesignOf.{arena_signals, design_of, event_of};
+ghost use Rattle.vs_flat.specs.Lawful.{IsLawful};
 ghost use Rattle.vs_flat.specs.Trees.{signal_at};
 ghost use Rattle.vs_reads.specs.Footprint.{footprints_of};
 ghost use Rattle.vs_queue.specs.Listens.{listeners_of, listens_from, process_listens, to_bit, to_event};
 ghost use Rattle.vs_queue.specs.Machines.{IsAcceptedBy};
+ghost use Rattle.vs_queue.specs.Spare.{has_keeper, value_count};
 ghost use Rattle.vs_queue.specs.There.{AllThere};
 
+use crate::first::{keeper_at, spare_count};
 use std::alloc::{AllocError, Global};
 use vs_base::Edge;
 use vs_clock::Clocks;
 use vs_events::{Change, Listener, Wiring};
-use vs_flat::{Event, Flat, Kind, count_bits, has_edge, trees_law};
+use vs_flat::{Event, Flat, Kind, count_bits, has_edge, lawful_law, trees_law};
 use vs_reads::{Footprints, footprint_law};
 use vs_typed::Typed;
 
@@ -98,8 +101,18 @@ fn listen(
     }
 }
 
-/// The listeners of a design by bit. The only error is that there is no memory.
-pub(crate) fn wiring_of(
+/// How many values there are: one for each bit of the design, and one for a clock that is none of them.
+fn value_count(flat: &Flat, clock: u32) -> u32
+    requires { IsLawful flat.now }
+    ensures { result ≡ value_count (design_of flat.now) clock }
+{
+    trees_law();
+    lawful_law();
+    count_bits(flat) + spare_count(flat, clock)
+}
+
+/// By bit the listeners among the processes of a design.
+fn process_wiring(
     alloc: Global,
     typed: &Typed,
     footprints: &Footprints,
@@ -107,15 +120,41 @@ pub(crate) fn wiring_of(
 ) -> Result<Wiring, AllocError>
     requires accepted { IsAcceptedBy (design_of typed.now) clocks.now }
     requires footprints { footprints.now ≡ footprints_of (design_of typed.now) }
-    ensures { IfOk result (λ w. w ≡ listeners_of (design_of typed.now)) }
+    ensures { IfOk result (λ w. w ≡ after_listens (replicate (value_count (design_of typed.now) clocks.now.bit) []) (listens_from (D.bit_count (design_of typed.now)) 0 (design_of typed.now).processes)) }
 {
     trees_law();
     vs_design::footprint_law();
     vs_design::within_law();
     let flat = typed.flat();
-    let mut wiring = Wiring::new(alloc, count_bits(flat))?;
+    let mut wiring = Wiring::new(alloc, value_count(flat, clocks.bit()))?;
     for p in 0..flat.process_count() {
         listen(typed, footprints, &mut wiring, p)?;
+    }
+    Ok(wiring)
+}
+
+/// The listeners of a design by bit, where it is told whether there is a block that keeps what initial processes alone write. The only error is that there is no memory.
+pub(crate) fn wiring_of(
+    alloc: Global,
+    typed: &Typed,
+    footprints: &Footprints,
+    clocks: &Clocks,
+    keeper: bool,
+) -> Result<Wiring, AllocError>
+    requires accepted { IsAcceptedBy (design_of typed.now) clocks.now }
+    requires footprints { footprints.now ≡ footprints_of (design_of typed.now) }
+    requires keeper { keeper ≡ has_keeper (design_of typed.now) }
+    ensures { IfOk result (λ w. w ≡ listeners_of (design_of typed.now) clocks.now.bit) }
+{
+    vs_design::footprint_law();
+    vs_design::within_law();
+    let mut wiring = process_wiring(alloc, typed, footprints, clocks)?;
+    if keeper {
+        let bit = clocks.bit();
+        let process = keeper_at(typed.flat(), bit);
+        let change = Change::Pos;
+        wiring.listen(bit, Listener { process, change })?;
+        return Ok(wiring);
     }
     Ok(wiring)
 }

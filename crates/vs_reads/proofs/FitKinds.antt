@@ -6,21 +6,24 @@ use Rattle.std.proofs.lemmas.Bool.{ltb-true}
 use Rattle.vs_design.specs.Expressions.{Signal}
 use Rattle.vs_design.specs.Statements.{Target}
 use Rattle.vs_design.specs.Designs as D
-use Rattle.vs_design.specs.Fits.{is_fit, fits_target, fits_statement, fits_process}
+use Rattle.vs_design.specs.Elaborated.{is_formed_initial}
+use Rattle.vs_design.specs.Fits.{is_fit, fits_target, fits_statement, fits_process, fits_initial}
+use Rattle.vs_design.specs.Within.{statement_within, StatementIsWithin}
 use Rattle.vs_design.specs.Laws.{BitsOfDesign}
 use Rattle.vs_flat.specs.declared.processes.Process.{Process}
+use Rattle.vs_flat.specs.declared.processes.Initial.{Initial}
 use Rattle.vs_flat.specs.declared.processes.Event.{Event}
 use Rattle.vs_flat.specs.declared.processes.Kind.{Kind}
 use Rattle.vs_flat.specs.declared.processes.Kind.TheVariants as K
 use Rattle.vs_flat.specs.Arena.{Arena}
 use Rattle.vs_flat.specs.Named.{all_below, kind_signals, kind_expressions, kind_statements, kind_names_below}
 use Rattle.vs_flat.specs.Lawful.{IsLawful}
-use Rattle.vs_flat.specs.Laws.{ProcessNames, AssignTargets, EachProcess}
+use Rattle.vs_flat.specs.Laws.{ProcessNames, InitialNames, AssignTargets, EachProcess, EachInitial}
 use Rattle.vs_flat.specs.Ports.{port_of}
 use Rattle.vs_flat.specs.declared.processes.Port.{Port}
 use Rattle.vs_flat.specs.Targets.{target_of, place_of}
 use Rattle.vs_flat.specs.Trees.{signal_at, target_tree}
-use Rattle.vs_flat.specs.DesignOf.{arena_signals, design_of, kind_of, event_of}
+use Rattle.vs_flat.specs.DesignOf.{arena_signals, design_of, kind_of, initial_of, event_of}
 use Rattle.vs_shape.specs.Nodes.{tree_of}
 use Rattle.vs_shape.specs.Bodies.{body_of}
 use Rattle.vs_reads.specs.Footprint.{footprint_in, footprints_of, footprint_at, no_footprint}
@@ -88,6 +91,25 @@ module _ (names : ProcessNames) (targets : AssignTargets) (each : EachProcess) (
         statement_there = head_below (length a.statements) statement [] n.2;
         statement_fits = fits_kind (K.Block star events statement) is;
       }
+
+-- the initial process of this number in the plain design
+pub initial_is : EachInitial → (a : Arena) (k : ℕ) (i : Initial) (x : D.Initial) → slice_get a.initials k ≡ Some i → slice_get (design_of a).initials k ≡ Some x → initial_of (body_of a) i ≡ x
+initial_is each a k i x at h = same_initial (initial_of (body_of a) i) x (sym (each a k i at) ∙ h)
+  where
+    same_initial : (y z : D.Initial) → Some y ≡ Some z → y ≡ z
+    same_initial y z e = cc
+
+-- an initial process's statement is there, fits, and names bits of the design
+module _ (names : InitialNames) (each : EachInitial) (a : Arena) (lawful : IsLawful a) (k : ℕ) (i : Initial) (at : slice_get a.initials k ≡ Some i) where
+  pub initial_there : i.statement < length a.statements
+  initial_there = ltb-true i.statement (length a.statements) (names a lawful.names k i at)
+
+  pub initial_fits : list_all fits_initial (design_of a).initials ≡ true → fits_statement (body_of a i.statement) ≡ true
+  initial_fits fit = all_at fits_initial (design_of a).initials k (initial_of (body_of a) i) fit (each a k i at)
+
+  pub initial_within : StatementIsWithin → statement_within (D.bit_count (design_of a)) (body_of a i.statement) ≡ true
+  initial_within within =
+      within (design_of a) lawful.design.bits_numbered (body_of a i.statement) (all_at (is_formed_initial (design_of a)) (design_of a).initials k (initial_of (body_of a) i) lawful.design.initials (each a k i at))
 
 edges_are : (s : ℕ → Signal) (es : List Event) → list_any D.has_edge (map (event_of s) es) ≡ list_any (λ (e : Event). D.is_edge e.edge) es
 edges_are s [] = refl

@@ -8,4 +8,4 @@ mod processes;
 
 pub use laws::footprint_law;
 pub use lists::Footprints;
-pub use processes::{fit_process, footprints};
+pub use processes::{fit_initial, fit_process, footprints};

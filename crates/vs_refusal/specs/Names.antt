@@ -5,7 +5,7 @@ use Rattle.vs_refusal.specs.declared.names.BareName.TheVariants.{Usage, TooLong,
 use Rattle.vs_refusal.specs.declared.names.AtName.{AtName}
 use Rattle.vs_refusal.specs.declared.names.AtName.TheVariants.{NoToken, OpenComment, BadLiteral, TooManyTokens, BadDirective, UnknownMacro, MacroLoop, MacroArguments, MacroLimit, LeftOut, Syntax, TooDeep, NotConstant, UnknownConstant, DuplicateModule, UnknownModule, UnknownName, DuplicateName, BadRange, PortCount, UnknownPort, InstanceDepth, TooManyInstances, GenerateTurns, WrongKind, TooManyBits, TooManyProcesses, LoopTurns, LoopVariable, FunctionRule, Recursion, TooWide, Division, MixedAssign, FunctionLatch}
 use Rattle.vs_refusal.specs.declared.names.ProcessName.{ProcessName}
-use Rattle.vs_refusal.specs.declared.names.ProcessName.TheVariants.{ClockRead, NotTheClock, TimeZero, ResetForm}
+use Rattle.vs_refusal.specs.declared.names.ProcessName.TheVariants.{InitialForm, ClockRead, NotTheClock, TimeZero, ResetForm}
 use Rattle.vs_refusal.specs.declared.names.LaneName.{LaneName}
 use Rattle.vs_refusal.specs.declared.names.LaneName.TheVariants.{BadHeader, FirstUnknown, NoVector, TooManyVectors, StimulusTooLong, NoExpectation}
 use Rattle.vs_refusal.specs.declared.names.LineName.{LineName}
@@ -98,12 +98,14 @@ at_text MixedAssign = codes "MixedAssign"
 at_text FunctionLatch = codes "FunctionLatch"
 
 abbrev pub process_number : ProcessName → ℕ
+process_number InitialForm = 57
 process_number ClockRead = 62
 process_number NotTheClock = 63
 process_number TimeZero = 65
 process_number ResetForm = 66
 
 abbrev pub process_text : ProcessName → List ℕ
+process_text InitialForm = codes "InitialForm"
 process_text ClockRead = codes "ClockRead"
 process_text NotTheClock = codes "NotTheClock"
 process_text TimeZero = codes "TimeZero"

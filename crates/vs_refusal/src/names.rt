@@ -93,6 +93,8 @@ pub enum AtName {
 /// Refusals that carry a process and its place.
 #[derive(Clone, Copy, PartialEq, Eq, Debug)]
 pub enum ProcessName {
+    /// An initial process reads a signal, calls a function, or has a target whose index isn't constant (9.9.1).
+    InitialForm,
     /// The process reads or waits on a clock net.
     ClockRead,
     /// A clocked block's events aren't one `posedge` of a clock net, or that and one edge of a reset net (9.7.2).
@@ -251,6 +253,7 @@ impl ProcessName {
         ensures { result ≡ process_number self }
     {
         match self {
+            ProcessName::InitialForm => 57,
             ProcessName::ClockRead => 62,
             ProcessName::NotTheClock => 63,
             ProcessName::TimeZero => 65,
@@ -263,6 +266,7 @@ impl ProcessName {
         ensures { result.now ≡ process_text self }
     {
         match self {
+            ProcessName::InitialForm => "InitialForm",
             ProcessName::ClockRead => "ClockRead",
             ProcessName::NotTheClock => "NotTheClock",
             ProcessName::TimeZero => "TimeZero",

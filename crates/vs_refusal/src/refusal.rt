@@ -7,8 +7,9 @@ ghost use Rattle.vs_refusal.specs.Behind.{behind};
 use crate::names::{AtName, BareName, LaneName, LineName, ProcessName};
 use crate::processes::Processes;
 
-/// Why a run was refused. Places are in bytes of the design; processes, signals and bits are the
-/// numbers of the elaborated design; lanes count from 0 and lines from 1.
+/// Why a run was refused. Places are in bytes of the design; processes count in the order of the
+/// text, initial ones among them; signals and bits are the numbers of the elaborated design; lanes
+/// count from 0 and lines from 1.
 #[derive(Debug, Drop)]
 pub enum Refusal {
     /// A refusal that carries nothing.
@@ -36,7 +37,7 @@ pub enum Refusal {
         signal: u32,
         at: u32,
     },
-    /// Two processes write the bit, or an assign's target has it twice.
+    /// Two processes write the bit, initial ones among them, or an assign's target has it twice.
     TwoDrivers {
         bit: u32,
         first: u32,

@@ -23,9 +23,11 @@ use Rattle.vs_design.specs.LiftedBodies.{lifted_body}
 use Rattle.vs_design.specs.Sleepers.{is_still, at_once, stays_x, is_sleeping, sleeper_if, sleeper_of}
 use Rattle.vs_design.specs.Sizes.{distinct, process_weight, statement_weight, sleeper_weight, size}
 use Rattle.vs_design.specs.Cycles.{AreApart}
-use Rattle.vs_design.specs.Networks.{process_of, block_process, writer_of, spare_writers, at_or_input, network_of}
+use Rattle.vs_design.specs.Initials.{sole_bits}
+use Rattle.vs_design.specs.Networks.{process_of, block_process, writer_of, spare_writers, keeper_of, at_or_input, network_of}
 use Rattle.vs_design.specs.Accepted.{IsAcceptedDesign}
 use Rattle.vs_design.specs.Laws.{AcceptedIsLawful, BitsOfDesign}
+use Rattle.vs_design.proofs.Starts.{same_order}
 use Rattle.vs_cone.specs.Lists.{HasEachOnce, FewAreApart}
 use Rattle.vs_plane.specs.Kernels.{IsArgument}
 use Rattle.vs_kern_logic.specs.declared.costs.Kernel.TheVariants.{CaseNotEqual}
@@ -527,7 +529,7 @@ some_is x y e = cc
 process_number : (d : Design) (clock p : ℕ) (x : Process) → slice_get d.processes p ≡ Some x → (network_of d clock).process p ≡ process_of d clock x
 process_number d clock p x e = go d.processes p e
   where
-    go : (ps : List Process) (p : ℕ) → slice_get ps p ≡ Some x → at_or_input (map (process_of d clock) ps ++ (map (writer_of clock) (top_inputs d) ++ spare_writers d clock)) p ≡ process_of d clock x
+    go : (ps : List Process) (p : ℕ) → slice_get ps p ≡ Some x → at_or_input (map (process_of d clock) ps ++ (map (writer_of clock) (top_inputs d) ++ (spare_writers d clock ++ keeper_of clock (sole_bits d)))) p ≡ process_of d clock x
     go [] p e = cc
     go (y ∷ ps) zero e = ap (process_of d clock) (some_is y x e)
     go (y ∷ ps) (suc p) e = go ps p e
@@ -596,7 +598,7 @@ module _ (fewer : FewAreApart) (lawful : AcceptedIsLawful) (footprint : BitsOfDe
   room_is =
       let fits = masks d l layout p x e h in
       let temps = layout.layout.temps_above in
-      let L = lawful d name a in
+      let L = lawful d name a d.initials (same_order d.initials) in
       let is = L.sleepers p (record { on = waits_of x; bits = writes_of x }) (ap (sleeper_of d) e ∙ ap (λ (c : Bool). sleeper_if c x) h) in
       let weight = one_of_all process_weight d.processes p x e in
       let more = one_of_all (sleeper_weight d) d.processes p x e in
@@ -632,7 +634,7 @@ module _ (fewer : FewAreApart) (lawful : AcceptedIsLawful) (footprint : BitsOfDe
       -- it writes each of its bits, and no other
       exactly : (b : ℕ) (t : N.State) → is_written (made ((network_of d a.clock.first).process p) t) b ≡ writes ((network_of d a.clock.first).process p) b
       exactly b t =
-          let L = lawful d name a in
+          let L = lawful d name a d.initials (same_order d.initials) in
           let is = L.sleepers p (record { on = waits_of x; bits = writes_of x }) (ap (sleeper_of d) e ∙ ap (λ (c : Bool). sleeper_if c x) h) in
           by_test (writes ((network_of d a.clock.first).process p) b)
           (λ w. is.exact b t w ∙ sym w)

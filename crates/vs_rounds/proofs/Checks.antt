@@ -4,7 +4,7 @@ use Rattle.std.specs.List.{count_by, list_all}
 use Rattle.vs_desk.specs.Desk.{Contents}
 use Rattle.vs_net.specs.Network.{State}
 use Rattle.vs_net.specs.Queue.{Fall, Rise}
-use Rattle.vs_net.specs.Solution.{IsSlotEnd}
+use Rattle.vs_net.specs.Solution.{beginning, IsSlotEnd}
 use Rattle.vs_design.specs.Designs.{Design}
 use Rattle.vs_program.specs.declared.compiled.Span.{Span}
 use Rattle.vs_program.specs.Program.{Program, spans}
@@ -23,7 +23,6 @@ use Rattle.vs_rounds.specs.Ready.{AreDriven}
 use Rattle.vs_rounds.specs.Checked.{Checking, IsCheckable, AreCheckParts, IsFound, IsFoundAt, AreFoundBefore, AreFoundIn, AreWatched}
 use Rattle.vs_rounds.specs.Stops.{ReadStops}
 use Rattle.vs_rounds.specs.Verdicts.{AreChecked, IsCheckStop}
-use Rattle.vs_rounds.proofs.Beginning.{begins_idle}
 use Rattle.vs_rounds.proofs.Readings.{read_on}
 use Rattle.vs_rounds.proofs.Rereads.{either}
 use Rattle.vs_rounds.proofs.Settled.{none_live, not_live, length-map}
@@ -87,8 +86,8 @@ watched_next lane run m c h = record {
   taken = record { each = λ i lt dead. absurd (alive (lane_at m.stimuli i).live (h.live i lt) dead) };
 }
 
-nothing_yet : (run : Run) (i : ℕ) (found : Option Found) (now : State) → found ≡ None → now ≡ (network run).idle → IsFoundAt run i 0 found now
-nothing_yet run i found now none idle = record { given = record { ends = []; solution = tt; found_is = none }; now_is = λ _. idle ∙ sym (begins_idle run.design run.clock) }
+nothing_yet : (run : Run) (i : ℕ) (found : Option Found) (now : State) → found ≡ None → now ≡ beginning (network run) → IsFoundAt run i 0 found now
+nothing_yet run i found now none begins = record { given = record { ends = []; solution = tt; found_is = none }; now_is = λ _. begins }
 
 pub watched_begun : {W : Type 0} (lane : W → ℕ → Bool) (run : Run) (m new : Checking W) (before after : Contents) → AreWatched lane run m before
     → length new.stimuli ≡ length m.stimuli → new.misses ≡ m.misses → new.engine ≡ m.engine → HaveVectors run 0 new.stimuli after → AreFoundIn lane run 0 new after
@@ -99,7 +98,7 @@ watched_begun lane run m new before after h long misses engine read = record {
   found = record {
     each = λ i lt.
         let within : i < length m.stimuli = omega (arith, long) in
-        nothing_yet run i (found_at new.misses.found i) (state lane new.engine i) (ap (λ (w : Watch). found_at w.found i) misses ∙ h.none i within) (ap (λ (e : Running _). state lane e i) engine ∙ h.idle i within);
+        nothing_yet run i (found_at new.misses.found i) (state lane new.engine i) (ap (λ (w : Watch). found_at w.found i) misses ∙ h.none i within) (ap (λ (e : Running _). state lane e i) engine ∙ h.begins i within);
   };
 }
 

@@ -23,7 +23,8 @@ use Rattle.vs_design.specs.Footprints.{contains, without, signals_bits, is_input
 use Rattle.vs_design.specs.Elaborated.{have_bits_from}
 use Rattle.vs_design.specs.Resets.{reset_inputs}
 use Rattle.vs_design.specs.Accepted.{IsAcceptedDesign}
-use Rattle.vs_design.specs.Networks.{process_of, block_process, writer_of, spare_writers, at_or_input, network_of}
+use Rattle.vs_design.specs.Initials.{sole_bits}
+use Rattle.vs_design.specs.Networks.{process_of, block_process, writer_of, spare_writers, keeper_of, at_or_input, network_of}
 use Rattle.vs_cone.specs.Given.{data_bits}
 use Rattle.vs_stim.specs.declared.input.Input.{Input}
 use Rattle.vs_stim.specs.Header.{lengths}
@@ -275,15 +276,20 @@ at_signal clock spare s ss p b false is k w rest =
     subst (λ (i : Bool). contains (signals_bits (if i && not (s.first == clock) then s ∷ those else those)) b ≡ true) (sym is)
     (rest p (subst (λ (i : Bool). kind (at i) ≡ AnInput) is k) (subst (λ (i : Bool). writes (at i) b ≡ true) is w))
 
-at_inputs : (d : Design) (clock : ℕ) (ss : List Signal) (p b : ℕ) → let process = at_or_input (map (writer_of clock) (filter (λ s. s.input) ss) ++ spare_writers d clock) p in kind process ≡ AnInput → writes process b ≡ true
+no_keeper : (clock : ℕ) (ks : List ℕ) (p : ℕ) → kind (at_or_input (keeper_of clock ks) p) ≡ AnInput → (b : ℕ) → writes (at_or_input (keeper_of clock ks) p) b ≡ true → ⊥
+no_keeper clock [] p k b w = cc
+no_keeper clock (c ∷ ks) zero k b w = cc
+no_keeper clock (c ∷ ks) (suc p) k b w = cc
+
+at_inputs : (d : Design) (clock : ℕ) (ss : List Signal) (p b : ℕ) → let process = at_or_input (map (writer_of clock) (filter (λ s. s.input) ss) ++ (spare_writers d clock ++ keeper_of clock (sole_bits d))) p in kind process ≡ AnInput → writes process b ≡ true
     → contains (signals_bits (filter (is_data_input clock) ss)) b ≡ true
 at_inputs d clock [] p b k w = absurd (no_spare (nat_lt clock (bit_count d)) p k w)
   where
-    no_spare : (c : Bool) (p : ℕ) → let process = at_or_input (if c then [] else (N.Clock clock ∷ [])) p in kind process ≡ AnInput → writes process b ≡ true → ⊥
-    no_spare true p k w = cc
+    no_spare : (c : Bool) (p : ℕ) → let process = at_or_input ((if c then [] else (N.Clock clock ∷ [])) ++ keeper_of clock (sole_bits d)) p in kind process ≡ AnInput → writes process b ≡ true → ⊥
+    no_spare true p k w = no_keeper clock (sole_bits d) p k b w
     no_spare false zero k w = cc
-    no_spare false (suc p) k w = cc
-at_inputs d clock (s ∷ ss) p b k w = at_signal clock (spare_writers d clock) s ss p b s.input refl k w (λ q. at_inputs d clock ss q b)
+    no_spare false (suc p) k w = no_keeper clock (sole_bits d) p k b w
+at_inputs d clock (s ∷ ss) p b k w = at_signal clock (spare_writers d clock ++ keeper_of clock (sole_bits d)) s ss p b s.input refl k w (λ q. at_inputs d clock ss q b)
 
 at_process : (d : Design) (clock : ℕ) (ps : List Process) (others : List N.Process) (p b : ℕ) (P : Type 0) → let process = at_or_input (map (process_of d clock) ps ++ others) p in kind process ≡ AnInput → writes process b ≡ true
     → ((q : ℕ) → kind (at_or_input others q) ≡ AnInput → writes (at_or_input others q) b ≡ true → P) → P
@@ -295,7 +301,7 @@ at_process d clock (x ∷ ps) others (suc p) b P k w rest = at_process d clock p
 pub input_bits_are : (d : Design) (name : Option (List ℕ)) (a : IsAcceptedDesign d name) (p b : ℕ) → let process = (network_of d a.clock.first).process p in kind process ≡ AnInput → writes process b ≡ true → contains (data_bits d a.clock.first) b ≡ true
 input_bits_are d name a p b k w =
     subst (λ (bs : List ℕ). contains bs b ≡ true) (sym (data_bits_are d name a))
-    (at_process d a.clock.first d.processes (map (writer_of a.clock.first) (top_inputs d) ++ spare_writers d a.clock.first) p b (contains (signals_bits (filter (is_data_input a.clock.first) d.signals)) b ≡ true) k w (λ q. at_inputs d a.clock.first d.signals q b))
+    (at_process d a.clock.first d.processes (map (writer_of a.clock.first) (top_inputs d) ++ (spare_writers d a.clock.first ++ keeper_of a.clock.first (sole_bits d))) p b (contains (signals_bits (filter (is_data_input a.clock.first) d.signals)) b ≡ true) k w (λ q. at_inputs d a.clock.first d.signals q b))
 
 -- a known vector of the inputs' lengths is known in every input
 pub vector_is_known : (d : Design) (name : Option (List ℕ)) (a : IsAcceptedDesign d name) (inputs : List Input) (v : Vector) → AreDataInputs d a.clock.first inputs → sizes v ≡ lengths inputs → vector_known v ≡ true

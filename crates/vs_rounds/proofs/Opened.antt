@@ -2,6 +2,7 @@
 use Rattle.std.proofs.Common.{◌≡◌, ◌≤◌, ◌<◌, ◌∙◌, ℕ, Bool, true, false, not, List, [], length, sym, ap, subst, arith}
 use Rattle.vs_desk.specs.Desk.{Contents}
 use Rattle.vs_net.specs.Network.{State}
+use Rattle.vs_net.specs.Solution.{beginning}
 use Rattle.vs_engine.specs.Lanes.{Running, state}
 use Rattle.vs_design.specs.Designs.{Design}
 use Rattle.vs_program.specs.Compiled.{IsProgramOf}
@@ -13,7 +14,6 @@ use Rattle.vs_waves.specs.Wave.{Wave, IsNewWave}
 use Rattle.vs_waves.specs.Puts.{wave_place}
 use Rattle.vs_rounds.specs.Lanes.{Run, reading_of, network, Simulation, wave_at, closed, IsRead, IsUnread, IsWaveAt, HaveNext, HaveVectors, AreOpened, AreBegun}
 use Rattle.vs_rounds.specs.Ready.{AreParts, IsReady}
-use Rattle.vs_rounds.proofs.Beginning.{begins_idle}
 use Rattle.vs_rounds.proofs.Settled.{in_time, new_lengths}
 use Rattle.vs_rounds.proofs.Waves.{not_ended}
 use Rattle.vs_rounds.proofs.Rounded.{remaining_left, given_left, still_taken}
@@ -28,8 +28,8 @@ alive b is_true is_false = cc
 pub opened_next : {W : Type 0} (lane : W → ℕ → Bool) (run : Run) (m : Simulation W) (c : Contents) → AreOpened lane run m c → HaveNext run 0 m.stimuli c
 opened_next lane run m c h = record { each = λ i lt. unread (reading_of run i) (lane_at m.stimuli i).live (remaining (lane_at m.stimuli i) c) (h.live i lt) (h.reading i lt); read = λ i lt _. h.read i lt; taken = record { each = λ i lt dead. absurd (alive (lane_at m.stimuli i).live (h.live i lt) dead) } }
 
-new_wave : (run : Run) (r : Reading) (w : Wave) (now : State) (text : List ℕ) → IsNewWave run.share run.design run.half w → now ≡ (network run).idle → text ≡ [] → IsWaveAt run r 0 w now text
-new_wave run r w now text h idle empty = record {
+new_wave : (run : Run) (r : Reading) (w : Wave) (now : State) (text : List ℕ) → IsNewWave run.share run.design run.half w → now ≡ beginning (network run) → text ≡ [] → IsWaveAt run r 0 w now text
+new_wave run r w now text h begins empty = record {
   given = record { ends = []; solution = tt; text_is = empty };
   head_is = h.head_is;
   numbers_are = h.numbers_are;
@@ -37,7 +37,7 @@ new_wave run r w now text h idle empty = record {
   half_is = h.half_is;
   handed_out = h.left_is;
   is_open = h.opened ∙ sym (ap not (not_ended r 0 (omega arith)));
-  now_is = λ _. idle ∙ sym (begins_idle run.design run.clock);
+  now_is = λ _. begins;
   last_is = λ some _. absurd (omega arith);
 }
 
@@ -56,7 +56,7 @@ opened_begun lane run m new before after h long waves engine read = record {
           let within : i < length m.stimuli = omega (arith, long) in
           new_wave run (reading_of run i) (wave_at new.waves i) (state lane new.engine i) (c.put (wave_place i))
           (subst (λ (ws : List Wave). IsNewWave run.share run.design run.half (wave_at ws i)) (sym waves) (h.waves i within))
-          (ap (λ (e : Running _). state lane e i) engine ∙ h.idle i within)
+          (ap (λ (e : Running _). state lane e i) engine ∙ h.begins i within)
           (empty i lt);
     };
   };

@@ -21,7 +21,8 @@ use Rattle.vs_design.specs.Elaborated.{have_bits_from}
 use Rattle.vs_design.specs.Clocks.{Events, ByClock, ByBoth, clock_nets, root_of, may_reset, first_of, one_bit_inputs}
 use Rattle.vs_design.specs.Resets.{reset_branch, reset_with, reset_by, reset_of, has_root, reset_inputs}
 use Rattle.vs_design.specs.Accepted.{IsAcceptedDesign}
-use Rattle.vs_design.specs.Networks.{events_in, block_process, process_of, writer_of, spare_writers, at_or_input, network_of}
+use Rattle.vs_design.specs.Initials.{sole_bits}
+use Rattle.vs_design.specs.Networks.{events_in, block_process, process_of, writer_of, spare_writers, keeper_of, at_or_input, network_of}
 use Rattle.vs_cone.specs.Given.{data_bits}
 use Rattle.vs_stim.specs.declared.input.Input.{Input}
 use Rattle.vs_stim.specs.Header.{lengths}
@@ -83,13 +84,18 @@ block_root d clock true place star events s ps r h =
     (ap (λ (e : Bool). e || list_any (λ p. has_root r.input (reset_of d clock p)) ps) own, found_in (λ i. contains (clock_nets d i) root.0) (one_bit_inputs d clock) r.input root.1)
 block_root d clock false place star events s ps r h = absurd (cc)
 
-no_writer : (d : Design) (clock : ℕ) (ss : List Signal) (p : ℕ) (r : Reset) → N.reset_of (at_or_input (map (writer_of clock) ss ++ spare_writers d clock) p) ≡ Some r → ⊥
+no_keeper : (clock : ℕ) (bs : List ℕ) (p : ℕ) (r : Reset) → N.reset_of (at_or_input (keeper_of clock bs) p) ≡ Some r → ⊥
+no_keeper clock [] p r h = cc
+no_keeper clock (b ∷ bs) zero r h = cc
+no_keeper clock (b ∷ bs) (suc p) r h = cc
+
+no_writer : (d : Design) (clock : ℕ) (ss : List Signal) (p : ℕ) (r : Reset) → N.reset_of (at_or_input (map (writer_of clock) ss ++ (spare_writers d clock ++ keeper_of clock (sole_bits d))) p) ≡ Some r → ⊥
 no_writer d clock [] p r h = no_spare (nat_lt clock (bit_count d)) p h
   where
-    no_spare : (c : Bool) (p : ℕ) → N.reset_of (at_or_input (if c then [] else (N.Clock clock ∷ [])) p) ≡ Some r → ⊥
-    no_spare true p h = cc
+    no_spare : (c : Bool) (p : ℕ) → N.reset_of (at_or_input ((if c then [] else (N.Clock clock ∷ [])) ++ keeper_of clock (sole_bits d)) p) ≡ Some r → ⊥
+    no_spare true p h = no_keeper clock (sole_bits d) p r h
     no_spare false zero h = cc
-    no_spare false (suc p) h = cc
+    no_spare false (suc p) h = no_keeper clock (sole_bits d) p r h
 no_writer d clock (s ∷ ss) zero r h = by_clock (s.first == clock) h
   where
     by_clock : (b : Bool) → N.reset_of (if b then N.Clock clock else N.Input (bits_of_signal s)) ≡ Some r → ⊥
@@ -97,7 +103,7 @@ no_writer d clock (s ∷ ss) zero r h = by_clock (s.first == clock) h
     by_clock false h = cc
 no_writer d clock (s ∷ ss) (suc p) r h = no_writer d clock ss p r h
 
-root_among : (d : Design) (clock : ℕ) (ps : List Process) (ss : List Signal) (p : ℕ) (r : Reset) → N.reset_of (at_or_input (map (process_of d clock) ps ++ (map (writer_of clock) ss ++ spare_writers d clock)) p) ≡ Some r → IsRoot d clock ps r.input
+root_among : (d : Design) (clock : ℕ) (ps : List Process) (ss : List Signal) (p : ℕ) (r : Reset) → N.reset_of (at_or_input (map (process_of d clock) ps ++ (map (writer_of clock) ss ++ (spare_writers d clock ++ keeper_of clock (sole_bits d)))) p) ≡ Some r → IsRoot d clock ps r.input
 root_among d clock [] ss p r h = absurd (no_writer d clock ss p r h)
 root_among d clock (Continuous place port target_place target e ∷ ps) ss zero r h = absurd (cc)
 root_among d clock (Always place star events s ∷ ps) ss zero r h = block_root d clock (is_clocked (Always place star events s)) place star events s ps r h

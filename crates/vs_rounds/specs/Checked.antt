@@ -75,7 +75,7 @@ pub record AreFoundIn {W : Type 0} (lane : W → ℕ → Bool) (run : Run) (k : 
   pub read : HaveVectors run k m.stimuli c
   pub found : AreFoundAt lane run k m
 
--- The stimuli were opened, the outputs of the design are watched and nothing was found, and the engine is idle in every lane.
+-- The stimuli were opened, the outputs of the design are watched and nothing was found, and the engine has in every lane the values before slot 0.
 pub record AreWatched {W : Type 0} (lane : W → ℕ → Bool) (run : Run) (m : Checking W) (c : Contents) : Type 0 where
   pub program : IsProgramOf run.design run.clock m.engine.program
   pub outputs : m.misses.outputs ≡ output_spans run.design run.ports.outputs
@@ -83,4 +83,4 @@ pub record AreWatched {W : Type 0} (lane : W → ℕ → Bool) (run : Run) (m : 
   pub reading : (i : ℕ) → i < length m.stimuli → reading_of run i ≡ remaining (lane_at m.stimuli i) c
   pub read : (i : ℕ) → i < length m.stimuli → HasGiven run i 0 (lane_at m.stimuli i) c
   pub none : (i : ℕ) → i < length m.stimuli → found_at m.misses.found i ≡ None
-  pub idle : (i : ℕ) → i < length m.stimuli → state lane m.engine i ≡ (network run).idle
+  pub begins : (i : ℕ) → i < length m.stimuli → state lane m.engine i ≡ beginning (network run)

@@ -121,14 +121,14 @@ pub record AreInRound {W : Type 0} (lane : W → ℕ → Bool) (run : Run) (k : 
   pub read : HaveVectors run k m.stimuli c
   pub waves : AreWavesAt lane run k m c
 
--- The stimuli were opened, the waves are new, and the engine is idle in every lane.
+-- The stimuli were opened, the waves are new, and the engine has in every lane the values before slot 0.
 pub record AreOpened {W : Type 0} (lane : W → ℕ → Bool) (run : Run) (m : Simulation W) (c : Contents) : Type 0 where
   pub program : IsProgramOf run.design run.clock m.engine.program
   pub live : (i : ℕ) → i < length m.stimuli → (lane_at m.stimuli i).live ≡ true
   pub reading : (i : ℕ) → i < length m.stimuli → reading_of run i ≡ remaining (lane_at m.stimuli i) c
   pub read : (i : ℕ) → i < length m.stimuli → HasGiven run i 0 (lane_at m.stimuli i) c
   pub waves : (i : ℕ) → i < length m.stimuli → IsNewWave run.share run.design run.half (wave_at m.waves i)
-  pub idle : (i : ℕ) → i < length m.stimuli → state lane m.engine i ≡ (network run).idle
+  pub begins : (i : ℕ) → i < length m.stimuli → state lane m.engine i ≡ beginning (network run)
 
 -- Once nothing more was taken, and nothing was put at the places of the waves, all lanes stand in round 0.
 pub record AreBegun {W : Type 0} (lane : W → ℕ → Bool) (run : Run) (m : Simulation W) (c : Contents) : Type 0 where

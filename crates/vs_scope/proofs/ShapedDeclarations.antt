@@ -2,7 +2,7 @@
 use Rattle.std.proofs.Common.{◌≡◌, Bool, true, false, List, [], ◌∷◌, ◌++◌, map, flat_map, Option, Some, None, refl}
 use Rattle.vs_grammar.specs.Trees as tree
 use Rattle.vs_grammar.specs.Trees.{items_list}
-use Rattle.vs_grammar.specs.Shapes.{IsRange, IsValueType, Given, Each, OneOrMore, IsVariable, IsNet, IsPort, AreNames, AreSignals, IsSetting, AreParameters, ArePorts, AreHeaderParameters, IsGenerateItem, IsItem, AreItems, IsHeader, IsModule}
+use Rattle.vs_grammar.specs.Shapes.{IsRange, IsValueType, Given, Each, OneOrMore, IsStored, IsPort, IsVariablePort, AreNames, AreSignals, IsSetting, AreParameters, ArePorts, AreHeaderParameters, IsGenerateItem, IsItem, AreItems, IsHeader, IsModule}
 use Rattle.vs_elaborated.specs.Declarations.{Declaration, signals_declared, parameters_declared, item_declared, header_declared, module_declared}
 use Rattle.vs_scope.specs.Shaped.{AreShaped}
 use Rattle.vs_scope.proofs.Collected.{signal_declared, parameter_declared, genvar_declared, integer_declared, instance_declared}
@@ -31,13 +31,13 @@ port_addressed : (d : tree.Declarator) → IsPort d → IsAddressed d
 port_addressed d h = no_addresses d.addresses h.1
 
 names_addressed : (k : tree.SignalKind) (ds : List tree.Declarator) → AreNames k ds → Each IsAddressed ds
-names_addressed tree.Reg ds h = all_of IsVariable (λ d k. k.1) ds h
-names_addressed tree.Wire ds h = all_of IsNet (λ d k. k.1) ds h
+names_addressed tree.Reg ds h = all_of IsStored (λ d k. k.1) ds h
+names_addressed tree.Wire ds h = all_of IsStored (λ d k. k.1) ds h
 names_addressed tree.Input ds h = all_of IsPort port_addressed ds h
 names_addressed tree.InputWire ds h = all_of IsPort port_addressed ds h
 names_addressed tree.Output ds h = all_of IsPort port_addressed ds h
 names_addressed tree.OutputWire ds h = all_of IsPort port_addressed ds h
-names_addressed tree.OutputReg ds h = all_of IsPort port_addressed ds h
+names_addressed tree.OutputReg ds h = all_of IsVariablePort (λ d k. no_addresses d.addresses k.1) ds h
 
 names_shaped : (header : Bool) (t : tree.Signals) (ds : List tree.Declarator) → Given IsRange t.range → Each IsAddressed ds → AreShaped (map (signal_declared header t) ds)
 names_shaped header t [] h k = tt
@@ -74,6 +74,7 @@ item_shaped (tree.SignalsItem t) h = signals_shaped false t h
 item_shaped (tree.ParametersItem t) h = parameters_shaped t h
 item_shaped (tree.AssignsItem place assigns) h = tt
 item_shaped (tree.AlwaysItem block) h = tt
+item_shaped (tree.InitialItem block) h = tt
 item_shaped (tree.GenvarsItem place names) h = genvars_shaped names
 item_shaped (tree.IntegersItem place names) h = integers_shaped names
 item_shaped (tree.FunctionItem f) h = ((h, refl), tt)
@@ -114,6 +115,7 @@ generate_item (tree.SignalsItem t) h = h.0
 generate_item (tree.ParametersItem t) h = h.0
 generate_item (tree.AssignsItem place assigns) h = h
 generate_item (tree.AlwaysItem block) h = h
+generate_item (tree.InitialItem block) h = h
 generate_item (tree.GenvarsItem place names) h = h
 generate_item (tree.IntegersItem place names) h = h
 generate_item (tree.FunctionItem f) h = absurd h

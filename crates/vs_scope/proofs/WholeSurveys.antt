@@ -150,6 +150,7 @@ constructs_shaped (i ∷ is) env n total h =
     one (tree.ParametersItem t) h = tt
     one (tree.AssignsItem place assigns) h = tt
     one (tree.AlwaysItem block) h = tt
+    one (tree.InitialItem block) h = tt
     one (tree.GenvarsItem place names) h = tt
     one (tree.IntegersItem place names) h = tt
     one (tree.FunctionItem f) h = tt

@@ -19,6 +19,11 @@ abbrev pub contents_items : Contents → List tree.Item
 contents_items (Module m) = items_list (view.items m.now.items.items)
 contents_items (Block b) = block_items b
 
+-- its header, if it has one
+abbrev pub contents_header : Contents → tree.Header
+contents_header (Module m) = (view.module_tree m.now).header
+contents_header (Block b) = tree.NoPorts
+
 -- its declarations
 abbrev pub contents_declared : Contents → List Declaration
 contents_declared (Module m) = module_declared (view.module_tree m.now)

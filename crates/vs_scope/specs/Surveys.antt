@@ -14,7 +14,7 @@ use Rattle.vs_elaborated.specs.Generate.{BlockName, Made}
 use Rattle.vs_elaborated.specs.Constructs.{constructs}
 use Rattle.vs_elaborated.specs.Pieces.{Contents as ContentsOf, OfModule, OfBlock, Task, Said}
 use Rattle.vs_design.specs.Statements.{Function}
-use Rattle.vs_elaborated.specs.Surveys.{Loops, loops_behind, items_said, block_faults, block_entries, Totals, bits_over, piece_processes, processes_over, turns_after, items_of, declarations_of, overrides_of, header_of, counts_of, Survey, survey}
+use Rattle.vs_elaborated.specs.Surveys.{Loops, loops_behind, contents_said, block_faults, block_entries, Totals, bits_over, piece_processes, processes_over, turns_after, items_of, declarations_of, overrides_of, header_of, counts_of, Survey, survey}
 use Rattle.vs_scope.specs.declared.contents.Contents.{Contents}
 use Rattle.vs_scope.specs.declared.contents.Contents.TheVariants.{Module, Block}
 use Rattle.vs_scope.specs.declared.frames.Frame.{Frame}
@@ -105,10 +105,10 @@ scope_env t totals = within t.env (entries_in t.env t.contents (start_at t total
 abbrev pub loops_in : Task → Totals → Loops
 loops_in t totals = record totals.loops { copies = (counts_behind t.env t.contents (start_at t totals) (counts_of totals)).copies }
 
--- what its items say
+-- what its header and its items say
 abbrev pub said_in : tree.Source → Task → Totals → Said
 said_in source t totals =
-    items_said the_limits source (record { scope = totals.scopes; depth = t.depth; env = scope_env t totals }) (loops_in t totals) (items_of t.contents) (made_in t.env t.contents (start_at t totals) (counts_of totals) totals.turns)
+    contents_said the_limits source (record { scope = totals.scopes; depth = t.depth; env = scope_env t totals }) (loops_in t totals) t.contents (made_in t.env t.contents (start_at t totals) (counts_of totals) totals.turns)
 
 -- the faults of the items themselves
 abbrev pub items_faults : tree.Source → Task → Totals → List Fault

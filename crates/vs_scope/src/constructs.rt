@@ -47,6 +47,7 @@ fn item_place(item: &Item) -> u32
         Item::Signals(s) => s.place,
         Item::Parameters(p) => p.place,
         Item::Always(b) => b.place,
+        Item::Initial(b) => b.place,
         Item::Instances(i) => i.of.place,
         Item::Function(f) => f.place,
         Item::GenerateFor { head, .. } => head.place,

@@ -43,5 +43,5 @@ pub use names::{
 };
 pub use parameters::Override;
 pub use places::{Around, View};
-pub use signals::Start;
+pub use signals::{Start, is_reg};
 pub use whole::{Surveyed, survey};

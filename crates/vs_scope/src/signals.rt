@@ -41,7 +41,7 @@ pub(crate) struct SaidSignal<'a> {
 }
 
 /// Whether it declares a variable.
-pub(crate) fn is_reg(kind: SignalKind) -> bool
+pub fn is_reg(kind: SignalKind) -> bool
     ensures { result ≡ spec.is_reg (view.signal_kind kind) }
 {
     match kind {

@@ -18,9 +18,10 @@ use Rattle.vs_flat.specs.Laws.{EachProcess}
 use Rattle.vs_flat.specs.DesignOf.{kind_of, arena_signals, design_of}
 use Rattle.vs_sets.specs.Nodes.{tree_of}
 use Rattle.vs_sets.specs.StatementParts.{statement_of}
+use Rattle.vs_design.specs.Initials.{initial_bits}
 use Rattle.vs_design.specs.Sleepers.{most_writes, process_most, comb_bits, is_once, is_still, stays_x, is_sleeping}
 use Rattle.vs_flat.specs.Trees.{signal_at, no_signal}
-use Rattle.vs_sets.specs.Flags.{flag_at, AreFlags, variables_before, still_before}
+use Rattle.vs_sets.specs.Flags.{flag_at, AreFlags, variables_before, still_before, still_behind}
 use Rattle.vs_sets.specs.Twice.{Adds, is_twice}
 use Rattle.vs_sets.proofs.BranchSteps.{contains_more, or_false, or_true}
 use Rattle.vs_sets.proofs.Families.{same_or_other}
@@ -72,16 +73,16 @@ signal_below s total bits is h = all_below bits total (λ b k. let e = count_mem
 
 -- ---- variables
 
+or_assoc : (p q r : Bool) → (p || (q || r)) ≡ ((p || q) || r)
+or_assoc true q r = refl
+or_assoc false q r = refl
+
 more_bits : (xs : List Signal) (s : Signal) (b : ℕ) → contains (signals_bits (filter is_variable (xs ++ s ∷ []))) b ≡ (contains (signals_bits (filter is_variable xs)) b || (is_variable s && contains (bits_of_signal s) b))
 more_bits [] s b = at (is_variable s) where
   at : (k : Bool) → contains (signals_bits (if k then s ∷ [] else [])) b ≡ (false || (k && contains (bits_of_signal s) b))
   at true = list_any-append (λ c. b == c) (bits_of_signal s) [] ∙ or_false (contains (bits_of_signal s) b)
   at false = refl
 more_bits (x ∷ xs) s b = at (is_variable x) (more_bits xs s b) where
-  or_assoc : (p q r : Bool) → (p || (q || r)) ≡ ((p || q) || r)
-  or_assoc true q r = refl
-  or_assoc false q r = refl
-
   at : (k : Bool) → contains (signals_bits (filter is_variable (xs ++ s ∷ []))) b ≡ (contains (signals_bits (filter is_variable xs)) b || (is_variable s && contains (bits_of_signal s) b))
       → contains (signals_bits (if k then x ∷ filter is_variable (xs ++ s ∷ []) else filter is_variable (xs ++ s ∷ []))) b
       ≡ (contains (signals_bits (if k then x ∷ filter is_variable xs else filter is_variable xs)) b || (is_variable s && contains (bits_of_signal s) b))
@@ -115,8 +116,8 @@ and_true : (a : Bool) → (a && true) ≡ a
 and_true true = refl
 and_true false = refl
 
-next_process : (ps : List D.Process) (p : ℕ) (x : D.Process) → slice_get ps p ≡ Some x → take (p + 1) ps ≡ take p ps ++ x ∷ []
-next_process ps p x h = take_more ps p x (slice_get_within ps p x h) ∙ ap (λ y. take p ps ++ y ∷ []) (get_or_from_slice_get ps p x x h)
+next_one : {X : Type 0} (ps : List X) (p : ℕ) (x : X) → slice_get ps p ≡ Some x → take (p + 1) ps ≡ take p ps ++ x ∷ []
+next_one ps p x h = take_more ps p x (slice_get_within ps p x h) ∙ ap (λ y. take p ps ++ y ∷ []) (get_or_from_slice_get ps p x x h)
 
 comb_more : (ps : List D.Process) (x : D.Process) (b : ℕ) → contains (comb_bits (ps ++ x ∷ [])) b ≡ (contains (comb_bits ps) b || contains (if D.is_combinational x then writes_of x else []) b)
 comb_more [] x b = list_any-append (λ c. b == c) (if D.is_combinational x then writes_of x else []) [] ∙ or_false (contains (if D.is_combinational x then writes_of x else []) b)
@@ -124,10 +125,6 @@ comb_more (y ∷ ps) x b =
     let here = if D.is_combinational y then writes_of y else [] in
     list_any-append (λ c. b == c) here (comb_bits (ps ++ x ∷ [])) ∙ ap (λ q. contains here b || q) (comb_more ps x b) ∙ or_assoc (contains here b) (contains (comb_bits ps) b) _
     ∙ ap (λ q. q || contains (if D.is_combinational x then writes_of x else []) b) (sym (list_any-append (λ c. b == c) here (comb_bits ps)))
-  where
-    or_assoc : (p q r : Bool) → (p || (q || r)) ≡ ((p || q) || r)
-    or_assoc true q r = refl
-    or_assoc false q r = refl
 
 once_more : (ps : List D.Process) (x : D.Process) (b : ℕ) → is_once (ps ++ x ∷ []) b ≡ (is_once ps b && nat_lt (process_most x b) 2)
 once_more ps x b = list_all-append (λ p. nat_lt (process_most p b) 2) ps (x ∷ []) ∙ ap (λ q. is_once ps b && q) (and_true (nat_lt (process_most x b) 2))
@@ -144,7 +141,7 @@ next_still : (d : D.Design) (p : ℕ) (x : D.Process) (b : ℕ) → slice_get d.
     → still_before d (p + 1) b ≡ (still_before d p b && (not (contains (if D.is_combinational x then writes_of x else []) b) && nat_lt (process_most x b) 2))
 next_still d p x b h =
     let ps = take p d.processes in
-    ap (λ qs. (contains (variable_bits d) b && not (contains (comb_bits qs) b)) && is_once qs b) (next_process d.processes p x h)
+    ap (λ qs. (contains (variable_bits d) b && not (contains (comb_bits qs) b)) && is_once qs b) (next_one d.processes p x h)
     ∙ ap₂ (λ q r. (contains (variable_bits d) b && not q) && r) (comb_more ps x b) (once_more ps x b)
     ∙ regroup (contains (variable_bits d) b) (contains (comb_bits ps) b) (contains (if D.is_combinational x then writes_of x else []) b) (is_once ps b) (nat_lt (process_most x b) 2)
 
@@ -181,6 +178,34 @@ combinational_noted d p place star events s flags after bits h level same marked
     in
     marked b ∙ mark_false (contains bits b) (flag_at flags b) ∙ ap₂ (λ p q. p && q) (before b) (ap not (same b))
     ∙ ap (λ q. still_before d p b && q) (sym here) ∙ sym (next_still d p x b h)
+
+-- ---- initial processes
+
+pub none_behind : (d : D.Design) (p b : ℕ) → length d.processes ≤ p → still_before d p b ≡ still_behind d 0 b
+none_behind d p b h = ap (λ ps. contains (variable_bits d) b && not (contains (comb_bits ps) b) && is_once ps b) (take_all p d.processes h) ∙ sym (and_true (contains (variable_bits d) b && not (contains (comb_bits d.processes) b) && is_once d.processes b))
+
+pub all_behind : (d : D.Design) (k b : ℕ) → length d.initials ≤ k → still_behind d k b ≡ is_still d b
+all_behind d k b h = ap (λ is. contains (variable_bits d) b && not (contains (comb_bits d.processes) b) && is_once d.processes b && not (contains (initial_bits is) b)) (take_all k d.initials h)
+
+initial_more : (is : List D.Initial) (i : D.Initial) (b : ℕ) → contains (initial_bits (is ++ i ∷ [])) b ≡ (contains (initial_bits is) b || contains (statement_bits i.statement) b)
+initial_more [] i b = list_any-append (λ c. b == c) (statement_bits i.statement) [] ∙ or_false (contains (statement_bits i.statement) b)
+initial_more (j ∷ is) i b =
+    let here = statement_bits j.statement in
+    list_any-append (λ c. b == c) here (initial_bits (is ++ i ∷ [])) ∙ ap (λ q. contains here b || q) (initial_more is i b) ∙ or_assoc (contains here b) (contains (initial_bits is) b) (contains (statement_bits i.statement) b)
+    ∙ ap (λ q. q || contains (statement_bits i.statement) b) (sym (list_any-append (λ c. b == c) here (initial_bits is)))
+
+neither : (s c w : Bool) → ((s && not c) && not w) ≡ (s && not (c || w))
+neither false c w = refl
+neither true true w = refl
+neither true false w = refl
+
+pub initial_noted : (d : D.Design) (k : ℕ) (i : D.Initial) (flags after : List Bool) (bits : List ℕ) → slice_get d.initials k ≡ Some i → bits ≡ statement_bits i.statement → Marked bits false flags after
+    → AreFlags (still_behind d k) flags → AreFlags (still_behind d (k + 1)) after
+initial_noted d k i flags after bits at is marked before b =
+    let still = contains (variable_bits d) b && not (contains (comb_bits d.processes) b) && is_once d.processes b in
+    marked b ∙ mark_false (contains bits b) (flag_at flags b) ∙ ap₂ (λ p q. p && not q) (before b) (ap (λ bs. contains bs b) is)
+    ∙ neither still (contains (initial_bits (take k d.initials)) b) (contains (statement_bits i.statement) b)
+    ∙ ap (λ q. still && not q) (sym (ap (λ is. contains (initial_bits is) b) (next_one d.initials k i at) ∙ initial_more (take k d.initials) i b))
 
 -- a bit that is written twice is written
 pub twice_below : (s : Statement) (twice : List ℕ) (n : ℕ) → Adds (is_twice s) [] twice → ((b : ℕ) → contains (statement_bits s) b ≡ true → b < n) → All (λ b. b < n) twice
@@ -232,4 +257,4 @@ flag_more f (y ∷ ys) p flags r inside e h =
     let ps = y ∷ ys in
     let x = get_or ps p y in
     let at : slice_get ps p ≡ Some x = slice_get-get_or ps p y inside in
-    ap₂ (λ zs k. zs ++ k ∷ []) e (h x at) ∙ sym (map_more f (take p ps) x) ∙ ap (map f) (sym (next_process ps p x at))
+    ap₂ (λ zs k. zs ++ k ∷ []) e (h x at) ∙ sym (map_more f (take p ps) x) ∙ ap (map f) (sym (next_one ps p x at))

@@ -3,6 +3,7 @@ use Rattle.std.specs.Prelude.{◌≡◌, ℕ, Bool, false, not, ◌&&◌, List, 
 use Rattle.vs_design.specs.Expressions.{Signal}
 use Rattle.vs_design.specs.Designs.{Design}
 use Rattle.vs_design.specs.Footprints.{contains, is_variable, signals_bits, variable_bits}
+use Rattle.vs_design.specs.Initials.{initial_bits}
 use Rattle.vs_design.specs.Sleepers.{comb_bits, is_once}
 
 -- a bit that there is not has none
@@ -20,3 +21,7 @@ variables_before signals n = signals_bits (filter is_variable (take n signals))
 -- what `is_still` says, as far as the processes before p tell
 abbrev pub still_before : Design → ℕ → ℕ → Bool
 still_before d p b = contains (variable_bits d) b && not (contains (comb_bits (take p d.processes)) b) && is_once (take p d.processes) b
+
+-- and as far as all processes and the first k initial processes tell
+abbrev pub still_behind : Design → ℕ → ℕ → Bool
+still_behind d k b = contains (variable_bits d) b && not (contains (comb_bits d.processes) b) && is_once d.processes b && not (contains (initial_bits (take k d.initials)) b)

@@ -3,18 +3,18 @@
 ghost use Rattle.std.specs.Prelude.{◌≡◌, ◌≤◌, ◌<◌, ◌+◌, ◌&&◌, not, ℕ, length, true, false, if◌then◌else◌, slice_get, Some, IfOk, OnOk, All};
 ghost use Rattle.std.specs.List.{list_all, list_any};
 ghost use Rattle.vs_design.specs.Designs as D;
-ghost use Rattle.vs_design.specs.Fits.{fits_process};
+ghost use Rattle.vs_design.specs.Fits.{fits_process, fits_initial};
 ghost use Rattle.vs_design.specs.Footprints.{contains, variable_bits};
 ghost use Rattle.vs_design.specs.Sleepers.{is_still};
 ghost use Rattle.vs_flat.specs.DesignOf.{design_of};
 ghost use Rattle.vs_reads.specs.Footprint.{footprints_of};
-ghost use Rattle.vs_sets.specs.Flags.{AreFlags, flag_at, variables_before, still_before};
+ghost use Rattle.vs_sets.specs.Flags.{AreFlags, flag_at, variables_before, still_before, still_behind};
 
 use crate::twice::push_twice;
 use std::alloc::{AllocError, Global};
 use vs_flat::{Kind, Signal, count_bits, has_edge, trees_law};
-use vs_reads::{Footprints, fit_process, footprint_law};
-use vs_shape::Shapes;
+use vs_reads::{Footprints, fit_initial, fit_process, footprint_law};
+use vs_shape::{Shapes, Walk};
 
 /// Gives the flags of these bits this value.
 fn mark(flags: &mut [bool], bits: &[u32], value: bool)
@@ -115,7 +115,7 @@ fn note_process(
 }
 
 /// For each bit of the design whether it is a variable's that no combinational block writes, and no clocked block more than once on a path.
-pub(crate) fn still_flags(
+fn process_flags(
     alloc: Global,
     shapes: &Shapes,
     footprints: &Footprints,
@@ -123,12 +123,52 @@ pub(crate) fn still_flags(
     requires fits { list_all fits_process (design_of shapes.now).processes ≡ true }
     requires footprints { footprints.now ≡ footprints_of (design_of shapes.now) }
     ensures many { IfOk result (λ v. length v.items ≡ D.bit_count (design_of shapes.now)) }
-    ensures is { IfOk result (λ v. AreFlags (is_still (design_of shapes.now)) v.items) }
+    ensures is { IfOk result (λ v. AreFlags (still_behind (design_of shapes.now) 0) v.items) }
 {
     trees_law();
     let mut flags = variable_flags(alloc, shapes)?;
     for p in 0..shapes.flat().process_count() {
         note_process(alloc, shapes, footprints, p, flags.as_mut_slice())?;
+    }
+    Ok(flags)
+}
+
+/// Takes the flags of the bits that initial process k writes.
+fn note_initial(
+    alloc: Global,
+    shapes: &Shapes,
+    k: u32,
+    flags: &mut [bool],
+) -> Result<(), AllocError>
+    requires fits { list_all fits_initial (design_of shapes.now).initials ≡ true }
+    requires there { k < length shapes.now.initials }
+    requires many { length flags.old ≡ D.bit_count (design_of shapes.now) }
+    requires so_far { AreFlags (still_behind (design_of shapes.now) k) flags.old }
+    ensures { OnOk result (AreFlags (still_behind (design_of shapes.now) (k + 1)) flags.new) }
+{
+    trees_law();
+    let mut bits = Vec::new(alloc);
+    shapes.push_statement(fit_initial(shapes, k).statement, Walk::Writes, &mut bits)?;
+    mark(flags, bits.as_slice(), false);
+    Ok(())
+}
+
+/// For each bit of the design whether it is a variable's that no combinational block and no initial process writes, and no clocked block more than once on a path.
+pub(crate) fn still_flags(
+    alloc: Global,
+    shapes: &Shapes,
+    footprints: &Footprints,
+) -> Result<Vec<bool>, AllocError>
+    requires fits { list_all fits_process (design_of shapes.now).processes ≡ true }
+    requires initial_fits { list_all fits_initial (design_of shapes.now).initials ≡ true }
+    requires footprints { footprints.now ≡ footprints_of (design_of shapes.now) }
+    ensures many { IfOk result (λ v. length v.items ≡ D.bit_count (design_of shapes.now)) }
+    ensures is { IfOk result (λ v. AreFlags (is_still (design_of shapes.now)) v.items) }
+{
+    trees_law();
+    let mut flags = process_flags(alloc, shapes, footprints)?;
+    for k in 0..shapes.flat().initial_count() {
+        note_initial(alloc, shapes, k, flags.as_mut_slice())?;
     }
     Ok(flags)
 }

@@ -4,7 +4,7 @@ ghost use Rattle.std.specs.Prelude.{◌≡◌, ◌<◌, ◌+◌, length, map, ta
 ghost use Rattle.std.specs.List.{list_all};
 ghost use Rattle.vs_four.specs.declared.Bit4.TheVariants.{X};
 ghost use Rattle.vs_design.specs.Designs as D;
-ghost use Rattle.vs_design.specs.Fits.{fits_process};
+ghost use Rattle.vs_design.specs.Fits.{fits_process, fits_initial};
 ghost use Rattle.vs_design.specs.Sets.{only};
 ghost use Rattle.vs_design.specs.Sleepers.{is_still, is_sleeping};
 ghost use Rattle.vs_flat.specs.DesignOf.{design_of};
@@ -98,6 +98,7 @@ pub fn sleeping(
     footprints: &Footprints,
 ) -> Result<Vec<bool>, AllocError>
     requires fits { list_all fits_process (design_of shapes.now).processes ≡ true }
+    requires initial_fits { list_all fits_initial (design_of shapes.now).initials ≡ true }
     requires footprints { footprints.now ≡ footprints_of (design_of shapes.now) }
     ensures { IfOk result (λ v. v.items ≡ map (is_sleeping (design_of shapes.now)) (design_of shapes.now).processes) }
 {

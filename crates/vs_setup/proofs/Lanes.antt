@@ -3,6 +3,7 @@ use Rattle.std.proofs.Common.{◌≡◌, ℕ, ◌<◌, ◌≤◌, Bool, true, fa
 use Rattle.std.specs.Prelude.{sum}
 use Rattle.vs_desk.specs.Desk.{Contents}
 use Rattle.vs_design.specs.Designs.{Design}
+use Rattle.vs_net.specs.Solution.{beginning}
 use Rattle.vs_design.specs.Networks.{network_of}
 use Rattle.vs_flat.specs.DesignOf.{design_of}
 use Rattle.vs_program.specs.Compiled.{IsProgramOf}
@@ -73,11 +74,11 @@ have_next tells job old mid new a ports ks p t = record {
 
 -- ---- and the engine
 
--- what is known of an engine that was made of a design's program: it runs no slot yet, and is idle in each of so many lanes
+-- what is known of an engine that was made of a design's program: it runs no slot yet, and has in each of so many lanes the values before slot 0
 pub record IsMade {W : Type 0} (lane : W → ℕ → Bool) (lanes : ℕ) (d : Design) (clock : ℕ) (engine : Running W) : Type 0 where
   pub program : IsProgramOf d clock engine.program
   pub begun : engine.begun ≡ false
-  pub idle : (i : ℕ) → i < lanes → state lane engine i ≡ (network_of d clock).idle
+  pub begins : (i : ℕ) → i < lanes → state lane engine i ≡ beginning (network_of d clock)
 
 pub made_same : {W : Type 0} (lane : W → ℕ → Bool) (lanes : ℕ) (d : Design) (clock : ℕ) (engine now : Running W) → now ≡ engine → IsMade lane lanes d clock engine → IsMade lane lanes d clock now
 made_same lane lanes d clock engine now is made = subst (λ (e : Running _). IsMade lane lanes d clock e) (sym is) made
@@ -102,10 +103,10 @@ bits_are lane lanes tells job old mid new a ports engine ks p = record {
     ends : IsProgramOf (design_of a.flat) p.behind.loaded.loaded.accepted.accepted.clock.first engine.program
     ends = program_is lane lanes tells job old mid new a ports engine ks p
 
--- the engine is idle in each lane
-pub idle_is : {W : Type 0} (lane : W → ℕ → Bool) (lanes : ℕ) (tells : Bool) (job : Job) (old mid new : Contents) (a : Acceptance) (ports : PortLists) (engine : Running W) (ks : List Known)
-    → (p : HasEngine lane lanes tells job old mid new a ports engine ks) → (i : ℕ) → i < length ks → state lane engine i ≡ (network_of (design_of a.flat) p.behind.loaded.loaded.accepted.accepted.clock.first).idle
-idle_is lane lanes tells job old mid new a ports engine ks p i h =
+-- the engine has the values before slot 0 in each lane
+pub begins_is : {W : Type 0} (lane : W → ℕ → Bool) (lanes : ℕ) (tells : Bool) (job : Job) (old mid new : Contents) (a : Acceptance) (ports : PortLists) (engine : Running W) (ks : List Known)
+    → (p : HasEngine lane lanes tells job old mid new a ports engine ks) → (i : ℕ) → i < length ks → state lane engine i ≡ beginning (network_of (design_of a.flat) p.behind.loaded.loaded.accepted.accepted.clock.first)
+begins_is lane lanes tells job old mid new a ports engine ks p i h =
     let few = p.few in
     let below : i < lanes = omega (arith, h, few) in
-    p.made.idle i below ∙ ap (λ n. (network_of (design_of a.flat) n).idle) (sym p.behind.loaded.loaded.bit_is)
+    p.made.begins i below ∙ ap (λ n. beginning (network_of (design_of a.flat) n)) (sym p.behind.loaded.loaded.bit_is)

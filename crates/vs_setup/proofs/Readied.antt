@@ -14,7 +14,7 @@ use Rattle.vs_rounds.specs.Ready.{IsReady, IsWaveReady, signal_lengths}
 use Rattle.vs_job.specs.declared.job.Job.{Job}
 use Rattle.vs_rounds.proofs.Settled.{new_lengths}
 use Rattle.vs_setup.specs.Prepared.{runs}
-use Rattle.vs_setup.proofs.Lanes.{HasEngine, program_is, bits_are, reading_is, has_given, idle_is}
+use Rattle.vs_setup.proofs.Lanes.{HasEngine, program_is, bits_are, reading_is, has_given, begins_is}
 
 -- a wave is new
 new_wave : (share : Bool) (d : Design) (half : ℕ) (waves : List Wave) → All (IsNewWave share d half) waves → (i : ℕ) → i < length waves → IsNewWave share d half (wave_at waves i)
@@ -61,5 +61,5 @@ begins lane lanes tells job old mid new a ports m p t = record {
   reading = reading_is tells job old mid new a ports m.stimuli p.lanes_are.behind t;
   read = has_given tells job old mid new a ports m.stimuli p.lanes_are.behind t;
   waves = λ i h. new_wave job.share (design_of a.flat) job.half m.waves p.new_waves i (subst (λ n. i < n) (sym p.waves) h);
-  idle = idle_is lane lanes tells job old mid new a ports m.engine m.stimuli p.lanes_are;
+  begins = begins_is lane lanes tells job old mid new a ports m.engine m.stimuli p.lanes_are;
 }

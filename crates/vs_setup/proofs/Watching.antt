@@ -20,7 +20,7 @@ use Rattle.vs_rounds.specs.Checked.{Checking, AreCheckParts, AreWatched}
 use Rattle.vs_job.specs.declared.job.Job.{Job}
 use Rattle.vs_setup.specs.Loaded.{watched}
 use Rattle.vs_setup.specs.Prepared.{runs}
-use Rattle.vs_setup.proofs.Lanes.{HasLanes, HasEngine, program_is, bits_are, reading_is, has_given, idle_is}
+use Rattle.vs_setup.proofs.Lanes.{HasLanes, HasEngine, program_is, bits_are, reading_is, has_given, begins_is}
 use Rattle.vs_setup.proofs.Signals.{are_inside}
 
 -- the outputs that are watched are those that stimuli name
@@ -81,5 +81,5 @@ is_watched lane lanes tells job old mid new a ports m law p t = record {
   reading = reading_is tells job old mid new a ports m.stimuli p.lanes_are.behind t;
   read = has_given tells job old mid new a ports m.stimuli p.lanes_are.behind t;
   none = λ i h. p.none i;
-  idle = idle_is lane lanes tells job old mid new a ports m.engine m.stimuli p.lanes_are;
+  begins = begins_is lane lanes tells job old mid new a ports m.engine m.stimuli p.lanes_are;
 }

@@ -2,6 +2,7 @@
 
 ghost use Rattle.std.specs.Prelude.{◌≡◌, ◌<◌, ◌≤◌, ℕ, false, true, IfOk, IfErr, length, option_map};
 ghost use Rattle.vs_design.specs.Levels.{is_level_order};
+ghost use Rattle.vs_net.specs.Solution.{beginning};
 ghost use Rattle.vs_design.specs.Networks.{network_of};
 ghost use Rattle.vs_flat.specs.DesignOf.{design_of};
 ghost use Rattle.vs_reads.specs.Footprint.{footprints_of};
@@ -55,7 +56,7 @@ pub fn load(
     Ok(Loaded { accepted, ports })
 }
 
-/// The engine of an accepted design, in which no slot was run and each bit is idle in every lane. All memory that it needs is taken here; the only
+/// The engine of an accepted design, in which no slot was run and each bit has in every lane what it has before slot 0. All memory that it needs is taken here; the only
 /// error is that memory ran out.
 pub fn engine_of<W: Lanes>(alloc: Global, accepted: &Accepted) -> Result<Engine<W>, AllocError>
     requires accepted { IsAcceptedBy (design_of accepted.now.flat) accepted.now.clocks }
@@ -64,7 +65,7 @@ pub fn engine_of<W: Lanes>(alloc: Global, accepted: &Accepted) -> Result<Engine<
     requires order { is_level_order (design_of accepted.now.flat) accepted.now.order ≡ true }
     ensures program { IfOk result (λ e. IsProgramOf (design_of accepted.now.flat) accepted.now.clocks.bit e.program) }
     ensures begun { IfOk result (λ e. e.begun ≡ false) }
-    ensures idle { IfOk result (λ e. (i : ℕ) → i < W.LANES → state W.lane e i ≡ (network_of (design_of accepted.now.flat) accepted.now.clocks.bit).idle) }
+    ensures begins { IfOk result (λ e. (i : ℕ) → i < W.LANES → state W.lane e i ≡ beginning (network_of (design_of accepted.now.flat) accepted.now.clocks.bit)) }
 {
     let compiled = compile(
         alloc,

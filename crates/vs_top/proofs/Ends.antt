@@ -16,6 +16,7 @@ use Rattle.vs_lexer.specs.declared.token.LexError.{LexError}
 use Rattle.vs_lexer.specs.declared.token.LexError.TheVariants as lexer
 use Rattle.vs_pre.specs.declared.error.PreError.{PreError}
 use Rattle.vs_pre.specs.declared.error.PreError.TheVariants as macro
+use Rattle.vs_design.specs.Designs.{Design}
 use Rattle.vs_design.specs.Answers.{DesignRefusal, OfWidth, OfBlock, OfDriver, OfClock, Cycle, OfRace, OfZero}
 use Rattle.vs_design.specs.Refusals as rule
 use Rattle.vs_refusal.specs.declared.refusal.Refusal.{Refusal}
@@ -100,29 +101,31 @@ told_usage : (o : Option AtName) (at : ℕ) → told_by o at ≡ Bare Usage → 
 told_usage None at h = cc
 told_usage (Some name) at h = cc
 
-design_usage : (byte : ℕ → ℕ) (x : DesignRefusal) → design_refusal byte x ≡ Bare Usage → ⊥
-design_usage byte (OfWidth (rule.TooWide at)) h = cc
-design_usage byte (OfWidth (rule.Division at)) h = cc
-design_usage byte (OfWidth (rule.TooLarge size)) h = cc
-design_usage byte (OfBlock (rule.FunctionLatch at)) h = cc
-design_usage byte (OfBlock (rule.MixedAssign at)) h = cc
-design_usage byte (OfBlock (rule.Sensitivity p signal at)) h = cc
-design_usage byte (OfBlock (rule.Latch p bit at)) h = cc
-design_usage byte (OfDriver (rule.TwoDrivers bit one other at)) h = cc
-design_usage byte (OfClock rule.NoClock) h = cc
-design_usage byte (OfClock (rule.ClockRead p at)) h = cc
-design_usage byte (OfClock (rule.NotTheClock p at)) h = cc
-design_usage byte (OfClock (rule.ResetForm p at)) h = cc
-design_usage byte (Cycle processes at) h = cc
-design_usage byte (OfRace (rule.Race p bit at)) h = cc
-design_usage byte (OfZero (rule.TimeZero p at)) h = cc
+design_usage : (byte : ℕ → ℕ) (d : Design) (x : DesignRefusal) → design_refusal byte d x ≡ Bare Usage → ⊥
+design_usage byte d (OfWidth (rule.TooWide at)) h = cc
+design_usage byte d (OfWidth (rule.Division at)) h = cc
+design_usage byte d (OfWidth (rule.TooLarge size)) h = cc
+design_usage byte d (OfBlock (rule.FunctionLatch at)) h = cc
+design_usage byte d (OfBlock (rule.InitialForm k at)) h = cc
+design_usage byte d (OfBlock (rule.MixedAssign at)) h = cc
+design_usage byte d (OfBlock (rule.Sensitivity p signal at)) h = cc
+design_usage byte d (OfBlock (rule.Latch p bit at)) h = cc
+design_usage byte d (OfDriver (rule.TwoDrivers bit one other at)) h = cc
+design_usage byte d (OfDriver (rule.TwoWriters bit one other)) h = cc
+design_usage byte d (OfClock rule.NoClock) h = cc
+design_usage byte d (OfClock (rule.ClockRead p at)) h = cc
+design_usage byte d (OfClock (rule.NotTheClock p at)) h = cc
+design_usage byte d (OfClock (rule.ResetForm p at)) h = cc
+design_usage byte d (Cycle processes at) h = cc
+design_usage byte d (OfRace (rule.Race p bit at)) h = cc
+design_usage byte d (OfZero (rule.TimeZero p at)) h = cc
 
 text_usage : (text : List ℕ) (top clock : Option (List ℕ)) (r : Refusal) → IsRefusedText text top clock r → r ≡ Bare Usage → ⊥
 text_usage text top clock r (ByTokens e cut told) h = token_usage e (told ∙ ap (λ (q : Refusal). Some q) h)
 text_usage text top clock r (ByMacros written e cut faulty told) h = macro_usage e (told ∙ ap (λ (q : Refusal). Some q) h)
 text_usage text top clock r (ByTree tokens x reads fault told) h = tree_usage _ x (told ∙ h)
 text_usage text top clock r (ByElaboration tokens source f read fault told) h = told_usage (rule_name f.rule) _ (told ∙ h)
-text_usage text top clock r (ByRule tokens source d x read elaborates broken told) h = design_usage _ x (told ∙ h)
+text_usage text top clock r (ByRule tokens source d x read elaborates broken told) h = design_usage _ d x (told ∙ h)
 
 same_refusal : (r q : Refusal) → Refused r ≡ Refused q → r ≡ q
 same_refusal r q h = cc

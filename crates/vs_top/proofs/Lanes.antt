@@ -4,6 +4,7 @@ use Rattle.vs_net.specs.Network.{State}
 use Rattle.vs_net.specs.Queue.{start, ends}
 use Rattle.vs_design.specs.Designs.{Design}
 use Rattle.vs_design.specs.Networks.{network_of}
+use Rattle.vs_design.proofs.Starts.{same_order}
 use Rattle.vs_design.specs.Accepted.{IsAcceptedDesign}
 use Rattle.vs_desk.specs.Desk.{Contents, Told}
 use Rattle.vs_accept.specs.Accepted.{IsAcceptedText, IsRead, most_bytes}
@@ -56,7 +57,7 @@ run_on some_run d name ports text v vs h =
     let clock = h.accepted.clock.first in
     let n = network_of d clock in
     let q = start n n.idle (vector_state d clock v) (map (vector_state d clock) vs) in
-    (ends n q one.1.0, record { first = v; later = vs; vectors_are = refl; idle = n.idle; is_first = one.0; choices = one.1.0; completed = one.1.1; values_are = refl })
+    (ends n q one.1.0, record { first = v; later = vs; vectors_are = refl; order = d.initials; in_order = same_order d.initials; idle = n.idle; is_first = one.0; choices = one.1.0; completed = one.1.1; values_are = refl })
 
 -- ports that aren't demanded
 pub plain : (ports : PortLists) → ports.demanded ≡ false → ports ≡ record { inputs = ports.inputs; outputs = ports.outputs; demanded = false }
@@ -81,7 +82,7 @@ lane_written every_run some_run has_vector share d name a half ports free driven
           let same : (reading ports text).vectors ≡ run.first ∷ run.later = e ∙ run.vectors_are in
           let long : length (reading ports text).vectors ≡ length (run.first ∷ run.later) = ap length same in
           let below : length (run.first ∷ run.later) < suc (length (reading ports text).vectors) = omega (arith, long) in
-          every_run share d name half ports text run.first run.later (lawful d name a ports driven text whole run.first run.later same) (suc (length (reading ports text).vectors)) put below given run.idle run.is_first run.choices run.completed
+          every_run share d name half ports text run.first run.later (lawful d name a ports driven text whole run.first run.later same) (suc (length (reading ports text).vectors)) put below given run.order run.in_order run.idle run.is_first run.choices run.completed
           ∙ ap (text_of share d half) (sym run.values_are);
       some = run_on some_run d name ports text v vs (lawful d name a ports driven text whole v vs e);
     }
@@ -101,7 +102,7 @@ lane_checked every_run some_run has_vector d name a ports driven text found whol
           let same : (reading ports text).vectors ≡ run.first ∷ run.later = e ∙ run.vectors_are in
           let long : length (reading ports text).vectors ≡ length (run.first ∷ run.later) = ap length same in
           let within : length (run.first ∷ run.later) ≤ length (reading ports text).vectors = omega (arith, long) in
-          every_run d name ports text run.first run.later (lawful d name a ports driven text whole run.first run.later same) (length (reading ports text).vectors) found within given run.idle run.is_first run.choices run.completed
+          every_run d name ports text run.first run.later (lawful d name a ports driven text whole run.first run.later same) (length (reading ports text).vectors) found within given run.order run.in_order run.idle run.is_first run.choices run.completed
           ∙ ap (missed_of d ports text (reading ports text).wanted) (sym run.values_are);
       some = run_on some_run d name ports text v vs (lawful d name a ports driven text whole v vs e);
     }

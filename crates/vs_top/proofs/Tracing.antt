@@ -176,7 +176,7 @@ run_out first_known resets_known has_vector run order bit vectors new text c clo
       whole = read.unrefused;
       taken = read.left_is;
       every = λ values on.
-          t.every on.first on.later (valid on.first on.later on.vectors_are) on.idle on.is_first on.choices on.completed ∙ ap (text_of run.share run.design run.half) (sym on.values_are);
+          t.every on.first on.later (valid on.first on.later on.vectors_are) on.order on.in_order on.idle on.is_first on.choices on.completed ∙ ap (text_of run.share run.design run.half) (sym on.values_are);
       vectors_are = t.vectors_are ∙ ap length read.vectors_are;
       slots_are = t.slots_are ∙ ap (λ (vs : List Vector). 2 * length vs) read.vectors_are;
       order_is = t.order_is;

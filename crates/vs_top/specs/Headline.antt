@@ -2,8 +2,9 @@
 use Rattle.std.specs.Prelude.{◌≡◌, ℕ, ◌+◌, ◌*◌, ◌<◌, Bool, List, [], ◌∷◌, length, map, None}
 use Rattle.vs_net.specs.Network.{State}
 use Rattle.vs_net.specs.Queue.{Choice, IsFirst, IsCompleted, start, ends}
-use Rattle.vs_design.specs.Designs.{Design}
-use Rattle.vs_design.specs.Networks.{network_of}
+use Rattle.vs_design.specs.Designs.{Initial, Design}
+use Rattle.vs_design.specs.Initials.{IsOrderOf}
+use Rattle.vs_design.specs.Networks.{network_in}
 use Rattle.vs_design.specs.Sizes.{size as size_of}
 use Rattle.vs_desk.specs.Desk.{Contents}
 use Rattle.vs_desk.specs.Places.{stimulus_place, design_place}
@@ -25,18 +26,21 @@ use Rattle.vs_setup.specs.Prepared.{run_of}
 use Rattle.vs_top.specs.declared.outcome.Summary.{Summary}
 
 -- These are the values at the ends of the slots of a completed run of the event queue on these vectors alone, in whatever order of its
--- steps, and whatever x or z its driven nets begin with.
+-- steps and of its initial processes, and whatever x or z its driven nets begin with.
 pub record IsRunOn (d : Design) (clock : ℕ) (vectors : List Vector) (values : List State) : Type 0 where
   pub first : Vector
   pub later : List Vector
   pub vectors_are : vectors ≡ first ∷ later
+  -- the order of the initial processes
+  pub order : List Initial
+  pub in_order : IsOrderOf d.initials order
   -- the values before the first step
   pub idle : State
-  pub is_first : IsFirst (network_of d clock) idle
+  pub is_first : IsFirst (network_in d clock order) idle
   -- the steps, each possible when it is taken, until none is left
   pub choices : List Choice
-  pub completed : IsCompleted (network_of d clock) (start (network_of d clock) idle (vector_state d clock first) (map (vector_state d clock) later)) choices
-  pub values_are : values ≡ ends (network_of d clock) (start (network_of d clock) idle (vector_state d clock first) (map (vector_state d clock) later)) choices
+  pub completed : IsCompleted (network_in d clock order) (start (network_in d clock order) idle (vector_state d clock first) (map (vector_state d clock) later)) choices
+  pub values_are : values ≡ ends (network_in d clock order) (start (network_in d clock order) idle (vector_state d clock first) (map (vector_state d clock) later)) choices
 
 -- The stimulus of a lane is valid, and what was put is the VCD, with one code for each class of signals that ports join or else for each signal, of the slot-end values that every completed run of the event queue on that
 -- stimulus alone has; and there is such a run.

@@ -16,12 +16,12 @@ use Rattle.vs_typed.specs.declared.error.WidthError.TheVariants.{TooWide, TooLar
 use Rattle.vs_typed.specs.Refused.{IsFound, IsWidthError, refused_in, first_refused}
 use Rattle.std.specs.Prelude.{IfErr}
 use Rattle.std.proofs.Common.{Result, Ok, Err}
-use Rattle.std.proofs.lemmas.Option.{slice_get-get_or}
+use Rattle.std.proofs.lemmas.Option.{slice_get_within, get_or_from_slice_get}
 use Rattle.vs_typed.specs.Places.{own_places, HasKindNames}
-use Rattle.vs_typed.proofs.SizeSteps.{found_from}
-use Rattle.vs_design.specs.Refusals.{WidthRefusal, first_found, otherwise, too_large, width_refusal}
+use Rattle.vs_design.specs.Refusals.{WidthRefusal, first_in, otherwise, too_large, width_refusal}
 use Rattle.vs_design.specs.Refusals as R
 use Rattle.vs_design.specs.Designs as D
+use Rattle.vs_design.specs.Designs.{in_text_order}
 use Rattle.vs_flat.specs.declared.processes.Process.{Process}
 use Rattle.vs_flat.specs.declared.processes.Kind.{Kind}
 use Rattle.vs_flat.specs.declared.processes.Kind.TheVariants as K
@@ -194,15 +194,17 @@ found_kind each a p process k x at is h =
     same : (y z : D.Process) → Some y ≡ Some z → y ≡ z
     same y z e = cc
 
-pub refused_at : (d : D.Design) (p : ℕ) (x : D.Process) (e : WidthError) → slice_get d.processes p ≡ Some x → first_found refused_in p (drop p d.processes) ≡ first_refused d → IsFound (refused_in p x) e → IsFound (first_refused d) e
-refused_at d p x e h i f = go e f where
-  rest : Option WidthRefusal
-  rest = first_found refused_in (suc p) (drop (p + 1) d.processes)
+-- what is found from a place in the text on
+found_in : (find : D.AnyProcess → Option WidthRefusal) (xs : List D.AnyProcess) (n : ℕ) (x : D.AnyProcess) → slice_get xs n ≡ Some x → first_in find (drop n xs) ≡ otherwise (find x) (first_in find (drop (n + 1) xs))
+found_in find xs n x at =
+    ap (first_in find) (drop_more xs n x (slice_get_within xs n x at)) ∙ ap (λ y. otherwise (find y) (first_in find (drop (n + 1) xs))) (get_or_from_slice_get xs n x x at)
 
-  first : (r : WidthRefusal) → refused_in p x ≡ Some r → first_refused d ≡ Some r
-  first r k = sym i ∙ found_from refused_in d.processes p p x h ∙ ap (λ o. otherwise o rest) k
+pub refused_at : (d : D.Design) (n : ℕ) (x : D.AnyProcess) (e : WidthError) → slice_get (in_text_order d) n ≡ Some x → first_in refused_in (drop n (in_text_order d)) ≡ first_refused d → IsFound (refused_in x) e → IsFound (first_refused d) e
+refused_at d n x e h i f = go e f where
+  first : (r : WidthRefusal) → refused_in x ≡ Some r → first_refused d ≡ Some r
+  first r k = sym i ∙ found_in refused_in (in_text_order d) n x h ∙ ap (λ o. otherwise o (first_in refused_in (drop (n + 1) (in_text_order d)))) k
 
-  go : (e : WidthError) → IsFound (refused_in p x) e → IsFound (first_refused d) e
+  go : (e : WidthError) → IsFound (refused_in x) e → IsFound (first_refused d) e
   go (TooWide at) k = first (R.TooWide at) k
   go (W.Division at) k = first (R.Division at) k
   go (TooLarge size) k = first (R.TooLarge size) k
@@ -220,20 +222,13 @@ whole_refused d e f = go e f where
   go (TooLarge size) k = whole (R.TooLarge size) k
   go Memory k = tt
 
-pub passed_at : (d : D.Design) (p : ℕ) (x : D.Process) → slice_get d.processes p ≡ Some x → first_found refused_in p (drop p d.processes) ≡ first_refused d → refused_in p x ≡ None
-    → first_found refused_in (p + 1) (drop (p + 1) d.processes) ≡ first_refused d
-passed_at d p x h i k =
-    let on : p + 1 ≡ suc p = omega arith in
-    ap (λ n. first_found refused_in n (drop (p + 1) d.processes)) on ∙ sym (found_from refused_in d.processes p p x h ∙ ap (λ o. otherwise o (first_found refused_in (suc p) (drop (p + 1) d.processes))) k) ∙ i
-
--- there is a process of each number
-pub has_process : (ps : List D.Process) (p : ℕ) → p < length ps → (x : D.Process) × (slice_get ps p ≡ Some x)
-has_process [] p h = absurd (omega arith)
-has_process (y ∷ ps) p h = (get_or (y ∷ ps) p y, slice_get-get_or (y ∷ ps) p y h)
+pub passed_at : (d : D.Design) (n : ℕ) (x : D.AnyProcess) → slice_get (in_text_order d) n ≡ Some x → first_in refused_in (drop n (in_text_order d)) ≡ first_refused d → refused_in x ≡ None
+    → first_in refused_in (drop (n + 1) (in_text_order d)) ≡ first_refused d
+passed_at d n x h i k = sym (found_in refused_in (in_text_order d) n x h ∙ ap (λ o. otherwise o (first_in refused_in (drop (n + 1) (in_text_order d)))) k) ∙ i
 
 pub if_err : {V W : Type 0} {P Q : W → Type 0} (r : Result V W) → IfErr r P → ((e : W) → P e → Q e) → IfErr r Q
 if_err (Ok v) h k = h
 if_err (Err e) h k = k e h
 
-pub none_left : (d : D.Design) (p : ℕ) → length d.processes ≤ p → first_found refused_in p (drop p d.processes) ≡ first_refused d → first_refused d ≡ None
-none_left d p h i = sym i ∙ ap (first_found refused_in p) (drop_none d.processes p h)
+pub none_left : (d : D.Design) (n : ℕ) → length (in_text_order d) ≤ n → first_in refused_in (drop n (in_text_order d)) ≡ first_refused d → first_refused d ≡ None
+none_left d n h i = sym i ∙ ap (first_in refused_in) (drop_none (in_text_order d) n h)

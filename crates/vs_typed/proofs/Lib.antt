@@ -11,3 +11,5 @@ pub mod CalleeSteps
 pub mod CallSteps
 pub mod Capped
 pub mod FunctionSteps
+pub mod StillSteps
+pub mod Fixed

@@ -1,5 +1,5 @@
 -- Sums over processes and signals, step by step.
-use Rattle.std.proofs.Common.{◌≡◌, ℕ, zero, suc, ◌+◌, ◌<◌, ◌≤◌, Bool, true, false, not, if◌then◌else◌, List, [], ◌∷◌, ◌++◌, length, take, drop, get_or, Option, Some, refl, sym, ap, ap₂, ◌∙◌, arith, append_assoc}
+use Rattle.std.proofs.Common.{◌≡◌, ℕ, ◌+◌, ◌<◌, ◌≤◌, Bool, true, false, not, if◌then◌else◌, List, [], ◌∷◌, ◌++◌, length, take, get_or, Some, refl, sym, ap, ap₂, ◌∙◌, arith, append_assoc}
 use Rattle.std.specs.Prelude.{sum_by, filter, map, slice_get}
 use Rattle.std.proofs.lemmas.List.{take_more, take_all, append-nil, map-append}
 use Rattle.std.proofs.lemmas.List.Sums.{sum_by-cons}
@@ -18,7 +18,6 @@ use Rattle.vs_reads.specs.Footprint.{footprints_of, waits_at, writes_at}
 use Rattle.vs_reads.specs.Laws.{HasBitsOf, EachIsOfItsProcess, EachHasItsBits}
 use Rattle.vs_typed.specs.Weights.{capped, told_weight}
 use Rattle.vs_typed.proofs.Distinct.{ascending_count}
-use Rattle.vs_design.specs.Refusals.{WidthRefusal, first_found, otherwise}
 use Rattle.vs_flat.specs.Trees.{signal_at, no_signal}
 
 next_item : {A : Type 0} (xs : List A) (n : ℕ) (x : A) → slice_get xs n ≡ Some x → take (n + 1) xs ≡ take n xs ++ x ∷ []
@@ -113,13 +112,6 @@ input_step ss n start sum after s inside at e h =
 
 pub inputs_all : (ss : List Signal) (n start sum : ℕ) → length ss ≤ n → sum ≡ capped (start + sum_by signal_length (filter (λ (t : Signal). t.input) (take n ss))) → sum ≡ capped (start + sum_by signal_length (filter (λ (t : Signal). t.input) ss))
 inputs_all ss n start sum h e = e ∙ ap (λ ts. capped (start + sum_by signal_length (filter (λ (t : Signal). t.input) ts))) (take_all n ss h)
-
--- ---- the first process that is refused
-
-pub found_from : (find : ℕ → Process → Option WidthRefusal) (ps : List Process) (p from : ℕ) (x : Process) → slice_get ps p ≡ Some x → first_found find from (drop p ps) ≡ otherwise (find from x) (first_found find (suc from) (drop (p + 1) ps))
-found_from find [] p from x e = absurd (let z : ⊥ = cc in z)
-found_from find (y ∷ ps) zero from x e = let same : y ≡ x = cc in ap (λ z. otherwise (find from z) (first_found find (suc from) ps)) same
-found_from find (y ∷ ps) (suc p) from x e = let on : suc p + 1 ≡ suc (p + 1) = omega arith in found_from find ps p from x e ∙ ap (λ n. otherwise (find from x) (first_found find (suc from) (drop n (y ∷ ps)))) (sym on)
 
 -- ---- single processes
 

@@ -3,16 +3,29 @@ use Rattle.std.proofs.Common.{◌≡◌, ℕ, ◌≤◌, ◌<◌, true, false, n
 use Rattle.std.specs.List.{list_all}
 use Rattle.vs_design.specs.Designs.{Design}
 use Rattle.vs_design.specs.Elaborated.{IsLawfulDesign}
-use Rattle.vs_design.specs.Fits.{fits_process}
+use Rattle.vs_design.specs.Fits.{fits_process, fits_initial}
 use Rattle.vs_design.specs.Sizes.{awake_size, size}
-use Rattle.vs_design.specs.Refusals.{least, first_found, otherwise, where_true, TooLarge, wide_in, divisions_in, earlier, judged_size, told_size, too_large, width_refusal}
+use Rattle.vs_design.specs.Refusals.{otherwise, where_true, TooLarge, judged_size, told_size, too_large, width_refusal}
 use Rattle.vs_typed.specs.Refused.{first_refused}
 use Rattle.vs_typed.specs.Weights.{capped}
 use Rattle.vs_design.proofs.Exactly.{otherwise_none, all_fit, true_where, judged_small}
+use Rattle.vs_design.proofs.TextOrder.{processes_pass, initials_pass}
+
+none_found : (d : Design) → width_refusal d ≡ None → first_refused d ≡ None
+none_found d none = (otherwise_none (first_refused d) (too_large d) none).0
+
+-- where none of them is refused
+pub unrefused_fit : (d : Design) → IsLawfulDesign d → first_refused d ≡ None → list_all fits_process d.processes ≡ true
+unrefused_fit d lawful none = processes_pass d lawful fits_process fits_initial (all_fit d lawful none)
+
+pub unrefused_initials : (d : Design) → IsLawfulDesign d → first_refused d ≡ None → list_all fits_initial d.initials ≡ true
+unrefused_initials d lawful none = initials_pass d lawful fits_process fits_initial (all_fit d lawful none)
 
 pub each_fits : (d : Design) → IsLawfulDesign d → width_refusal d ≡ None → list_all fits_process d.processes ≡ true
-each_fits d lawful none =
-    all_fit d 0 d.processes lawful.formed (otherwise_none (first_found (λ p process. earlier (least (wide_in process)) (least (divisions_in process))) 0 d.processes) (too_large d) none).0
+each_fits d lawful none = unrefused_fit d lawful (none_found d none)
+
+pub each_initial : (d : Design) → IsLawfulDesign d → width_refusal d ≡ None → list_all fits_initial d.initials ≡ true
+each_initial d lawful none = unrefused_initials d lawful (none_found d none)
 
 not_more : (n most : ℕ) → nat_lt most n ≡ false → n ≤ most
 not_more n most h = grind arith
@@ -22,11 +35,7 @@ size_small d none =
     judged_small d
     (not_more (judged_size d) 16777216
     (true_where (nat_lt 16777216 (judged_size d)) (TooLarge (told_size d))
-    (otherwise_none (first_found (λ p process. earlier (least (wide_in process)) (least (divisions_in process))) 0 d.processes) (too_large d) none).1))
-
--- where no process is refused
-pub unrefused_fit : (d : Design) → IsLawfulDesign d → first_refused d ≡ None → list_all fits_process d.processes ≡ true
-unrefused_fit d lawful none = all_fit d 0 d.processes lawful.formed none
+    (otherwise_none (first_refused d) (too_large d) none).1))
 
 -- ---- by the size
 

@@ -5,3 +5,4 @@ pub mod Weights
 pub mod Refused
 pub mod Reach
 pub mod Functions
+pub mod Still

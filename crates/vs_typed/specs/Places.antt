@@ -10,7 +10,7 @@ use Rattle.vs_shape.specs.Bodies.{body_of}
 use Rattle.vs_shape.specs.Nodes.{tree_of}
 use Rattle.vs_flat.specs.Targets.{target_of}
 use Rattle.vs_flat.specs.Trees.{target_tree}
-use Rattle.vs_design.specs.Designs.{Process}
+use Rattle.vs_design.specs.Designs.{Process, Initial}
 use Rattle.vs_design.specs.Fits.{is_division}
 use Rattle.vs_design.specs.Refusals.{least, least_with, over_64, place_in, wide_places, wide_in_items, wide_in_statement, division_places, divisions_in_items, divisions_in_statement, in_indices, in_items, in_statement, in_arms, in_process}
 use Rattle.vs_typed.specs.declared.places.Rule.{Rule}
@@ -86,6 +86,9 @@ arms_places rule at arms = in_arms (places_of rule) (own_places rule) at arms
 
 abbrev pub process_places : Rule → Process → List ℕ
 process_places rule p = in_process (places_of rule) (own_places rule) p
+
+abbrev pub initial_places : Rule → Initial → List ℕ
+initial_places rule i = statement_places rule i.place i.statement
 
 -- of an assignment that begins at a place, with the place at which its target is told of
 abbrev pub assignment_places : Rule → (own place : ℕ) → Target → Expression → List ℕ

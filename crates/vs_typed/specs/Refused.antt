@@ -1,7 +1,7 @@
 -- What a refusal of a length or of the size says.
-use Rattle.std.specs.Prelude.{◌≡◌, ℕ, Option, Some}
-use Rattle.vs_design.specs.Designs.{Design, Process}
-use Rattle.vs_design.specs.Refusals.{WidthRefusal, least, wide_in, divisions_in, earlier, first_found, width_refusal}
+use Rattle.std.specs.Prelude.{◌≡◌, Option, Some}
+use Rattle.vs_design.specs.Designs.{Design, AnyProcess, in_text_order}
+use Rattle.vs_design.specs.Refusals.{WidthRefusal, least, wide_at, divisions_at, earlier, first_in, width_refusal}
 use Rattle.vs_design.specs.Refusals as R
 use Rattle.vs_typed.specs.declared.error.WidthError.{WidthError}
 use Rattle.vs_typed.specs.declared.error.WidthError.TheVariants.{TooWide, Division, TooLarge, Memory}
@@ -17,10 +17,10 @@ IsFound found Memory = Unit {0}
 abbrev pub IsWidthError : Design → WidthError → Type 0
 IsWidthError d e = IsFound (width_refusal d) e
 
--- what refuses one process
-abbrev pub refused_in : ℕ → Process → Option WidthRefusal
-refused_in p process = earlier (least (wide_in process)) (least (divisions_in process))
+-- what refuses a process or an initial process
+abbrev pub refused_in : AnyProcess → Option WidthRefusal
+refused_in x = earlier (least (wide_at x)) (least (divisions_at x))
 
--- and what refuses the first that is refused
+-- and what refuses the first in the text that is refused
 abbrev pub first_refused : Design → Option WidthRefusal
-first_refused d = first_found refused_in 0 d.processes
+first_refused d = first_in refused_in (in_text_order d)

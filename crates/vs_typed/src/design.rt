@@ -2,7 +2,7 @@
 
 ghost use Rattle.std.specs.Prelude.{◌≡◌, None, true, length, map, IfOk, IfErr, OnOk};
 ghost use Rattle.std.specs.List.{list_all};
-ghost use Rattle.vs_design.specs.Fits.{fits_process};
+ghost use Rattle.vs_design.specs.Fits.{fits_process, fits_initial};
 ghost use Rattle.vs_flat.specs.DesignOf.{design_of};
 ghost use Rattle.vs_flat.specs.Lawful.{IsLawful};
 ghost use Rattle.vs_typed.specs.Refused.{IsFound, IsWidthError, first_refused};
@@ -25,12 +25,13 @@ struct Weighed {
     weights: Vec<Option<u64>>,
 }
 
-/// A lawful design of which no process is refused (IEEE 1364-2005, 5.4). TooWide, Division: the least place over 64 bits, or of a division at run time, of the first process that has one.
+/// A lawful design of which no process and no initial process is refused (IEEE 1364-2005, 5.4). TooWide, Division: the least place over 64 bits, or of a division at run time, of the first process or initial process in the text that has one.
 fn weigh(alloc: Global, flat: Flat) -> Result<Weighed, WidthError>
     requires lawful { IsLawful flat }
     ensures same { IfOk result (λ w. w.shapes ≡ flat) }
     ensures passes { IfOk result (λ w. first_refused (design_of w.shapes) ≡ None) }
     ensures fits { IfOk result (λ w. list_all fits_process (design_of w.shapes).processes ≡ true) }
+    ensures initials { IfOk result (λ w. list_all fits_initial (design_of w.shapes).initials ≡ true) }
     ensures weights { IfOk result (λ w. AreWeights w.shapes w.weights.items) }
     ensures all { IfOk result (λ w. length w.weights.items ≡ length w.shapes.bodies) }
     ensures refused { IfErr result (IsFound (first_refused (design_of flat))) }
@@ -39,7 +40,7 @@ fn weigh(alloc: Global, flat: Flat) -> Result<Weighed, WidthError>
     let count = shapes.flat().expr_count();
     shapes.note(count)?;
     let places = function_places(alloc, &shapes)?;
-    match check_processes(&shapes, &places) {
+    match check_processes(alloc, &shapes, &places) {
         Ok(()) => {}
         Err(error) => return Err(error),
     }
@@ -47,7 +48,7 @@ fn weigh(alloc: Global, flat: Flat) -> Result<Weighed, WidthError>
     Ok(Weighed { shapes, weights })
 }
 
-/// The lengths and the size of a lawful design (IEEE 1364-2005, 5.4 and 5.5). TooWide, Division: the least place over 64 bits, or of a division at run time, of the first process that has one. TooLarge: its size, where it is over 16,777,216, already without what sleeping blocks add if that is; one of 2^64 or more as 2^64 - 1.
+/// The lengths and the size of a lawful design (IEEE 1364-2005, 5.4 and 5.5). TooWide, Division: the least place over 64 bits, or of a division at run time, of the first process or initial process in the text that has one. TooLarge: its size, where it is over 16,777,216, already without what sleeping blocks add if that is; one of 2^64 or more as 2^64 - 1.
 pub fn type_design(alloc: Global, flat: Flat) -> Result<Typed, WidthError>
     requires lawful { IsLawful flat }
     ensures same { IfOk result (λ t. t ≡ flat) }

@@ -3,7 +3,7 @@
 use std::alloc::AllocError;
 use thiserror::Error;
 
-/// Why a design has a length, a division or a size that can't be run. Of several processes it is the first that has such a place, and in it the least place; TooLarge comes only where no process has one.
+/// Why a design has a length, a division or a size that can't be run. Of several processes, initial ones among them, it is the first in the text that has such a place, and in it the least place; TooLarge comes only where none has one.
 #[derive(Clone, Copy, PartialEq, Eq, Debug, Error)]
 pub enum WidthError {
     /// An expression or a target is over 64 bits (IEEE 1364-2005, 5.4). It begins at token `at`.

@@ -1,4 +1,4 @@
-//! Where expressions and statements begin, and what they and processes name.
+//! Where expressions and statements begin, and what they, processes and initial processes name.
 
 ghost use Rattle.std.specs.Prelude.{◌≡◌, ◌<◌, ◌≤◌, length, slice_get, Some};
 ghost use Rattle.vs_design.specs.Expressions as E;
@@ -8,7 +8,7 @@ ghost use Rattle.vs_typed.specs.Reach.{CallsFirst, node_reach, statement_reach};
 ghost use Rattle.vs_shape.specs.Nodes.{HasCalls, HasNames, place_of, tree_of, tree_of_node};
 ghost use Rattle.vs_shape.specs.Bodies.{HasBodyNames, HasTarget, body_of, body_of_statement, body_place};
 
-use vs_flat::{Node, Process, Statement, calls_law, lawful_law, names_law};
+use vs_flat::{Initial, Node, Process, Statement, calls_law, lawful_law, names_law};
 use vs_shape::Shapes;
 
 /// Where expression e begins in the text.
@@ -68,4 +68,14 @@ pub(crate) fn process(shapes: &Shapes, p: u32) -> &Process
     names_law();
     lawful_law();
     shapes.flat().process(p)
+}
+
+/// Initial process k: its statement is there.
+pub(crate) fn initial(shapes: &Shapes, k: u32) -> Initial
+    requires { k < length shapes.now.initials }
+    ensures is { slice_get shapes.now.initials k ≡ Some result }
+    ensures names { result.statement < length shapes.now.statements }
+{
+    names_law();
+    shapes.flat().initial(k)
 }

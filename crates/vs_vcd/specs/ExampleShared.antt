@@ -40,6 +40,7 @@ ported_design = record {
   scopes = top ∷ instance_of_top (codes "g") ∷ [];
   signals = clk_signal ∷ a ∷ y ∷ p ∷ q ∷ [];
   processes = port InputPort a p ∷ port OutputPort q y ∷ Continuous 0 Written 0 (Whole q) (At 0 (Unary BitNot (At 0 (Name p)))) ∷ [];
+  initials = [];
   functions = [];
 }
 

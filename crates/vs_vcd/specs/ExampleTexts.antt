@@ -25,7 +25,7 @@ abbrev pub block_of_top : List ℕ → Scope
 block_of_top name = record { name = name; parent = Some 0; instance = false }
 
 abbrev pub design_with : List Scope → List Signal → Design
-design_with scopes signals = record { scopes = scopes; signals = signals; processes = []; functions = [] }
+design_with scopes signals = record { scopes = scopes; signals = signals; processes = []; initials = []; functions = [] }
 
 -- `module top(input clk, input a, input b, output y); assign y = a & b; endmodule`
 abbrev pub and_design : Design

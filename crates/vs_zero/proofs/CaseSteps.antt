@@ -4,7 +4,7 @@ use Rattle.vs_design.specs.Expressions.{Expression, items_of, is_constant}
 use Rattle.vs_design.specs.Statements.{Statement}
 use Rattle.vs_flat.specs.declared.statements.Arm as F
 use Rattle.vs_flat.specs.Trees as R
-use Rattle.vs_clock.specs.Still.{items_still}
+use Rattle.vs_typed.specs.Still.{items_still}
 use Rattle.vs_zero.specs.Constants.{arms_are_constants}
 use Rattle.vs_sets.proofs.Fit.{and_left, and_right}
 

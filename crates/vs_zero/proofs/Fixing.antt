@@ -19,7 +19,7 @@ use Rattle.vs_flat.specs.Arena.{Arena}
 use Rattle.vs_flat.specs.Trees as R
 use Rattle.vs_sets.specs.Nodes.{tree_of}
 use Rattle.vs_sets.specs.StatementParts.{BranchBelow, ArmsBelow, arms_of, statement_of}
-use Rattle.vs_clock.specs.Still.{items_still}
+use Rattle.vs_typed.specs.Still.{items_still}
 use Rattle.vs_zero.specs.Constants.{arms_are_constants, taken_arm, IsFixed, part_of, given, branch_effects, IsFixedBranch, EachIsFixed}
 use Rattle.vs_zero.specs.States.{unknown}
 use Rattle.vs_sets.proofs.Fit.{and_left, and_right, and_both}

@@ -12,3 +12,4 @@ pub mod ByKind
 pub mod Settling
 pub mod ResetFacts
 pub mod Deciding
+pub mod Starting

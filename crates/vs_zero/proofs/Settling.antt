@@ -81,7 +81,7 @@ block_is within each names fits has a l w b p r star events statement i h clocke
     record {
       there = statement_there names a l.names p r star events statement i h;
       fits = process_fits fits each a l w p r (K.Block star events statement) i h;
-      unmixed = ap (λ (t : Bool). let s = statement_of a statement in if t then blocking_to (nonblocking_bits s) s else mixed_in false s) (sym clocked) ∙ (clean (design_of a) b p x is).unmixed;
+      unmixed = ap (λ (t : Bool). let s = statement_of a statement in if t then blocking_to (nonblocking_bits s) s else mixed_in false s) (sym clocked) ∙ (clean (design_of a) l.design b p x is).unmixed;
       names = block_within within each a l p r star events statement i h;
       within = all_below (bit_count (design_of a)) bits (writes_of x) mine;
       own = λ b. mine.same b;

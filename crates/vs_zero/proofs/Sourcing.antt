@@ -12,9 +12,10 @@ use Rattle.vs_design.specs.Expressions.{Signal}
 use Rattle.vs_design.specs.Footprints.{contains, signals_bits}
 use Rattle.vs_design.specs.Lifted.{Family}
 use Rattle.vs_design.specs.Designs.{Design, bit_count}
+use Rattle.vs_design.specs.Initials.{idle_value, start_value}
 use Rattle.vs_design.specs.Resets.{with_resets}
 use Rattle.vs_design.specs.Sets.{Set4, only, known_set}
-use Rattle.vs_design.specs.TimeZero.{early_source, late_source}
+use Rattle.vs_design.specs.TimeZero.{late_source}
 use Rattle.vs_design.specs.Values.{count_from, bits_of_signal}
 use Rattle.vs_flat.specs.Trees.{no_signal, signal_at}
 use Rattle.vs_sets.specs.Branches.{replaced}
@@ -96,8 +97,12 @@ signal_skipped test ss n set_ f g l t e =
 
 -- ---- the early sets
 
-pub nets_filled : (d : Design) (t : List Set4) → ((b : ℕ) → b < length t → family_of t b ≡ only X) → replaced (bits_of_kind Net d) (λ b. only Z) (family_of t) ≡ early_source d
-nets_filled d t h = fun_ext (λ b. ap (λ s. if contains (bits_of_kind Net d) b then only Z else s) (each b)) where
+pub nets_filled : (d : Design) (t : List Set4) → ((b : ℕ) → b < length t → family_of t b ≡ only X) → replaced (bits_of_kind Net d) (λ b. only Z) (family_of t) ≡ (λ b. only (idle_value d b))
+nets_filled d t h = fun_ext (λ b. ap (λ s. if contains (bits_of_kind Net d) b then only Z else s) (each b) ∙ of_one (contains (bits_of_kind Net d) b)) where
+  of_one : (c : Bool) → (if c then only Z else only X) ≡ only (if c then Z else X)
+  of_one true = refl
+  of_one false = refl
+
   each : (b : ℕ) → family_of t b ≡ only X
   each b = elim (cases_lt b (length t)) [ inl l ↦ h b l | inr l ↦ get_or_past t b beyond l ]
 
@@ -118,5 +123,5 @@ clock_left clock t l = fun_ext (λ b. ap (λ c. if contains (if c then (clock �
     is_past : (m n : ℕ) → n ≤ m → nat_lt m n ≡ false
     is_past m n h = grind arith
 
-pub late_made : (d : Design) (clock : ℕ) (f : Family) → f ≡ replaced (bits_of_kind Input d) (λ b. known_set) (λ b. with_resets d clock d.processes b (early_source d b)) → with_clock clock (bit_count d) f ≡ late_source d clock
+pub late_made : (d : Design) (clock : ℕ) (f : Family) → f ≡ replaced (bits_of_kind Input d) (λ b. known_set) (λ b. with_resets d clock d.processes b (only (start_value d b))) → with_clock clock (bit_count d) f ≡ late_source d clock
 late_made d clock f h = ap (with_clock clock (bit_count d)) h

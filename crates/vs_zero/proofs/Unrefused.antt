@@ -2,18 +2,22 @@
 use Rattle.std.proofs.Common.{◌≡◌, ℕ, zero, suc, Bool, true, false, List, [], ◌∷◌, ◌&&◌, refl, ap, subst, Some, None, Option, option_map, not}
 use Rattle.std.specs.Prelude.{slice_get}
 use Rattle.std.specs.List.{list_all}
-use Rattle.vs_design.specs.Designs.{Process, Design, is_clocked}
+use Rattle.vs_design.specs.Designs.{Process, Initial, Design, AnyProcess, OfProcess, OfInitial, in_text_order, is_clocked}
 use Rattle.vs_design.specs.Accepted.{is_empty}
 use Rattle.vs_design.specs.Elaborated.{IsLawfulDesign}
 use Rattle.vs_design.specs.Equations.{IsOrderly}
 use Rattle.vs_design.specs.Levels.{at_number, is_ready, is_order_after, is_level_order}
-use Rattle.vs_design.specs.Refusals.{least, otherwise, first_found, BlockRefusal, FunctionLatch, MixedAssign, Sensitivity, Latch, block_refusal_of, block_refusal, driver_refusal, signal_of}
+use Rattle.vs_design.specs.Refusals.{least, otherwise, first_in, FunctionLatch, MixedAssign, Sensitivity, Latch, block_refusal_of, block_refusal_at, block_refusal, driver_refusal, signal_of}
 use Rattle.vs_design.specs.Designs.{process_place}
-use Rattle.vs_design.specs.Rules.{mixed_assigns, missing_bits, latches, function_latches, shared_bits}
+use Rattle.vs_design.specs.Rules.{mixed_assigns, missing_bits, latches, function_latches}
 use Rattle.vs_design.specs.Footprints.{contains}
+use Rattle.vs_design.proofs.Exactly.{otherwise_none}
+use Rattle.vs_design.proofs.Sharing.{unshared}
+use Rattle.vs_design.proofs.TextOrder.{by_sort, processes_pass}
 use Rattle.vs_reads.proofs.Numbered.{at_is}
 use Rattle.vs_shape.proofs.Names.{and_both}
-use Rattle.vs_reads.proofs.Tests.{not_true}
+use Rattle.vs_reads.proofs.Tests.{and_true, not_true}
+use Rattle.vs_zero.proofs.Starting.{all_clear, at_all}
 
 none_least : (ns : List ℕ) → least ns ≡ None → ns ≡ []
 none_least [] h = refl
@@ -23,34 +27,38 @@ none_made : {B : Type 0} (f : ℕ → B) (o : Option ℕ) → option_map f o ≡
 none_made f None h = refl
 none_made f (Some n) h = absurd (let z : ⊥ = cc in z)
 
-first_none : (o p : Option BlockRefusal) → otherwise o p ≡ None → (o ≡ None) × (p ≡ None)
-first_none None p h = (refl, h)
-first_none (Some r) p h = absurd (let z : ⊥ = cc in z)
-
-each_none : (find : ℕ → Process → Option BlockRefusal) (k : ℕ) (ps : List Process) (p : ℕ) (x : Process) → first_found find k ps ≡ None → slice_get ps p ≡ Some x → (n : ℕ) × (find n x ≡ None)
-each_none find k [] p x h e = cc
-each_none find k (y ∷ ps) zero x h e = (k, subst (λ z. find k z ≡ None) (some_same y x e) (first_none (find k y) (first_found find (suc k) ps) h).0)
-  where
-    some_same : (x y : Process) → Some x ≡ Some y → x ≡ y
-    some_same x y e = cc
-each_none find k (y ∷ ps) (suc p) x h e = each_none find (suc k) ps p x (first_none (find k y) (first_found find (suc k) ps) h).1 e
+empty_is : (ns : List ℕ) → is_empty ns ≡ true → ns ≡ []
+empty_is [] h = refl
+empty_is (n ∷ ns) h = absurd (let z : ⊥ = cc in z)
 
 -- no process mixes assignments, or may latch
+abbrev is_clean : Process → Bool
+is_clean x = is_empty (mixed_assigns x) && is_empty (latches x)
+
+process_clean : (d : Design) (p : ℕ) (x : Process) → block_refusal_of d p x ≡ None → is_clean x ≡ true
+process_clean d p x h =
+    let missing = option_map (λ b. Sensitivity p (signal_of d.signals b) (process_place x)) (least (missing_bits x)) in
+    let kept = option_map (λ b. Latch p b (process_place x)) (least (latches x)) in
+    let one = otherwise_none (option_map MixedAssign (least (mixed_assigns x))) (otherwise missing kept) h in
+    let two = otherwise_none missing kept one.1 in
+    and_true (is_empty (mixed_assigns x)) (is_empty (latches x)) (ap is_empty (none_least (mixed_assigns x) (none_made MixedAssign (least (mixed_assigns x)) one.0)))
+    (ap is_empty (none_least (latches x) (none_made (λ b. Latch p b (process_place x)) (least (latches x)) two.1)))
+
+any_clean : (d : Design) (x : AnyProcess) → block_refusal_at d x ≡ None → by_sort is_clean (λ (i : Initial). true) x ≡ true
+any_clean d (OfProcess p x) h = process_clean d p x h
+any_clean d (OfInitial k i) h = refl
+
 pub record IsClean (x : Process) : Type 0 where
   pub unmixed : mixed_assigns x ≡ []
   pub no_latch : latches x ≡ []
 
-pub clean : (d : Design) → block_refusal d ≡ None → (p : ℕ) (x : Process) → slice_get d.processes p ≡ Some x → IsClean x
-clean d h p x e =
+pub clean : (d : Design) → IsLawfulDesign d → block_refusal d ≡ None → (p : ℕ) (x : Process) → slice_get d.processes p ≡ Some x → IsClean x
+clean d l h p x e =
     let functions = option_map FunctionLatch (least (function_latches d.functions)) in
-    let f = each_none (block_refusal_of d) 0 d.processes p x (first_none functions (first_found (block_refusal_of d) 0 d.processes) h).1 e in
-    let n = f.0 in
-    let one = first_none (option_map MixedAssign (least (mixed_assigns x))) (otherwise (option_map (λ b. Sensitivity n (signal_of d.signals b) (process_place x)) (least (missing_bits x))) (option_map (λ b. Latch n b (process_place x)) (least (latches x)))) f.1 in
-    let two = first_none (option_map (λ b. Sensitivity n (signal_of d.signals b) (process_place x)) (least (missing_bits x))) (option_map (λ b. Latch n b (process_place x)) (least (latches x))) one.1 in
-    record {
-      unmixed = none_least (mixed_assigns x) (none_made MixedAssign (least (mixed_assigns x)) one.0);
-      no_latch = none_least (latches x) (none_made (λ b. Latch n b (process_place x)) (least (latches x)) two.1);
-    }
+    let none = (otherwise_none functions (first_in (block_refusal_at d) (in_text_order d)) h).1 in
+    let all = processes_pass d l is_clean (λ (i : Initial). true) (all_clear (block_refusal_at d) (by_sort is_clean (λ (i : Initial). true)) (in_text_order d) (any_clean d) none) in
+    let here = and_both (is_empty (mixed_assigns x)) (is_empty (latches x)) (at_all is_clean d.processes p x all e) in
+    record { unmixed = empty_is (mixed_assigns x) here.0; no_latch = empty_is (latches x) here.1 }
 
 all_empty : (f : Process → List ℕ) (ps : List Process) → ((p : ℕ) (x : Process) → slice_get ps p ≡ Some x → f x ≡ []) → list_all (λ x. is_empty (f x)) ps ≡ true
 all_empty f [] h = refl
@@ -63,9 +71,9 @@ all_empty f (x ∷ ps) h = both (is_empty (f x)) (list_all (λ x. is_empty (f x)
 pub orderly : (d : Design) → IsLawfulDesign d → block_refusal d ≡ None → driver_refusal d ≡ None → IsOrderly d
 orderly d l b r = record {
   lawful = l;
-  unmixed = all_empty mixed_assigns d.processes (λ p x e. (clean d b p x e).unmixed);
-  no_latch = all_empty latches d.processes (λ p x e. (clean d b p x e).no_latch);
-  one_driver = ap is_empty (none_least (shared_bits d) (none_made _ (least (shared_bits d)) r));
+  unmixed = all_empty mixed_assigns d.processes (λ p x e. (clean d l b p x e).unmixed);
+  no_latch = all_empty latches d.processes (λ p x e. (clean d l b p x e).no_latch);
+  one_driver = (unshared d l r).0;
 }
 
 -- ---- level orders

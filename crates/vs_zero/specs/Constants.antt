@@ -11,7 +11,7 @@ use Rattle.vs_design.specs.Resets.{is_fixed, branch_writes, branch_updates}
 use Rattle.vs_flat.specs.Arena.{Arena}
 use Rattle.vs_flat.specs.Trees.{branch}
 use Rattle.vs_sets.specs.StatementParts.{BranchBelow, statement_of}
-use Rattle.vs_clock.specs.Still.{items_still}
+use Rattle.vs_typed.specs.Still.{items_still}
 use Rattle.vs_flat.specs.declared.statements.Arm as F
 use Rattle.vs_zero.specs.States.{unknown}
 

@@ -10,7 +10,7 @@ ghost use Rattle.vs_flat.specs.Trees.{branch};
 ghost use Rattle.vs_sets.specs.Matches.{are_within, items_at};
 ghost use Rattle.vs_sets.specs.Nodes.{EachBelow, tree_of};
 ghost use Rattle.vs_sets.specs.StatementParts.{ArmsBelow, arms_of};
-ghost use Rattle.vs_clock.specs.Still.{items_still};
+ghost use Rattle.vs_typed.specs.Still.{items_still};
 ghost use Rattle.vs_zero.specs.Constants.{arms_are_constants, taken_arm};
 ghost use Rattle.vs_zero.specs.States.{unknown};
 

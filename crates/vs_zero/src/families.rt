@@ -15,7 +15,8 @@ ghost use Rattle.vs_zero.specs.States.{state_of, unknown};
 ghost use Rattle.vs_zero.specs.Values.{IsZero};
 
 use crate::process::settle;
-use crate::sources::{SignalKind, early_sources, fill_kind};
+use crate::sources::{SignalKind, fill_kind};
+use crate::starts::{early_sources, start_sets};
 use crate::values::add_values;
 use std::alloc::{AllocError, Global};
 use vs_clock::Clocks;
@@ -77,7 +78,7 @@ fn set_clock(clock: u32, table: &mut [Set4])
     }
 }
 
-/// The late sets of bits that no assign and no combinational block writes: 0 in the clock, where there is one, 0 or 1 in any other input, else as early, with the value that a reset gives it last.
+/// The late sets of bits that no assign and no combinational block writes: 0 in the clock, where there is one, 0 or 1 in any other input, else what initial processes leave in it, with the value that a reset gives it last.
 fn late_sources(
     alloc: Global,
     typed: &Typed,
@@ -93,7 +94,7 @@ fn late_sources(
     trees_law();
     let shapes = typed.shapes();
     let count = count_bits(shapes.flat()) as usize;
-    let mut table = early_sources(alloc, shapes)?;
+    let mut table = start_sets(alloc, typed)?;
     let mut from_x = vec![in alloc; Bit4::X; count]?;
     let mut from_zero = vec![in alloc; Bit4::Zero; count]?;
     add_resets(
@@ -131,7 +132,7 @@ impl Families {
         ensures late_count { IfOk result (λ f. length f.late.items ≡ bit_count (design_of typed.now)) }
         ensures sets { IfOk result (λ f. record { early = family_of f.early.items; late = family_of f.late.items } ≡ families (design_of typed.now) clocks.now.bit order.now) }
     {
-        let mut early = early_sources(alloc, typed.shapes())?;
+        let mut early = early_sources(alloc, typed)?;
         let mut late = late_sources(alloc, typed, footprints, clocks)?;
         settle(
             alloc,

@@ -17,7 +17,7 @@ use vs_shape::Shapes;
 
 /// Lets a statement run that reads no signal, as far as it writes by `=`, or else by `<=`.
 #[cycle(running)]
-fn run_part(shapes: &Shapes, s: u32, at_once: bool, state: &mut [Bit4])
+pub(crate) fn run_part(shapes: &Shapes, s: u32, at_once: bool, state: &mut [Bit4])
     requires within { WritesBelow (length state.old) (statement_of shapes.now s) }
     requires there { s < length shapes.now.statements }
     requires fixed { IsFixed (statement_of shapes.now s) }

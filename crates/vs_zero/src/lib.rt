@@ -9,6 +9,7 @@ mod families;
 mod fixed;
 mod process;
 mod sources;
+mod starts;
 mod targets;
 mod turns;
 mod values;
@@ -16,5 +17,6 @@ mod written;
 mod zero;
 
 pub use error::ZeroError;
+pub use starts::start_values;
 pub use written::add_written;
 pub use zero::check;

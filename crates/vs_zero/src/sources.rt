@@ -1,10 +1,10 @@
-//! The sets of bits that no assign and no combinational block writes (IEEE 1364-2005, 4.2.1 and 4.2.2).
+//! The sets of bits before anything writes them (IEEE 1364-2005, 4.2.1 and 4.2.2).
 
 ghost use Rattle.std.specs.Prelude.{◌≡◌, ◌≤◌, ◌<◌, ◌+◌, ℕ, length, IfOk};
 ghost use Rattle.vs_four.specs.declared.Bit4.TheVariants.{X};
 ghost use Rattle.vs_design.specs.Designs.{bit_count};
+ghost use Rattle.vs_design.specs.Initials.{idle_value};
 ghost use Rattle.vs_design.specs.Sets.{only};
-ghost use Rattle.vs_design.specs.TimeZero.{early_source};
 ghost use Rattle.vs_design.specs.Values.{bits_of_signal, count_from};
 ghost use Rattle.vs_flat.specs.DesignOf.{design_of};
 ghost use Rattle.vs_sets.specs.Branches.{replaced};
@@ -80,10 +80,10 @@ pub(crate) fn filled(alloc: Global, shapes: &Shapes, set: Set4) -> Result<Vec<Se
     vec![in alloc; set; count_bits(shapes.flat()) as usize]
 }
 
-/// The early sets of bits that no assign and no combinational block writes: z in a net without a driver, else x.
-pub(crate) fn early_sources(alloc: Global, shapes: &Shapes) -> Result<Vec<Set4>, AllocError>
+/// The sets of all bits before anything writes them: z in a net that isn't an input of the top, else x.
+pub(crate) fn idle_sets(alloc: Global, shapes: &Shapes) -> Result<Vec<Set4>, AllocError>
     ensures count { IfOk result (λ v. length v.items ≡ bit_count (design_of shapes.now)) }
-    ensures sets { IfOk result (λ v. family_of v.items ≡ early_source (design_of shapes.now)) }
+    ensures sets { IfOk result (λ v. family_of v.items ≡ (λ b. only (idle_value (design_of shapes.now) b))) }
 {
     let mut table = filled(alloc, shapes, Set4::only(Bit4::X))?;
     fill_kind(

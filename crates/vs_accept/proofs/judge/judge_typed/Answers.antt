@@ -12,17 +12,17 @@ returns-in_err-check_writers-clause-refused c =
     c.in_err-check_writers.field-0.0 c.from_residual-in_err-check_writers.ensures.1 (c.in_err-check_writers.ensures.refused (option_map (λ c. c.now) c.args.clock))
 
 pub returns-in-Err-clause-refused : goal.returns-in-Err-clause-refused
-returns-in-Err-clause-refused c = c.clock_error.ensures (design_of c.args.typed) (option_map (λ c. c.now) c.args.clock) c.in_ok-check_writers.ensures.kept c.in-Err.ensures.refused
+returns-in-Err-clause-refused c = c.clock_error.ensures (option_map (λ c. c.now) c.args.clock) c.in_ok-check_writers.ensures.kept c.in-Err.ensures.refused
 
 pub returns-in-Err-order-clause-refused : goal.returns-in-Err-order-clause-refused
 returns-in-Err-order-clause-refused c =
     let k = c.in_ok-check_writers.ensures.kept in
-    c.level_error.ensures (design_of c.args.typed) (option_map (λ c. c.now) c.args.clock) (k.0, k.1, k.2, c.in-Ok.ensures.lawful) c.in-Err-order.ensures.refused
+    c.level_error.ensures (option_map (λ c. c.now) c.args.clock) (k.0, k.1, k.2, c.in-Ok.ensures.lawful) c.in-Err-order.ensures.refused
 
 pub returns-in-Err-races-clause-refused : goal.returns-in-Err-races-clause-refused
 returns-in-Err-races-clause-refused c =
     let k = c.in_ok-check_writers.ensures.kept in
-    c.race_error.ensures (design_of c.args.typed) (option_map (λ c. c.now) c.args.clock) (k.0, k.1, k.2, c.in-Ok.ensures.lawful) c.in-Ok-order.ensures.acyclic c.in-Err-races.ensures.refused
+    c.race_error.ensures (option_map (λ c. c.now) c.args.clock) (k.0, k.1, k.2, c.in-Ok.ensures.lawful) c.in-Ok-order.ensures.acyclic c.in-Err-races.ensures.refused
 
 pub returns-in-Ok-check-clause-accepted : goal.returns-in-Ok-check-clause-accepted
 returns-in-Ok-check-clause-accepted c =
@@ -38,5 +38,5 @@ returns-in-Ok-check-clause-lent c =
 pub returns-in-Err-check-clause-refused : goal.returns-in-Err-check-clause-refused
 returns-in-Err-check-clause-refused c =
     let k = c.in_ok-check_writers.ensures.kept in
-    c.zero_error.ensures (design_of c.args.typed) (option_map (λ c. c.now) c.args.clock) (k.0, k.1, k.2, c.in-Ok.ensures.lawful) c.in-Ok-order.ensures.acyclic c.in_default.ensures.free
+    c.zero_error.ensures (option_map (λ c. c.now) c.args.clock) (k.0, k.1, k.2, c.in-Ok.ensures.lawful) c.in-Ok-order.ensures.acyclic c.in_default.ensures.free
     (c.in-Err-check.ensures.refused (option_map (λ c. c.now) c.args.clock) c.in-Ok.ensures.clock)

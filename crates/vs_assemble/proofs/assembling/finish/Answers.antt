@@ -1,4 +1,4 @@
-use Rattle.std.proofs.Common.{sym, ap, ◌∙◌, subst, refl, arith, length}
+use Rattle.std.proofs.Common.{sym, ◌∙◌, subst, refl, arith}
 use Rattle.vs_program.specs.Phases.{calls_of_runs}
 use Rattle.vs_program.specs.Compiled.{IsProgramOf}
 use Rattle.vs_assemble.proofs.Finished.{bits_below, finished_by}
@@ -6,8 +6,8 @@ use Rattle.vs_assemble.proofs.assembling.finish.Goals as goal
 
 pub padded-requires : goal.padded-requires
 padded-requires g c =
-    let below = bits_below (g.T.Processes.design c.args.lowering.now) (g.T.Lowering.layout c.args.lowering.now) c.requires.layout in
-    omega (arith, below, ap length c.requires.frame.initial_is, c.max-count.ensures, c.from.ensures, c.first_temp.ensures)
+    let below = bits_below (g.T.Processes.design c.args.lowering.now) (g.T.Lowering.layout c.args.lowering.now) c.requires.layout c.args.frame.initial.items c.requires.frame.initial_is in
+    omega (arith, below, c.max-count.ensures, c.from.ensures, c.first_temp.ensures)
 
 pub of-requires-clause-in_range : goal.of-requires-clause-in_range
 of-requires-clause-in_range g c =

@@ -14,6 +14,13 @@ frame-requires-clause-lawful c = rw c.flat.ensures.same c.flat.ensures.lawful
 pub frame-requires-clause-clocks : goal.frame-requires-clause-clocks
 frame-requires-clause-clocks c = rw (c.flat.ensures.same, c.bit.ensures) c.in_ok-nets.ensures
 
+pub start_values-requires : goal.start_values-requires
+start_values-requires c =
+    let h = c.requires.accepted in ((c.accepted_law.ensures.exactly (design_of c.args.typed.now) h.name h.accepted.lawful).0 h.accepted).blocks
+
+pub frame-requires-clause-starts : goal.frame-requires-clause-starts
+frame-requires-clause-starts c = rw (c.flat.ensures.same, c.as_slice.ensures.value) (record { count = c.in_ok-starts.ensures.count; values = c.in_ok-starts.ensures.values })
+
 pub assemble-requires-clause-accepted : goal.assemble-requires-clause-accepted
 assemble-requires-clause-accepted c = rw (c.in_ok-lowerer.ensures.same, c.in_ok-facts.ensures, c.bit-2.ensures) (accepted_at (design_of c.args.typed.now) c.args.clocks.now c.requires.accepted)
 

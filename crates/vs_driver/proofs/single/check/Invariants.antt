@@ -1,7 +1,7 @@
-use Rattle.std.proofs.Common.{◌≡◌, ℕ, ◌<◌, false}
-use Rattle.vs_driver.specs.Drivers.{drivers_at}
-use Rattle.vs_driver.proofs.Least.{is_two}
+use Rattle.std.proofs.Common.{◌≡◌, ℕ, ◌<◌, ◌||◌, false}
+use Rattle.vs_driver.specs.Drivers.{are_two, drivers_at}
+use Rattle.vs_driver.specs.Marks.{clash}
 use Rattle.vs_driver.proofs.single.check.Given as goal
 
 abbrev pub invariant-loop-bit : goal.invariant-loop-bit
-invariant-loop-bit l = (b : ℕ) → b < l.bit → is_two (drivers_at l.table.items b) ≡ false
+invariant-loop-bit l = (b : ℕ) → b < l.bit → (are_two (drivers_at l.table.items b) || clash l.starts l.settled b) ≡ false

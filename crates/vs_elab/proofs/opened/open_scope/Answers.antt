@@ -4,7 +4,7 @@ use Rattle.vs_build.specs.Growth.{draft}
 use Rattle.vs_scope.specs.declared.frames.Frame.{Frame}
 use Rattle.vs_scope.specs.declared.names.Signal.{Signal}
 use Rattle.vs_scope.specs.Complete.{completed, function_declaration}
-use Rattle.vs_scope.specs.Contents.{contents_items}
+use Rattle.vs_scope.specs.Contents.{contents_header, contents_items}
 use Rattle.vs_scope.specs.Counts.{counted}
 use Rattle.vs_scope.specs.Made as code
 use Rattle.vs_scope.specs.Views.{entries}
@@ -20,8 +20,8 @@ use Rattle.vs_elab.proofs.BuiltFunctions.{still_idle}
 use Rattle.vs_elab.proofs.FineScopes.{items_around, items_made, made_each}
 use Rattle.vs_elab.proofs.OpeningScopes.{all_added, functions_ready, mid_idle, opening, signals_ready, scope_opened}
 use Rattle.vs_elab.proofs.ScopeFunctions.{contents_low, each_shaped}
-use Rattle.vs_elab.proofs.ScopeItems.{items_are_those}
-use Rattle.vs_elab.proofs.ShapedScopes.{scope_stated}
+use Rattle.vs_elab.proofs.ScopeItems.{header_are_those, items_are_those}
+use Rattle.vs_elab.proofs.ShapedScopes.{header_stated, scope_stated}
 use Rattle.vs_elab.proofs.Stacks.{faulty, limited}
 use Rattle.vs_elab.proofs.opened.open_scope.Goals as goal
 
@@ -179,9 +179,10 @@ returns-clause-opened c =
     let functions = c.in_ok-add_functions.ensures ∙ ap (λ (fs : List Frame). and_functions f (completed (task_of fs scope).env r.names).functions) c.as_slice.ensures.value in
     let new : Reading = record { builder = c.add_functions.new.builder; frames = c.push_frame.new.frames; counts = r.counts; loops = did } in
     let made = ap (map code.made) c.deref-2.ensures.value ∙ is.made in
-    scope_opened source t old new counts c.count_scope-limited.result.1 r (contents_items scope.contents) c.in_ok-parts_of.field-0.items (record { names = r.names; parent = scope.parent; turn = scope.turn }) c.scope_law.ensures.blocks o
+    scope_opened source t old new counts c.count_scope-limited.result.1 r (contents_header scope.contents) (contents_items scope.contents) c.in_ok-parts_of.field-0.items (record { names = r.names; parent = scope.parent; turn = scope.turn }) c.scope_law.ensures.blocks o
     (c.count_scope-limited.ensures.counted frames old.loops) (c.count_scope-limited.ensures.limited frames old.loops) none is clean refl
     (all_added source t old counts o did r is e f x added signals refl refl (c.is_instance.ensures frames) g functions)
     (still_idle f g (completed t.env r.names).functions functions (mid_idle source t old counts o did r is e f x added signals refl refl (c.is_instance.ensures frames)))
-    c.in_ok-push_frame.ensures refl refl (items_are_those frames scope.overrides.now scope.contents) (scope_stated scope.contents c.requires.shaped) c.requires.shallow
+    c.in_ok-push_frame.ensures refl refl (header_are_those frames scope.overrides.now scope.contents) (header_stated scope.contents c.requires.shaped) c.requires.header
+    (items_are_those frames scope.overrides.now scope.contents) (scope_stated scope.contents c.requires.shaped) c.requires.shallow
     (record { pieces = c.in_ok-parts_of.ensures.pieces source around (items_made t totals) made; fine = c.in_ok-parts_of.ensures.fine source around (items_made t totals) made })

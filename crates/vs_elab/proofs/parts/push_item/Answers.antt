@@ -1,16 +1,15 @@
 use Rattle.std.proofs.Common.{◌≡◌, ◌++◌, List, OnOk, map, sym, ap, ◌∙◌, subst}
 use Rattle.vs_grammar.specs.Shapes.{Each}
 use Rattle.vs_ast.specs.declared.items.Item.{Item}
-use Rattle.vs_ast.specs.declared.items.Declarator.{Declarator}
 use Rattle.vs_ast.specs.declared.items.Assign.{Assign}
 use Rattle.vs_ast.specs.Views as view
 use Rattle.vs_elaborated.specs.Generate.{Nested}
 use Rattle.vs_elaborated.specs.Pieces.{Piece, all_said}
-use Rattle.vs_elaborated.specs.Surveys.{assign_said, wire_said, nested_piece}
+use Rattle.vs_elaborated.specs.Surveys.{assign_said, nested_piece}
 use Rattle.vs_scope.specs.Made as code
-use Rattle.vs_elab.specs.Fine.{IsFineAssign, IsFineWire, AreFineInside, IsFineItem, plain_said}
+use Rattle.vs_elab.specs.Fine.{IsFineAssign, AreFineInside, IsFineItem, plain_said}
 use Rattle.vs_elab.specs.Pending.{parts_pieces}
-use Rattle.vs_elab.proofs.FineItems.{wires_fine, assigns_fine, block_fine, instances_fine}
+use Rattle.vs_elab.proofs.FineItems.{declared_fine, assigns_fine, block_fine, initial_fine, instances_fine}
 use Rattle.vs_elab.proofs.FineParts.{part_fine}
 use Rattle.vs_elab.proofs.PartItems.{other_pieces}
 use Rattle.vs_elab.proofs.parts.push_item.Goals as goal
@@ -18,13 +17,10 @@ use Rattle.vs_elab.proofs.parts.push_item.Goals as goal
 pub returns-in-Signals : goal.returns-in-Signals
 returns-in-Signals c = record {
   pieces = λ source around m same.
-      subst (λ (x : Item). OnOk c.push_wires.result (parts_pieces source around c.push_wires.new.parts.items ≡ parts_pieces source around c.args.parts.now.items ++ (plain_said source around (view.item x) m).pieces)) (sym c.in-Signals.is)
-      (subst (λ (xs : List Declarator). OnOk c.push_wires.result (parts_pieces source around c.push_wires.new.parts.items ≡ parts_pieces source around c.args.parts.now.items ++ (all_said (wire_said around.env c.in-Signals.s.place) (map view.declarator xs)).pieces))
-      c.deref.ensures.value (c.push_wires.ensures.pieces source around));
+      subst (λ (x : Item). OnOk c.push_signals.result (parts_pieces source around c.push_signals.new.parts.items ≡ parts_pieces source around c.args.parts.now.items ++ (plain_said source around (view.item x) m).pieces)) (sym c.in-Signals.is)
+      (c.push_signals.ensures.pieces source around);
   fine = λ source around m same f.
-      c.push_wires.ensures.fine source around.env
-      (subst (λ (xs : List Declarator). Each (IsFineWire around.env) (map view.declarator xs)) (sym c.deref.ensures.value)
-      (wires_fine source around (view.signals c.in-Signals.s) m (subst (λ (x : Item). IsFineItem source around (view.item x) m) c.in-Signals.is f)));
+      c.push_signals.ensures.fine source around.env (declared_fine source around (view.signals c.in-Signals.s) m (subst (λ (x : Item). IsFineItem source around (view.item x) m) c.in-Signals.is f));
 }
 
 pub returns-in-Assigns : goal.returns-in-Assigns
@@ -32,10 +28,10 @@ returns-in-Assigns c = record {
   pieces = λ source around m same.
       subst (λ (x : Item). OnOk c.push_assigns.result (parts_pieces source around c.push_assigns.new.parts.items ≡ parts_pieces source around c.args.parts.now.items ++ (plain_said source around (view.item x) m).pieces)) (sym c.in-Assigns.is)
       (subst (λ (xs : List Assign). OnOk c.push_assigns.result (parts_pieces source around c.push_assigns.new.parts.items ≡ parts_pieces source around c.args.parts.now.items ++ (all_said (assign_said around.env c.in-Assigns.place) (map view.assign xs)).pieces))
-      c.deref-in-Assigns.ensures.value (c.push_assigns.ensures.pieces source around));
+      c.deref.ensures.value (c.push_assigns.ensures.pieces source around));
   fine = λ source around m same f.
       c.push_assigns.ensures.fine source around.env
-      (subst (λ (xs : List Assign). Each (IsFineAssign around.env) (map view.assign xs)) (sym c.deref-in-Assigns.ensures.value)
+      (subst (λ (xs : List Assign). Each (IsFineAssign around.env) (map view.assign xs)) (sym c.deref.ensures.value)
       (assigns_fine source around c.in-Assigns.place _ m (subst (λ (x : Item). IsFineItem source around (view.item x) m) c.in-Assigns.is f)));
 }
 
@@ -43,6 +39,11 @@ pub returns-in_ok-push-in-Always-clause-fine : goal.returns-in_ok-push-in-Always
 returns-in_ok-push-in-Always-clause-fine c = λ source around m same f old.
     part_fine source around.env c.args.parts.now.items c.push.new.self.items _ c.in_ok-push-in-Always.ensures.items old
     (block_fine source around (view.always_block c.in-Always.b) m (subst (λ (x : Item). IsFineItem source around (view.item x) m) c.in-Always.is f))
+
+pub returns-in_ok-push-in-Initial-clause-fine : goal.returns-in_ok-push-in-Initial-clause-fine
+returns-in_ok-push-in-Initial-clause-fine c = λ source around m same f old.
+    part_fine source around.env c.args.parts.now.items c.push-in-Initial.new.self.items _ c.in_ok-push-in-Initial.ensures.items old
+    (initial_fine source around (view.initial_block c.in-Initial.b) m (subst (λ (x : Item). IsFineItem source around (view.item x) m) c.in-Initial.is f))
 
 pub returns-in-Instances : goal.returns-in-Instances
 returns-in-Instances c = record {
@@ -59,7 +60,7 @@ returns-in_default c = record {
   pieces = λ source around m same.
       let blocks : map code.nested c.deref-in_default.result.now ≡ m.blocks = ap (map code.nested) c.deref-in_default.ensures.value ∙ ap (λ (k : code.Kept). k.blocks) same in
       subst (λ (ps : List Piece). OnOk c.push_blocks.result (parts_pieces source around c.push_blocks.new.parts.items ≡ parts_pieces source around c.args.parts.now.items ++ ps))
-      (ap (map (nested_piece around)) blocks ∙ sym (other_pieces source around c.args.item.now m c.in_default.not-Signals c.in_default.not-Assigns c.in_default.not-Always c.in_default.not-Instances)) (c.push_blocks.ensures.pieces source around);
+      (ap (map (nested_piece around)) blocks ∙ sym (other_pieces source around c.args.item.now m c.in_default.not-Signals c.in_default.not-Assigns c.in_default.not-Always c.in_default.not-Initial c.in_default.not-Instances)) (c.push_blocks.ensures.pieces source around);
   fine = λ source around m same f.
       let blocks : map code.nested c.deref-in_default.result.now ≡ m.blocks = ap (map code.nested) c.deref-in_default.ensures.value ∙ ap (λ (k : code.Kept). k.blocks) same in
       c.push_blocks.ensures.fine source around.env (subst (Each (λ (b : Nested). AreFineInside b.items)) (sym blocks) f.made);

@@ -61,6 +61,9 @@ pub open_scope-requires-clause-shaped : goal.open_scope-requires-clause-shaped
 open_scope-requires-clause-shaped c =
     (each_last (IsPending (source_of c.args.text.now) c.args.reading.now.frames.items) c.args.stack.now.items (pending_at c.args.at (parts.Block c.args.name c.args.items c.args.turn)) c.requires.reading.pending).fine.shaped
 
+pub open_scope-requires-clause-header : goal.open_scope-requires-clause-header
+open_scope-requires-clause-header c = omega arith
+
 pub open_scope-requires-clause-shallow : goal.open_scope-requires-clause-shallow
 open_scope-requires-clause-shallow c =
     (each_last (IsPending (source_of c.args.text.now) c.args.reading.now.frames.items) c.args.stack.now.items (pending_at c.args.at (parts.Block c.args.name c.args.items c.args.turn)) c.requires.reading.pending).fine.shallow

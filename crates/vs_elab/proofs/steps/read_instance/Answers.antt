@@ -7,7 +7,7 @@ use Rattle.vs_maps.specs.MapViews.{pairs}
 use Rattle.vs_elab.specs.declared.reading.Reading.{Reading}
 use Rattle.vs_elab.specs.Functions.{IsIdle}
 use Rattle.vs_elab.specs.Reading.{source_of}
-use Rattle.vs_elab.proofs.InstanceCalls.{overrides_shaped, depth_few, frame_within, frame_below, frame_all_below, module_shaped, module_shallow, deepest_told, code_sound, broken_told, frame_still, frame_new, depth_within_limit, pending_still, parts_still, ports_room, ports_wirable, all_done}
+use Rattle.vs_elab.proofs.InstanceCalls.{overrides_shaped, depth_few, frame_within, frame_below, frame_all_below, module_header, module_shaped, module_shallow, deepest_told, code_sound, broken_told, frame_still, frame_new, depth_within_limit, pending_still, parts_still, ports_room, ports_wirable, all_done}
 use Rattle.vs_elab.proofs.steps.read_instance.Goals as goal
 
 pub returns-in_err-left-clause-broken : goal.returns-in_err-left-clause-broken
@@ -41,6 +41,10 @@ open_scope-requires-clause-overrides c =
 pub open_scope-requires-clause-shaped : goal.open_scope-requires-clause-shaped
 open_scope-requires-clause-shaped c =
     module_shaped c.args.text.now c.requires.text c.args.reading.now c.args.stack.now.items c.args.at c.args.item c.args.instance c.args.known.now c.requires.reading c.requires.known
+
+pub open_scope-requires-clause-header : goal.open_scope-requires-clause-header
+open_scope-requires-clause-header c =
+    module_header c.args.text.now c.requires.text c.args.reading.now c.args.stack.now.items c.args.at c.args.item c.args.instance c.args.known.now c.requires.reading c.requires.known
 
 pub open_scope-requires-clause-shallow : goal.open_scope-requires-clause-shallow
 open_scope-requires-clause-shallow c =

@@ -4,14 +4,14 @@ use Rattle.vs_elaborated.specs.Environments.{Env, within}
 use Rattle.vs_elaborated.specs.Generate.{Made}
 use Rattle.vs_elaborated.specs.Instances.{Around}
 use Rattle.vs_elaborated.specs.Limits.{the_limits}
-use Rattle.vs_elaborated.specs.Surveys.{items_said, loops_behind}
+use Rattle.vs_elaborated.specs.Surveys.{loops_behind}
 use Rattle.vs_scope.specs.Complete.{complete}
 use Rattle.vs_scope.specs.Contents.{contents_items}
 use Rattle.vs_scope.specs.Frames.{around_env}
 use Rattle.vs_items.specs.declared.bodies.SaidItems.{SaidItems}
 use Rattle.vs_items.specs.Loops.{SeeTheSame}
 use Rattle.vs_items.specs.Modules.{AreOf}
-use Rattle.vs_items.specs.Said.{IsSaid}
+use Rattle.vs_items.specs.Said.{IsSaid, scope_said}
 use Rattle.vs_elab.proofs.SurveyedScopes.{said_for_all, then_for_all}
 use Rattle.vs_elab.proofs.surveyed.said_here.Goals as goal
 
@@ -22,7 +22,7 @@ returns-clause-said c =
     said_for_all {P = λ (source : tree.Source) (a : Around) (made : List Made). AreOf c.args.text.now.modules source}
     {Q = λ (source : tree.Source) (a : Around) (made : List Made). SeeTheSame a.env here}
     {R = λ (source : tree.Source) (a : Around) (made : List Made). length made ≡ length items}
-    (λ (source : tree.Source) (a : Around) (made : List Made) (s : SaidItems). IsSaid s the_limits.processes c.args.total (items_said the_limits source a c.args.loops.now items made)) c.said_items.result c.said_items.ensures.said
+    (λ (source : tree.Source) (a : Around) (made : List Made) (s : SaidItems). IsSaid s the_limits.processes c.args.total (scope_said source a c.args.loops.now c.args.contents made)) c.said_items.result c.said_items.ensures.said
 
 pub returns-clause-loops : goal.returns-clause-loops
 returns-clause-loops c =

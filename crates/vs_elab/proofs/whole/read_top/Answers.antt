@@ -7,7 +7,7 @@ use Rattle.vs_const.specs.declared.faults.Fault.{Fault}
 use Rattle.vs_elab.specs.declared.error.ElabError.{ElabError}
 use Rattle.vs_elab.specs.declared.reading.Reading.{Reading}
 use Rattle.vs_elab.specs.Reading.{Tells, design_so_far, source_of, totals_so_far}
-use Rattle.vs_elab.proofs.TopReading.{items_shallow, none_override, top_sound, top_is, top_reading, top_outcome, top_fails, first_pieces, first_parts, first_there, none_pending}
+use Rattle.vs_elab.proofs.TopReading.{header_shallow, items_shallow, none_override, top_sound, top_is, top_reading, top_outcome, top_fails, first_pieces, first_parts, first_there, none_pending}
 use Rattle.vs_elab.proofs.whole.read_top.Goals as goal
 
 pub open_scope-requires-clause-sound : goal.open_scope-requires-clause-sound
@@ -15,6 +15,9 @@ open_scope-requires-clause-sound c = top_sound _ c.nothing_read-reading.result.f
 
 pub open_scope-requires-clause-overrides : goal.open_scope-requires-clause-overrides
 open_scope-requires-clause-overrides c = none_override c.nothing_read-reading.result.frames.items c.new-none.result c.new-none.ensures
+
+pub open_scope-requires-clause-header : goal.open_scope-requires-clause-header
+open_scope-requires-clause-header c = header_shallow c.args.top.now.of.now c.requires.shallow
 
 pub open_scope-requires-clause-shallow : goal.open_scope-requires-clause-shallow
 open_scope-requires-clause-shallow c = items_shallow c.args.top.now.of.now c.requires.shallow

@@ -8,11 +8,11 @@ use Rattle.vs_flat.proofs.laws.example_law.Goals as goal
 
 example_lawful : IsLawful example_arena
 example_lawful = record {
-  design = record { scopes = refl; numbered = refl; bits_numbered = refl; declared = refl; memories = refl; formed = refl; functions = refl; clocked_words = refl; few_bits = omega arith; few_processes = omega arith };
+  design = record { scopes = refl; numbered = refl; bits_numbered = refl; declared = refl; memories = refl; formed = refl; initials = refl; behind = refl; functions = refl; clocked_words = refl; few_bits = omega arith; few_processes = omega arith };
   few_scopes = omega arith;
   few_nodes = omega arith;
   few_statements = omega arith;
-  names = record { nodes = refl; statements = refl; processes = refl; calls = refl; bodies = refl; matched = omega arith; rising = refl };
+  names = record { nodes = refl; statements = refl; processes = refl; initials = refl; calls = refl; bodies = refl; matched = omega arith; rising = refl };
   few_functions = omega arith;
   complete = refl;
   locals = refl;
@@ -29,11 +29,11 @@ example_lawful = record {
 
 block_lawful : IsLawful block_arena
 block_lawful = record {
-  design = record { scopes = refl; numbered = refl; bits_numbered = refl; declared = refl; memories = refl; formed = refl; functions = refl; clocked_words = refl; few_bits = omega arith; few_processes = omega arith };
+  design = record { scopes = refl; numbered = refl; bits_numbered = refl; declared = refl; memories = refl; formed = refl; initials = refl; behind = refl; functions = refl; clocked_words = refl; few_bits = omega arith; few_processes = omega arith };
   few_scopes = omega arith;
   few_nodes = omega arith;
   few_statements = omega arith;
-  names = record { nodes = refl; statements = refl; processes = refl; calls = refl; bodies = refl; matched = omega arith; rising = refl };
+  names = record { nodes = refl; statements = refl; processes = refl; initials = refl; calls = refl; bodies = refl; matched = omega arith; rising = refl };
   few_functions = omega arith;
   complete = refl;
   locals = refl;
@@ -50,11 +50,11 @@ block_lawful = record {
 
 function_lawful : IsLawful function_arena
 function_lawful = record {
-  design = record { scopes = refl; numbered = refl; bits_numbered = refl; declared = refl; memories = refl; formed = refl; functions = refl; clocked_words = refl; few_bits = omega arith; few_processes = omega arith };
+  design = record { scopes = refl; numbered = refl; bits_numbered = refl; declared = refl; memories = refl; formed = refl; initials = refl; behind = refl; functions = refl; clocked_words = refl; few_bits = omega arith; few_processes = omega arith };
   few_scopes = omega arith;
   few_nodes = omega arith;
   few_statements = omega arith;
-  names = record { nodes = refl; statements = refl; processes = refl; calls = refl; bodies = refl; matched = omega arith; rising = refl };
+  names = record { nodes = refl; statements = refl; processes = refl; initials = refl; calls = refl; bodies = refl; matched = omega arith; rising = refl };
   few_functions = omega arith;
   complete = refl;
   locals = refl;
@@ -71,11 +71,11 @@ function_lawful = record {
 
 word_lawful : IsLawful word_arena
 word_lawful = record {
-  design = record { scopes = refl; numbered = refl; bits_numbered = refl; declared = refl; memories = refl; formed = refl; functions = refl; clocked_words = refl; few_bits = omega arith; few_processes = omega arith };
+  design = record { scopes = refl; numbered = refl; bits_numbered = refl; declared = refl; memories = refl; formed = refl; initials = refl; behind = refl; functions = refl; clocked_words = refl; few_bits = omega arith; few_processes = omega arith };
   few_scopes = omega arith;
   few_nodes = omega arith;
   few_statements = omega arith;
-  names = record { nodes = refl; statements = refl; processes = refl; calls = refl; bodies = refl; matched = omega arith; rising = refl };
+  names = record { nodes = refl; statements = refl; processes = refl; initials = refl; calls = refl; bodies = refl; matched = omega arith; rising = refl };
   few_functions = omega arith;
   complete = refl;
   locals = refl;

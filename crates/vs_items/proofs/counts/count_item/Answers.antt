@@ -4,8 +4,8 @@ use Rattle.vs_ast.specs.declared.items.Item.{Item}
 use Rattle.vs_ast.specs.Views as view
 use Rattle.vs_elaborated.specs.Environments.{named}
 use Rattle.vs_elaborated.specs.Statements.{typed_control}
-use Rattle.vs_elaborated.specs.Pieces.{Own}
-use Rattle.vs_elaborated.specs.Surveys.{block_statement, item_said}
+use Rattle.vs_elaborated.specs.Pieces.{Own, Initially}
+use Rattle.vs_elaborated.specs.Surveys.{block_statement, initial_statement, item_said}
 use Rattle.vs_items.specs.Counts.{IsCounted}
 use Rattle.vs_items.proofs.ItemLists.{other_counted, are_others}
 use Rattle.vs_items.proofs.counts.count_item.Goals as goal
@@ -17,6 +17,12 @@ returns-in-Always-clause-counted c = λ limits source around loops made before p
     subst (λ (x : Item). IsCounted c.add.new.self before (ps ++ (item_said limits source around loops (view.item x) made).pieces)) (sym c.in-Always.is)
     (c.add.ensures.counted before ps (Own (Always b.place e.star e.events (block_statement limits around.env loops b).statement)) h refl refl)
 
+pub returns-in-Initial-clause-counted : goal.returns-in-Initial-clause-counted
+returns-in-Initial-clause-counted c = λ limits source around loops made before ps a h.
+    let b = view.initial_block c.in-Initial.b in
+    subst (λ (x : Item). IsCounted c.add-in-Initial.new.self before (ps ++ (item_said limits source around loops (view.item x) made).pieces)) (sym c.in-Initial.is)
+    (c.add-in-Initial.ensures.counted before ps (Initially b.place (initial_statement limits around.env loops b).statement) h refl refl)
+
 pub returns-in-Instances-clause-counted : goal.returns-in-Instances-clause-counted
 returns-in-Instances-clause-counted c = λ limits source around loops made before ps a h.
     subst (λ (x : Item). OnOk c.count_instances.result (IsCounted c.count_instances.new.count before (ps ++ (item_said limits source around loops (view.item x) made).pieces))) (sym c.in-Instances.is)
@@ -27,5 +33,5 @@ returns-in_default c = record {
   most = refl;
   counted = λ limits source around loops made before ps a h.
       other_counted limits source around loops (view.item c.args.item.now) made c.args.count.now before ps
-      (are_others c.args.item.now c.in_default.not-Signals c.in_default.not-Assigns c.in_default.not-Always c.in_default.not-Instances) h;
+      (are_others c.args.item.now c.in_default.not-Signals c.in_default.not-Assigns c.in_default.not-Always c.in_default.not-Initial c.in_default.not-Instances) h;
 }

@@ -10,10 +10,10 @@ pub returns-in_err-range : goal.returns-in_err-range
 returns-in_err-range c = answer_exit _ _ c.from_residual-in_err-range.result c.in_err-range.field-0.0 c.from_residual-in_err-range.ensures.1 (refused_then (read_tok c.args.depth.limit c.in_ok-word.ensures) (refused_then c.optional-signed.ensures.read (refused_seq c.in_err-range.ensures)))
 
 pub returns-in_err-range-2 : goal.returns-in_err-range-2
-returns-in_err-range-2 c = answer_exit _ _ c.from_residual-in_err-range-2.result c.in_err-range-2.field-0.0 c.from_residual-in_err-range-2.ensures.1 (refused_then (read_tok c.args.depth.limit c.in_ok-word.ensures) (refused_then c.optional-signed.ensures.read (refused_then c.in_ok-range.ensures.read (refused_seq (err_at _ _ c.in_err-range-2.ensures c.wire_declarators-names.ensures)))))
+returns-in_err-range-2 c = answer_exit _ _ c.from_residual-in_err-range-2.result c.in_err-range-2.field-0.0 c.from_residual-in_err-range-2.ensures.1 (refused_then (read_tok c.args.depth.limit c.in_ok-word.ensures) (refused_then c.optional-signed.ensures.read (refused_then c.in_ok-range.ensures.read (refused_seq (err_at _ _ c.in_err-range-2.ensures c.declarators-names.ensures)))))
 
 pub returns-in_err-declared : goal.returns-in_err-declared
-returns-in_err-declared c = answer_exit _ _ c.from_residual-in_err-declared.result c.in_err-declared.field-0.0 c.from_residual-in_err-declared.ensures.1 (refused_then (read_tok c.args.depth.limit c.in_ok-word.ensures) (refused_then c.optional-signed.ensures.read (refused_then c.in_ok-range.ensures.read (refused_then (ok_at _ _ c.in_ok-range-2.ensures.1 c.wire_declarators-names.ensures).read (refused_missing (err_at _ _ c.in_err-declared.ensures c.take-end.ensures))))))
+returns-in_err-declared c = answer_exit _ _ c.from_residual-in_err-declared.result c.in_err-declared.field-0.0 c.from_residual-in_err-declared.ensures.1 (refused_then (read_tok c.args.depth.limit c.in_ok-word.ensures) (refused_then c.optional-signed.ensures.read (refused_then c.in_ok-range.ensures.read (refused_then (ok_at _ _ c.in_ok-range-2.ensures.1 c.declarators-names.ensures).read (refused_missing (err_at _ _ c.in_err-declared.ensures c.take-end.ensures))))))
 
 pub returns : goal.returns
-returns c = rw (c.in_ok-declared.ensures.0, c.in_ok-range-2.ensures.0) (parsed (read_seq (read_tok c.args.depth.limit c.in_ok-word.ensures) (read_seq c.optional-signed.ensures.read (read_seq c.in_ok-range.ensures.read (read_seq (ok_at _ _ c.in_ok-range-2.ensures.1 c.wire_declarators-names.ensures).read (read_tok c.args.depth.limit (ok_at _ _ c.in_ok-declared.ensures.1 c.take-end.ensures)))))) (ap3 (λ s g l. tree.SignalsItem (record { place = c.args.at; kind = tree.Wire; signed = s; range = g; names = l })) c.optional-signed.ensures.made c.in_ok-range.ensures.made (ok_at _ _ c.in_ok-range-2.ensures.1 c.wire_declarators-names.ensures).made))
+returns c = rw (c.in_ok-declared.ensures.0, c.in_ok-range-2.ensures.0) (parsed (read_seq (read_tok c.args.depth.limit c.in_ok-word.ensures) (read_seq c.optional-signed.ensures.read (read_seq c.in_ok-range.ensures.read (read_seq (ok_at _ _ c.in_ok-range-2.ensures.1 c.declarators-names.ensures).read (read_tok c.args.depth.limit (ok_at _ _ c.in_ok-declared.ensures.1 c.take-end.ensures)))))) (ap3 (λ s g l. tree.SignalsItem (record { place = c.args.at; kind = tree.Wire; signed = s; range = g; names = l })) c.optional-signed.ensures.made c.in_ok-range.ensures.made (ok_at _ _ c.in_ok-range-2.ensures.1 c.declarators-names.ensures).made))

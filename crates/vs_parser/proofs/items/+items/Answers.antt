@@ -31,22 +31,25 @@ pub generate_item-returns-then-stands-5 : goal.generate_item-returns-then-stands
 generate_item-returns-then-stands-5 t c = answer_more c.always.result c.always.ensures (λ f w. parsed (read_var (read_latter (one_false _ c.stands.result c.stands.ensures c.if-stands.false) (read_latter (one_false _ c.stands-else-stands.result c.stands-else-stands.ensures c.if-stands-2.false) (read_latter (one_false _ c.stands-else-stands-2.result c.stands-else-stands-2.ensures c.if-stands-3.false) (read_latter (one_false _ c.stands-else-stands-3.result c.stands-else-stands-3.ensures c.if-stands-4.false) (read_former (one_true _ c.stands-else-stands-4.result c.stands-else-stands-4.ensures c.if-stands-5.true) w.read)))))) w.made) (λ e w. (refused_var (refused_latter (one_false _ c.stands.result c.stands.ensures c.if-stands.false) (refused_latter (one_false _ c.stands-else-stands.result c.stands-else-stands.ensures c.if-stands-2.false) (refused_latter (one_false _ c.stands-else-stands-2.result c.stands-else-stands-2.ensures c.if-stands-3.false) (refused_latter (one_false _ c.stands-else-stands-3.result c.stands-else-stands-3.ensures c.if-stands-4.false) (refused_former (one_true _ c.stands-else-stands-4.result c.stands-else-stands-4.ensures c.if-stands-5.true) w)))))))
 
 pub generate_item-returns-then-stands-6 : goal.generate_item-returns-then-stands-6
-generate_item-returns-then-stands-6 t c = answer_more c.genvars.result c.genvars.ensures (λ f w. parsed (read_var (read_latter (one_false _ c.stands.result c.stands.ensures c.if-stands.false) (read_latter (one_false _ c.stands-else-stands.result c.stands-else-stands.ensures c.if-stands-2.false) (read_latter (one_false _ c.stands-else-stands-2.result c.stands-else-stands-2.ensures c.if-stands-3.false) (read_latter (one_false _ c.stands-else-stands-3.result c.stands-else-stands-3.ensures c.if-stands-4.false) (read_latter (one_false _ c.stands-else-stands-4.result c.stands-else-stands-4.ensures c.if-stands-5.false) (read_former (one_true _ c.stands-else-stands-5.result c.stands-else-stands-5.ensures c.if-stands-6.true) w.read))))))) w.made) (λ e w. (refused_var (refused_latter (one_false _ c.stands.result c.stands.ensures c.if-stands.false) (refused_latter (one_false _ c.stands-else-stands.result c.stands-else-stands.ensures c.if-stands-2.false) (refused_latter (one_false _ c.stands-else-stands-2.result c.stands-else-stands-2.ensures c.if-stands-3.false) (refused_latter (one_false _ c.stands-else-stands-3.result c.stands-else-stands-3.ensures c.if-stands-4.false) (refused_latter (one_false _ c.stands-else-stands-4.result c.stands-else-stands-4.ensures c.if-stands-5.false) (refused_former (one_true _ c.stands-else-stands-5.result c.stands-else-stands-5.ensures c.if-stands-6.true) w))))))))
+generate_item-returns-then-stands-6 t c = answer_more c.initial.result c.initial.ensures (λ f w. parsed (read_var (read_latter (one_false _ c.stands.result c.stands.ensures c.if-stands.false) (read_latter (one_false _ c.stands-else-stands.result c.stands-else-stands.ensures c.if-stands-2.false) (read_latter (one_false _ c.stands-else-stands-2.result c.stands-else-stands-2.ensures c.if-stands-3.false) (read_latter (one_false _ c.stands-else-stands-3.result c.stands-else-stands-3.ensures c.if-stands-4.false) (read_latter (one_false _ c.stands-else-stands-4.result c.stands-else-stands-4.ensures c.if-stands-5.false) (read_former (one_true _ c.stands-else-stands-5.result c.stands-else-stands-5.ensures c.if-stands-6.true) w.read))))))) w.made) (λ e w. (refused_var (refused_latter (one_false _ c.stands.result c.stands.ensures c.if-stands.false) (refused_latter (one_false _ c.stands-else-stands.result c.stands-else-stands.ensures c.if-stands-2.false) (refused_latter (one_false _ c.stands-else-stands-2.result c.stands-else-stands-2.ensures c.if-stands-3.false) (refused_latter (one_false _ c.stands-else-stands-3.result c.stands-else-stands-3.ensures c.if-stands-4.false) (refused_latter (one_false _ c.stands-else-stands-4.result c.stands-else-stands-4.ensures c.if-stands-5.false) (refused_former (one_true _ c.stands-else-stands-5.result c.stands-else-stands-5.ensures c.if-stands-6.true) w))))))))
 
 pub generate_item-returns-then-stands-7 : goal.generate_item-returns-then-stands-7
-generate_item-returns-then-stands-7 t c = answer_more c.integers.result c.integers.ensures (λ f w. parsed (read_var (read_latter (one_false _ c.stands.result c.stands.ensures c.if-stands.false) (read_latter (one_false _ c.stands-else-stands.result c.stands-else-stands.ensures c.if-stands-2.false) (read_latter (one_false _ c.stands-else-stands-2.result c.stands-else-stands-2.ensures c.if-stands-3.false) (read_latter (one_false _ c.stands-else-stands-3.result c.stands-else-stands-3.ensures c.if-stands-4.false) (read_latter (one_false _ c.stands-else-stands-4.result c.stands-else-stands-4.ensures c.if-stands-5.false) (read_latter (one_false _ c.stands-else-stands-5.result c.stands-else-stands-5.ensures c.if-stands-6.false) (read_former (one_true _ c.stands-else-stands-6.result c.stands-else-stands-6.ensures c.if-stands-7.true) w.read)))))))) w.made) (λ e w. (refused_var (refused_latter (one_false _ c.stands.result c.stands.ensures c.if-stands.false) (refused_latter (one_false _ c.stands-else-stands.result c.stands-else-stands.ensures c.if-stands-2.false) (refused_latter (one_false _ c.stands-else-stands-2.result c.stands-else-stands-2.ensures c.if-stands-3.false) (refused_latter (one_false _ c.stands-else-stands-3.result c.stands-else-stands-3.ensures c.if-stands-4.false) (refused_latter (one_false _ c.stands-else-stands-4.result c.stands-else-stands-4.ensures c.if-stands-5.false) (refused_latter (one_false _ c.stands-else-stands-5.result c.stands-else-stands-5.ensures c.if-stands-6.false) (refused_former (one_true _ c.stands-else-stands-6.result c.stands-else-stands-6.ensures c.if-stands-7.true) w)))))))))
+generate_item-returns-then-stands-7 t c = answer_more c.genvars.result c.genvars.ensures (λ f w. parsed (read_var (read_latter (one_false _ c.stands.result c.stands.ensures c.if-stands.false) (read_latter (one_false _ c.stands-else-stands.result c.stands-else-stands.ensures c.if-stands-2.false) (read_latter (one_false _ c.stands-else-stands-2.result c.stands-else-stands-2.ensures c.if-stands-3.false) (read_latter (one_false _ c.stands-else-stands-3.result c.stands-else-stands-3.ensures c.if-stands-4.false) (read_latter (one_false _ c.stands-else-stands-4.result c.stands-else-stands-4.ensures c.if-stands-5.false) (read_latter (one_false _ c.stands-else-stands-5.result c.stands-else-stands-5.ensures c.if-stands-6.false) (read_former (one_true _ c.stands-else-stands-6.result c.stands-else-stands-6.ensures c.if-stands-7.true) w.read)))))))) w.made) (λ e w. (refused_var (refused_latter (one_false _ c.stands.result c.stands.ensures c.if-stands.false) (refused_latter (one_false _ c.stands-else-stands.result c.stands-else-stands.ensures c.if-stands-2.false) (refused_latter (one_false _ c.stands-else-stands-2.result c.stands-else-stands-2.ensures c.if-stands-3.false) (refused_latter (one_false _ c.stands-else-stands-3.result c.stands-else-stands-3.ensures c.if-stands-4.false) (refused_latter (one_false _ c.stands-else-stands-4.result c.stands-else-stands-4.ensures c.if-stands-5.false) (refused_latter (one_false _ c.stands-else-stands-5.result c.stands-else-stands-5.ensures c.if-stands-6.false) (refused_former (one_true _ c.stands-else-stands-6.result c.stands-else-stands-6.ensures c.if-stands-7.true) w)))))))))
 
 pub generate_item-returns-then-stands-8 : goal.generate_item-returns-then-stands-8
-generate_item-returns-then-stands-8 t c = answer_more c.instances.result c.instances.ensures (λ f w. parsed (read_var (read_latter (one_false _ c.stands.result c.stands.ensures c.if-stands.false) (read_latter (one_false _ c.stands-else-stands.result c.stands-else-stands.ensures c.if-stands-2.false) (read_latter (one_false _ c.stands-else-stands-2.result c.stands-else-stands-2.ensures c.if-stands-3.false) (read_latter (one_false _ c.stands-else-stands-3.result c.stands-else-stands-3.ensures c.if-stands-4.false) (read_latter (one_false _ c.stands-else-stands-4.result c.stands-else-stands-4.ensures c.if-stands-5.false) (read_latter (one_false _ c.stands-else-stands-5.result c.stands-else-stands-5.ensures c.if-stands-6.false) (read_latter (one_false _ c.stands-else-stands-6.result c.stands-else-stands-6.ensures c.if-stands-7.false) (read_former (one_true _ c.stands-else-stands-7.result c.stands-else-stands-7.ensures c.if-stands-8.true) w.read))))))))) w.made) (λ e w. (refused_var (refused_latter (one_false _ c.stands.result c.stands.ensures c.if-stands.false) (refused_latter (one_false _ c.stands-else-stands.result c.stands-else-stands.ensures c.if-stands-2.false) (refused_latter (one_false _ c.stands-else-stands-2.result c.stands-else-stands-2.ensures c.if-stands-3.false) (refused_latter (one_false _ c.stands-else-stands-3.result c.stands-else-stands-3.ensures c.if-stands-4.false) (refused_latter (one_false _ c.stands-else-stands-4.result c.stands-else-stands-4.ensures c.if-stands-5.false) (refused_latter (one_false _ c.stands-else-stands-5.result c.stands-else-stands-5.ensures c.if-stands-6.false) (refused_latter (one_false _ c.stands-else-stands-6.result c.stands-else-stands-6.ensures c.if-stands-7.false) (refused_former (one_true _ c.stands-else-stands-7.result c.stands-else-stands-7.ensures c.if-stands-8.true) w))))))))))
+generate_item-returns-then-stands-8 t c = answer_more c.integers.result c.integers.ensures (λ f w. parsed (read_var (read_latter (one_false _ c.stands.result c.stands.ensures c.if-stands.false) (read_latter (one_false _ c.stands-else-stands.result c.stands-else-stands.ensures c.if-stands-2.false) (read_latter (one_false _ c.stands-else-stands-2.result c.stands-else-stands-2.ensures c.if-stands-3.false) (read_latter (one_false _ c.stands-else-stands-3.result c.stands-else-stands-3.ensures c.if-stands-4.false) (read_latter (one_false _ c.stands-else-stands-4.result c.stands-else-stands-4.ensures c.if-stands-5.false) (read_latter (one_false _ c.stands-else-stands-5.result c.stands-else-stands-5.ensures c.if-stands-6.false) (read_latter (one_false _ c.stands-else-stands-6.result c.stands-else-stands-6.ensures c.if-stands-7.false) (read_former (one_true _ c.stands-else-stands-7.result c.stands-else-stands-7.ensures c.if-stands-8.true) w.read))))))))) w.made) (λ e w. (refused_var (refused_latter (one_false _ c.stands.result c.stands.ensures c.if-stands.false) (refused_latter (one_false _ c.stands-else-stands.result c.stands-else-stands.ensures c.if-stands-2.false) (refused_latter (one_false _ c.stands-else-stands-2.result c.stands-else-stands-2.ensures c.if-stands-3.false) (refused_latter (one_false _ c.stands-else-stands-3.result c.stands-else-stands-3.ensures c.if-stands-4.false) (refused_latter (one_false _ c.stands-else-stands-4.result c.stands-else-stands-4.ensures c.if-stands-5.false) (refused_latter (one_false _ c.stands-else-stands-5.result c.stands-else-stands-5.ensures c.if-stands-6.false) (refused_latter (one_false _ c.stands-else-stands-6.result c.stands-else-stands-6.ensures c.if-stands-7.false) (refused_former (one_true _ c.stands-else-stands-7.result c.stands-else-stands-7.ensures c.if-stands-8.true) w))))))))))
 
 pub generate_item-returns-then-stands-9 : goal.generate_item-returns-then-stands-9
-generate_item-returns-then-stands-9 t c = answer_more c.generate_for.result c.generate_for.ensures (λ f w. parsed (read_var (read_latter (one_false _ c.stands.result c.stands.ensures c.if-stands.false) (read_latter (one_false _ c.stands-else-stands.result c.stands-else-stands.ensures c.if-stands-2.false) (read_latter (one_false _ c.stands-else-stands-2.result c.stands-else-stands-2.ensures c.if-stands-3.false) (read_latter (one_false _ c.stands-else-stands-3.result c.stands-else-stands-3.ensures c.if-stands-4.false) (read_latter (one_false _ c.stands-else-stands-4.result c.stands-else-stands-4.ensures c.if-stands-5.false) (read_latter (one_false _ c.stands-else-stands-5.result c.stands-else-stands-5.ensures c.if-stands-6.false) (read_latter (one_false _ c.stands-else-stands-6.result c.stands-else-stands-6.ensures c.if-stands-7.false) (read_latter (one_false _ c.stands-else-stands-7.result c.stands-else-stands-7.ensures c.if-stands-8.false) (read_former (one_true _ c.stands-else-stands-8.result c.stands-else-stands-8.ensures c.if-stands-9.true) w.read)))))))))) w.made) (λ e w. (refused_var (refused_latter (one_false _ c.stands.result c.stands.ensures c.if-stands.false) (refused_latter (one_false _ c.stands-else-stands.result c.stands-else-stands.ensures c.if-stands-2.false) (refused_latter (one_false _ c.stands-else-stands-2.result c.stands-else-stands-2.ensures c.if-stands-3.false) (refused_latter (one_false _ c.stands-else-stands-3.result c.stands-else-stands-3.ensures c.if-stands-4.false) (refused_latter (one_false _ c.stands-else-stands-4.result c.stands-else-stands-4.ensures c.if-stands-5.false) (refused_latter (one_false _ c.stands-else-stands-5.result c.stands-else-stands-5.ensures c.if-stands-6.false) (refused_latter (one_false _ c.stands-else-stands-6.result c.stands-else-stands-6.ensures c.if-stands-7.false) (refused_latter (one_false _ c.stands-else-stands-7.result c.stands-else-stands-7.ensures c.if-stands-8.false) (refused_former (one_true _ c.stands-else-stands-8.result c.stands-else-stands-8.ensures c.if-stands-9.true) w)))))))))))
+generate_item-returns-then-stands-9 t c = answer_more c.instances.result c.instances.ensures (λ f w. parsed (read_var (read_latter (one_false _ c.stands.result c.stands.ensures c.if-stands.false) (read_latter (one_false _ c.stands-else-stands.result c.stands-else-stands.ensures c.if-stands-2.false) (read_latter (one_false _ c.stands-else-stands-2.result c.stands-else-stands-2.ensures c.if-stands-3.false) (read_latter (one_false _ c.stands-else-stands-3.result c.stands-else-stands-3.ensures c.if-stands-4.false) (read_latter (one_false _ c.stands-else-stands-4.result c.stands-else-stands-4.ensures c.if-stands-5.false) (read_latter (one_false _ c.stands-else-stands-5.result c.stands-else-stands-5.ensures c.if-stands-6.false) (read_latter (one_false _ c.stands-else-stands-6.result c.stands-else-stands-6.ensures c.if-stands-7.false) (read_latter (one_false _ c.stands-else-stands-7.result c.stands-else-stands-7.ensures c.if-stands-8.false) (read_former (one_true _ c.stands-else-stands-8.result c.stands-else-stands-8.ensures c.if-stands-9.true) w.read)))))))))) w.made) (λ e w. (refused_var (refused_latter (one_false _ c.stands.result c.stands.ensures c.if-stands.false) (refused_latter (one_false _ c.stands-else-stands.result c.stands-else-stands.ensures c.if-stands-2.false) (refused_latter (one_false _ c.stands-else-stands-2.result c.stands-else-stands-2.ensures c.if-stands-3.false) (refused_latter (one_false _ c.stands-else-stands-3.result c.stands-else-stands-3.ensures c.if-stands-4.false) (refused_latter (one_false _ c.stands-else-stands-4.result c.stands-else-stands-4.ensures c.if-stands-5.false) (refused_latter (one_false _ c.stands-else-stands-5.result c.stands-else-stands-5.ensures c.if-stands-6.false) (refused_latter (one_false _ c.stands-else-stands-6.result c.stands-else-stands-6.ensures c.if-stands-7.false) (refused_latter (one_false _ c.stands-else-stands-7.result c.stands-else-stands-7.ensures c.if-stands-8.false) (refused_former (one_true _ c.stands-else-stands-8.result c.stands-else-stands-8.ensures c.if-stands-9.true) w)))))))))))
 
 pub generate_item-returns-then-stands-10 : goal.generate_item-returns-then-stands-10
-generate_item-returns-then-stands-10 t c = answer_more c.generate_if.result c.generate_if.ensures (λ f w. parsed (read_var (read_latter (one_false _ c.stands.result c.stands.ensures c.if-stands.false) (read_latter (one_false _ c.stands-else-stands.result c.stands-else-stands.ensures c.if-stands-2.false) (read_latter (one_false _ c.stands-else-stands-2.result c.stands-else-stands-2.ensures c.if-stands-3.false) (read_latter (one_false _ c.stands-else-stands-3.result c.stands-else-stands-3.ensures c.if-stands-4.false) (read_latter (one_false _ c.stands-else-stands-4.result c.stands-else-stands-4.ensures c.if-stands-5.false) (read_latter (one_false _ c.stands-else-stands-5.result c.stands-else-stands-5.ensures c.if-stands-6.false) (read_latter (one_false _ c.stands-else-stands-6.result c.stands-else-stands-6.ensures c.if-stands-7.false) (read_latter (one_false _ c.stands-else-stands-7.result c.stands-else-stands-7.ensures c.if-stands-8.false) (read_latter (one_false _ c.stands-else-stands-8.result c.stands-else-stands-8.ensures c.if-stands-9.false) (read_former (one_true _ c.stands-else-stands-9.result c.stands-else-stands-9.ensures c.if-stands-10.true) w.read))))))))))) w.made) (λ e w. (refused_var (refused_latter (one_false _ c.stands.result c.stands.ensures c.if-stands.false) (refused_latter (one_false _ c.stands-else-stands.result c.stands-else-stands.ensures c.if-stands-2.false) (refused_latter (one_false _ c.stands-else-stands-2.result c.stands-else-stands-2.ensures c.if-stands-3.false) (refused_latter (one_false _ c.stands-else-stands-3.result c.stands-else-stands-3.ensures c.if-stands-4.false) (refused_latter (one_false _ c.stands-else-stands-4.result c.stands-else-stands-4.ensures c.if-stands-5.false) (refused_latter (one_false _ c.stands-else-stands-5.result c.stands-else-stands-5.ensures c.if-stands-6.false) (refused_latter (one_false _ c.stands-else-stands-6.result c.stands-else-stands-6.ensures c.if-stands-7.false) (refused_latter (one_false _ c.stands-else-stands-7.result c.stands-else-stands-7.ensures c.if-stands-8.false) (refused_latter (one_false _ c.stands-else-stands-8.result c.stands-else-stands-8.ensures c.if-stands-9.false) (refused_former (one_true _ c.stands-else-stands-9.result c.stands-else-stands-9.ensures c.if-stands-10.true) w))))))))))))
+generate_item-returns-then-stands-10 t c = answer_more c.generate_for.result c.generate_for.ensures (λ f w. parsed (read_var (read_latter (one_false _ c.stands.result c.stands.ensures c.if-stands.false) (read_latter (one_false _ c.stands-else-stands.result c.stands-else-stands.ensures c.if-stands-2.false) (read_latter (one_false _ c.stands-else-stands-2.result c.stands-else-stands-2.ensures c.if-stands-3.false) (read_latter (one_false _ c.stands-else-stands-3.result c.stands-else-stands-3.ensures c.if-stands-4.false) (read_latter (one_false _ c.stands-else-stands-4.result c.stands-else-stands-4.ensures c.if-stands-5.false) (read_latter (one_false _ c.stands-else-stands-5.result c.stands-else-stands-5.ensures c.if-stands-6.false) (read_latter (one_false _ c.stands-else-stands-6.result c.stands-else-stands-6.ensures c.if-stands-7.false) (read_latter (one_false _ c.stands-else-stands-7.result c.stands-else-stands-7.ensures c.if-stands-8.false) (read_latter (one_false _ c.stands-else-stands-8.result c.stands-else-stands-8.ensures c.if-stands-9.false) (read_former (one_true _ c.stands-else-stands-9.result c.stands-else-stands-9.ensures c.if-stands-10.true) w.read))))))))))) w.made) (λ e w. (refused_var (refused_latter (one_false _ c.stands.result c.stands.ensures c.if-stands.false) (refused_latter (one_false _ c.stands-else-stands.result c.stands-else-stands.ensures c.if-stands-2.false) (refused_latter (one_false _ c.stands-else-stands-2.result c.stands-else-stands-2.ensures c.if-stands-3.false) (refused_latter (one_false _ c.stands-else-stands-3.result c.stands-else-stands-3.ensures c.if-stands-4.false) (refused_latter (one_false _ c.stands-else-stands-4.result c.stands-else-stands-4.ensures c.if-stands-5.false) (refused_latter (one_false _ c.stands-else-stands-5.result c.stands-else-stands-5.ensures c.if-stands-6.false) (refused_latter (one_false _ c.stands-else-stands-6.result c.stands-else-stands-6.ensures c.if-stands-7.false) (refused_latter (one_false _ c.stands-else-stands-7.result c.stands-else-stands-7.ensures c.if-stands-8.false) (refused_latter (one_false _ c.stands-else-stands-8.result c.stands-else-stands-8.ensures c.if-stands-9.false) (refused_former (one_true _ c.stands-else-stands-9.result c.stands-else-stands-9.ensures c.if-stands-10.true) w))))))))))))
 
-pub generate_item-returns-else-stands-10 : goal.generate_item-returns-else-stands-10
-generate_item-returns-else-stands-10 t c = answer_more c.generate_case.result c.generate_case.ensures (λ f w. parsed (read_var (read_latter (one_false _ c.stands.result c.stands.ensures c.if-stands.false) (read_latter (one_false _ c.stands-else-stands.result c.stands-else-stands.ensures c.if-stands-2.false) (read_latter (one_false _ c.stands-else-stands-2.result c.stands-else-stands-2.ensures c.if-stands-3.false) (read_latter (one_false _ c.stands-else-stands-3.result c.stands-else-stands-3.ensures c.if-stands-4.false) (read_latter (one_false _ c.stands-else-stands-4.result c.stands-else-stands-4.ensures c.if-stands-5.false) (read_latter (one_false _ c.stands-else-stands-5.result c.stands-else-stands-5.ensures c.if-stands-6.false) (read_latter (one_false _ c.stands-else-stands-6.result c.stands-else-stands-6.ensures c.if-stands-7.false) (read_latter (one_false _ c.stands-else-stands-7.result c.stands-else-stands-7.ensures c.if-stands-8.false) (read_latter (one_false _ c.stands-else-stands-8.result c.stands-else-stands-8.ensures c.if-stands-9.false) (read_latter (one_false _ c.stands-else-stands-9.result c.stands-else-stands-9.ensures c.if-stands-10.false) w.read))))))))))) w.made) (λ e w. (refused_var (refused_latter (one_false _ c.stands.result c.stands.ensures c.if-stands.false) (refused_latter (one_false _ c.stands-else-stands.result c.stands-else-stands.ensures c.if-stands-2.false) (refused_latter (one_false _ c.stands-else-stands-2.result c.stands-else-stands-2.ensures c.if-stands-3.false) (refused_latter (one_false _ c.stands-else-stands-3.result c.stands-else-stands-3.ensures c.if-stands-4.false) (refused_latter (one_false _ c.stands-else-stands-4.result c.stands-else-stands-4.ensures c.if-stands-5.false) (refused_latter (one_false _ c.stands-else-stands-5.result c.stands-else-stands-5.ensures c.if-stands-6.false) (refused_latter (one_false _ c.stands-else-stands-6.result c.stands-else-stands-6.ensures c.if-stands-7.false) (refused_latter (one_false _ c.stands-else-stands-7.result c.stands-else-stands-7.ensures c.if-stands-8.false) (refused_latter (one_false _ c.stands-else-stands-8.result c.stands-else-stands-8.ensures c.if-stands-9.false) (refused_latter (one_false _ c.stands-else-stands-9.result c.stands-else-stands-9.ensures c.if-stands-10.false) w))))))))))))
+pub generate_item-returns-then-stands-11 : goal.generate_item-returns-then-stands-11
+generate_item-returns-then-stands-11 t c = answer_more c.generate_if.result c.generate_if.ensures (λ f w. parsed (read_var (read_latter (one_false _ c.stands.result c.stands.ensures c.if-stands.false) (read_latter (one_false _ c.stands-else-stands.result c.stands-else-stands.ensures c.if-stands-2.false) (read_latter (one_false _ c.stands-else-stands-2.result c.stands-else-stands-2.ensures c.if-stands-3.false) (read_latter (one_false _ c.stands-else-stands-3.result c.stands-else-stands-3.ensures c.if-stands-4.false) (read_latter (one_false _ c.stands-else-stands-4.result c.stands-else-stands-4.ensures c.if-stands-5.false) (read_latter (one_false _ c.stands-else-stands-5.result c.stands-else-stands-5.ensures c.if-stands-6.false) (read_latter (one_false _ c.stands-else-stands-6.result c.stands-else-stands-6.ensures c.if-stands-7.false) (read_latter (one_false _ c.stands-else-stands-7.result c.stands-else-stands-7.ensures c.if-stands-8.false) (read_latter (one_false _ c.stands-else-stands-8.result c.stands-else-stands-8.ensures c.if-stands-9.false) (read_latter (one_false _ c.stands-else-stands-9.result c.stands-else-stands-9.ensures c.if-stands-10.false) (read_former (one_true _ c.stands-else-stands-10.result c.stands-else-stands-10.ensures c.if-stands-11.true) w.read)))))))))))) w.made) (λ e w. (refused_var (refused_latter (one_false _ c.stands.result c.stands.ensures c.if-stands.false) (refused_latter (one_false _ c.stands-else-stands.result c.stands-else-stands.ensures c.if-stands-2.false) (refused_latter (one_false _ c.stands-else-stands-2.result c.stands-else-stands-2.ensures c.if-stands-3.false) (refused_latter (one_false _ c.stands-else-stands-3.result c.stands-else-stands-3.ensures c.if-stands-4.false) (refused_latter (one_false _ c.stands-else-stands-4.result c.stands-else-stands-4.ensures c.if-stands-5.false) (refused_latter (one_false _ c.stands-else-stands-5.result c.stands-else-stands-5.ensures c.if-stands-6.false) (refused_latter (one_false _ c.stands-else-stands-6.result c.stands-else-stands-6.ensures c.if-stands-7.false) (refused_latter (one_false _ c.stands-else-stands-7.result c.stands-else-stands-7.ensures c.if-stands-8.false) (refused_latter (one_false _ c.stands-else-stands-8.result c.stands-else-stands-8.ensures c.if-stands-9.false) (refused_latter (one_false _ c.stands-else-stands-9.result c.stands-else-stands-9.ensures c.if-stands-10.false) (refused_former (one_true _ c.stands-else-stands-10.result c.stands-else-stands-10.ensures c.if-stands-11.true) w)))))))))))))
+
+pub generate_item-returns-else-stands-11 : goal.generate_item-returns-else-stands-11
+generate_item-returns-else-stands-11 t c = answer_more c.generate_case.result c.generate_case.ensures (λ f w. parsed (read_var (read_latter (one_false _ c.stands.result c.stands.ensures c.if-stands.false) (read_latter (one_false _ c.stands-else-stands.result c.stands-else-stands.ensures c.if-stands-2.false) (read_latter (one_false _ c.stands-else-stands-2.result c.stands-else-stands-2.ensures c.if-stands-3.false) (read_latter (one_false _ c.stands-else-stands-3.result c.stands-else-stands-3.ensures c.if-stands-4.false) (read_latter (one_false _ c.stands-else-stands-4.result c.stands-else-stands-4.ensures c.if-stands-5.false) (read_latter (one_false _ c.stands-else-stands-5.result c.stands-else-stands-5.ensures c.if-stands-6.false) (read_latter (one_false _ c.stands-else-stands-6.result c.stands-else-stands-6.ensures c.if-stands-7.false) (read_latter (one_false _ c.stands-else-stands-7.result c.stands-else-stands-7.ensures c.if-stands-8.false) (read_latter (one_false _ c.stands-else-stands-8.result c.stands-else-stands-8.ensures c.if-stands-9.false) (read_latter (one_false _ c.stands-else-stands-9.result c.stands-else-stands-9.ensures c.if-stands-10.false) (read_latter (one_false _ c.stands-else-stands-10.result c.stands-else-stands-10.ensures c.if-stands-11.false) w.read)))))))))))) w.made) (λ e w. (refused_var (refused_latter (one_false _ c.stands.result c.stands.ensures c.if-stands.false) (refused_latter (one_false _ c.stands-else-stands.result c.stands-else-stands.ensures c.if-stands-2.false) (refused_latter (one_false _ c.stands-else-stands-2.result c.stands-else-stands-2.ensures c.if-stands-3.false) (refused_latter (one_false _ c.stands-else-stands-3.result c.stands-else-stands-3.ensures c.if-stands-4.false) (refused_latter (one_false _ c.stands-else-stands-4.result c.stands-else-stands-4.ensures c.if-stands-5.false) (refused_latter (one_false _ c.stands-else-stands-5.result c.stands-else-stands-5.ensures c.if-stands-6.false) (refused_latter (one_false _ c.stands-else-stands-6.result c.stands-else-stands-6.ensures c.if-stands-7.false) (refused_latter (one_false _ c.stands-else-stands-7.result c.stands-else-stands-7.ensures c.if-stands-8.false) (refused_latter (one_false _ c.stands-else-stands-8.result c.stands-else-stands-8.ensures c.if-stands-9.false) (refused_latter (one_false _ c.stands-else-stands-9.result c.stands-else-stands-9.ensures c.if-stands-10.false) (refused_latter (one_false _ c.stands-else-stands-10.result c.stands-else-stands-10.ensures c.if-stands-11.false) w)))))))))))))
 
 pub generate_for-returns-in_err-head : goal.generate_for-returns-in_err-head
 generate_for-returns-in_err-head t c = answer_exit _ _ c.from_residual.result c.in_err-head.field-0.0 c.from_residual.ensures.1 (refused_seq c.in_err-head.ensures)

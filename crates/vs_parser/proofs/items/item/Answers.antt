@@ -7,7 +7,7 @@ use Rattle.vs_statements.specs.Reading.{bytes_in}
 use Rattle.vs_statements.specs.Reading.Refused.{out_of_memory}
 use Rattle.vs_statements.proofs.Places.{answer_exit, refused_memory, refused_var, refused_seq, refused_then, refused_missing, refused_former, refused_latter, read_tok, read_var, read_seq, read_former, read_latter, one_true, one_false}
 use Rattle.vs_parser.specs.ItemLists.{items_from}
-use Rattle.vs_parser.proofs.Blocks.{generated, one_more, ports_put, parameters_put, read_item}
+use Rattle.vs_parser.proofs.Blocks.{generated, one_more, parameters_put, read_item}
 use Rattle.vs_statements.proofs.Pairs.{ok_at, err_at}
 use Rattle.vs_parser.proofs.items.item.Goals as goal
 
@@ -18,7 +18,7 @@ pub returns-in_err-list : goal.returns-in_err-list
 returns-in_err-list c = answer_exit _ _ c.from_residual-in_err-list.result c.in_err-list.field-0.0 c.from_residual-in_err-list.ensures.1 (refused_memory c.in_err-list.ensures)
 
 pub returns-in_ok-list : goal.returns-in_ok-list
-returns-in_ok-list c = let l = rw c.in_ok-before.ensures.0 at c.in_ok-list.ensures in read_item (read_var (read_former (sym c.stands_any.ensures ∙ c.if-stands_any.true) (ok_at _ _ c.in_ok-before.ensures.1 c.ports_item-ports.ensures).read)) (λ rest. ap (λ z. items_from (map view.item c.args.before.items) z) (ports_put (bytes_in c.args.input.now) (ok_at _ _ c.in_ok-before.ensures.1 c.ports_item-ports.ensures).tree rest) ∙ one_more c.args.before.items _ _ c.in_ok-before.ports.value (ok_at _ _ c.in_ok-before.ensures.1 c.ports_item-ports.ensures).made l rest)
+returns-in_ok-list c = let l = rw c.in_ok-before.ensures.0 at c.in_ok-list.ensures in read_item (read_var (read_former (sym c.stands_any.ensures ∙ c.if-stands_any.true) (ok_at _ _ c.in_ok-before.ensures.1 c.ports_item-ports.ensures).read)) (one_more c.args.before.items _ _ c.in_ok-before.ports.value (ok_at _ _ c.in_ok-before.ensures.1 c.ports_item-ports.ensures).made l)
 
 pub returns-in_err-before-2 : goal.returns-in_err-before-2
 returns-in_err-before-2 c = answer_exit _ _ c.from_residual-in_err-before-2.result c.in_err-before-2.field-0.0 c.from_residual-in_err-before-2.ensures.1 (refused_var (refused_latter (sym c.stands_any.ensures ∙ c.if-stands_any.false) (refused_former (one_true _ c.stands.result c.stands.ensures c.if-stands.true) (err_at _ _ c.in_err-before-2.ensures c.parameters-constants.ensures))))

@@ -1,6 +1,6 @@
-use Rattle.std.proofs.Common.{ap}
+use Rattle.std.proofs.Common.{ap, ◌∙◌}
 use Rattle.vs_grammar.specs.Trees as tree
-use Rattle.vs_statements.proofs.Places.{answer_exit, refused_var, refused_seq, refused_then, refused_former, refused_latter, read_var, read_seq, read_former, read_latter, parsed, one_true, one_false}
+use Rattle.vs_statements.proofs.Places.{answer_exit, refused_var, refused_former, refused_latter, read_var, read_former, read_latter, parsed, one_true, one_false}
 use Rattle.vs_parser.proofs.modules.ports.Goals as goal
 
 pub returns-in_err-names : goal.returns-in_err-names
@@ -10,10 +10,12 @@ pub returns-in_ok-names : goal.returns-in_ok-names
 returns-in_ok-names c = parsed (read_var (read_former (one_true _ c.stands.result c.stands.ensures c.if-stands.true) c.in_ok-names.ensures.read)) (ap tree.PlainPorts c.in_ok-names.ensures.made)
 
 pub returns-in_err-first : goal.returns-in_err-first
-returns-in_err-first c = answer_exit _ _ c.from_residual-in_err-first.result c.in_err-first.field-0.0 c.from_residual-in_err-first.ensures.1 (refused_var (refused_latter (one_false _ c.stands.result c.stands.ensures c.if-stands.false) (refused_seq c.in_err-first.ensures)))
+returns-in_err-first c = answer_exit _ _ c.from_residual-in_err-first.result c.in_err-first.field-0.0 c.from_residual-in_err-first.ensures.1 (refused_var (refused_latter (one_false _ c.stands.result c.stands.ensures c.if-stands.false) c.in_err-first.ensures))
 
 pub returns-in_err-list : goal.returns-in_err-list
-returns-in_err-list c = answer_exit _ _ c.from_residual-in_err-list.result c.in_err-list.field-0.0 c.from_residual-in_err-list.ensures.1 (refused_var (refused_latter (one_false _ c.stands.result c.stands.ensures c.if-stands.false) (refused_then c.in_ok-first.ensures.read c.in_err-list.ensures)))
+returns-in_err-list c = answer_exit _ _ c.from_residual-in_err-list.result c.in_err-list.field-0.0 c.from_residual-in_err-list.ensures.1 (refused_var (refused_latter (one_false _ c.stands.result c.stands.ensures c.if-stands.false) (c.in_ok-first.ensures.refused _ c.in_err-list.ensures)))
 
 pub returns-in_ok-list : goal.returns-in_ok-list
-returns-in_ok-list c = parsed (read_var (read_latter (one_false _ c.stands.result c.stands.ensures c.if-stands.false) (read_seq c.in_ok-first.ensures.read c.in_ok-list.ensures.read))) (ap tree.DeclaredPorts (c.in_ok-list.ensures.made c.in_ok-first.ensures.tree c.in_ok-first.ensures.made))
+returns-in_ok-list c =
+    let q = c.in_ok-first.ensures.read c.in_ok-list.ensures.tree c.in_ok-list.list.to c.in_ok-list.ensures.read in
+    parsed (read_var (read_latter (one_false _ c.stands.result c.stands.ensures c.if-stands.false) q.read)) (ap tree.DeclaredPorts (q.made ∙ c.in_ok-list.ensures.made))

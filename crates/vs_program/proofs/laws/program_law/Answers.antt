@@ -1,4 +1,4 @@
-use Rattle.vs_program.proofs.Makes.{begins, first_ends, fall_ends, rise_ends}
+use Rattle.vs_program.proofs.Makes.{starts, begins, first_ends, fall_ends, rise_ends}
 use Rattle.vs_program.proofs.Ranges.{small, in_range}
 use Rattle.vs_program.proofs.Layouts.{layouts_fit, masks_fit}
 use Rattle.vs_program.proofs.Registers.{registers_in_order}
@@ -16,11 +16,11 @@ returns-clause-made c = λ d name a order ordered l low regs p made.
       clocks = made.clocks.has;
       signals = made.signals;
       constants = made.constants;
-      idle = made.idle;
-      begins = begins d name a order ordered c.lawful_law.ensures c.cycle_law.ensures.order c.footprint_law.ensures.bits c.reads_law.ensures.body c.sequence_law.ensures.both c.write_law.ensures c.sequence_law.ensures.one c.clock_law.ensures c.sources_law.ensures l low regs p made;
-      first = first_ends d name a order ordered c.lawful_law.ensures c.cycle_law.ensures.order c.footprint_law.ensures.bits c.reads_law.ensures.body c.sequence_law.ensures.both c.write_law.ensures c.sequence_law.ensures.one c.clock_law.ensures c.sources_law.ensures l low regs p made c.fall_law.ensures.first;
-      falls = fall_ends d name a order ordered c.lawful_law.ensures c.cycle_law.ensures.order c.footprint_law.ensures.bits c.reads_law.ensures.body c.sequence_law.ensures.both c.write_law.ensures c.sequence_law.ensures.one c.clock_law.ensures c.sources_law.ensures l low regs p made c.fall_law.ensures.later;
-      rises = rise_ends d name a order ordered c.lawful_law.ensures c.cycle_law.ensures.order c.footprint_law.ensures.bits c.reads_law.ensures.body c.sequence_law.ensures.both c.write_law.ensures c.sequence_law.ensures.one c.clock_law.ensures c.sources_law.ensures l low regs p made c.rise_law.ensures;
+      starts = starts d name a order ordered c.lawful_law.ensures.lawful c.cycle_law.ensures.order c.footprint_law.ensures.bits c.reads_law.ensures.body c.sequence_law.ensures.both c.write_law.ensures c.sequence_law.ensures.one c.clock_law.ensures c.sources_law.ensures l low regs p made c.lawful_law.ensures.beginning;
+      begins = begins d name a order ordered c.lawful_law.ensures.lawful c.cycle_law.ensures.order c.footprint_law.ensures.bits c.reads_law.ensures.body c.sequence_law.ensures.both c.write_law.ensures c.sequence_law.ensures.one c.clock_law.ensures c.sources_law.ensures l low regs p made c.lawful_law.ensures.beginning;
+      first = first_ends d name a order ordered c.lawful_law.ensures.lawful c.cycle_law.ensures.order c.footprint_law.ensures.bits c.reads_law.ensures.body c.sequence_law.ensures.both c.write_law.ensures c.sequence_law.ensures.one c.clock_law.ensures c.sources_law.ensures l low regs p made c.fall_law.ensures.first;
+      falls = fall_ends d name a order ordered c.lawful_law.ensures.lawful c.cycle_law.ensures.order c.footprint_law.ensures.bits c.reads_law.ensures.body c.sequence_law.ensures.both c.write_law.ensures c.sequence_law.ensures.one c.clock_law.ensures c.sources_law.ensures l low regs p made c.fall_law.ensures.later;
+      rises = rise_ends d name a order ordered c.lawful_law.ensures.lawful c.cycle_law.ensures.order c.footprint_law.ensures.bits c.reads_law.ensures.body c.sequence_law.ensures.both c.write_law.ensures c.sequence_law.ensures.one c.clock_law.ensures c.sources_law.ensures l low regs p made c.rise_law.ensures;
       first_small = fits.first;
       fall_small = fits.fall;
       rise_small = fits.rise;

@@ -3,6 +3,6 @@ use Rattle.vs_queue.proofs.laws.running_law.Goals as goal
 
 pub returns : goal.returns
 returns c = record {
-  steps = steps_run c.footprint_law.ensures.bits c.lawful_law.ensures c.listeners_law.ensures c.step_law.ensures.start c.step_law.ensures.evaluate c.step_law.ensures.apply c.step_law.ensures.run c.step_law.ensures.take;
+  steps = steps_run c.footprint_law.ensures.bits c.lawful_law.ensures.lawful c.listeners_law.ensures c.step_law.ensures.start c.step_law.ensures.evaluate c.step_law.ensures.apply c.step_law.ensures.run c.step_law.ensures.take;
   activation = activation_runs c.step_law.ensures.activate;
 }

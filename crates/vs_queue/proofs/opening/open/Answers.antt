@@ -4,26 +4,39 @@ use Rattle.vs_flat.specs.DesignOf.{design_of}
 use Rattle.vs_flat.specs.Arena.{Arena}
 use Rattle.vs_events.specs.declared.beginning.Role.{Role}
 use Rattle.vs_events.specs.Held.{Events, queue_of}
-use Rattle.vs_events.specs.Beginning.{first_events, after_drives}
+use Rattle.vs_events.specs.Beginning.{first_events}
 use Rattle.vs_queue.specs.Beginnings.{all_roles}
-use Rattle.vs_queue.specs.Driven.{slot_drives}
-use Rattle.vs_queue.specs.Running.{IsRunning}
+use Rattle.vs_queue.specs.Initially.{HasBegun}
 use Rattle.vs_queue.specs.Runs.{IsCopied}
-use Rattle.vs_queue.proofs.Slots.{first_running, few_roles, begun_copied, begun_start}
+use Rattle.vs_queue.specs.Spare.{has_keeper}
+use Rattle.vs_queue.proofs.Slots.{first_running, few_roles, given_running, begun_copied, begun_start}
 use Rattle.vs_queue.proofs.opening.open.Goals as goal
+
+pub all_roles-requires : goal.all_roles-requires
+all_roles-requires c = c.requires.machine.keeper_is ∙ ap (λ (z : Arena). has_keeper (design_of z)) (sym c.flat.ensures.same)
 
 pub new-requires : goal.new-requires
 new-requires c =
     let a = c.args.machine.now.typed.now in
     subst (λ (rs : List Role). length rs < 2 ^ 31) (sym (c.as_slice-2.ensures.value ∙ c.in_ok-roles.ensures ∙ ap₂ (λ (z : Arena) (b : ℕ). all_roles (design_of z) b) c.flat.ensures.same c.bit-clock.ensures)) (few_roles (design_of a) c.args.machine.now.clocks.now c.requires.machine.accepted)
 
+pub give_initial-requires-clause-held : goal.give_initial-requires-clause-held
+give_initial-requires-clause-held c =
+    let a = c.args.machine.now.typed.now in
+    let k = c.args.machine.now.clocks.now in
+    let roles = c.as_slice-2.ensures.value ∙ c.in_ok-roles.ensures ∙ ap₂ (λ (z : Arena) (b : ℕ). all_roles (design_of z) b) c.flat.ensures.same c.bit-clock.ensures in
+    let first = c.in_ok-events.ensures ∙ ap (λ (rs : List Role). first_events rs c.args.values.items) roles in
+    ap (λ (e : Events). length e.assigns) first ∙ (first_running (design_of a) k c.requires.machine.accepted c.keeping_law.ensures.beginning c.args.values.items c.requires.long).sound.count
+
 pub drive-requires-clause-running : goal.drive-requires-clause-running
 drive-requires-clause-running c =
     let a = c.args.machine.now.typed.now in
     let k = c.args.machine.now.clocks.now in
     let roles = c.as_slice-2.ensures.value ∙ c.in_ok-roles.ensures ∙ ap₂ (λ (z : Arena) (b : ℕ). all_roles (design_of z) b) c.flat.ensures.same c.bit-clock.ensures in
-    subst (IsRunning (design_of a) k.bit) (sym (c.in_ok-events.ensures ∙ ap (λ (rs : List Role). first_events rs c.args.values.items) roles))
-    (first_running (design_of a) k c.requires.machine.accepted c.keeping_law.ensures.beginning c.args.values.items c.requires.long)
+    let first = c.in_ok-events.ensures ∙ ap (λ (rs : List Role). first_events rs c.args.values.items) roles in
+    let e = first_events (all_roles (design_of a) k.bit) c.args.values.items in
+    given_running (design_of a) k c.requires.machine.accepted c.keeping_law.ensures.drives c.keeping_law.ensures.activation e c.give_initial.new.events
+    (first_running (design_of a) k c.requires.machine.accepted c.keeping_law.ensures.beginning c.args.values.items c.requires.long) (subst (λ (x : Events). HasBegun (design_of a) k.bit x c.give_initial.new.events) first c.in_ok-give_initial.ensures)
 
 pub drive-requires-clause-slot : goal.drive-requires-clause-slot
 drive-requires-clause-slot c = (Fall c.requires.given.0, c.requires.given.1)
@@ -34,9 +47,11 @@ returns-clause-copied c =
     let k = c.args.machine.now.clocks.now in
     let roles = c.as_slice-2.ensures.value ∙ c.in_ok-roles.ensures ∙ ap₂ (λ (z : Arena) (b : ℕ). all_roles (design_of z) b) c.flat.ensures.same c.bit-clock.ensures in
     let first = c.in_ok-events.ensures ∙ ap (λ (rs : List Role). first_events rs c.args.values.items) roles in
-    let driven = c.in_ok-drive.ensures (Fall c.requires.given.0) c.requires.given.1 ∙ ap (λ (e : Events). after_drives e (slot_drives (design_of a) k.bit (Fall c.requires.given.0))) first in
-    subst (λ (e : Events). IsCopied (design_of a) k.bit e c.in_ok-shadow.shadow.items) (sym driven)
-    (begun_copied (design_of a) k c.requires.machine.accepted c.keeping_law.ensures.beginning c.keeping_law.ensures.drives c.requires.given.0 c.args.values.items c.in_ok-shadow.shadow.items c.requires.long (c.in_ok-shadow.ensures.items ∙ c.as_slice.ensures.value))
+    let e = first_events (all_roles (design_of a) k.bit) c.args.values.items in
+    subst (λ (x : Events). IsCopied (design_of a) k.bit x c.in_ok-shadow.shadow.items) (sym (c.in_ok-drive.ensures (Fall c.requires.given.0) c.requires.given.1))
+    (begun_copied (design_of a) k c.requires.machine.accepted c.keeping_law.ensures.drives c.keeping_law.ensures.activation c.requires.given.0 e c.give_initial.new.events c.in_ok-shadow.shadow.items
+    (first_running (design_of a) k c.requires.machine.accepted c.keeping_law.ensures.beginning c.args.values.items c.requires.long) (subst (λ (x : Events). HasBegun (design_of a) k.bit x c.give_initial.new.events) first c.in_ok-give_initial.ensures)
+    (c.in_ok-shadow.ensures.items ∙ c.as_slice.ensures.value))
 
 pub returns-clause-start : goal.returns-clause-start
 returns-clause-start c = λ v later is.
@@ -44,5 +59,6 @@ returns-clause-start c = λ v later is.
     let k = c.args.machine.now.clocks.now in
     let roles = c.as_slice-2.ensures.value ∙ c.in_ok-roles.ensures ∙ ap₂ (λ (z : Arena) (b : ℕ). all_roles (design_of z) b) c.flat.ensures.same c.bit-clock.ensures in
     let first = c.in_ok-events.ensures ∙ ap (λ (rs : List Role). first_events rs c.args.values.items) roles in
-    let driven = c.in_ok-drive.ensures (Fall v) is ∙ ap (λ (e : Events). after_drives e (slot_drives (design_of a) k.bit (Fall v))) first in
-    ap (λ (e : Events). queue_of e (Rise ∷ slots_of later)) driven ∙ begun_start (design_of a) k c.requires.machine.accepted c.slot_law.ensures.start v later c.args.values.items
+    ap (λ (e : Events). queue_of e (Rise ∷ slots_of later)) (c.in_ok-drive.ensures (Fall v) is)
+    ∙ begun_start (design_of a) k c.requires.machine.accepted c.slot_law.ensures.start v later c.args.values.items c.give_initial.new.events
+    (subst (λ (x : Events). HasBegun (design_of a) k.bit x c.give_initial.new.events) first c.in_ok-give_initial.ensures)

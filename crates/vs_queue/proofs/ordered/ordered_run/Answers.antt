@@ -6,11 +6,14 @@ use Rattle.vs_queue.proofs.Vectors.{all_ordered}
 use Rattle.vs_queue.proofs.Wholes.{whole_more}
 use Rattle.vs_queue.proofs.ordered.ordered_run.Goals as goal
 
+pub has_keeper-requires-clause-fits : goal.has_keeper-requires-clause-fits
+has_keeper-requires-clause-fits c = c.requires.accepted.accepted.fit_initials
+
 pub first_period-requires-clause-machine : goal.first_period-requires-clause-machine
-first_period-requires-clause-machine c = record { accepted = c.requires.accepted; wiring_is = c.in_ok-wiring.ensures }
+first_period-requires-clause-machine c = record { accepted = c.requires.accepted; wiring_is = c.in_ok-wiring.ensures; keeper_is = c.in_ok-keeper.ensures }
 
 pub next_period-requires-clause-machine : goal.next_period-requires-clause-machine
-next_period-requires-clause-machine c = record { accepted = c.requires.accepted; wiring_is = c.in_ok-wiring.ensures }
+next_period-requires-clause-machine c = record { accepted = c.requires.accepted; wiring_is = c.in_ok-wiring.ensures; keeper_is = c.in_ok-keeper.ensures }
 
 pub next_period-requires-clause-come : goal.next_period-requires-clause-come
 next_period-requires-clause-come c = (c.args.order, c.loop-k.invariant.come)
@@ -39,7 +42,7 @@ returns c =
     record {
       run = λ first later vs known resets. whole first later vs;
       solution = λ first later vs known resets.
-          solved c.chosen_law.ensures c.first_law.ensures c.lawful_law.ensures c.order_law.ensures d k c.requires.accepted c.args.order first later c.push.new.self run.steps known resets (whole first later vs);
+          solved c.chosen_law.ensures c.first_law.ensures c.lawful_law.ensures.lawful c.order_law.ensures d k c.requires.accepted c.args.order first later c.push.new.self run.steps known resets (whole first later vs);
       slots = (let e = w.1 in let l = c.loop-k-test.false in let m = c.loop-k.invariant.within in let f = all.count in omega (arith, e, l, m, f));
       long = all.long;
     }

@@ -5,11 +5,14 @@ use Rattle.vs_queue.proofs.Levelling.{all_gone, plain_solved}
 use Rattle.vs_queue.proofs.Wholes.{whole_more}
 use Rattle.vs_queue.proofs.plain.plain_run.Goals as goal
 
+pub has_keeper-requires-clause-fits : goal.has_keeper-requires-clause-fits
+has_keeper-requires-clause-fits c = c.requires.accepted.accepted.fit_initials
+
 pub first_plain_period-requires-clause-machine : goal.first_plain_period-requires-clause-machine
-first_plain_period-requires-clause-machine c = record { accepted = c.requires.accepted; wiring_is = c.in_ok-wiring.ensures }
+first_plain_period-requires-clause-machine c = record { accepted = c.requires.accepted; wiring_is = c.in_ok-wiring.ensures; keeper_is = c.in_ok-keeper.ensures }
 
 pub next_plain_period-requires-clause-machine : goal.next_plain_period-requires-clause-machine
-next_plain_period-requires-clause-machine c = record { accepted = c.requires.accepted; wiring_is = c.in_ok-wiring.ensures }
+next_plain_period-requires-clause-machine c = record { accepted = c.requires.accepted; wiring_is = c.in_ok-wiring.ensures; keeper_is = c.in_ok-keeper.ensures }
 
 pub loop-k-preserved : goal.loop-k-preserved
 loop-k-preserved c =

@@ -1,52 +1,35 @@
-use Rattle.std.proofs.Common.{[], replicate, length, sym, ap, ◌∙◌, subst, arith}
-use Rattle.vs_design.specs.Designs as D
-use Rattle.vs_flat.specs.Arena.{Arena, bit_count}
+use Rattle.std.proofs.Common.{◌<◌, ℕ, [], replicate, length, sym, ap, ap₂, ◌∙◌, subst}
+use Rattle.std.proofs.lemmas.List.{length-replicate}
+use Rattle.vs_design.specs.Designs.{bit_count}
+use Rattle.vs_flat.specs.Arena.{Arena}
 use Rattle.vs_flat.specs.DesignOf.{design_of}
-use Rattle.vs_queue.specs.There.{AllThere}
-use Rattle.vs_queue.specs.Listens.{process_listens}
-use Rattle.vs_queue.proofs.Wirings.{process_there}
-use Rattle.vs_queue.proofs.Listening.{none_wired, wired_more, wired_all}
+use Rattle.vs_flat.specs.Lawful.{IsLawful}
+use Rattle.vs_queue.specs.Spare.{value_count, keeper_at}
+use Rattle.vs_queue.specs.Listens.{listens_from}
+use Rattle.vs_queue.proofs.Listened.{listens_length}
+use Rattle.vs_queue.proofs.Listening.{keeper_listened, keeper_unheard}
+use Rattle.vs_queue.proofs.Told.{bit_is}
+use Rattle.vs_queue.proofs.Wirings.{clock_there}
 use Rattle.vs_queue.proofs.wires.wiring_of.Goals as goal
 
-pub loop-p-init : goal.loop-p-init
-loop-p-init c =
-    let a = c.args.typed.now in
-    none_wired (D.bit_count (design_of a)) (design_of a).processes c.in_ok-wiring.wiring
-    (c.in_ok-wiring.ensures ∙ ap (λ k. replicate k []) (c.count_bits.ensures ∙ ap (λ (z : Arena). bit_count z.signals) c.flat-flat.ensures.same ∙ sym (c.trees_law.ensures.counts a).bits))
+pub keeper_at-process-requires : goal.keeper_at-process-requires
+keeper_at-process-requires c = subst IsLawful (sym c.flat.ensures.same) c.flat.ensures.lawful
 
-pub listen-requires-clause-there : goal.listen-requires-clause-there
-listen-requires-clause-there c =
-    let l = c.loop-p-test.true in
-    let m = c.process_count-p-end.ensures.count in
-    let n = ap (λ (z : Arena). length z.processes) c.flat-flat.ensures.same in
-    omega (arith, l, m, n)
-
-pub listen-requires-clause-bits : goal.listen-requires-clause-bits
-listen-requires-clause-bits c = λ x at.
+pub listen-requires : goal.listen-requires
+listen-requires c =
     let d = design_of c.args.typed.now in
-    let l = c.loop-p-test.true in
-    let m = c.process_count-p-end.ensures.count in
-    let n = ap (λ (z : Arena). length z.processes) c.flat-flat.ensures.same in
-    let k = (c.trees_law.ensures.counts c.args.typed.now).processes in (
-      length d.processes,
-      subst (λ j. AllThere j (length d.processes) (process_listens (D.bit_count d) c.loop-p.p x)) (sym c.loop-p.invariant.long)
-          (process_there c.footprint_law.ensures.bits c.footprint_law.ensures.ascending c.within_law.ensures.expressions d c.requires.accepted.name c.requires.accepted.accepted c.loop-p.p x (omega (arith, l, m, n, k)) at),
-    )
+    let clock = c.args.clocks.now.bit in
+    let b = c.requires.accepted in
+    let there = subst (λ k. k < value_count d k) (sym (bit_is d c.args.clocks.now b)) (clock_there c.footprint_law.ensures.bits c.footprint_law.ensures.ascending c.within_law.ensures.expressions d b.name b.accepted) in
+    let long = ap length c.in_ok-wiring.ensures ∙ listens_length (listens_from (bit_count d) 0 d.processes) (replicate (value_count d clock) []) ∙ length-replicate (value_count d clock) [] in
+    subst (λ k. c.bit-bit.result < k) (sym long) (subst (λ k. k < value_count d clock) (sym c.bit-bit.ensures) there)
 
-pub loop-p-preserved : goal.loop-p-preserved
-loop-p-preserved c =
+pub returns-then-keeper : goal.returns-then-keeper
+returns-then-keeper c =
     let d = design_of c.args.typed.now in
-    let l = c.loop-p-test.true in
-    let m = c.process_count-p-end.ensures.count in
-    let n = ap (λ (z : Arena). length z.processes) c.flat-flat.ensures.same in
-    let k = (c.trees_law.ensures.counts c.args.typed.now).processes in
-    wired_more (D.bit_count d) d.processes c.loop-p.wiring c.listen.new.wiring c.loop-p.p (omega (arith, l, m, n, k)) c.in_ok-listen.ensures c.loop-p.invariant
+    let clock = c.args.clocks.now.bit in
+    let process = c.keeper_at-process.ensures.is ∙ ap₂ (λ (z : Arena) (k : ℕ). keeper_at (design_of z) k) c.flat.ensures.same c.bit-bit.ensures in
+    keeper_listened d clock c.in_ok-wiring.wiring c.listen.new.self c.args.keeper c.bit-bit.result c.keeper_at-process.result c.requires.keeper c.if-keeper.true c.bit-bit.ensures process c.in_ok-wiring.ensures c.in_ok-listen.ensures
 
 pub returns : goal.returns
-returns c =
-    let d = design_of c.args.typed.now in
-    let l = c.loop-p-test.false in
-    let m = c.process_count-p-end.ensures.count in
-    let n = ap (λ (z : Arena). length z.processes) c.flat-flat.ensures.same in
-    let k = (c.trees_law.ensures.counts c.args.typed.now).processes in
-    wired_all (D.bit_count d) d.processes c.loop-p.wiring c.loop-p.p (omega (arith, l, m, n, k)) c.loop-p.invariant
+returns c = keeper_unheard (design_of c.args.typed.now) c.args.clocks.now.bit c.in_ok-wiring.wiring c.args.keeper c.requires.keeper c.if-keeper.false c.in_ok-wiring.ensures

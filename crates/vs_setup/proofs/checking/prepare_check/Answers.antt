@@ -51,7 +51,7 @@ returns-clause-prepared g c =
     let made : IsMade g.W.Word.lane g.W.Word.LANES (design_of a.flat) a.clocks.bit c.in_ok-engine.engine = record {
       program = c.in_ok-engine.ensures.program;
       begun = c.in_ok-engine.ensures.begun;
-      idle = c.in_ok-engine.ensures.idle;
+      begins = c.in_ok-engine.ensures.begins;
     } in
     let at_first : HasEngine g.W.Word.lane g.W.Word.LANES tells job old o.middle new a ports c.in_ok-engine.engine ks = record {
       behind = record { loaded = o.loaded; files = o.files; opened = o.opened; numbered = o.numbered };

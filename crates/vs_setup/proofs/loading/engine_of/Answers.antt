@@ -1,5 +1,6 @@
 use Rattle.std.proofs.Common.{◌≡◌, ℕ, ◌<◌, sym, subst}
 use Rattle.vs_design.specs.Designs.{Design}
+use Rattle.vs_net.specs.Solution.{beginning}
 use Rattle.vs_design.specs.Networks.{network_of}
 use Rattle.vs_flat.specs.DesignOf.{design_of}
 use Rattle.vs_program.specs.Program.{Program}
@@ -30,11 +31,11 @@ returns-clause-program g c =
 pub returns-clause-begun : goal.returns-clause-begun
 returns-clause-begun g c = c.new.ensures.begun
 
-pub returns-clause-idle : goal.returns-clause-idle
-returns-clause-idle g c =
+pub returns-clause-begins : goal.returns-clause-begins
+returns-clause-begins g c =
     let a = c.args.accepted.now in
     let program : IsProgramOf (design_of a.flat) a.clocks.bit c.in_ok-compiled.compiled = rw (c.typed.ensures, c.clocks.ensures) at c.in_ok-compiled.ensures in
-    on_ok (λ e. (d : Design) (clock i : ℕ) → IsProgramOf d clock c.in_ok-compiled.compiled → i < g.W.Word.LANES → state g.W.Word.lane e i ≡ (network_of d clock).idle)
-    (λ e. (i : ℕ) → i < g.W.Word.LANES → state g.W.Word.lane e i ≡ (network_of (design_of a.flat) a.clocks.bit).idle)
-    c.new.result c.new.ensures.idle
-    (λ e idle i h. idle (design_of a.flat) a.clocks.bit i program h)
+    on_ok (λ e. (d : Design) (clock i : ℕ) → IsProgramOf d clock c.in_ok-compiled.compiled → i < g.W.Word.LANES → state g.W.Word.lane e i ≡ beginning (network_of d clock))
+    (λ e. (i : ℕ) → i < g.W.Word.LANES → state g.W.Word.lane e i ≡ beginning (network_of (design_of a.flat) a.clocks.bit))
+    c.new.result c.new.ensures.begins
+    (λ e begins i h. begins (design_of a.flat) a.clocks.bit i program h)

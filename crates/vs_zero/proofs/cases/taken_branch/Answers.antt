@@ -4,7 +4,7 @@ use Rattle.vs_design.specs.Fits.{fit_items}
 use Rattle.vs_sets.specs.Matches.{are_within}
 use Rattle.vs_sets.specs.Nodes.{tree_of}
 use Rattle.vs_sets.specs.StatementParts.{statement_of}
-use Rattle.vs_clock.specs.Still.{items_still}
+use Rattle.vs_typed.specs.Still.{items_still}
 use Rattle.vs_zero.proofs.CaseSteps.{arm_constant}
 use Rattle.vs_sets.proofs.CaseSteps.{arm_fit, items_at-is}
 use Rattle.vs_zero.proofs.cases.taken_branch.Goals as goal

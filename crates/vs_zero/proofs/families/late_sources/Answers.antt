@@ -3,7 +3,6 @@ use Rattle.vs_design.specs.Designs.{bit_count}
 use Rattle.vs_design.specs.Lifted.{Family}
 use Rattle.vs_design.specs.Resets.{with_resets}
 use Rattle.vs_design.specs.Sets.{Set4, known_set}
-use Rattle.vs_design.specs.TimeZero.{early_source}
 use Rattle.vs_flat.specs.Arena.{Arena}
 use Rattle.vs_flat.specs.DesignOf.{design_of}
 use Rattle.vs_sets.specs.Branches.{replaced}
@@ -24,8 +23,8 @@ returns-clause-sets c =
     let first = seam len after (drop (length after) start) (sym (c.add_resets.auto.table ∙ c.as_mut_slice-3.ensures.len)) in
     let many = c.fill_kind.auto.table ∙ c.as_mut_slice-4.ensures.len in
     let whole = seam len items (drop (length items) (take len (after ++ drop (length after) start))) (sym many) in
-    let count : length items ≡ bit_count d = omega (arith, many, ap length c.as_mut_slice-3.ensures.value, c.as_mut_slice-3.ensures.len, c.in_ok-table.ensures.count, ap (λ (b : Arena). bit_count (design_of b)) c.shapes-shapes.ensures) in
-    let early = ap family_of c.as_mut_slice-3.ensures.value ∙ c.in_ok-table.ensures.sets ∙ ap (λ (b : Arena). early_source (design_of b)) c.shapes-shapes.ensures in
+    let count : length items ≡ bit_count d = omega (arith, many, ap length c.as_mut_slice-3.ensures.value, c.as_mut_slice-3.ensures.len, c.in_ok-table.ensures.count) in
+    let early = ap family_of c.as_mut_slice-3.ensures.value ∙ c.in_ok-table.ensures.sets in
     let resets = c.add_resets.ensures ∙ ap (λ (g : Family). let h : Family = λ b. with_resets d clock d.processes b (g b) in h) early in
     let inputs = c.fill_kind.ensures
     ∙ ap₂ (λ (b : Arena) (s : Set4). replaced (bits_of_kind Input (design_of b)) (λ n. s) (family_of c.as_mut_slice-4.result.now)) c.shapes-shapes.ensures c.known.ensures

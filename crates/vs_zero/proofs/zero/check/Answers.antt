@@ -1,4 +1,4 @@
-use Rattle.std.proofs.Common.{◌≡◌, ℕ, Option, Some, ap, ap₂, ◌∙◌, subst}
+use Rattle.std.proofs.Common.{◌≡◌, ◌<◌, ℕ, Option, Some, length, sym, ap, ap₂, ◌∙◌, subst}
 use Rattle.std.specs.Prelude.{slice_get}
 use Rattle.vs_design.specs.Levels.{level_order}
 use Rattle.vs_design.specs.Lifted.{Family}
@@ -8,10 +8,18 @@ use Rattle.vs_flat.specs.DesignOf.{design_of}
 use Rattle.vs_sets.specs.Tables.{family_of}
 use Rattle.vs_clock.specs.Tests.{IsFirst}
 use Rattle.vs_reads.proofs.ByKind.{place_at_is}
-use Rattle.vs_zero.proofs.Deciding.{one_families, refused, none_refused}
+use Rattle.vs_zero.proofs.Deciding.{one_families, first_there, refused, none_refused}
 use Rattle.vs_zero.proofs.Settling.{both}
 use Rattle.vs_zero.proofs.Unrefused.{orderly}
 use Rattle.vs_zero.proofs.zero.check.Goals as goal
+
+pub process-requires : goal.process-requires
+process-requires c =
+    let a = c.args.typed.now in
+    let d = design_of a in
+    subst (λ (b : Arena). c.in-Some.process < length b.processes) (sym c.flat-flat.ensures.same)
+    (subst (λ n. c.in-Some.process < n) (c.trees_law.ensures.counts a).processes
+    (first_there d _ c.in-Some.process (subst (λ (o : Option ℕ). IsFirst d (is_uncertain d (both (family_of c.as_mut_slice.result.now) (family_of c.as_slice.result.now))) o) c.in-Some.is c.in_ok-first.ensures)))
 
 pub returns-in-Some-clause-refused : goal.returns-in-Some-clause-refused
 returns-in-Some-clause-refused c = λ name i.

@@ -1,7 +1,8 @@
-use Rattle.std.proofs.Common.{subst, ℕ, ap}
+use Rattle.std.proofs.Common.{subst, ℕ, ap₂}
 use Rattle.vs_block.specs.Refused.{IsBlockError}
 use Rattle.vs_design.specs.Answers.{OfBlock}
 use Rattle.vs_design.specs.Refusals as rule
+use Rattle.vs_flat.specs.DesignOf.{design_of}
 use Rattle.vs_accept.specs.declared.error.AcceptError.TheVariants.{Refused}
 use Rattle.vs_refusal.specs.declared.refusal.Refusal.TheVariants as refusal
 use Rattle.vs_accept.specs.Refused.{byte_of}
@@ -9,13 +10,22 @@ use Rattle.vs_accept.proofs.Told.{verdict}
 use Rattle.vs_accept.proofs.places.Places.block_error.Goals as goal
 
 pub returns-in-FunctionLatch : goal.returns-in-FunctionLatch
-returns-in-FunctionLatch c = λ d clock k h. verdict (byte_of c.args.self.now.text.now c.args.self.now.tokens.now) d clock (OfBlock (rule.FunctionLatch c.in-FunctionLatch.at)) _ (k, subst (IsBlockError d) c.in-FunctionLatch.is h) c.refused_at.ensures
+returns-in-FunctionLatch c = λ clock k h. let d = design_of c.args.typed.now in verdict (byte_of c.args.self.now.text.now c.args.self.now.tokens.now) d clock (OfBlock (rule.FunctionLatch c.in-FunctionLatch.at)) _ (k, subst (IsBlockError d) c.in-FunctionLatch.is h) c.refused_at.ensures
+
+pub returns-in-InitialForm : goal.returns-in-InitialForm
+returns-in-InitialForm c = λ clock k h. let d = design_of c.args.typed.now in let s = c.in-InitialForm in verdict (byte_of c.args.self.now.text.now c.args.self.now.tokens.now) d clock (OfBlock (rule.InitialForm s.initial s.at)) _ (k, subst (IsBlockError d) s.is h) c.refused_initial.ensures
 
 pub returns-in-MixedAssign : goal.returns-in-MixedAssign
-returns-in-MixedAssign c = λ d clock k h. verdict (byte_of c.args.self.now.text.now c.args.self.now.tokens.now) d clock (OfBlock (rule.MixedAssign c.in-MixedAssign.at)) _ (k, subst (IsBlockError d) c.in-MixedAssign.is h) c.refused_at-in-MixedAssign.ensures
+returns-in-MixedAssign c = λ clock k h. let d = design_of c.args.typed.now in verdict (byte_of c.args.self.now.text.now c.args.self.now.tokens.now) d clock (OfBlock (rule.MixedAssign c.in-MixedAssign.at)) _ (k, subst (IsBlockError d) c.in-MixedAssign.is h) c.refused_at-in-MixedAssign.ensures
 
 pub returns-in-Sensitivity : goal.returns-in-Sensitivity
-returns-in-Sensitivity c = λ d clock k h. let s = c.in-Sensitivity in verdict (byte_of c.args.self.now.text.now c.args.self.now.tokens.now) d clock (OfBlock (rule.Sensitivity s.process s.signal s.at)) _ (k, subst (IsBlockError d) s.is h) (ap (λ (n : ℕ). Refused (refusal.Sensitivity s.process s.signal n)) c.byte.ensures)
+returns-in-Sensitivity c = λ clock k h.
+    let d = design_of c.args.typed.now in
+    let s = c.in-Sensitivity in
+    verdict (byte_of c.args.self.now.text.now c.args.self.now.tokens.now) d clock (OfBlock (rule.Sensitivity s.process s.signal s.at)) _ (k, subst (IsBlockError d) s.is h) (ap₂ (λ (p n : ℕ). Refused (refusal.Sensitivity p s.signal n)) c.number.ensures c.byte.ensures)
 
 pub returns-in-Latch : goal.returns-in-Latch
-returns-in-Latch c = λ d clock k h. let s = c.in-Latch in verdict (byte_of c.args.self.now.text.now c.args.self.now.tokens.now) d clock (OfBlock (rule.Latch s.process s.bit s.at)) _ (k, subst (IsBlockError d) s.is h) (ap (λ (n : ℕ). Refused (refusal.Latch s.process s.bit n)) c.byte-in-Latch.ensures)
+returns-in-Latch c = λ clock k h.
+    let d = design_of c.args.typed.now in
+    let s = c.in-Latch in
+    verdict (byte_of c.args.self.now.text.now c.args.self.now.tokens.now) d clock (OfBlock (rule.Latch s.process s.bit s.at)) _ (k, subst (IsBlockError d) s.is h) (ap₂ (λ (p n : ℕ). Refused (refusal.Latch p s.bit n)) c.number-in-Latch.ensures c.byte-in-Latch.ensures)

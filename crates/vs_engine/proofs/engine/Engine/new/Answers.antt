@@ -42,5 +42,5 @@ invariant_of-result g c = record {
   reached = λ e. absurd (never e);
 }
 
-pub returns-clause-idle : goal.returns-clause-idle
-returns-clause-idle g c = λ d clock i is in_lanes. ap (values c.args.compiled.bits c.args.compiled.clock X) (lane_is g c i in_lanes) ∙ ap (λ (k : ℕ). values c.args.compiled.bits k X (initial_slots c.args.compiled)) is.clock_is ∙ is.idle
+pub returns-clause-begins : goal.returns-clause-begins
+returns-clause-begins g c = λ d clock i is in_lanes. ap (values c.args.compiled.bits c.args.compiled.clock X) (lane_is g c i in_lanes) ∙ ap (λ (k : ℕ). values c.args.compiled.bits k X (initial_slots c.args.compiled)) is.clock_is ∙ is.starts

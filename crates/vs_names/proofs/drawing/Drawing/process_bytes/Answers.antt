@@ -9,8 +9,8 @@ loop-process-preserved c =
     let d = c.args.self.now in
     let counts = c.trees_law.ensures.counts d.flat in
     let same = ap (λ (x : Drawn). length x.flat.processes) c.self.view_is in
-    each_more (byte_of d) (design_of d.flat).processes c.loop-process.process c.loop-process.bytes.items c.push.new.self.items c.process_byte-byte.result
-    (omega (arith, c.loop-process-test.true, c.process_count-process-end.ensures.count, counts.processes, same)) c.loop-process.invariant c.in_ok-push.ensures.items c.process_byte-byte.ensures
+    each_more (byte_of d) (design_of d.flat).processes c.loop-process.process c.loop-process.bytes.items c.push.new.self.items c.own_byte-byte.result
+    (omega (arith, c.loop-process-test.true, c.process_count-process-end.ensures.count, counts.processes, same)) c.loop-process.invariant c.in_ok-push.ensures.items c.own_byte-byte.ensures
 
 pub returns : goal.returns
 returns c =

@@ -49,7 +49,7 @@ evaluate-requires-clause-inside c =
     let b = c.requires.machine.accepted in
     let x = evaluates (design_of a) k.bit e c.requires.running.sound c.args.p c.requires.possible.0 c.requires.possible.1 in
     let is = told_update a c.shapes.result.now c.shapes.ensures c.values.result.now e.values c.values.ensures c.args.p c.in_ok-update.update c.in_ok-update.ensures k.bit x in
-    inside_values (design_of a) k b e c.requires.running c.in_ok-update.update (subst (AreInside (value_count (design_of a) k.bit)) (sym is) (made_in (design_of a) k b c.footprint_law.ensures.bits c.lawful_law.ensures c.args.p (state_of e.values)))
+    inside_values (design_of a) k b e c.requires.running c.in_ok-update.update (subst (AreInside (value_count (design_of a) k.bit)) (sym is) (made_in (design_of a) k b c.footprint_law.ensures.bits c.lawful_law.ensures.lawful c.args.p (state_of e.values)))
 
 pub returns : goal.returns
 returns c =

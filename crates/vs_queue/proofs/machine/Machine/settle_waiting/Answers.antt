@@ -37,5 +37,5 @@ returns-clause-calm c =
     let taken = c.in_ok-take_all.ensures o in
     on_ok c.pass.result c.pass.ensures (λ p. record {
       spent = pass_calm d k.bit o t now c.pass.new.shadow (takes_calm d k.bit o m t c.take_all.new.shadow before.running.sound taken) p;
-      rested = pass_rest d k.bit o t now c.pass.new.shadow (comb_none c.lawful_law.ensures d k c.requires.machine.accepted) (takes_rest d k.bit o m t c.take_all.new.shadow c.activate.ensures.rested taken) p;
+      rested = pass_rest d k.bit o t now c.pass.new.shadow (comb_none c.lawful_law.ensures.lawful d k c.requires.machine.accepted) (takes_rest d k.bit o m t c.take_all.new.shadow c.activate.ensures.rested taken) p;
     })

@@ -1,7 +1,6 @@
 use Rattle.std.proofs.Common.{ℕ, List, length, drop, sym, ap, ap₂, ◌∙◌}
 use Rattle.vs_design.specs.Lifted.{Family}
-use Rattle.vs_design.specs.TimeZero.{early_source, families_along}
-use Rattle.vs_flat.specs.Arena.{Arena}
+use Rattle.vs_design.specs.TimeZero.{families_along}
 use Rattle.vs_flat.specs.DesignOf.{design_of}
 use Rattle.vs_sets.specs.Tables.{family_of}
 use Rattle.vs_zero.proofs.Settling.{both}
@@ -16,5 +15,5 @@ returns-clause-sets c =
     ap₂ (λ (f g : Family). both f g) (ap family_of early) (ap family_of late) ∙ c.in_ok-settle.ensures
     ∙ ap (λ (ps : List ℕ). families_along d ps (both (family_of c.as_mut_slice.result.now) (family_of c.as_mut_slice-2.result.now))) c.list.ensures
     ∙ ap₂ (λ (f g : Family). families_along d c.args.order.now (both f g))
-    (ap family_of c.as_mut_slice.ensures.value ∙ c.in_ok-early.ensures.sets ∙ ap (λ (b : Arena). early_source (design_of b)) c.shapes.ensures)
+    (ap family_of c.as_mut_slice.ensures.value ∙ c.in_ok-early.ensures.sets)
     (ap family_of c.as_mut_slice-2.ensures.value ∙ c.in_ok-late.ensures.sets)

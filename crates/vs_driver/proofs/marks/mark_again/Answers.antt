@@ -1,0 +1,33 @@
+use Rattle.std.proofs.Common.{◌+◌, List, Bool, get_or, refl, sym, subst, arith}
+use Rattle.std.proofs.lemmas.List.{take_all}
+use Rattle.vs_reads.proofs.Tests.{member_at}
+use Rattle.vs_driver.proofs.Marking.{MarkedAgain, AgainTo, none_again, again_more}
+use Rattle.vs_driver.proofs.marks.mark_again.Goals as goal
+
+pub loop-bit-init : goal.loop-bit-init
+loop-bit-init c = record { told = none_again c.args.marks.now c.args.again.now.items; long = refl }
+
+pub bounds-marks-bit : goal.bounds-marks-bit
+bounds-marks-bit c =
+    let l = c.requires.below (get_or c.args.bits.now c.loop-bit.bit-index 0) (member_at c.args.bits.now c.loop-bit.bit-index c.loop-bit-test.true) in
+    let m = c.requires.both in
+    omega (arith, l, m)
+
+pub mark_if-requires : goal.mark_if-requires
+mark_if-requires c =
+    let l = c.requires.below (get_or c.args.bits.now c.loop-bit.bit-index 0) (member_at c.args.bits.now c.loop-bit.bit-index c.loop-bit-test.true) in
+    let m = c.loop-bit.invariant.long in
+    omega (arith, l, m)
+
+pub loop-bit-preserved : goal.loop-bit-preserved
+loop-bit-preserved c =
+    let l = c.requires.below (get_or c.args.bits.now c.loop-bit.bit-index 0) (member_at c.args.bits.now c.loop-bit.bit-index c.loop-bit-test.true) in
+    let m = c.loop-bit.invariant.long in
+    subst (λ (ms : List Bool). AgainTo c.args.marks.now c.args.again.now.items ms c.args.bits.now (c.loop-bit.bit-index + 1)) (sym c.mark_if.ensures)
+    (again_more c.args.marks.now c.args.again.now.items c.loop-bit.again.items c.args.bits.now c.loop-bit.bit-index _ c.loop-bit-test.true (omega (arith, l, m)) refl c.loop-bit.invariant)
+
+pub returns-clause-all : goal.returns-clause-all
+returns-clause-all c = c.loop-bit.invariant.long
+
+pub returns-clause-marked : goal.returns-clause-marked
+returns-clause-marked c = subst (MarkedAgain c.args.marks.now c.args.again.now.items c.loop-bit.again.items) (take_all c.loop-bit.bit-index c.args.bits.now c.loop-bit-test.false) c.loop-bit.invariant.told

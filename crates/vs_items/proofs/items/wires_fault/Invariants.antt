@@ -1,9 +1,0 @@
-use Rattle.std.proofs.Common.{◌≡◌, map, flat_map, take}
-use Rattle.vs_ast.specs.Views as view
-use Rattle.vs_const.specs.Faults.{least}
-use Rattle.vs_scope.specs.Frames.{view_env}
-use Rattle.vs_items.specs.Items.{wire_faults}
-use Rattle.vs_items.proofs.items.wires_fault.Given as goal
-
-abbrev pub invariant-loop-d : goal.invariant-loop-d
-invariant-loop-d l = l.fault ≡ least (flat_map (wire_faults (view_env l.here)) (map view.declarator (take l.d-index l.names)))

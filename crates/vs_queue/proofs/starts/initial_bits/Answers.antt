@@ -1,0 +1,31 @@
+use Rattle.std.proofs.Common.{◌≡◌, ◌<◌, ◌++◌, ℕ, List, Some, true, sym, ap, ◌∙◌, subst}
+use Rattle.std.specs.Prelude.{slice_get}
+use Rattle.std.specs.List.{list_all}
+use Rattle.vs_design.specs.Designs.{Initial, bit_count}
+use Rattle.vs_design.specs.Fits.{fits_initial}
+use Rattle.vs_design.specs.Footprints.{contains, statement_bits}
+use Rattle.vs_flat.specs.Arena.{Arena}
+use Rattle.vs_flat.specs.DesignOf.{design_of}
+use Rattle.vs_shape.specs.Bodies.{body_of}
+use Rattle.vs_reads.proofs.FitKinds.{initial_is}
+use Rattle.vs_sets.proofs.WrittenBits.{statement_bits_within}
+use Rattle.vs_queue.proofs.starts.initial_bits.Goals as goal
+
+pub fit_initial-requires-clause-fits : goal.fit_initial-requires-clause-fits
+fit_initial-requires-clause-fits c = subst (λ (a : Arena). list_all fits_initial (design_of a).initials ≡ true) (sym c.shapes-shapes.ensures) c.requires.fits
+
+pub returns-clause-bits : goal.returns-clause-bits
+returns-clause-bits c i h =
+    let a = c.args.typed.now in
+    let r = c.fit_initial.result in
+    let at : slice_get a.initials c.args.k ≡ Some r = subst (λ (x : Arena). slice_get x.initials c.args.k ≡ Some r) c.shapes-shapes.ensures c.fit_initial.ensures.is in
+    c.in_ok-push_statement.ensures ∙ ap (λ (zs : List ℕ). zs ++ statement_bits (body_of c.shapes-shapes.result.now r.statement)) c.new-bits.ensures.items
+    ∙ ap (λ (x : Arena). statement_bits (body_of x r.statement)) c.shapes-shapes.ensures
+    ∙ ap (λ (x : Initial). statement_bits x.statement) (initial_is c.trees_law.ensures.initials a c.args.k r i at h)
+
+pub returns-clause-below : goal.returns-clause-below
+returns-clause-below c b h =
+    let s = body_of c.shapes-shapes.result.now c.fit_initial.result.statement in
+    let bits = c.in_ok-push_statement.ensures ∙ ap (λ (zs : List ℕ). zs ++ statement_bits s) c.new-bits.ensures.items in
+    subst (λ (x : Arena). b < bit_count (design_of x)) c.shapes-shapes.ensures
+    (statement_bits_within (bit_count (design_of c.shapes-shapes.result.now)) s b c.fit_initial.ensures.fit c.fit_initial.ensures.within (ap (λ zs. contains zs b) (sym bits) ∙ h))
