@@ -1,5 +1,5 @@
 -- Where the process begins that has a number in the text.
-use Rattle.std.proofs.Common.{◌≡◌, ℕ, ◌+◌, ◌-◌, ◌≤◌, ◌<◌, Bool, false, List, [], ◌∷◌, drop, length, get_or, if◌then◌else◌, refl, sym, ap, ◌∙◌, arith, eq-eqb}
+use Rattle.std.proofs.Common.{◌≡◌, ℕ, ◌+◌, ◌-◌, ◌≤◌, ◌<◌, Bool, false, List, ◌∷◌, drop, length, get_or, if◌then◌else◌, refl, sym, ap, ◌∙◌, arith, eq-eqb}
 use Rattle.std.specs.Prelude.{Option, Some, None, option_map, option_and_then, slice_get, nat_lt}
 use Rattle.std.proofs.lemmas.Bool.{lt-ltb, le-ltb, ne_eqb}
 use Rattle.std.proofs.lemmas.List.{drop_all, drop_more}
@@ -16,20 +16,31 @@ next_is xs k x h = drop_more xs k x (slice_get_within xs k x h) ∙ ap (λ y. y 
 abbrev shape : List Process → List Initial → ℕ → Initial → Bool → Bool → Option ℕ
 shape ps is n i same less = if same then Some i.place else if less then option_map process_place (slice_get ps n) else place_numbered ps is (n - 1)
 
+module _ (ps : List Process) (i : Initial) (is : List Initial) (n : ℕ) where
+  pub is_first : n ≡ i.behind → place_numbered ps (i ∷ is) n ≡ Some i.place
+  is_first h = ap (λ (c : Bool). shape ps is n i c (nat_lt n i.behind)) (eq-eqb n i.behind h)
+
+  other : (n ≡ i.behind → ⊥) → place_numbered ps (i ∷ is) n ≡ shape ps is n i false (nat_lt n i.behind)
+  other h = ap (λ (c : Bool). shape ps is n i c (nat_lt n i.behind)) (ne_eqb n i.behind h)
+
+  pub is_before : n < i.behind → place_numbered ps (i ∷ is) n ≡ option_map process_place (slice_get ps n)
+  is_before h = other (λ e. absurd (omega (arith, h, e))) ∙ ap (λ (c : Bool). shape ps is n i false c) (lt-ltb n i.behind h)
+
+  pub is_behind : i.behind < n → place_numbered ps (i ∷ is) n ≡ place_numbered ps is (n - 1)
+  is_behind h = other (λ e. absurd (omega (arith, h, e))) ∙ ap (λ (c : Bool). shape ps is n i false c) (le-ltb n i.behind (omega (arith, h)))
+
 module _ (ps : List Process) (is : List Initial) (k n : ℕ) (i : Initial) (at : slice_get is k ≡ Some i) where
   from_here : place_numbered ps (drop k is) n ≡ place_numbered ps (i ∷ drop (k + 1) is) n
   from_here = ap (λ (xs : List Initial). place_numbered ps xs n) (next_is is k i at)
 
   pub here_is : n ≡ i.behind → place_numbered ps (drop k is) n ≡ Some i.place
-  here_is h = from_here ∙ ap (λ (c : Bool). shape ps (drop (k + 1) is) n i c (nat_lt n i.behind)) (eq-eqb n i.behind h)
+  here_is h = from_here ∙ is_first ps i (drop (k + 1) is) n h
 
   pub before_is : n < i.behind → place_numbered ps (drop k is) n ≡ option_map process_place (slice_get ps n)
-  before_is h =
-      from_here ∙ (ap (λ (c : Bool). shape ps (drop (k + 1) is) n i c (nat_lt n i.behind)) (ne_eqb n i.behind (λ e. absurd (omega (arith, h, e)))) ∙ ap (λ (c : Bool). shape ps (drop (k + 1) is) n i false c) (lt-ltb n i.behind h))
+  before_is h = from_here ∙ is_before ps i (drop (k + 1) is) n h
 
   pub behind_is : i.behind < n → place_numbered ps (drop k is) n ≡ place_numbered ps (drop (k + 1) is) (n - 1)
-  behind_is h =
-      from_here ∙ (ap (λ (c : Bool). shape ps (drop (k + 1) is) n i c (nat_lt n i.behind)) (ne_eqb n i.behind (λ e. absurd (omega (arith, h, e)))) ∙ ap (λ (c : Bool). shape ps (drop (k + 1) is) n i false c) (le-ltb n i.behind (omega (arith, h))))
+  behind_is h = from_here ∙ is_behind ps i (drop (k + 1) is) n h
 
 pub none_left : (ps : List Process) (is : List Initial) (k n : ℕ) → length is ≤ k → place_numbered ps (drop k is) n ≡ option_map process_place (slice_get ps n)
 none_left ps is k n h = ap (λ (xs : List Initial). place_numbered ps xs n) (drop_all k is h)

@@ -1,8 +1,9 @@
 -- A design and the tokens of its text.
-use Rattle.std.specs.Prelude.{ℕ, ◌-◌, Bool, ◌&&◌, ◌==◌, nat_lt, if◌then◌else◌, List, [], ◌∷◌, find, Option, Some, None, option_map, option_and_then, slice_get, bytes_eq}
+use Rattle.std.specs.Prelude.{◌≡◌, ℕ, ◌-◌, Bool, ◌&&◌, ◌==◌, nat_lt, if◌then◌else◌, List, [], ◌∷◌, find, Option, Some, None, option_map, option_and_then, slice_get, bytes_eq}
 use Rattle.vs_lexer.specs.declared.token.Token.{Token}
 use Rattle.vs_design.specs.Expressions.{Signal, signal_length}
-use Rattle.vs_design.specs.Designs.{Process, Initial, process_place}
+use Rattle.vs_design.specs.Designs.{Design, Process, Initial, process_place, any_place, in_text_order}
+use Rattle.vs_design.specs.Elaborated.{IsLawfulDesign}
 use Rattle.vs_flat.specs.Arena.{Arena}
 use Rattle.vs_flat.specs.DesignOf.{design_of}
 
@@ -24,6 +25,10 @@ abbrev pub place_numbered : List Process → List Initial → ℕ → Option ℕ
 place_numbered ps [] n = option_map process_place (slice_get ps n)
 place_numbered ps (i ∷ is) n =
     if n == i.behind then Some i.place else if nat_lt n i.behind then option_map process_place (slice_get ps n) else place_numbered ps is (n - 1)
+
+-- which is where begins what has this number in the order of the text
+abbrev pub PlacesInText : Type 0
+PlacesInText = (d : Design) (n : ℕ) → IsLawfulDesign d → place_numbered d.processes d.initials n ≡ option_map any_place (slice_get (in_text_order d) n)
 
 -- the byte of the text at which a reader finds a token; none where there is no such token
 abbrev pub token_byte : Drawn → ℕ → Option ℕ

@@ -4,6 +4,8 @@
 mod bits;
 mod drawing;
 mod indices;
+mod laws;
 mod scopes;
 
 pub use drawing::Drawing;
+pub use laws::place_law;
