@@ -28,25 +28,15 @@ fn is_integer(t: &ValueType) -> bool
 }
 
 /// One more name, and its fault if it is one too many.
-fn add_local<'a>(
-    map: &mut NameMap<'a, Local>,
-    n: &'a Name,
-    is_integer: bool,
-) -> Result<Option<Fault>, AllocError>
-    ensures locals { OnOk result ((before : List spec.Local) (v : spec.Local) → v.name ≡ view.name n.now → is_integer ≡ spec.is_integer v → AreLocals map.old before → AreLocals map.new (before ++ v ∷ [])) }
+fn add_local<'a>(map: &mut NameMap<'a, Local>, n: &'a Name) -> Result<Option<Fault>, AllocError>
+    ensures locals { OnOk result ((before : List spec.Local) (v : spec.Local) → v.name ≡ view.name n.now → AreLocals map.old before → AreLocals map.new (before ++ v ∷ [])) }
     ensures fault { IfOk result (λ f. (before : List spec.Local) (v : spec.Local) → v.name ≡ view.name n.now → AreLocals map.old before → f ≡ least (later_faults before (v ∷ []))) }
 {
     let name = n.text.as_slice();
     if map.get(name).is_some() {
         return Ok(fault_at(Rule::DuplicateName, n.place));
     }
-    map.put(
-        name,
-        Local {
-            place: n.place,
-            is_integer,
-        },
-    )?;
+    map.put(name, Local { place: n.place })?;
     Ok(None)
 }
 
@@ -58,28 +48,27 @@ fn add_variables<'a>(
     ensures locals { OnOk result ((before : List spec.Local) → AreLocals map.old before → AreLocals map.new (before ++ locals v.now)) }
     ensures fault { IfOk result (λ f. (before : List spec.Local) → AreLocals map.old before → f ≡ least (later_faults before (locals v.now))) }
 {
-    let integers = is_integer(&v.value_type);
     let mut fault = None;
     for n in &v.names {
-        let found = add_local(map, n, integers)?;
+        let found = add_local(map, n)?;
         fault = first_of(fault, found);
     }
     Ok(fault)
 }
 
-/// Whether all are taken: in a function all are, and integers everywhere.
-fn are_taken(in_function: bool, integers: bool) -> bool
-    ensures { result ≡ (in_function || integers) }
+/// Whether all are taken: in an initial block integers alone are.
+fn are_taken(takes_variables: bool, integers: bool) -> bool
+    ensures { result ≡ (takes_variables || integers) }
 {
-    in_function || integers
+    takes_variables || integers
 }
 
 /// The first variable of a declaration where none is taken.
-fn untaken_variable(in_function: bool, v: &Variables) -> Option<Fault>
-    ensures { result ≡ least (spec.untaken_locals in_function (locals v.now)) }
+fn untaken_variable(takes_variables: bool, v: &Variables) -> Option<Fault>
+    ensures { result ≡ least (spec.untaken_locals takes_variables (locals v.now)) }
 {
     let integers = is_integer(&v.value_type);
-    if are_taken(in_function, integers) {
+    if are_taken(takes_variables, integers) {
         return None;
     }
     let mut fault = None;
@@ -94,10 +83,10 @@ fn untaken_variable(in_function: bool, v: &Variables) -> Option<Fault>
 pub fn block_of<'a>(
     alloc: Global,
     scope: &'a BlockScope,
-    in_function: bool,
+    takes_variables: bool,
 ) -> Result<Block<'a>, AllocError>
     ensures locals { IfOk result (λ b. AreLocals b.locals (spec.scope_locals (Some (view.block_scope scope.now)))) }
-    ensures fault { IfOk result (λ b. b.fault ≡ least (spec.repeated_locals [] (spec.scope_locals (Some (view.block_scope scope.now))) ++ spec.untaken_locals in_function (spec.scope_locals (Some (view.block_scope scope.now))))) }
+    ensures fault { IfOk result (λ b. b.fault ≡ least (spec.repeated_locals [] (spec.scope_locals (Some (view.block_scope scope.now))) ++ spec.untaken_locals takes_variables (spec.scope_locals (Some (view.block_scope scope.now))))) }
 {
     let mut map = NameMap::new(alloc);
     let mut repeated = None;
@@ -105,7 +94,7 @@ pub fn block_of<'a>(
     for v in &scope.variables {
         let found = add_variables(&mut map, v)?;
         repeated = first_of(repeated, found);
-        untaken = first_of(untaken, untaken_variable(in_function, v));
+        untaken = first_of(untaken, untaken_variable(takes_variables, v));
     }
     Ok(Block {
         locals: map,

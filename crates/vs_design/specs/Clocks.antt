@@ -17,7 +17,7 @@ named_input d name = find (λ s. s.input && same_name s.name name && (signal_len
 
 -- where no clock is named a signal takes its place whose bit isn't one of the design's, and which none of the design's signals is: no process reads it or waits on it
 abbrev pub spare_clock : Design → Signal
-spare_clock d = record { name = []; scope = 0; number = length d.signals; net = true; input = true; range = None; signed = false; first = bit_count d; words = None }
+spare_clock d = record { name = []; scope = 0; number = length d.signals; net = true; input = true; range = None; signed = false; first = bit_count d; words = None; integer = false }
 
 -- the clock by its name; the rule NoClock where a name is given that is none of a one-bit input's
 abbrev pub clock_input : Design → Option (List ℕ) → Option Signal

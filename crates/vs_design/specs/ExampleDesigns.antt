@@ -117,10 +117,10 @@ quiet = design_of (clk_signal ∷ d1 ∷ q2 ∷ y3 ∷ []) (on_posedge 60 clk_si
 
 -- `inv g(a, y);` of `module inv(input p, output q); assign q = ~p; endmodule`
 abbrev pub p3_inner : Signal
-p3_inner = record { name = codes "p"; scope = 1; number = 3; net = true; input = false; range = None; signed = false; first = 3; words = None }
+p3_inner = record { name = codes "p"; scope = 1; number = 3; net = true; input = false; range = None; signed = false; first = 3; words = None; integer = false }
 
 abbrev pub q4_inner : Signal
-q4_inner = record { name = codes "q"; scope = 1; number = 4; net = true; input = false; range = None; signed = false; first = 4; words = None }
+q4_inner = record { name = codes "q"; scope = 1; number = 4; net = true; input = false; range = None; signed = false; first = 4; words = None; integer = false }
 
 abbrev pub port : Design
 port = record {
@@ -133,13 +133,13 @@ port = record {
 
 -- `reg1 r((clk), d, y);` of `module reg1(input c, input d, output reg q); always @(posedge c) q <= d; endmodule`: its net c is a clock net
 abbrev pub c3_inner : Signal
-c3_inner = record { name = codes "c"; scope = 1; number = 3; net = true; input = false; range = None; signed = false; first = 3; words = None }
+c3_inner = record { name = codes "c"; scope = 1; number = 3; net = true; input = false; range = None; signed = false; first = 3; words = None; integer = false }
 
 abbrev pub d4_inner : Signal
-d4_inner = record { name = codes "d"; scope = 1; number = 4; net = true; input = false; range = None; signed = false; first = 4; words = None }
+d4_inner = record { name = codes "d"; scope = 1; number = 4; net = true; input = false; range = None; signed = false; first = 4; words = None; integer = false }
 
 abbrev pub q5_inner : Signal
-q5_inner = record { name = codes "q"; scope = 1; number = 5; net = false; input = false; range = None; signed = false; first = 5; words = None }
+q5_inner = record { name = codes "q"; scope = 1; number = 5; net = false; input = false; range = None; signed = false; first = 5; words = None; integer = false }
 
 abbrev pub clocked_instance : Design
 clocked_instance = record {
@@ -224,16 +224,16 @@ abbrev pub y3_output : Signal
 y3_output = wire_of (codes "y") 3 None 3
 
 abbrev pub c4_leaf : Signal
-c4_leaf = record { name = codes "clk"; scope = 1; number = 4; net = true; input = false; range = None; signed = false; first = 4; words = None }
+c4_leaf = record { name = codes "clk"; scope = 1; number = 4; net = true; input = false; range = None; signed = false; first = 4; words = None; integer = false }
 
 abbrev pub r5_leaf : Signal
-r5_leaf = record { name = codes "r"; scope = 1; number = 5; net = true; input = false; range = None; signed = false; first = 5; words = None }
+r5_leaf = record { name = codes "r"; scope = 1; number = 5; net = true; input = false; range = None; signed = false; first = 5; words = None; integer = false }
 
 abbrev pub d6_leaf : Signal
-d6_leaf = record { name = codes "d"; scope = 1; number = 6; net = true; input = false; range = None; signed = false; first = 6; words = None }
+d6_leaf = record { name = codes "d"; scope = 1; number = 6; net = true; input = false; range = None; signed = false; first = 6; words = None; integer = false }
 
 abbrev pub q7_leaf : Signal
-q7_leaf = record { name = codes "q"; scope = 1; number = 7; net = false; input = false; range = None; signed = false; first = 7; words = None }
+q7_leaf = record { name = codes "q"; scope = 1; number = 7; net = false; input = false; range = None; signed = false; first = 7; words = None; integer = false }
 
 abbrev pub reset_through_port : Design
 reset_through_port = record {

@@ -18,13 +18,13 @@ use Rattle.vs_design.specs.Networks.{network_of}
 -- ---- signals of the top, by number and first bit
 
 abbrev pub input_of : List ℕ → ℕ → Option Range → ℕ → Signal
-input_of name number range first = record { name = name; scope = 0; number = number; net = true; input = true; range = range; signed = false; first = first; words = None }
+input_of name number range first = record { name = name; scope = 0; number = number; net = true; input = true; range = range; signed = false; first = first; words = None; integer = false }
 
 abbrev pub wire_of : List ℕ → ℕ → Option Range → ℕ → Signal
-wire_of name number range first = record { name = name; scope = 0; number = number; net = true; input = false; range = range; signed = false; first = first; words = None }
+wire_of name number range first = record { name = name; scope = 0; number = number; net = true; input = false; range = range; signed = false; first = first; words = None; integer = false }
 
 abbrev pub reg_of : List ℕ → ℕ → Option Range → ℕ → Signal
-reg_of name number range first = record { name = name; scope = 0; number = number; net = false; input = false; range = range; signed = false; first = first; words = None }
+reg_of name number range first = record { name = name; scope = 0; number = number; net = false; input = false; range = range; signed = false; first = first; words = None; integer = false }
 
 -- `[left:right]`
 abbrev pub range_of : ℕ → ℕ → Range

@@ -22,6 +22,7 @@ mod FineItems
 mod WiredPorts
 mod OpenedSteps
 mod OwnSteps
+mod ScopedSteps
 mod BlockSteps
 mod KnownModules
 mod AlikeTasks

@@ -1,12 +1,14 @@
 pub mod Limits
 pub mod Environments
 pub mod Targets
+pub mod Uses
 pub mod Statements
 pub mod Declarations
 pub mod Parameters
 pub mod Signals
 pub mod Heads
 pub mod Functions
+pub mod NamedBlocks
 pub mod Generate
 pub mod Loops
 pub mod Constructs

@@ -1,10 +1,10 @@
 //! What holds of every elaborated design, and worked texts.
 
-ghost use Rattle.vs_elaborated.specs.ExampleDesigns.{WholeDesigns, Parameters, Overrides, ConvertedOverrides, Ports, Connections, Numbered, Blocks, Names, LoopsAndFunctions, InitialValues};
+ghost use Rattle.vs_elaborated.specs.ExampleDesigns.{WholeDesigns, Parameters, Overrides, ConvertedOverrides, Ports, Connections, Numbered, Blocks, Names, LoopsAndFunctions, IntegerVariables, InitialValues};
 ghost use Rattle.vs_elaborated.specs.ExampleRefusals.{NotConstants, UnknownConstants, WrongModules, UnknownNames, RepeatedNames, BadRanges, WrongConnections, WrongKinds, OtherKinds, LoopVariables, FunctionRules, FirstFaults, Limited};
 ghost use Rattle.vs_elaborated.specs.Laws.{DepthIsEnough, ElaboratedIsLawful};
 ghost use Rattle.vs_elaborated.specs.Numbers.{FunctionNamesAreNumbered, FunctionsAreCounted, FunctionsAreNumbered, MoreFunctionsStand, NamesAreNumbered, NumbersStay, ScopesAreNumbered};
-ghost use Rattle.vs_elaborated.specs.Runs.{BlocksRunAsUnrolled, FunctionsRunAsUnrolled, InitialsRunAsUnrolled, RunsAsUnrolled};
+ghost use Rattle.vs_elaborated.specs.Runs.{BlocksRunAsUnrolled, FunctionsRunAsUnrolled, InitialsRunAsUnrolled, RunsAsUnrolled, ScopedBlocksRunAsUnrolled};
 ghost use Rattle.vs_elaborated.specs.Sound.{BlocksAreLower, FaultlessIsFair, FunctionsAreFormed, FunctionsSeeSound, InstancesHavePorts, NamesAreSound, OverridesAreFine, PortsAreSignals, SignalsAreCounted};
 
 /// Every design that a text elaborates to is lawful (IEEE 1364-2005, clause 12), and no text has scopes deeper within one another than are read.
@@ -52,6 +52,7 @@ pub fn number_law()
 pub fn unroll_law()
     ensures statements { RunsAsUnrolled }
     ensures blocks { BlocksRunAsUnrolled }
+    ensures scoped { ScopedBlocksRunAsUnrolled }
     ensures initials { InitialsRunAsUnrolled }
     ensures functions { FunctionsRunAsUnrolled }
 {}
@@ -68,6 +69,7 @@ pub fn design_examples()
     ensures blocks { Blocks }
     ensures names { Names }
     ensures loops_and_functions { LoopsAndFunctions }
+    ensures integer_variables { IntegerVariables }
     ensures initial_values { InitialValues }
 {}
 

@@ -1,21 +1,24 @@
 -- The faults of an always block, and of an initial one.
-use Rattle.std.proofs.Common.{◌≡◌, ℕ, Bool, true, false, ◌-◌, List, ◌++◌, Option, ap, sym, ◌∙◌, subst}
+use Rattle.std.proofs.Common.{◌≡◌, ℕ, Bool, true, false, ◌-◌, List, [], ◌∷◌, ◌++◌, map, length, Option, refl, ap, sym, ◌∙◌, subst, arith}
 use Rattle.vs_grammar.specs.Trees as tree
 use Rattle.vs_const.specs.declared.faults.Fault.{Fault}
-use Rattle.vs_const.specs.declared.rules.Rule.TheVariants.{WrongKind}
+use Rattle.vs_const.specs.declared.rules.Rule.TheVariants.{LoopVariable}
 use Rattle.vs_const.specs.Faults.{least, better}
 use Rattle.vs_const.specs.Meanings.{Barred}
 use Rattle.vs_const.proofs.Least.{least_append}
 use Rattle.vs_elaborated.specs.Environments.{Env, named}
 use Rattle.vs_elaborated.specs.Limits.{Limits}
 use Rattle.vs_elaborated.specs.Statements.{Body, unrolled_within, is_clocked_by}
+use Rattle.vs_elaborated.specs.NamedBlocks as spec
+use Rattle.vs_scope.specs.declared.block_scopes.NamedBlock.{NamedBlock}
+use Rattle.vs_scope.specs.NamedBlocks.{named as named_block}
 use Rattle.vs_elaborated.specs.Surveys.{Loops, block_statement, initial_body, initial_statement}
 use Rattle.vs_bodies.specs.declared.said.StatementSaid.{StatementSaid}
 use Rattle.vs_bodies.specs.Said.{IsSaid}
 
 -- an always block, which is clocked or not
 abbrev pub alone_body : (clocked : Bool) → Body
-alone_body clocked = record { declared = λ place. Barred WrongKind; in_function = false; clocked = clocked; unrolls = true }
+alone_body clocked = record { declared = λ place. Barred LoopVariable; in_function = false; takes_variables = true; clocked = clocked; unrolls = true }
 
 -- its statement, with so many copies left
 pub statement_said : (limits : Limits) (env : Env) (loops : Loops) (b : tree.AlwaysBlock) (said : StatementSaid) (left : ℕ) (clocked : Bool) → left ≡ limits.copies - loops.copies → clocked ≡ is_clocked_by b.control
@@ -33,3 +36,12 @@ initial_statement_said limits env loops b said left h s = subst (λ (n : ℕ). I
 pub first_of_three : (a b c later both : Option Fault) (fs gs hs : List Fault) → both ≡ better a later → later ≡ better b c → a ≡ least fs → b ≡ least gs → c ≡ least hs → both ≡ least (fs ++ (gs ++ hs))
 first_of_three a b c later both fs gs hs k h e f g =
     k ∙ ap (better a) (h ∙ ap (λ x. better x c) f ∙ ap (better (least gs)) g ∙ sym (least_append gs hs)) ∙ ap (λ x. better x (least (gs ++ hs))) e ∙ sym (least_append fs (gs ++ hs))
+
+-- named blocks that are scopes: none, and some
+pub none_named : (xs : List NamedBlock) (ns : List spec.NamedBlock) → map named_block xs ≡ ns → length xs ≡ 0 → ns ≡ []
+none_named [] ns h e = sym h
+none_named (x ∷ xs) ns h e = absurd (let no : ⊥ = omega (arith, e) in no)
+
+pub some_named : (xs : List NamedBlock) (ns : List spec.NamedBlock) → map named_block xs ≡ ns → (length xs ≡ 0 → ⊥) → (n : spec.NamedBlock) × (rest : List spec.NamedBlock) × (ns ≡ n ∷ rest)
+some_named [] ns h e = absurd (e refl)
+some_named (x ∷ xs) ns h e = (named_block x, map named_block xs, sym h)

@@ -4,6 +4,7 @@
 
 mod again;
 mod bits;
+mod block_scopes;
 mod cases;
 mod clashes;
 mod collect;
@@ -15,6 +16,7 @@ mod frames;
 mod functions;
 mod header;
 mod inside;
+mod integers;
 mod laws;
 mod local_signals;
 mod locals;
@@ -32,6 +34,7 @@ mod turns;
 mod values;
 mod whole;
 
+pub use block_scopes::{NamedBlock, SaidBlocks, named_blocks, variables_fault, within_blocks};
 pub use contents::{BlockItems, Contents};
 pub use counts::Counts;
 pub use frames::{Frame, Turn};

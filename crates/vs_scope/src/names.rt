@@ -1,14 +1,16 @@
 //! The names of a scope, and what each of them was declared as (IEEE 1364-2005, 12.7).
 
-ghost use Rattle.std.specs.Prelude.{◌≡◌, ◌≤◌, None, Some, MatchOption};
+ghost use Rattle.std.specs.Prelude.{◌≡◌, ◌≤◌, [], None, Some, MatchOption};
 ghost use Rattle.std.specs.Option.{ForSome, option_copied};
 ghost use Rattle.vs_four.specs.Selects.{range_length};
 ghost use Rattle.vs_const.specs.Meanings.{IsFairValue};
 ghost use Rattle.vs_elaborated.specs.Environments.{find_entry};
 ghost use Rattle.vs_maps.specs.Maps.{value_at};
 ghost use Rattle.vs_maps.specs.MapViews.{pairs};
+ghost use Rattle.vs_scope.specs.Complete.{IsIncomplete};
 
 use crate::counts::Counts;
+use std::alloc::Global;
 use vs_ast::{Expr, Function, Name, Parameters, Signals};
 use vs_const::{Constant, FunctionShape, Role};
 use vs_four::Range;
@@ -31,7 +33,9 @@ pub enum Sort<'a> {
     /// A function (10.4.1).
     Function(&'a Function),
     Genvar,
-    /// An integer (4.8).
+    /// An integer that is a variable (4.8).
+    Variable,
+    /// Another integer, which heads loops (9.6).
     Integer,
     /// An instance, or a named generate block.
     Scope,
@@ -46,8 +50,8 @@ pub struct Declaration<'a> {
 
 /// A signal of a scope (3.2, 3.3). `number` and `first` are the numbers of the signal and of its first bit in the design, `input` says whether
 /// it is an input of the top and `is_input` whether it is one of its own module, and `known` that no fault leaves its range undefined. A memory
-/// (4.9) has addresses in `words`, the greater bound on the left, at most 1,024; `range`, of at most 64 bits, is then that of each word. `place`
-/// is that of its first declaration.
+/// (4.9) has addresses in `words`, the greater bound on the left, at most 1,024; `range`, of at most 64 bits, is then that of each word. `integer`
+/// says that it is declared as an integer (4.8), and `place` is that of its first declaration.
 #[derive(Clone, Copy)]
 pub struct Signal<'a> {
     pub name: &'a [u8],
@@ -60,15 +64,16 @@ pub struct Signal<'a> {
     pub signed: bool,
     pub first: u64,
     pub words: Option<Range>,
+    pub integer: bool,
     pub is_input: bool,
     pub known: bool,
     ghost short: { ForSome range (λ r. range_length r ≤ 64) },
     ghost few: { ForSome words (λ r. range_length r ≤ 1024) },
 }
 
-/// A local signal of a function (10.4.1): an input of it, its result or a variable of its own, as `role` and `input` say. `number` and `first` are its
-/// number and that of its first bit among the function's local signals, `known` says that no fault leaves its range undefined, and `place` is that of its
-/// declaration.
+/// A local signal of a function (10.4.1): an input of it, its result or a variable of its own, as `role` and `input` say; or a variable of a named block of
+/// an always block (9.8.2). `number` and `first` are its number and that of its first bit, among the function's local signals or in the design, `known` says
+/// that no fault leaves its range undefined, `integer` that it is declared as an integer (4.8), and `place` is that of its declaration.
 #[derive(Clone, Copy)]
 pub struct LocalSignal<'a> {
     pub name: &'a [u8],
@@ -78,6 +83,7 @@ pub struct LocalSignal<'a> {
     pub input: bool,
     pub range: Option<Range>,
     pub signed: bool,
+    pub integer: bool,
     pub first: u64,
     pub role: Role,
     pub known: bool,
@@ -112,7 +118,7 @@ pub enum Declared<'a> {
     /// A function, with what a call needs to know of it once it is complete (10.4).
     Function(Option<FunctionShape>),
     Genvar,
-    /// An integer (4.8), and the number of the scope that declares it.
+    /// An integer that is no variable (4.8), and the number of the scope that declares it.
     Integer { scope: u32 },
     /// An instance or a named generate block.
     Scope,
@@ -139,6 +145,24 @@ pub struct Names<'a> {
 
 impl<'a> Names<'a> {
     ghost use Rattle.vs_scope.specs.Views.{entries, entry_of};
+
+    /// The names of a scope of this number in which no expression stands: that of a named block.
+    pub fn none(alloc: Global, scope: u32) -> Names<'a>
+        ensures entries { entries result ≡ [] }
+        ensures incomplete { IsIncomplete result }
+        ensures scope { result.scope ≡ scope }
+    {
+        Names {
+            map: NameMap::new(alloc),
+            scope,
+            counts: Counts {
+                copies: 0,
+                functions: 0,
+            },
+            functions: Vec::new(alloc),
+            plain: 0,
+        }
+    }
 
     /// The declaration of this name, if there is one.
     pub fn find(&self, name: &[u8]) -> Option<&Entry<'a>>

@@ -211,7 +211,7 @@ joined_bits s t e r named long settled =
 -- ---- the bits of a class
 
 none_signal : Signal
-none_signal = record { name = []; scope = 0; number = 0; net = true; input = false; range = None; signed = false; first = 0; words = None }
+none_signal = record { name = []; scope = 0; number = 0; net = true; input = false; range = None; signed = false; first = 0; words = None; integer = false }
 
 -- the value of the signal with this number
 value_at : Design → State → ℕ → BitList

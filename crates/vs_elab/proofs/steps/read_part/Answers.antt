@@ -73,13 +73,13 @@ returns-in-Some-clause-broken c =
 
 pub read_own-requires : goal.read_own-requires
 read_own-requires c = record {
-  within = next_within c.args.text.now c.args.reading.now c.args.next c.args.stack.now.items c.in_default.not-Block c.in_default.not-Instance c.requires.reading;
+  within = next_within c.args.text.now c.args.reading.now c.args.next c.args.stack.now.items c.in_default.not-Block c.in_default.not-Instance c.in_default.not-Scoped c.requires.reading;
   kept = c.requires.reading.read.kept;
   idle = c.requires.reading.read.idle;
-  numbered = next_numbered c.args.text.now c.args.reading.now c.args.next c.args.stack.now.items c.in_default.not-Block c.in_default.not-Instance c.requires.reading;
-  seen = next_seen c.args.text.now c.args.reading.now c.args.next c.args.stack.now.items c.in_default.not-Block c.in_default.not-Instance c.requires.reading;
-  room = next_room c.args.text.now c.args.reading.now c.args.next c.args.stack.now.items c.in_default.not-Block c.in_default.not-Instance c.requires.reading;
-  fine = next_fine c.args.text.now c.args.reading.now c.args.next c.args.stack.now.items c.in_default.not-Block c.in_default.not-Instance c.requires.reading;
+  numbered = next_numbered c.args.text.now c.args.reading.now c.args.next c.args.stack.now.items c.in_default.not-Block c.in_default.not-Instance c.in_default.not-Scoped c.requires.reading;
+  seen = next_seen c.args.text.now c.args.reading.now c.args.next c.args.stack.now.items c.in_default.not-Block c.in_default.not-Instance c.in_default.not-Scoped c.requires.reading;
+  room = next_room c.args.text.now c.args.reading.now c.args.next c.args.stack.now.items c.in_default.not-Block c.in_default.not-Instance c.in_default.not-Scoped c.requires.reading;
+  fine = next_fine c.args.text.now c.args.reading.now c.args.next c.args.stack.now.items c.in_default.not-Block c.in_default.not-Instance c.in_default.not-Scoped c.requires.reading;
 }
 
 pub returns-in_err-read_own-in_default : goal.returns-in_err-read_own-in_default
@@ -91,6 +91,6 @@ returns-in_err-read_own-in_default c = record {
 
 pub returns-in_ok-read_own-in_default : goal.returns-in_ok-read_own-in_default
 returns-in_ok-read_own-in_default c = record {
-  step = next_built c.args.text.now c.args.reading.now c.args.next c.args.stack.now.items c.in_default.not-Block c.in_default.not-Instance c.requires.reading c.read_own.new.reading c.in_ok-read_own-in_default.ensures.built c.read_own.ensures.frames c.read_own.ensures.counts c.read_own.ensures.loops;
+  step = next_built c.args.text.now c.args.reading.now c.args.next c.args.stack.now.items c.in_default.not-Block c.in_default.not-Instance c.in_default.not-Scoped c.requires.reading c.read_own.new.reading c.in_ok-read_own-in_default.ensures.built c.read_own.ensures.frames c.read_own.ensures.counts c.read_own.ensures.loops;
   broken = tt;
 }
