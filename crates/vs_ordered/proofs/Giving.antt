@@ -12,6 +12,7 @@ use Rattle.vs_design.specs.Values.{count_from, bits_of_signal, read}
 use Rattle.vs_design.specs.Footprints.{signals_bits}
 use Rattle.vs_design.specs.Elaborated.{have_bits_from}
 use Rattle.vs_design.specs.Resets.{reset_inputs}
+use Rattle.vs_design.specs.Selects.{select_firsts}
 use Rattle.vs_design.specs.Accepted.{IsAcceptedDesign}
 use Rattle.vs_queue.specs.Driven as Q
 use Rattle.vs_queue.specs.Driven.{AreGiven, AreVectors}
@@ -137,16 +138,16 @@ twice clock (s ∷ ss) = by s.input (twice clock ss)
     by true e = ap (λ (xs : List Signal). if not (s.first == clock) then (s ∷ xs) else xs) e
     by false e = e
 
-lengths_are : (resets : List ℕ) (ss : List Signal) → lengths (map (input_of resets) ss) ≡ map signal_length ss
-lengths_are resets [] = refl
-lengths_are resets (s ∷ ss) = ap (λ (ns : List ℕ). signal_length s ∷ ns) (lengths_are resets ss)
+lengths_are : (resets selects : List ℕ) (ss : List Signal) → lengths (map (input_of resets selects) ss) ≡ map signal_length ss
+lengths_are resets selects [] = refl
+lengths_are resets selects (s ∷ ss) = ap (λ (ns : List ℕ). signal_length s ∷ ns) (lengths_are resets selects ss)
 
 vector_given : (d : Design) (name : Option (List ℕ)) (a : IsAcceptedDesign d name) (x : Vector) → sizes x ≡ lengths (data_inputs d a.clock.first) → AreGiven (Q.data_inputs a.clock.first (top_inputs d)) x (vector_state d a.clock.first x)
 vector_given d name a x fits =
     let clock = a.clock.first in
     let those : List Signal = filter (is_data_input clock) d.signals in
     let up = ascending (is_data_input clock) 0 d.signals a.lawful.bits_numbered in
-    let here = given 0 those x (λ b. X) up (fits ∙ lengths_are (reset_inputs d clock) those) in
+    let here = given 0 those x (λ b. X) up (fits ∙ lengths_are (reset_inputs d clock) (select_firsts d) those) in
     subst (λ (ss : List Signal). AreGiven ss x (vector_state d clock x)) (sym (twice clock d.signals))
     (subst (λ (bs : List ℕ). AreGiven those x (write_all (λ b. X) (map2 write_to bs (bits_of x)))) (sym (data_bits_are d name a)) here)
 

@@ -7,7 +7,7 @@ use Rattle.vs_net.specs.Laws.{IsKnownVector, AreKnownResets}
 use Rattle.vs_net.specs.Solution.{IsSolution, beginning}
 use Rattle.vs_design.specs.Designs.{Initial, Design}
 use Rattle.vs_design.specs.Initials.{IsOrderOf}
-use Rattle.vs_design.specs.Laws.{EveryOrderOfDesign, OneSolutionOfDesign}
+use Rattle.vs_design.specs.Laws.{AreKnownSelects, EveryOrderOfDesign, OneSolutionOfDesign}
 use Rattle.vs_design.specs.Networks.{network_in, network_of}
 use Rattle.vs_clock.specs.Clocked.{Clocked}
 use Rattle.vs_queue.specs.Driven.{AreVectors}
@@ -22,17 +22,17 @@ use Rattle.vs_ordered.proofs.Valid.{all_asked, clock_is}
 -- a solution of the design's equations is what every completed run ends with
 abbrev Ends : Design → State → List State → List State → ℕ → Type 0
 Ends d first later values clock =
-    let n = network_of d clock in IsKnownVector n first → AreKnownResets n later → IsSolution n (beginning n) (slots_of (first ∷ later)) values
+    let n = network_of d clock in IsKnownVector n first → AreKnownResets n later → AreKnownSelects d clock (beginning n) (slots_of (first ∷ later)) → IsSolution n (beginning n) (slots_of (first ∷ later)) values
     → (initials : List Initial) → IsOrderOf d.initials initials → let m = network_in d clock initials in
     (idle : State) → IsFirst m idle → (choices : List Choice) → IsCompleted m (start m idle first later) choices → values ≡ ends m (start m idle first later) choices
 
 same_ends : EveryOrderOfDesign → OneSolutionOfDesign → (d : Design) (c : Clocked) → IsAcceptedBy d c → (first : State) (later values : List State) → Ends d first later values c.bit
 same_ends order unique d c h first later values =
     subst (Ends d first later values) (clock_is d c h)
-    (λ known resets solved initials in_order idle is_first choices completed.
+    (λ known resets selects solved initials in_order idle is_first choices completed.
     let n = network_of d h.accepted.clock.first in
     let m = network_in d h.accepted.clock.first initials in
-    unique d h.name h.accepted (beginning n) (slots_of (first ∷ later)) values (ends m (start m idle first later) choices) solved (order d h.name h.accepted initials in_order idle first later is_first known resets choices completed))
+    unique d h.name h.accepted (beginning n) (slots_of (first ∷ later)) values (ends m (start m idle first later) choices) selects solved (order d h.name h.accepted initials in_order idle first later is_first known resets choices completed))
 
 -- what a run of the queue ensures
 abbrev pub Solves : Design → ℕ → List Vector → List (List Bit4) → Type 0
@@ -52,7 +52,7 @@ every_dump order unique {d} {c} h half vectors values share text sized solves is
     let asks = all_asked d c h vectors first later sized valid in
     let f = vector_state d c.bit first in
     let l : List State = map (vector_state d c.bit) later in
-    is ∙ ap (text_of share d half) (same_ends order unique d c h f l (map state_of values) asks.known asks.resets (solves f l asks.given asks.known asks.resets) initials in_order idle is_first choices completed)
+    is ∙ ap (text_of share d half) (same_ends order unique d c h f l (map state_of values) asks.known asks.resets (asks.selects (beginning (network_of d c.bit))) (solves f l asks.given asks.known asks.resets) initials in_order idle is_first choices completed)
 
 pub has_steps : {d : Design} {c : Clocked} (h : IsAcceptedBy d c) (order : ℕ) (vectors : List Vector) (values : List (List Bit4)) (steps : ℕ) → AreSized d c.bit vectors → IsRun d c.bit order vectors values steps
     → (first : Vector) (later : List Vector) → AreValid d c.bit vectors first later → HasSteps d c.bit order first later steps

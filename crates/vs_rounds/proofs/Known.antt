@@ -22,6 +22,7 @@ use Rattle.vs_design.specs.Values.{count_from, bits_of_signal}
 use Rattle.vs_design.specs.Footprints.{contains, without, signals_bits, is_input}
 use Rattle.vs_design.specs.Elaborated.{have_bits_from}
 use Rattle.vs_design.specs.Resets.{reset_inputs}
+use Rattle.vs_design.specs.Selects.{select_firsts}
 use Rattle.vs_design.specs.Accepted.{IsAcceptedDesign}
 use Rattle.vs_design.specs.Initials.{sole_bits}
 use Rattle.vs_design.specs.Networks.{process_of, block_process, writer_of, spare_writers, keeper_of, at_or_input, network_of}
@@ -166,17 +167,17 @@ clock_apart d (Some name) c h found = apart (λ s. s.input && same_name s.name n
 pub data_bits_are : (d : Design) (name : Option (List ℕ)) (a : IsAcceptedDesign d name) → data_bits d a.clock.first ≡ signals_bits (filter (is_data_input a.clock.first) d.signals)
 data_bits_are d name a = bits_are a.clock.first d.signals (clock_apart d name a.clock a.lawful.bits_numbered a.clock_found)
 
-inputs_sum : (resets : List ℕ) (ss : List Signal) → sum (lengths (map (input_of resets) ss)) ≡ length (signals_bits ss)
-inputs_sum resets [] = refl
-inputs_sum resets (s ∷ ss) =
-    let rest = inputs_sum resets ss in
+inputs_sum : (resets selects : List ℕ) (ss : List Signal) → sum (lengths (map (input_of resets selects) ss)) ≡ length (signals_bits ss)
+inputs_sum resets selects [] = refl
+inputs_sum resets selects (s ∷ ss) =
+    let rest = inputs_sum resets selects ss in
     let first = length-count_from s.first (signal_length s) in
-    sum_by-cons (λ x. x) (signal_length s) (lengths (map (input_of resets) ss)) ∙ omega (arith, length-append (bits_of_signal s) (signals_bits ss))
+    sum_by-cons (λ x. x) (signal_length s) (lengths (map (input_of resets selects) ss)) ∙ omega (arith, length-append (bits_of_signal s) (signals_bits ss))
 
 pub inputs_fit : (d : Design) (name : Option (List ℕ)) (a : IsAcceptedDesign d name) (inputs : List Input) → AreDataInputs d a.clock.first inputs → sum (lengths inputs) ≡ length (data_bits d a.clock.first)
 inputs_fit d name a inputs h =
     ap (λ (is : List Input). sum (lengths is)) h.inputs_are
-    ∙ inputs_sum (reset_inputs d a.clock.first) (filter (is_data_input a.clock.first) d.signals) ∙ ap length (sym (data_bits_are d name a))
+    ∙ inputs_sum (reset_inputs d a.clock.first) (select_firsts d) (filter (is_data_input a.clock.first) d.signals) ∙ ap length (sym (data_bits_are d name a))
 
 -- ---- the bits of a vector
 

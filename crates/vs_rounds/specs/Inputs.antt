@@ -6,6 +6,7 @@ use Rattle.vs_design.specs.Designs.{Design}
 use Rattle.vs_design.specs.Footprints.{contains, is_memory}
 use Rattle.vs_design.specs.Clocks.{same_name}
 use Rattle.vs_design.specs.Resets.{reset_inputs}
+use Rattle.vs_design.specs.Selects.{select_firsts}
 use Rattle.vs_design.specs.Accepted.{IsAcceptedDesign}
 use Rattle.vs_cone.specs.Given.{data_bits}
 use Rattle.vs_stim.specs.declared.input.Input.{Input}
@@ -16,16 +17,16 @@ use Rattle.vs_stim.specs.Header.{IsInput, lengths}
 abbrev pub is_data_input : ℕ → Signal → Bool
 is_data_input clock s = s.input && not (s.first == clock)
 
--- A stimulus names the signal so, and gives it as many digits as it has bits. It is a reset input where its bit is one of these.
-abbrev pub input_of : List ℕ → Signal → Input
-input_of resets s = record { name = s.name; length = signal_length s; reset = contains resets s.first }
+-- A stimulus names the signal so, and gives it as many digits as it has bits. It is a reset input where its bit is one of these, and a select input where its first bit is one of those.
+abbrev pub input_of : (resets selects : List ℕ) → Signal → Input
+input_of resets selects s = record { name = s.name; length = signal_length s; reset = contains resets s.first; select = contains selects s.first }
 
-abbrev pub inputs_among : List ℕ → ℕ → List Signal → List Input
-inputs_among resets clock signals = map (input_of resets) (filter (is_data_input clock) signals)
+abbrev pub inputs_among : (resets selects : List ℕ) → ℕ → List Signal → List Input
+inputs_among resets selects clock signals = map (input_of resets selects) (filter (is_data_input clock) signals)
 
 -- the inputs of the top but the clock, which has this bit, in order of declaration
 abbrev pub data_inputs : Design → ℕ → List Input
-data_inputs d clock = inputs_among (reset_inputs d clock) clock d.signals
+data_inputs d clock = inputs_among (reset_inputs d clock) (select_firsts d) clock d.signals
 
 -- a signal of the top, whose scope is 0, that has one of these names; a memory is no port
 abbrev pub is_output : List (List ℕ) → Signal → Bool

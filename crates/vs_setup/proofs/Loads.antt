@@ -2,6 +2,7 @@
 use Rattle.std.proofs.Common.{◌≡◌, ℕ, Bool, Some, List, sym, subst, ap, ◌∙◌, All, Option}
 use Rattle.vs_design.specs.Expressions.{Signal}
 use Rattle.vs_design.specs.Designs.{Design}
+use Rattle.vs_design.specs.Resets.{reset_inputs}
 use Rattle.vs_design.specs.Accepted.{IsAcceptedDesign}
 use Rattle.vs_flat.specs.DesignOf.{design_of}
 use Rattle.vs_clock.specs.Clocked.{Clocked, IsClockOf}
@@ -29,7 +30,7 @@ outputs_named one {text = text} {top = top} accepted a h =
 
 -- the ports of an accepted text
 pub ports_named : (demanded : Bool) (text : List ℕ) (top clock : Option (List ℕ)) (a : Acceptance) (ports : PortLists) → OneReading → (accepted : IsAcceptedText text top clock (design_of a.flat))
-    → HaveOutputs text top a → IsAcceptance clock a → ports.inputs ≡ inputs_among a.clocks.reset_inputs a.clocks.bit (design_of a.flat).signals
+    → HaveOutputs text top a → IsAcceptance clock a → ports.inputs ≡ inputs_among a.clocks.reset_inputs a.selects a.clocks.bit (design_of a.flat).signals
     → ports.outputs ≡ outputs_among a.outputs (design_of a.flat).signals → ports.demanded ≡ demanded → ports ≡ ports_with demanded accepted
 ports_named demanded text top clock a ports one accepted have lent inputs_are outputs_are demanded_is = λ i. record { inputs = named i; outputs = outputs_is i; demanded = demanded_is i }
   where
@@ -42,7 +43,8 @@ ports_named demanded text top clock a ports one accepted have lent inputs_are ou
     named : ports.inputs ≡ data_inputs d accepted.accepted.clock.first
     named =
         inputs_are
-        ∙ ap (λ (bits : List ℕ). inputs_among bits bit d.signals) lent.resets_are.inputs
+        ∙ ap (λ (bits : List ℕ). inputs_among bits a.selects bit d.signals) lent.resets_are.inputs
+        ∙ ap (λ (bits : List ℕ). inputs_among (reset_inputs d bit) bits bit d.signals) lent.selects_are
         ∙ ap (data_inputs d) (sym (clock_first d clock a.clocks accepted.accepted lent.clock_is))
 
     outputs_is : ports.outputs ≡ outputs d (top_outputs accepted.source top)
@@ -50,7 +52,7 @@ ports_named demanded text top clock a ports one accepted have lent inputs_are ou
 
 pub loaded : (demanded : Bool) (text : List ℕ) (top clock : Option (List ℕ)) (a : Acceptance) (ports : PortLists)
     → InputBitsFit → OneReading → IsAcceptedText text top clock (design_of a.flat) → HaveOutputs text top a → IsAcceptance clock a
-    → ports.inputs ≡ inputs_among a.clocks.reset_inputs a.clocks.bit (design_of a.flat).signals → ports.outputs ≡ outputs_among a.outputs (design_of a.flat).signals
+    → ports.inputs ≡ inputs_among a.clocks.reset_inputs a.selects a.clocks.bit (design_of a.flat).signals → ports.outputs ≡ outputs_among a.outputs (design_of a.flat).signals
     → ports.demanded ≡ demanded → IsLoaded demanded text top clock a ports
 loaded demanded text top clock a ports fit one accepted have lent inputs_are outputs_are demanded_is = record {
   accepted = accepted;
@@ -72,7 +74,7 @@ loaded demanded text top clock a ports fit one accepted have lent inputs_are out
     named = ap (λ (p : PortLists). p.inputs) ports_is
 
     each : All IsInput ports.inputs
-    each = subst (All IsInput) (sym inputs_are) (are_inputs a.clocks.reset_inputs a.flat a.clocks.bit lent.lawful)
+    each = subst (All IsInput) (sym inputs_are) (are_inputs a.clocks.reset_inputs a.selects a.flat a.clocks.bit lent.lawful)
 
     each_output : All IsOutput ports.outputs
     each_output = subst (All IsOutput) (sym outputs_are) (are_outputs a.outputs a.flat lent.lawful)

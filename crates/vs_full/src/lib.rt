@@ -1,0 +1,7 @@
+//! Which cases of a design are full: whether the items of a case match every known value of its selector (IEEE 1364-2005, 9.5).
+#![tactic(auto)]
+
+mod patterns;
+mod search;
+
+pub use search::covers;
