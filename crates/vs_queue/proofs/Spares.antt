@@ -170,9 +170,7 @@ spares_append d (x ∷ xs) ys = go (not (nat_lt x (bit_count d))) (spares_append
 parted_at : (cs : List ℕ) (i : ℕ) → i < length cs → cs ≡ take i cs ++ get_or cs i 0 ∷ drop (suc i) cs
 parted_at [] i l = absurd (omega (arith, l))
 parted_at (c ∷ cs) zero l = refl
-parted_at (c ∷ cs) (suc i) l =
-    let on : suc (i + 1) ≡ suc i + 1 = omega arith in
-    ap (λ (ks : List ℕ). c ∷ ks) (parted_at cs i (omega (arith, l))) ∙ ap (λ (n : ℕ). c ∷ (take i cs ++ get_or cs i 0 ∷ drop n (c ∷ cs))) on
+parted_at (c ∷ cs) (suc i) l = ap (λ (ks : List ℕ). c ∷ ks) (parted_at cs i (omega (arith, l)))
 
 empty_of : (xs : List ℕ) → length xs ≡ 0 → xs ≡ []
 empty_of [] h = refl
@@ -244,9 +242,7 @@ roles_more d k rs now h is =
   where
     one_more : (k : ℕ) → replicate k R.Input ++ R.Input ∷ [] ≡ replicate (suc k) R.Input
     one_more zero = refl
-    one_more (suc k) =
-        let on : suc (k + 1) ≡ suc k + 1 = omega arith in
-        ap (λ (xs : List Role). R.Input ∷ xs) (one_more k) ∙ ap (λ (n : ℕ). replicate n R.Input) on
+    one_more (suc k) = ap (λ (xs : List Role). R.Input ∷ xs) (one_more k)
 
 -- and that of the block behind it
 pub keeper_more : (d : Design) (clocks : List ℕ) (c : Bool) → c ≡ has_keeper d → c ≡ true → driven_roles d clocks ++ R.Block ∷ [] ≡ all_roles d clocks
