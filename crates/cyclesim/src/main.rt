@@ -1,4 +1,4 @@
-//! The program: `cyclesim run [--top T] [--clock C] [--half H] [--define NAME[=TEXT]].. [--with PATH].. [--share] DESIGN STIM..` over the system's files, and
+//! The program: `cyclesim run [--top T] [--clock C[,C]..] [--half H] [--define NAME[=TEXT]].. [--with PATH].. [--share] DESIGN STIM..` over the system's files, and
 //! `cyclesim bench N [L]` in memory; with `--explain` as the first word it says behind the report line what that means.
 //!
 //! It puts one line on standard output, and what explains it, and ends with the status of the outcome. Where its own words or

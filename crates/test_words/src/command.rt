@@ -30,8 +30,8 @@ fn job<'a>(alloc: Global, name: &'a str, about: &'a str) -> Result<Command<'a>, 
         .arg(named(
             alloc,
             "clock",
-            "C",
-            "The name of the top's clock input, if it has one",
+            "C[,C]..",
+            "The names of the top's clock inputs, if it has any",
         ))?
         .arg(
             named(alloc, "half", "H", "Half a clock period, from 1 to 1000000")

@@ -16,7 +16,7 @@ Arguments:
 
 Options:
       --top <T>               The name of the top module, by default the one that no instance names
-      --clock <C>             The name of the top's clock input, if it has one
+      --clock <C[,C]..>       The names of the top's clock inputs, if it has any
       --half <H>              Half a clock period, from 1 to 1000000 [default: 5]
       --define <NAME[=TEXT]>  A macro that is defined before the design's text, up to 64 of them
       --with <PATH>           A further file of the design, read behind it, up to 64 of them
@@ -35,7 +35,7 @@ Arguments:
 
 Options:
       --top <T>               The name of the top module, by default the one that no instance names
-      --clock <C>             The name of the top's clock input, if it has one
+      --clock <C[,C]..>       The names of the top's clock inputs, if it has any
       --half <H>              Half a clock period, from 1 to 1000000 [default: 5]
       --define <NAME[=TEXT]>  A macro that is defined before the design's text, up to 64 of them
       --with <PATH>           A further file of the design, read behind it, up to 64 of them
@@ -53,7 +53,7 @@ Arguments:
 
 Options:
       --top <T>               The name of the top module, by default the one that no instance names
-      --clock <C>             The name of the top's clock input, if it has one
+      --clock <C[,C]..>       The names of the top's clock inputs, if it has any
       --half <H>              Half a clock period, from 1 to 1000000 [default: 5]
       --define <NAME[=TEXT]>  A macro that is defined before the design's text, up to 64 of them
       --with <PATH>           A further file of the design, read behind it, up to 64 of them

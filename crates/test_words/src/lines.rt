@@ -19,6 +19,9 @@ x run --top t --clock c --define A d s
 x run --top t d s
 x run d s
 x run --clock c d s
+x run --top t --clock c,e d s
+x check --clock=e,c,e d s0 s1
+x queue --order 7 --clock ,c=e, d s
 x check d s0 s1
 x check d s --half 7 --top=t
 x run --define=A=1 --top t --define B_2= --clock c d --define A=$b=c+`D s
@@ -48,6 +51,7 @@ x
 x run
 x runs --top t --clock c d s
 x run --top t --clock c --clock d d s
+x run --clock c,e --clock=c,e d s
 x run --top t --clock c
 x run --top t --clock c d
 x run --top t --top u --clock c d s
@@ -119,6 +123,21 @@ fn are_paths(paths: &[&str], files: &Texts) -> bool {
     true
 }
 
+/// Whether these are the names that the value has, parted by commas, or none where there is no value.
+fn are_clocks(value: Option<&str>, clocks: &Texts) -> bool {
+    let Some(value) = value else {
+        return clocks.is_empty();
+    };
+    let mut n = 0;
+    for name in value.split(',') {
+        if clocks.len() <= n || name != clocks.get(n).as_str() {
+            return false;
+        }
+        n += 1;
+    }
+    n == clocks.len()
+}
+
 /// Whether a line defines the macro of this value: `` `define `` and the value, a blank in place of
 /// its first `=`.
 fn defines(line: &str, value: &str) -> bool {
@@ -149,7 +168,7 @@ fn is_head(head: &str, values: &[&str]) -> bool {
 /// Whether these are the words of the job, but for `--share`.
 fn is_job(matches: &ArgMatches<'_>, job: &Job) -> bool {
     matches.get_str("top") == job.top.as_ref().map(|top| top.as_str())
-        && matches.get_str("clock") == job.clock.as_ref().map(|clock| clock.as_str())
+        && are_clocks(matches.get_str("clock"), &job.clocks)
         && matches.get_one::<u32>("half") == Some(job.half)
         && is_head(job.head.as_str(), matches.get_strs("define").unwrap_or(&[]))
         && are_paths(matches.get_strs("with").unwrap_or(&[]), &job.others)

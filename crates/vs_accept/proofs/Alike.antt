@@ -5,14 +5,14 @@ use Rattle.vs_grammar.specs.SpelledLaws.{OneSource, SpelledHasNoFault, OneFaultO
 use Rattle.vs_const.specs.declared.faults.Fault.{Fault}
 use Rattle.vs_design.specs.Designs.{Design}
 use Rattle.vs_design.specs.Cycles.{IsDecided}
-use Rattle.vs_design.specs.Answers.{DesignRefusal, IsRefusedBy}
+use Rattle.vs_design.specs.Answers.{DesignRefusal, IsJudged}
 use Rattle.vs_refusal.specs.declared.names.AtName.{AtName}
 use Rattle.vs_refusal.specs.declared.names.AtName.TheVariants as name
 use Rattle.vs_refusal.specs.declared.refusal.Refusal.{Refusal}
 use Rattle.vs_refusal.specs.declared.refusal.Refusal.TheVariants.{At}
 use Rattle.vs_accept.specs.Accepted.{IsRefusedText, ByTokens, ByMacros, ByTree, ByElaboration, ByRule, tells_tree, is_open, AreAlike, OneRefusal}
 use Rattle.vs_accept.specs.Refused.{byte_of, token_refusal, macro_refusal, TreeFault, OutOfLanguage, OutOfGrammar, OutOfDepth, IsTreeFault, tree_refusal, fault_refusal, design_refusal}
-use Rattle.vs_accept.proofs.AlikeDesign.{AreAlikeRefusals, Same, Cycles, alike_of_design}
+use Rattle.vs_accept.proofs.AlikeDesign.{AreAlikeRefusals, Same, Cycles, alike_judged}
 use Rattle.vs_accept.proofs.Answered.{same_err, ok_or_err, of_design, of_fault, not_of_both, same_result, same_err_of, same_read, read_or_fault, no_fault_read}
 
 two : {A B C : Type 0} (f : A → B → C) {a b : A} {c d : B} → a ≡ b → c ≡ d → f a c ≡ f b d
@@ -49,40 +49,40 @@ alike_trees one byte tokens (OutOfDepth j) (OutOfGrammar k) r q f g is also = bo
 alike_trees one byte tokens (OutOfDepth j) (OutOfDepth k) r q f g is also = both_open name.TooDeep name.TooDeep (byte j) (byte k) r q refl is also
 
 pub one_refusal : OneSource → SpelledHasNoFault → OneFaultOfTokens → ((d : Design) → IsDecided d) → OneRefusal
-one_refusal one no_fault one_fault decided text top clock r q x y = go x y
+one_refusal one no_fault one_fault decided text top clocks r q x y = go x y
   where
     Answer : Type 0
     Answer = AreAlike r q
 
-    go : IsRefusedText text top clock r → IsRefusedText text top clock q → Answer
+    go : IsRefusedText text top clocks r → IsRefusedText text top clocks q → Answer
     go (ByTokens e cut told) (ByTokens f dut also) = inl (same_told (ap token_refusal (same_err cut dut)) told also)
     go (ByTokens e cut told) (ByMacros others f dut faulty also) = absurd (ok_or_err dut cut)
     go (ByTokens e cut told) (ByTree others x reads fault also) = absurd (ok_or_err reads.cut cut)
     go (ByTokens e cut told) (ByElaboration others other f read broken also) = absurd (ok_or_err read.reads.cut cut)
-    go (ByTokens e cut told) (ByRule others other d z read elaborates broken also) = absurd (ok_or_err read.reads.cut cut)
+    go (ByTokens e cut told) (ByRule others other d g z read elaborates broken also) = absurd (ok_or_err read.reads.cut cut)
     go (ByMacros written e cut faulty told) (ByTokens f dut also) = absurd (ok_or_err cut dut)
     go (ByMacros written e cut faulty told) (ByMacros others f dut also_faulty also) = inl (same_told (ap macro_refusal (same_err (same_err_of text written others e cut dut faulty) also_faulty)) told also)
     go (ByMacros written e cut faulty told) (ByTree others x reads fault also) = absurd (read_or_fault text others written e reads cut faulty)
     go (ByMacros written e cut faulty told) (ByElaboration others other f read broken also) = absurd (read_or_fault text others written e read.reads cut faulty)
-    go (ByMacros written e cut faulty told) (ByRule others other d z read elaborates broken also) = absurd (read_or_fault text others written e read.reads cut faulty)
+    go (ByMacros written e cut faulty told) (ByRule others other d g z read elaborates broken also) = absurd (read_or_fault text others written e read.reads cut faulty)
     go (ByTree tokens x reads fault told) (ByTokens f dut also) = absurd (ok_or_err reads.cut dut)
     go (ByTree tokens x reads fault told) (ByMacros others f dut faulty also) = absurd (read_or_fault text tokens others f reads dut faulty)
     go (ByTree tokens x reads fault told) (ByTree others y rereads other also) = alike_trees one_fault (byte_of text tokens) tokens x y r q fault (subst (λ (ts : List Token). IsTreeFault ts y) (same_read text others tokens rereads reads) other)
         told (subst (λ (ts : List Token). tree_refusal (byte_of text ts) y ≡ q) (same_read text others tokens rereads reads) also)
     go (ByTree tokens x reads fault told) (ByElaboration others other f read broken also) = absurd (no_fault_read no_fault text others tokens other read reads x fault)
-    go (ByTree tokens x reads fault told) (ByRule others other d z read elaborates broken also) = absurd (no_fault_read no_fault text others tokens other read reads x fault)
+    go (ByTree tokens x reads fault told) (ByRule others other d g z read elaborates broken also) = absurd (no_fault_read no_fault text others tokens other read reads x fault)
     go (ByElaboration tokens source f read broken told) (ByTokens e dut also) = absurd (ok_or_err read.reads.cut dut)
     go (ByElaboration tokens source f read broken told) (ByMacros others e dut faulty also) = absurd (read_or_fault text tokens others e read.reads dut faulty)
     go (ByElaboration tokens source f read broken told) (ByTree others x reads fault also) = absurd (no_fault_read no_fault text tokens others source read reads x fault)
     go (ByElaboration tokens source f read broken told) (ByElaboration others other g reading also_broken also) =
         inl (sym told ∙ two (λ (ts : List Token) (h : Fault). fault_refusal (byte_of text ts) h) (same_read text tokens others read.reads reading.reads) (of_fault (same_result one text top tokens others source other read reading) broken also_broken) ∙ also)
-    go (ByElaboration tokens source f read broken told) (ByRule others other d z reading elaborates breaks also) = absurd (not_of_both (same_result one text top others tokens other source reading read) elaborates broken)
-    go (ByRule tokens source d z read elaborates broken told) (ByTokens e dut also) = absurd (ok_or_err read.reads.cut dut)
-    go (ByRule tokens source d z read elaborates broken told) (ByMacros others e dut faulty also) = absurd (read_or_fault text tokens others e read.reads dut faulty)
-    go (ByRule tokens source d z read elaborates broken told) (ByTree others x reads fault also) = absurd (no_fault_read no_fault text tokens others source read reads x fault)
-    go (ByRule tokens source d z read elaborates broken told) (ByElaboration others other g reading breaks also) = absurd (not_of_both (same_result one text top tokens others source other read reading) elaborates breaks)
-    go (ByRule tokens source d z read elaborates broken told) (ByRule others other e w reading elaborated_too breaks also) =
+    go (ByElaboration tokens source f read broken told) (ByRule others other d g z reading elaborates breaks also) = absurd (not_of_both (same_result one text top others tokens other source reading read) elaborates broken)
+    go (ByRule tokens source d g z read elaborates broken told) (ByTokens e dut also) = absurd (ok_or_err read.reads.cut dut)
+    go (ByRule tokens source d g z read elaborates broken told) (ByMacros others e dut faulty also) = absurd (read_or_fault text tokens others e read.reads dut faulty)
+    go (ByRule tokens source d g z read elaborates broken told) (ByTree others x reads fault also) = absurd (no_fault_read no_fault text tokens others source read reads x fault)
+    go (ByRule tokens source d g z read elaborates broken told) (ByElaboration others other f reading breaks also) = absurd (not_of_both (same_result one text top tokens others source other read reading) elaborates breaks)
+    go (ByRule tokens source d g z read elaborates broken told) (ByRule others other e h w reading elaborated_too breaks also) =
         let same : e ≡ d = of_design (same_result one text top others tokens other source reading read) elaborated_too elaborates in
-        alike_told (byte_of text tokens) d z w r q
-        (alike_of_design decided d clock z w broken (subst (λ (c : Design). IsRefusedBy c clock w) same breaks))
-        told (two (λ (ts : List Token) (c : Design). design_refusal (byte_of text ts) c w) (same_read text tokens others read.reads reading.reads) (sym same) ∙ also)
+        let both = alike_judged decided d clocks g h z w broken (subst (λ (c : Design). IsJudged c clocks h w) same breaks) in
+        alike_told (byte_of text tokens) g z w r q both.alike
+        told (two (λ (ts : List Token) (c : Design). design_refusal (byte_of text ts) c w) (same_read text tokens others read.reads reading.reads) both.same ∙ also)

@@ -1,5 +1,5 @@
 -- What the answers to one text have to do with one another.
-use Rattle.std.proofs.Common.{◌≡◌, ℕ, List, refl, subst, Option, Some, None}
+use Rattle.std.proofs.Common.{◌≡◌, ℕ, true, List, refl, sym, ap, ◌∙◌, subst, Option, Some, None}
 use Rattle.std.specs.Prelude.{Result, Ok, Err}
 use Rattle.vs_lexer.specs.declared.token.Token.{Token}
 use Rattle.vs_lexer.specs.Cuts.{cut_text}
@@ -13,7 +13,9 @@ use Rattle.vs_const.specs.declared.faults.Fault.{Fault}
 use Rattle.vs_tops.specs.Designs.{elaborated_from}
 use Rattle.vs_design.specs.Designs.{Design}
 use Rattle.vs_design.specs.Answers as D
-use Rattle.vs_design.specs.Answers.{IsRefusedBy}
+use Rattle.vs_design.specs.Answers.{DesignRefusal, OfWidth, OfBlock, OfDriver, OfClock, Cycle, OfRace, OfZero, IsRefusedBy, KeepsDrivers, is_as_written, IsJudged, AsWritten, AsLeft}
+use Rattle.vs_design.specs.Accepted.{IsAcceptedDesign}
+use Rattle.vs_design.specs.Dead.{without_dead}
 use Rattle.vs_accept.specs.Accepted.{IsRead, IsRefusedText, ByTokens, ByMacros, ByTree, ByElaboration, ByRule, OneDesign, NotBoth}
 use Rattle.vs_accept.specs.Refused.{TreeFault, OutOfLanguage, OutOfGrammar, OutOfDepth, IsTreeFault}
 
@@ -62,17 +64,13 @@ pub same_result : OneSource → (text : List ℕ) (top : Option (List ℕ)) (tok
     → elaborated_from source top ≡ elaborated_from other top
 same_result one text top tokens others source other r s = subst (λ (z : Source). elaborated_from source top ≡ elaborated_from z top) (same_source one text tokens others source other r s) refl
 
-pub one_design : OneSource → OneDesign
-one_design one text top clock d e a b =
-    let same = same_result one text top a.tokens b.tokens a.source b.source a.read b.read in
-    of same a.elaborates b.elaborates
-  where
-    of : {x y : Result Design Fault} → x ≡ y → x ≡ Ok d → y ≡ Ok e → d ≡ e
-    of p q r = cc
-
 -- what readings of one text elaborate to
 pub of_design : {x y : Result Design Fault} {d e : Design} → x ≡ y → x ≡ Ok d → y ≡ Ok e → d ≡ e
 of_design p q r = cc
+
+pub one_design : OneSource → OneDesign
+one_design one text top clocks d e a b =
+    a.left ∙ (ap without_dead (of_design (same_result one text top a.tokens b.tokens a.source b.source a.read b.read) a.elaborates b.elaborates) ∙ sym b.left)
 
 pub of_fault : {x y : Result Design Fault} {f g : Fault} → x ≡ y → x ≡ Err f → y ≡ Err g → f ≡ g
 of_fault p q r = cc
@@ -91,13 +89,29 @@ pub no_fault_read : SpelledHasNoFault → (text : List ℕ) (tokens others : Lis
     → (x : TreeFault) → IsTreeFault others x → ⊥
 no_fault_read none text tokens others source read reads x f = no_fault_of none text others source (spelled_by text tokens others source read reads) x f
 
+-- no rule that is asked of a design as it is written refuses one that keeps them
+pub kept_not_broken : (d : Design) (clocks : List (List ℕ)) (x : DesignRefusal) → KeepsDrivers d → is_as_written x ≡ true → IsRefusedBy d clocks x → ⊥
+kept_not_broken d clocks (OfWidth r) k early h = none_some k.0 h
+kept_not_broken d clocks (OfBlock r) k early h = none_some k.1 h.1
+kept_not_broken d clocks (OfDriver r) k early h = none_some k.2 h.2
+kept_not_broken d clocks (OfClock r) k early h = cc
+kept_not_broken d clocks (Cycle ps at) k early h = cc
+kept_not_broken d clocks (OfRace r) k early h = cc
+kept_not_broken d clocks (OfZero r) k early h = cc
+
+-- nor does any rule, where what is left is accepted
+accepted_not_judged : D.NotBoth → (w d e : Design) (clocks : List (List ℕ)) (x : DesignRefusal) → KeepsDrivers w → d ≡ without_dead w → IsAcceptedDesign d clocks → IsJudged w clocks e x → ⊥
+accepted_not_judged judged w d e clocks x kept left a (AsWritten same early h) = kept_not_broken w clocks x kept early h
+accepted_not_judged judged w d e clocks x kept left a (AsLeft same also h) = judged d clocks a x (subst (λ (z : Design). IsRefusedBy z clocks x) (sym left) h)
+
 pub not_both : OneSource → SpelledHasNoFault → D.NotBoth → NotBoth
-not_both one none judged text top clock d r a refused = go refused
+not_both one none judged text top clocks d r a refused = go refused
   where
-    go : IsRefusedText text top clock r → ⊥
+    go : IsRefusedText text top clocks r → ⊥
     go (ByTokens e cut told) = ok_or_err a.read.reads.cut cut
     go (ByMacros written e cut faulty told) = read_or_fault text a.tokens written e a.read.reads cut faulty
     go (ByTree tokens x reads fault told) = no_fault_read none text a.tokens tokens a.source a.read reads x fault
     go (ByElaboration tokens source f read broken told) = not_of_both (same_result one text top a.tokens tokens a.source source a.read read) a.elaborates broken
-    go (ByRule tokens source e x read elaborates broken told) =
-        judged d clock a.accepted x (subst (λ (z : Design). IsRefusedBy z clock x) (of_design (same_result one text top tokens a.tokens source a.source read a.read) elaborates a.elaborates) broken)
+    go (ByRule tokens source w e x read elaborates broken told) =
+        accepted_not_judged judged a.written d e clocks x a.kept a.left a.accepted
+        (subst (λ (z : Design). IsJudged z clocks e x) (of_design (same_result one text top tokens a.tokens source a.source read a.read) elaborates a.elaborates) broken)

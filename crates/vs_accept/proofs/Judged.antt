@@ -1,32 +1,35 @@
 -- What the rules say of a design together.
-use Rattle.std.proofs.Common.{◌≡◌, ◌≤◌, ℕ, true, List, None, length, refl, sym, ◌∙◌, subst, Option}
+use Rattle.std.proofs.Common.{◌≡◌, ◌≤◌, ℕ, max, true, List, None, length, refl, sym, ap, ◌∙◌, subst, arith, Option}
 use Rattle.std.proofs.lemmas.Result.{err_from_is_err_and}
 use Rattle.vs_lexer.specs.declared.token.Token.{Token}
 use Rattle.vs_grammar.specs.Trees.{Source}
 use Rattle.vs_tops.specs.Designs.{elaborated_from}
-use Rattle.std.specs.Prelude.{Result, Ok, Err, IfOk, IfErr, IsErrAnd, MatchResult}
+use Rattle.std.specs.Prelude.{Result, Ok, Err, IfOk, IfErr, OnOk, IsErrAnd, MatchResult}
 use Rattle.vs_design.specs.Designs.{Design}
 use Rattle.vs_design.specs.Elaborated.{IsLawfulDesign}
 use Rattle.vs_design.specs.Accepted.{IsAcceptedDesign}
 use Rattle.vs_design.specs.Levels.{has_no_cycle}
+use Rattle.vs_design.specs.Answers.{KeepsDrivers, KeepsClock}
+use Rattle.vs_design.specs.Dead.{without_dead}
 use Rattle.vs_design.specs.Laws.{AcceptedExactly}
 use Rattle.vs_design.specs.Refusals.{race_refusal, zero_refusal}
+use Rattle.vs_design.specs.Sizes.{size}
 use Rattle.vs_flat.specs.Arena.{Arena}
 use Rattle.vs_flat.specs.DesignOf.{design_of}
 use Rattle.vs_refusal.specs.declared.refusal.Refusal.{Refusal}
 use Rattle.vs_accept.specs.declared.error.AcceptError.{AcceptError}
 use Rattle.vs_accept.specs.declared.error.AcceptError.TheVariants.{Refused, Memory}
-use Rattle.vs_accept.specs.Accepted.{most_bytes, IsRead, IsAcceptedText, IsRefusedText, OneDesign, NotBoth, OneRefusal}
+use Rattle.vs_accept.specs.Accepted.{most_bytes, IsRead, IsAcceptedText, told_size, IsRefusedText, OneDesign, NotBoth, OneRefusal}
 use Rattle.vs_accept.specs.Refused.{byte_of}
-use Rattle.vs_accept.specs.Answers.{IsRefusalOf, TellsLike, IsVerdict, KeepsClock}
-use Rattle.vs_accept.specs.Lent.{Acceptance}
+use Rattle.vs_accept.specs.Answers.{IsRefusalOf, TellsLike, IsAnswered}
+use Rattle.vs_accept.specs.Lent.{Acceptance, IsAcceptedAs}
 use Rattle.vs_accept.specs.Outputs.{top_outputs, HaveOutputs}
 use Rattle.vs_accept.proofs.Told.{by_rule}
 
 -- no rule refuses it
-pub accepted : AcceptedExactly → (d : Design) (clock : Option (List ℕ)) → IsLawfulDesign d → KeepsClock d clock → has_no_cycle d ≡ true → race_refusal d ≡ None → zero_refusal d clock ≡ None → IsAcceptedDesign d clock
-accepted exactly d clock lawful kept acyclic raceless none =
-    (exactly d clock lawful).1 (record { widths = kept.0; blocks = kept.1; drivers = kept.2; clocks = kept.3; no_cycle = acyclic; races = raceless; zero = none })
+pub accepted : AcceptedExactly → (d : Design) (clocks : List (List ℕ)) → IsLawfulDesign d → KeepsClock d clocks → has_no_cycle d ≡ true → race_refusal d ≡ None → zero_refusal d clocks ≡ None → IsAcceptedDesign d clocks
+accepted exactly d clocks lawful kept acyclic raceless none =
+    (exactly d clocks lawful).1 (record { widths = kept.0; blocks = kept.1; drivers = kept.2; clocks = kept.3; no_cycle = acyclic; races = raceless; zero = none })
 
 -- ---- errors that are handed on
 
@@ -34,24 +37,55 @@ accepted exactly d clock lawful kept acyclic raceless none =
 pub turned : {A E : Type 0} {Gives : E → Type 0} (Q : E → Type 0) (r : Result A E) → IsErrAnd r Gives → ((e : E) → Gives e → Q e) → IfErr r Q
 turned Q r h turn = let p = err_from_is_err_and r h in rw p.1 (turn p.0 p.2)
 
+-- as one that says less
+pub weakened : {A E : Type 0} (P Q : E → Type 0) (r : Result A E) → ((e : E) → P e → Q e) → IfErr r P → IfErr r Q
+weakened P Q (Ok a) turn h = tt
+weakened P Q (Err e) turn h = turn e h
+
 -- as it is
 pub passed_on : {A E : Type 0} (Q : E → Type 0) (r : Result A E) (e : E) → IsErrAnd r (λ (y : E). y ≡ e) → Q e → IfErr r Q
 passed_on Q r e h q = turned Q r h (λ y is. subst Q (sym is) q)
 
+-- ---- what is left of a design
+
+-- what is said of any answer
+pub on_ok : {P : Type 0} (r : Result Acceptance AcceptError) → P → OnOk r P
+on_ok (Ok a) p = p
+on_ok (Err e) p = tt
+
+pub as_design : (flat : Arena) (d : Design) (r : Result Acceptance AcceptError) → IfOk r (λ (a : Acceptance). a.flat ≡ flat) → design_of flat ≡ d → IfOk r (λ (a : Acceptance). design_of a.flat ≡ d)
+as_design flat d (Ok a) same is = ap design_of same ∙ is
+as_design flat d (Err e) same is = tt
+
+twice : (n : ℕ) → max n n ≡ n
+twice n = omega arith
+
+-- the size, where nothing is left out, and where something is
+pub size_alone : (d : Design) (n : ℕ) (r : Result Acceptance AcceptError) → n ≡ size d → without_dead d ≡ d → IfOk r (λ (a : Acceptance). a.size ≡ n) → IfOk r (λ (a : Acceptance). a.size ≡ told_size d)
+size_alone d n (Ok a) is none told = told ∙ (is ∙ (sym (twice (size d)) ∙ ap (λ (e : Design). max (size d) (size e)) (sym none)))
+size_alone d n (Err e) is none told = tt
+
+pub size_both : (d e : Design) (n : ℕ) (r : Result Acceptance AcceptError) → n ≡ size d → e ≡ without_dead d → IfOk r (λ (a : Acceptance). a.size ≡ max n (size e)) → IfOk r (λ (a : Acceptance). a.size ≡ told_size d)
+size_both d e n (Ok a) is left told = told ∙ (ap (λ (m : ℕ). max m (size e)) is ∙ ap (λ (f : Design). max (size d) (size f)) left)
+size_both d e n (Err x) is left told = tt
+
 -- ---- the answer to a text
 
 -- what is judged of the design is said of the text
-pub accepted_text : (text : List ℕ) (top clock : Option (List ℕ)) (tokens : List Token) (source : Source) (flat : Arena) (answer : Result Acceptance AcceptError) → length text ≤ most_bytes → IsRead text tokens source
-    → elaborated_from source top ≡ Ok (design_of flat) → IfOk answer (λ (a : Acceptance). a.flat ≡ flat) → IfOk answer (λ (a : Acceptance). IsAcceptedDesign (design_of flat) clock)
-    → IfOk answer (λ (a : Acceptance). IsAcceptedText text top clock (design_of a.flat))
-accepted_text text top clock tokens source flat (Ok a) short read elaborates same judged =
-    subst (λ (b : Arena). IsAcceptedText text top clock (design_of b)) (sym same) (record { short = short; tokens = tokens; source = source; read = read; elaborates = elaborates; accepted = judged })
-accepted_text text top clock tokens source flat (Err e) short read elaborates same judged = tt
+pub accepted_text : (text : List ℕ) (top : Option (List ℕ)) (clocks : List (List ℕ)) (tokens : List Token) (source : Source) (d : Design) (answer : Result Acceptance AcceptError) → length text ≤ most_bytes → IsRead text tokens source
+    → elaborated_from source top ≡ Ok d → OnOk answer (KeepsDrivers d) → IfOk answer (λ (a : Acceptance). design_of a.flat ≡ without_dead d) → IfOk answer (λ (a : Acceptance). a.size ≡ told_size d)
+    → IfOk answer (λ (a : Acceptance). IsAcceptedDesign (without_dead d) clocks) → IfOk answer (IsAcceptedAs text top clocks)
+accepted_text text top clocks tokens source d (Ok a) short read elaborates kept left size judged =
+    record {
+      accepted = record { short = short; tokens = tokens; source = source; read = read; written = d; elaborates = elaborates; kept = kept; left = left; accepted = subst (λ (e : Design). IsAcceptedDesign e clocks) (sym left) judged };
+      size_is = size;
+    }
+accepted_text text top clocks tokens source d (Err e) short read elaborates kept left size judged = tt
 
-pub refused_text : {A : Type 0} (text : List ℕ) (top clock : Option (List ℕ)) (tokens : List Token) (source : Source) (d : Design) (answer : Result A AcceptError) → IsRead text tokens source → elaborated_from source top ≡ Ok d
-    → IfErr answer (IsVerdict (byte_of text tokens) d clock) → IfErr answer (IsRefusalOf text top clock)
-refused_text text top clock tokens source d (Ok a) read elaborates v = tt
-refused_text text top clock tokens source d (Err e) read elaborates v = by_rule text top clock tokens source d e read elaborates v
+pub refused_text : {A : Type 0} (text : List ℕ) (top : Option (List ℕ)) (clocks : List (List ℕ)) (tokens : List Token) (source : Source) (d : Design) (answer : Result A AcceptError) → IsRead text tokens source → elaborated_from source top ≡ Ok d
+    → IfErr answer (IsAnswered (byte_of text tokens) d clocks) → IfErr answer (IsRefusalOf text top clocks)
+refused_text text top clocks tokens source d (Ok a) read elaborates v = tt
+refused_text text top clocks tokens source d (Err e) read elaborates v = by_rule text top clocks tokens source d e read elaborates v
 
 -- the names of the outputs of the top are handed on
 pub with_outputs : (text : List ℕ) (top : Option (List ℕ)) (tokens : List Token) (source : Source) (names : List (List ℕ)) (answer : Result Acceptance AcceptError) → IsRead text tokens source
@@ -60,15 +94,15 @@ with_outputs text top tokens source names (Ok a) read h e = record { tokens = to
 with_outputs text top tokens source names (Err x) read h e = tt
 
 -- where the text is accepted
-pub kept : {A : Type 0} → OneDesign → NotBoth → (design : A → Design) (text : List ℕ) (top clock : Option (List ℕ)) (d : Design) (answer : Result A AcceptError) → IfOk answer (λ (a : A). IsAcceptedText text top clock (design a))
-    → IfErr answer (IsRefusalOf text top clock) → IsAcceptedText text top clock d → MatchResult answer (λ (a : A). design a ≡ d) (λ (e : AcceptError). e ≡ Memory)
-kept one not_both design text top clock d (Ok a) ok err h = one text top clock (design a) d ok h
-kept one not_both design text top clock d (Err (Refused r)) ok err h = absurd (not_both text top clock d r h err)
-kept one not_both design text top clock d (Err Memory) ok err h = refl
+pub kept : OneDesign → NotBoth → (text : List ℕ) (top : Option (List ℕ)) (clocks : List (List ℕ)) (d : Design) (answer : Result Acceptance AcceptError) → IfOk answer (IsAcceptedAs text top clocks)
+    → IfErr answer (IsRefusalOf text top clocks) → IsAcceptedText text top clocks d → MatchResult answer (λ (a : Acceptance). design_of a.flat ≡ d) (λ (e : AcceptError). e ≡ Memory)
+kept one not_both text top clocks d (Ok a) ok err h = one text top clocks (design_of a.flat) d ok.accepted h
+kept one not_both text top clocks d (Err (Refused r)) ok err h = absurd (not_both text top clocks d r h err)
+kept one not_both text top clocks d (Err Memory) ok err h = refl
 
 -- where the text is refused
-pub told : {A : Type 0} → NotBoth → OneRefusal → (design : A → Design) (text : List ℕ) (top clock : Option (List ℕ)) (q : Refusal) (answer : Result A AcceptError) → IfOk answer (λ (a : A). IsAcceptedText text top clock (design a))
-    → IfErr answer (IsRefusalOf text top clock) → IsRefusedText text top clock q → IsErrAnd answer (TellsLike q)
-told not_both alike design text top clock q (Ok a) ok err h = absurd (not_both text top clock (design a) q ok h)
-told not_both alike design text top clock q (Err (Refused r)) ok err h = alike text top clock r q err h
-told not_both alike design text top clock q (Err Memory) ok err h = tt
+pub told : NotBoth → OneRefusal → (text : List ℕ) (top : Option (List ℕ)) (clocks : List (List ℕ)) (q : Refusal) (answer : Result Acceptance AcceptError) → IfOk answer (IsAcceptedAs text top clocks)
+    → IfErr answer (IsRefusalOf text top clocks) → IsRefusedText text top clocks q → IsErrAnd answer (TellsLike q)
+told not_both alike text top clocks q (Ok a) ok err h = absurd (not_both text top clocks (design_of a.flat) q ok.accepted h)
+told not_both alike text top clocks q (Err (Refused r)) ok err h = alike text top clocks r q err h
+told not_both alike text top clocks q (Err Memory) ok err h = tt

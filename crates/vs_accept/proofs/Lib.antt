@@ -6,3 +6,4 @@ mod Alike
 mod Told
 mod Judged
 pub mod Naming
+mod LeftOut

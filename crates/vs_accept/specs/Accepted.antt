@@ -1,5 +1,5 @@
--- What a text is, by the names of its top and of its clock: an accepted design, or refused by the first rule that it breaks.
-use Rattle.std.specs.Prelude.{◌≡◌, ◌≤◌, ℕ, Bool, true, false, ◌&&◌, List, ◌⊎◌, Ok, Err, Some, length, Option}
+-- What a text is, by the names of its top and of its clocks: an accepted design, or refused by the first rule that it breaks.
+use Rattle.std.specs.Prelude.{◌≡◌, ◌≤◌, ℕ, Bool, true, false, ◌&&◌, List, ◌⊎◌, Ok, Err, Some, length, Option, max}
 use Rattle.vs_lexer.specs.declared.token.Token.{Token}
 use Rattle.vs_lexer.specs.declared.token.LexError.{LexError}
 use Rattle.vs_lexer.specs.Cuts.{cut_text}
@@ -12,7 +12,9 @@ use Rattle.vs_const.specs.declared.faults.Fault.{Fault}
 use Rattle.vs_tops.specs.Designs.{elaborated_from}
 use Rattle.vs_design.specs.Designs.{Design}
 use Rattle.vs_design.specs.Accepted.{IsAcceptedDesign}
-use Rattle.vs_design.specs.Answers.{DesignRefusal, IsRefusedBy}
+use Rattle.vs_design.specs.Answers.{DesignRefusal, KeepsDrivers, IsJudged}
+use Rattle.vs_design.specs.Dead.{without_dead}
+use Rattle.vs_design.specs.Sizes.{size}
 use Rattle.vs_refusal.specs.declared.names.AtName.{AtName}
 use Rattle.vs_refusal.specs.declared.names.AtName.TheVariants as name
 use Rattle.vs_refusal.specs.declared.refusal.Refusal.{Refusal}
@@ -28,40 +30,48 @@ pub record IsRead (text : List ℕ) (tokens : List Token) (source : Source) : Ty
 abbrev pub most_bytes : ℕ
 most_bytes = 4194304
 
--- the text is read, its tree elaborates from the top to this design (clause 12), and that breaks no rule
-pub record IsAcceptedText (text : List ℕ) (top clock : Option (List ℕ)) (d : Design) : Type 0 where
+-- The text is read, its tree elaborates from the top to a design (clause 12), no rule on lengths and the size, on functions and blocks, or on drivers refuses that, and what is left
+-- of it without its dead blocks is this design, which breaks no rule.
+pub record IsAcceptedText (text : List ℕ) (top : Option (List ℕ)) (clocks : List (List ℕ)) (d : Design) : Type 0 where
   pub short : length text ≤ most_bytes
   pub tokens : List Token
   pub source : Source
   pub read : IsRead text tokens source
-  pub elaborates : elaborated_from source top ≡ Ok d
-  pub accepted : IsAcceptedDesign d clock
+  pub written : Design
+  pub elaborates : elaborated_from source top ≡ Ok written
+  pub kept : KeepsDrivers written
+  pub left : d ≡ without_dead written
+  pub accepted : IsAcceptedDesign d clocks
+
+-- the size that is told of an elaborated design: its own, or that of what is left of it, if that is greater
+abbrev pub told_size : Design → ℕ
+told_size d = max (size d) (size (without_dead d))
 
 -- Why a text is refused. Each stage is tried only where none before it refuses. What is left open: which of several cycles is told, and whether
 -- that it is too deep at one token or that no list of tokens goes on with another one.
-pub data IsRefusedText (text : List ℕ) (top clock : Option (List ℕ)) (r : Refusal) : Type 0 where
+pub data IsRefusedText (text : List ℕ) (top : Option (List ℕ)) (clocks : List (List ℕ)) (r : Refusal) : Type 0 where
   -- it isn't cut into tokens
-  ByTokens : (e : LexError) → cut_text text ≡ Err e → token_refusal e ≡ Some r → IsRefusedText text top clock r
+  ByTokens : (e : LexError) → cut_text text ≡ Err e → token_refusal e ≡ Some r → IsRefusedText text top clocks r
   -- its macros or conditional parts aren't resolved
-  ByMacros : (written : List Token) (e : PreError) → cut_text text ≡ Ok written → pre text written ≡ Err e → macro_refusal e ≡ Some r → IsRefusedText text top clock r
+  ByMacros : (written : List Token) (e : PreError) → cut_text text ≡ Ok written → pre text written ≡ Err e → macro_refusal e ≡ Some r → IsRefusedText text top clocks r
   -- its tokens spell no tree
-  ByTree : (tokens : List Token) (x : TreeFault) → ReadsAs text tokens → IsTreeFault tokens x → tree_refusal (byte_of text tokens) x ≡ r → IsRefusedText text top clock r
+  ByTree : (tokens : List Token) (x : TreeFault) → ReadsAs text tokens → IsTreeFault tokens x → tree_refusal (byte_of text tokens) x ≡ r → IsRefusedText text top clocks r
   -- its tree doesn't elaborate
   ByElaboration : (tokens : List Token) (source : Source) (f : Fault) → IsRead text tokens source → elaborated_from source top ≡ Err f
-      → fault_refusal (byte_of text tokens) f ≡ r → IsRefusedText text top clock r
-  -- its design breaks a rule
-  ByRule : (tokens : List Token) (source : Source) (d : Design) (x : DesignRefusal) → IsRead text tokens source → elaborated_from source top ≡ Ok d → IsRefusedBy d clock x
-      → design_refusal (byte_of text tokens) d x ≡ r → IsRefusedText text top clock r
+      → fault_refusal (byte_of text tokens) f ≡ r → IsRefusedText text top clocks r
+  -- its design breaks a rule, or what is left of that design without its dead blocks does
+  ByRule : (tokens : List Token) (source : Source) (d e : Design) (x : DesignRefusal) → IsRead text tokens source → elaborated_from source top ≡ Ok d → IsJudged d clocks e x
+      → design_refusal (byte_of text tokens) e x ≡ r → IsRefusedText text top clocks r
 
 -- ---- what holds of every text
 
 -- it is accepted as one design at most
 abbrev pub OneDesign : Type 0
-OneDesign = (text : List ℕ) (top clock : Option (List ℕ)) (d e : Design) → IsAcceptedText text top clock d → IsAcceptedText text top clock e → d ≡ e
+OneDesign = (text : List ℕ) (top : Option (List ℕ)) (clocks : List (List ℕ)) (d e : Design) → IsAcceptedText text top clocks d → IsAcceptedText text top clocks e → d ≡ e
 
 -- a text that is accepted is not refused
 abbrev pub NotBoth : Type 0
-NotBoth = (text : List ℕ) (top clock : Option (List ℕ)) (d : Design) (r : Refusal) → IsAcceptedText text top clock d → IsRefusedText text top clock r → ⊥
+NotBoth = (text : List ℕ) (top : Option (List ℕ)) (clocks : List (List ℕ)) (d : Design) (r : Refusal) → IsAcceptedText text top clocks d → IsRefusedText text top clocks r → ⊥
 
 -- whether it tells that the tokens spell no tree
 abbrev pub tells_tree : AtName → Bool
@@ -81,4 +91,4 @@ AreAlike r q = (r ≡ q) ⊎ (is_open r q ≡ true)
 
 -- all refusals of one text are alike
 abbrev pub OneRefusal : Type 0
-OneRefusal = (text : List ℕ) (top clock : Option (List ℕ)) (r q : Refusal) → IsRefusedText text top clock r → IsRefusedText text top clock q → AreAlike r q
+OneRefusal = (text : List ℕ) (top : Option (List ℕ)) (clocks : List (List ℕ)) (r q : Refusal) → IsRefusedText text top clocks r → IsRefusedText text top clocks q → AreAlike r q

@@ -1,11 +1,10 @@
 -- What an answer says of a text and of its design. Want of memory says nothing.
-use Rattle.std.specs.Prelude.{◌≡◌, ℕ, List, Result, Err, Option, Some, None}
+use Rattle.std.specs.Prelude.{◌≡◌, ℕ, true, List, Result, Err, Option, Some, None}
 use Rattle.vs_const.specs.declared.faults.Fault.{Fault}
 use Rattle.vs_elab.specs.declared.error.ElabError.{ElabError}
 use Rattle.vs_elab.specs.Reading.{Tells}
 use Rattle.vs_design.specs.Designs.{Design}
-use Rattle.vs_design.specs.Refusals.{width_refusal, block_refusal, driver_refusal, clock_refusal}
-use Rattle.vs_design.specs.Answers.{DesignRefusal, IsRefusedBy}
+use Rattle.vs_design.specs.Answers.{DesignRefusal, IsRefusedBy, is_as_written, IsJudged}
 use Rattle.vs_refusal.specs.declared.refusal.Refusal.{Refusal}
 use Rattle.vs_accept.specs.declared.error.AcceptError.{AcceptError}
 use Rattle.vs_accept.specs.declared.error.AcceptError.TheVariants.{Refused, Memory}
@@ -18,9 +17,9 @@ refusal_in (Refused r) = Some r
 refusal_in Memory = None
 
 -- the text is refused so
-abbrev pub IsRefusalOf : (text : List ℕ) (top clock : Option (List ℕ)) → AcceptError → Type 0
-IsRefusalOf text top clock (Refused r) = IsRefusedText text top clock r
-IsRefusalOf text top clock Memory = Unit {0}
+abbrev pub IsRefusalOf : (text : List ℕ) (top : Option (List ℕ)) (clocks : List (List ℕ)) → AcceptError → Type 0
+IsRefusalOf text top clocks (Refused r) = IsRefusedText text top clocks r
+IsRefusalOf text top clocks Memory = Unit {0}
 
 -- it tells the same refusal as this one, but for what is left open
 abbrev pub TellsLike : Refusal → AcceptError → Type 0
@@ -41,21 +40,33 @@ IsElabError elaborated e = Tells e (λ (f : Fault). elaborated ≡ Err f)
 -- ---- the elaborated design
 
 -- the design breaks a rule, and this tells it with the bytes of its places and the numbers of its processes in the text
-pub record IsToldBy (byte : ℕ → ℕ) (d : Design) (clock : Option (List ℕ)) (r : Refusal) : Type 0 where
+pub record IsToldBy (byte : ℕ → ℕ) (d : Design) (clocks : List (List ℕ)) (r : Refusal) : Type 0 where
   pub breaks : DesignRefusal
-  pub refused : IsRefusedBy d clock breaks
+  pub refused : IsRefusedBy d clocks breaks
   pub told : design_refusal byte d breaks ≡ r
 
-abbrev pub IsVerdict : (byte : ℕ → ℕ) → Design → Option (List ℕ) → AcceptError → Type 0
-IsVerdict byte d clock (Refused r) = IsToldBy byte d clock r
-IsVerdict byte d clock Memory = Unit {0}
+abbrev pub IsVerdict : (byte : ℕ → ℕ) → Design → List (List ℕ) → AcceptError → Type 0
+IsVerdict byte d clocks (Refused r) = IsToldBy byte d clocks r
+IsVerdict byte d clocks Memory = Unit {0}
 
--- no rule on lengths and blocks refuses the design, nor one on drivers, nor one on the clock
-abbrev pub KeepsBlocks : Design → Type 0
-KeepsBlocks d = (width_refusal d ≡ None) × (block_refusal d ≡ None)
+-- so too, where the rule is one of those that are asked of the design as it is written
+pub record IsToldAsWritten (byte : ℕ → ℕ) (d : Design) (clocks : List (List ℕ)) (r : Refusal) : Type 0 where
+  pub breaks : DesignRefusal
+  pub early : is_as_written breaks ≡ true
+  pub refused : IsRefusedBy d clocks breaks
+  pub told : design_refusal byte d breaks ≡ r
 
-abbrev pub KeepsDrivers : Design → Type 0
-KeepsDrivers d = (width_refusal d ≡ None) × (block_refusal d ≡ None) × (driver_refusal d ≡ None)
+abbrev pub IsFirstVerdict : (byte : ℕ → ℕ) → Design → List (List ℕ) → AcceptError → Type 0
+IsFirstVerdict byte d clocks (Refused r) = IsToldAsWritten byte d clocks r
+IsFirstVerdict byte d clocks Memory = Unit {0}
 
-abbrev pub KeepsClock : Design → Option (List ℕ) → Type 0
-KeepsClock d clock = (width_refusal d ≡ None) × (block_refusal d ≡ None) × (driver_refusal d ≡ None) × (clock_refusal d clock ≡ None)
+-- the design as it is written breaks a rule, or what is left of it without its dead blocks does
+pub record IsJudgement (byte : ℕ → ℕ) (d : Design) (clocks : List (List ℕ)) (r : Refusal) : Type 0 where
+  pub judged : Design
+  pub breaks : DesignRefusal
+  pub refused : IsJudged d clocks judged breaks
+  pub told : design_refusal byte judged breaks ≡ r
+
+abbrev pub IsAnswered : (byte : ℕ → ℕ) → Design → List (List ℕ) → AcceptError → Type 0
+IsAnswered byte d clocks (Refused r) = IsJudgement byte d clocks r
+IsAnswered byte d clocks Memory = Unit {0}

@@ -4,3 +4,4 @@ pub mod Accepted
 pub mod Answers
 pub mod Lent
 pub mod Outputs
+pub mod Leaving

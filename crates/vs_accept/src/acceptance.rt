@@ -1,6 +1,6 @@
 //! The acceptance of a text.
 
-ghost use Rattle.std.specs.Prelude.{◌≡◌, ◌≤◌, ℕ, List, Ok, IfOk, IfErr, IsErrAnd, MatchResult, length, option_map, Option};
+ghost use Rattle.std.specs.Prelude.{◌≡◌, ◌≤◌, ℕ, List, Ok, IfOk, IfErr, IsErrAnd, MatchResult, length, option_map, Option, map};
 ghost use Rattle.vs_pre.specs.Reads.{ReadsAs};
 ghost use Rattle.vs_ast.specs.Views as view;
 ghost use Rattle.vs_tops.specs.Tops.{top_name};
@@ -12,7 +12,7 @@ ghost use Rattle.vs_refusal.specs.declared.refusal.Refusal.{Refusal};
 ghost use Rattle.vs_accept.specs.declared.error.AcceptError.TheVariants.{Memory};
 ghost use Rattle.vs_accept.specs.Accepted.{IsRead, IsAcceptedText, IsRefusedText};
 ghost use Rattle.vs_accept.specs.Answers.{IsRefusalOf, TellsLike};
-ghost use Rattle.vs_accept.specs.Lent.{IsAcceptance};
+ghost use Rattle.vs_accept.specs.Lent.{IsAcceptance, IsAcceptedAs};
 ghost use Rattle.vs_accept.specs.Outputs.{HaveOutputs};
 
 use crate::judge::judge;
@@ -32,7 +32,7 @@ use vs_tops::{flatten_by, top_name};
 fn tokens_of(alloc: Global, text: &[u8]) -> Result<Vec<Token>, AcceptError>
     requires { length text.now ≤ MAX_BYTES }
     ensures read { IfOk result (λ v. ReadsAs text.now v.items) }
-    ensures refused { (top clock : Option (List ℕ)) → IfErr result (IsRefusalOf text.now top clock) }
+    ensures refused { (top : Option (List ℕ)) (clocks : List (List ℕ)) → IfErr result (IsRefusalOf text.now top clocks) }
 {
     tokens_law();
     let written = lex(alloc, text)?;
@@ -44,7 +44,7 @@ fn tokens_of(alloc: Global, text: &[u8]) -> Result<Vec<Token>, AcceptError>
 fn tree_of(alloc: Global, places: &Places<'_>) -> Result<Source, AcceptError>
     requires { ReadsAs places.now.text.now places.now.tokens.now }
     ensures read { IfOk result (λ s. IsRead places.now.text.now places.now.tokens.now (view.source s)) }
-    ensures refused { (top clock : Option (List ℕ)) → IfErr result (IsRefusalOf places.now.text.now top clock) }
+    ensures refused { (top : Option (List ℕ)) (clocks : List (List ℕ)) → IfErr result (IsRefusalOf places.now.text.now top clocks) }
 {
     tokens_law();
     kept_law();
@@ -64,8 +64,8 @@ fn flat_of(
     requires { IsRead places.now.text.now places.now.tokens.now (view.source source.now) }
     ensures elaborates { IfOk result (λ f. elaborated_by (view.source source.now) (option_map (λ n. n.now) name.entry) ≡ Ok (design_of f)) }
     ensures lawful { IfOk result IsLawful }
-    ensures refused { (top clock : Option (List ℕ)) → option_map (λ n. n.now) name.entry ≡ top_name (view.source source.now) top
-        → IfErr result (IsRefusalOf places.now.text.now top clock) }
+    ensures refused { (top : Option (List ℕ)) (clocks : List (List ℕ)) → option_map (λ n. n.now) name.entry ≡ top_name (view.source source.now) top
+        → IfErr result (IsRefusalOf places.now.text.now top clocks) }
 {
     tokens_law();
     kept_law();
@@ -81,13 +81,13 @@ fn answer(
     alloc: Global,
     text: &[u8],
     top: Option<&[u8]>,
-    clock: Option<&[u8]>,
+    clocks: &[&[u8]],
 ) -> Result<Accepted, AcceptError>
     requires { length text.now ≤ MAX_BYTES }
-    ensures accepted { IfOk result (λ a. IsAcceptedText text.now (option_map (λ t. t.now) top.entry) (option_map (λ c. c.now) clock.entry) (design_of a.flat)) }
-    ensures lent { IfOk result (IsAcceptance (option_map (λ c. c.now) clock.entry)) }
+    ensures accepted { IfOk result (IsAcceptedAs text.now (option_map (λ t. t.now) top.entry) (map (λ c. c.now) clocks.now)) }
+    ensures lent { IfOk result (IsAcceptance (map (λ c. c.now) clocks.now)) }
     ensures outputs { IfOk result (HaveOutputs text.now (option_map (λ t. t.now) top.entry)) }
-    ensures refused { IfErr result (IsRefusalOf text.now (option_map (λ t. t.now) top.entry) (option_map (λ c. c.now) clock.entry)) }
+    ensures refused { IfErr result (IsRefusalOf text.now (option_map (λ t. t.now) top.entry) (map (λ c. c.now) clocks.now)) }
 {
     let tokens = tokens_of(alloc, text)?;
     let places = Places {
@@ -98,32 +98,33 @@ fn answer(
     let name = top_name(alloc, &source, top)?;
     let flat = flat_of(alloc, &places, &source, name)?;
     let outputs = named_outputs(alloc, &source, name)?;
-    judge(alloc, &places, flat, outputs, clock)
+    judge(alloc, &places, flat, outputs, clocks)
 }
 
-/// Accepts a text of at most `MAX_BYTES` bytes as a design whose top module and whose clock input have these names, or refuses it by the
+/// Accepts a text of at most `MAX_BYTES` bytes as a design whose top module and whose clock inputs have these names, or refuses it by the
 /// first rule that it breaks (IEEE 1364-2005, clauses 3, 12 and 19, annex A, and the rules of an accepted design).
 /// Where no top is named it is the one module of the text that no instance of any module names (12.1.1), and where no clock is named the design has none.
 ///
-/// The stages are tokens, macros, tree, elaboration, lengths and size, blocks, drivers, the clock, the level order and time zero; each is tried only
-/// where none before it refuses. `Memory` may be the answer to any text.
+/// The stages are tokens, macros, tree, elaboration, lengths and size, blocks, drivers, the clocks, the level order and time zero; each is tried only
+/// where none before it refuses. Clocked blocks that never run, since they wait for edges of dead nets alone, are left out before the clocks are looked at. `Memory` may be the answer
+/// to any text.
 pub fn accept(
     alloc: Global,
     text: &[u8],
     top: Option<&[u8]>,
-    clock: Option<&[u8]>,
+    clocks: &[&[u8]],
 ) -> Result<Accepted, AcceptError>
     requires { length text.now ≤ MAX_BYTES }
-    // what is accepted is a design of the text, and all that is lent belongs to it
-    ensures accepted { IfOk result (λ a. IsAcceptedText text.now (option_map (λ t. t.now) top.entry) (option_map (λ c. c.now) clock.entry) (design_of a.flat)) }
-    ensures lent { IfOk result (IsAcceptance (option_map (λ c. c.now) clock.entry)) }
+    // what is accepted is a design of the text with its size, and all that is lent belongs to it
+    ensures accepted { IfOk result (IsAcceptedAs text.now (option_map (λ t. t.now) top.entry) (map (λ c. c.now) clocks.now)) }
+    ensures lent { IfOk result (IsAcceptance (map (λ c. c.now) clocks.now)) }
     ensures outputs { IfOk result (HaveOutputs text.now (option_map (λ t. t.now) top.entry)) }
     // a refusal is one of the text
-    ensures refused { IfErr result (IsRefusalOf text.now (option_map (λ t. t.now) top.entry) (option_map (λ c. c.now) clock.entry)) }
+    ensures refused { IfErr result (IsRefusalOf text.now (option_map (λ t. t.now) top.entry) (map (λ c. c.now) clocks.now)) }
     // a text that is accepted as a design is answered by it, and one that is refused by its refusal, but for what is left open
-    ensures kept { (d : Design) → IsAcceptedText text.now (option_map (λ t. t.now) top.entry) (option_map (λ c. c.now) clock.entry) d → MatchResult result (λ a. design_of a.flat ≡ d) (λ e. e ≡ Memory) }
-    ensures refusal { (q : Refusal) → IsRefusedText text.now (option_map (λ t. t.now) top.entry) (option_map (λ c. c.now) clock.entry) q → IsErrAnd result (TellsLike q) }
+    ensures kept { (d : Design) → IsAcceptedText text.now (option_map (λ t. t.now) top.entry) (map (λ c. c.now) clocks.now) d → MatchResult result (λ a. design_of a.flat ≡ d) (λ e. e ≡ Memory) }
+    ensures refusal { (q : Refusal) → IsRefusedText text.now (option_map (λ t. t.now) top.entry) (map (λ c. c.now) clocks.now) q → IsErrAnd result (TellsLike q) }
 {
     answer_law();
-    answer(alloc, text, top, clock)
+    answer(alloc, text, top, clocks)
 }

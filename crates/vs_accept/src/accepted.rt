@@ -13,6 +13,7 @@ use vs_typed::Typed;
 #[derive(Drop)]
 pub struct Accepted {
     typed: Typed,
+    size: u64,
     footprints: Footprints,
     clocks: Clocks,
     order: Order,
@@ -24,22 +25,24 @@ impl Model for Accepted {
 
     ghost Value = { Acceptance };
 
-    ghost view = { λ a. record { flat = a.typed; footprints = a.footprints; clocks = a.clocks; order = a.order; outputs = a.outputs.items } };
+    ghost view = { λ a. record { flat = a.typed; size = a.size; footprints = a.footprints; clocks = a.clocks; order = a.order; outputs = a.outputs.items } };
 }
 
 impl Accepted {
-    /// A design with its footprints, its clock, an order of its processes, and the names of its top's outputs.
+    /// A design with the size that is told of it, its footprints, its clocks, an order of its processes, and the names of its top's outputs.
     pub(crate) fn of(
         typed: Typed,
+        size: u64,
         footprints: Footprints,
         clocks: Clocks,
         order: Order,
         outputs: Vec<Text>,
     ) -> Accepted
-        ensures { result ≡ record { flat = typed; footprints = footprints; clocks = clocks; order = order; outputs = outputs.items } }
+        ensures { result ≡ record { flat = typed; size = size; footprints = footprints; clocks = clocks; order = order; outputs = outputs.items } }
     {
         Accepted {
             typed,
+            size,
             footprints,
             clocks,
             order,
@@ -47,11 +50,18 @@ impl Accepted {
         }
     }
 
-    /// The flat design, with the lengths of its expressions and its size.
+    /// The flat design, with the lengths of its expressions. None of its blocks is dead.
     pub fn typed(&self) -> &Typed
         ensures { result.now ≡ self.now.flat }
     {
         &self.typed
+    }
+
+    /// The size that is told of the design: that of the elaborated one, or of what is left of it without its dead blocks, if that is greater.
+    pub fn size(&self) -> u64
+        ensures { result ≡ self.now.size }
+    {
+        self.size
     }
 
     /// The bits that each process reads, writes and waits on.
@@ -61,7 +71,7 @@ impl Accepted {
         &self.footprints
     }
 
-    /// The clock, its nets and the resets.
+    /// The clocks, their nets and the resets.
     pub fn clocks(&self) -> &Clocks
         ensures { result.now ≡ self.now.clocks }
     {

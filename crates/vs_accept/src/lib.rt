@@ -6,6 +6,7 @@ mod accepted;
 mod error;
 mod judge;
 mod laws;
+mod leaving;
 mod numbers;
 mod outputs;
 mod places;

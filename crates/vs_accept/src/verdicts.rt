@@ -6,6 +6,7 @@ ghost use Rattle.vs_grammar.specs.Trees.{Source};
 ghost use Rattle.vs_tops.specs.Designs.{elaborated_from};
 ghost use Rattle.vs_parser.specs.Faults.{Fault as TreeFault};
 ghost use Rattle.vs_design.specs.Designs.{Design};
+ghost use Rattle.vs_design.specs.Answers.{KeepsBlocks, KeepsClock, KeepsDrivers};
 ghost use Rattle.vs_design.specs.Refusals.{race_refusal, width_refusal};
 ghost use Rattle.vs_typed.specs.Refused.{IsWidthError};
 ghost use Rattle.vs_block.specs.Refused.{IsBlockError};
@@ -20,7 +21,7 @@ ghost use Rattle.vs_accept.specs.declared.error.AcceptError.TheVariants.{Refused
 ghost use Rattle.vs_accept.specs.Refused as spec;
 ghost use Rattle.vs_accept.specs.Refused.{byte_of, fault_refusal};
 ghost use Rattle.vs_accept.specs.Accepted.{IsRead};
-ghost use Rattle.vs_accept.specs.Answers.{IsElabError, IsRefusalOf, IsVerdict, KeepsBlocks, KeepsDrivers, KeepsClock};
+ghost use Rattle.vs_accept.specs.Answers.{IsElabError, IsFirstVerdict, IsRefusalOf, IsVerdict};
 
 use crate::AcceptError;
 use crate::numbers::{begin, number};
@@ -71,7 +72,7 @@ fn rule_name(rule: Rule) -> Option<AtName>
 impl Places<'_> {
     /// The tokens spell no tree.
     pub(crate) fn tree_error(&self, error: ParseError) -> AcceptError
-        ensures { (top clock : Option (List ℕ)) → ReadsAs self.now.text.now self.now.tokens.now → TreeFault self.now.tokens.now error → IsRefusalOf self.now.text.now top clock result }
+        ensures { (top : Option (List ℕ)) (clocks : List (List ℕ)) → ReadsAs self.now.text.now self.now.tokens.now → TreeFault self.now.tokens.now error → IsRefusalOf self.now.text.now top clocks result }
     {
         match error {
             ParseError::LeftOut(token) => self.refused_at(AtName::LeftOut, token),
@@ -83,7 +84,7 @@ impl Places<'_> {
 
     /// The tree doesn't elaborate.
     pub(crate) fn elab_error(&self, error: ElabError) -> AcceptError
-        ensures { (source : Source) (top clock : Option (List ℕ)) → IsRead self.now.text.now self.now.tokens.now source → IsElabError (elaborated_from source top) error → IsRefusalOf self.now.text.now top clock result }
+        ensures { (source : Source) (top : Option (List ℕ)) (clocks : List (List ℕ)) → IsRead self.now.text.now self.now.tokens.now source → IsElabError (elaborated_from source top) error → IsRefusalOf self.now.text.now top clocks result }
     {
         match error {
             ElabError::Broken(fault) => self.fault_error(fault),
@@ -103,7 +104,7 @@ impl Places<'_> {
 
     /// A length or a division is refused, or the size.
     pub(crate) fn width_error(&self, error: WidthError) -> AcceptError
-        ensures { (d : Design) (clock : Option (List ℕ)) → IsWidthError d error → IsVerdict (byte_of self.now.text.now self.now.tokens.now) d clock result }
+        ensures { (d : Design) (clocks : List (List ℕ)) → IsWidthError d error → IsFirstVerdict (byte_of self.now.text.now self.now.tokens.now) d clocks result }
     {
         match error {
             WidthError::TooWide { at } => self.refused_at(AtName::TooWide, at),
@@ -115,7 +116,7 @@ impl Places<'_> {
 
     /// A function or a block is refused.
     pub(crate) fn block_error(&self, typed: &Typed, error: BlockError) -> AcceptError
-        ensures { (clock : Option (List ℕ)) → width_refusal (design_of typed.now) ≡ None → IsBlockError (design_of typed.now) error → IsVerdict (byte_of self.now.text.now self.now.tokens.now) (design_of typed.now) clock result }
+        ensures { (clocks : List (List ℕ)) → width_refusal (design_of typed.now) ≡ None → IsBlockError (design_of typed.now) error → IsFirstVerdict (byte_of self.now.text.now self.now.tokens.now) (design_of typed.now) clocks result }
     {
         match error {
             BlockError::FunctionLatch { at } => self.refused_at(AtName::FunctionLatch, at),
@@ -141,7 +142,7 @@ impl Places<'_> {
 
     /// A bit has two drivers, or two writers that may not share it.
     pub(crate) fn driver_error(&self, typed: &Typed, error: DriverError) -> AcceptError
-        ensures { (clock : Option (List ℕ)) → KeepsBlocks (design_of typed.now) → IsDriverError (design_of typed.now) error → IsVerdict (byte_of self.now.text.now self.now.tokens.now) (design_of typed.now) clock result }
+        ensures { (clocks : List (List ℕ)) → KeepsBlocks (design_of typed.now) → IsDriverError (design_of typed.now) error → IsFirstVerdict (byte_of self.now.text.now self.now.tokens.now) (design_of typed.now) clocks result }
     {
         match error {
             DriverError::TwoDrivers {
@@ -165,7 +166,7 @@ impl Places<'_> {
 
     /// The clock is refused, or a reset.
     pub(crate) fn clock_error(&self, typed: &Typed, error: ClockError) -> AcceptError
-        ensures { (clock : Option (List ℕ)) → KeepsDrivers (design_of typed.now) → IsClockError (design_of typed.now) clock error → IsVerdict (byte_of self.now.text.now self.now.tokens.now) (design_of typed.now) clock result }
+        ensures { (clocks : List (List ℕ)) → KeepsDrivers (design_of typed.now) → IsClockError (design_of typed.now) clocks error → IsVerdict (byte_of self.now.text.now self.now.tokens.now) (design_of typed.now) clocks result }
     {
         match error {
             ClockError::NoClock => AcceptError::Refused(Refusal::Bare(BareName::NoClock)),
@@ -184,7 +185,7 @@ impl Places<'_> {
 
     /// Processes feed one another in a circle. There may be no memory for their numbers.
     pub(crate) fn level_error(&self, alloc: Global, typed: &Typed, error: LevelError) -> AcceptError
-        ensures { (clock : Option (List ℕ)) → KeepsClock (design_of typed.now) clock → IsLevelError (design_of typed.now) error → IsVerdict (byte_of self.now.text.now self.now.tokens.now) (design_of typed.now) clock result }
+        ensures { (clocks : List (List ℕ)) → KeepsClock (design_of typed.now) clocks → IsLevelError (design_of typed.now) error → IsVerdict (byte_of self.now.text.now self.now.tokens.now) (design_of typed.now) clocks result }
     {
         match error {
             LevelError::Cycle { processes, at } => {
@@ -196,7 +197,7 @@ impl Places<'_> {
 
     /// A clocked block reads what another one stirs.
     pub(crate) fn race_error(&self, typed: &Typed, error: RaceError) -> AcceptError
-        ensures { (clock : Option (List ℕ)) → KeepsClock (design_of typed.now) clock → has_no_cycle (design_of typed.now) ≡ true → IsRaceError (design_of typed.now) error → IsVerdict (byte_of self.now.text.now self.now.tokens.now) (design_of typed.now) clock result }
+        ensures { (clocks : List (List ℕ)) → KeepsClock (design_of typed.now) clocks → has_no_cycle (design_of typed.now) ≡ true → IsRaceError (design_of typed.now) error → IsVerdict (byte_of self.now.text.now self.now.tokens.now) (design_of typed.now) clocks result }
     {
         match error {
             RaceError::Race { process, bit, at } => AcceptError::Refused(Refusal::Race {
@@ -210,7 +211,7 @@ impl Places<'_> {
 
     /// A block is refused at time zero.
     pub(crate) fn zero_error(&self, typed: &Typed, error: ZeroError) -> AcceptError
-        ensures { (clock : Option (List ℕ)) → KeepsClock (design_of typed.now) clock → has_no_cycle (design_of typed.now) ≡ true → race_refusal (design_of typed.now) ≡ None → IsZeroError (design_of typed.now) clock error → IsVerdict (byte_of self.now.text.now self.now.tokens.now) (design_of typed.now) clock result }
+        ensures { (clocks : List (List ℕ)) → KeepsClock (design_of typed.now) clocks → has_no_cycle (design_of typed.now) ≡ true → race_refusal (design_of typed.now) ≡ None → IsZeroError (design_of typed.now) clocks error → IsVerdict (byte_of self.now.text.now self.now.tokens.now) (design_of typed.now) clocks result }
     {
         match error {
             ZeroError::TimeZero { process, at } => {

@@ -29,22 +29,22 @@ module _ (d : Design) (starts : List Bit4) (are : AreStarts d starts) (n : ℕ) 
   value_at : (b : ℕ) → get_or starts b X ≡ start_value d b
   value_at b = ap (λ (s : State). s b) are.values
 
-  inside : (clock b : ℕ) → nat_lt b (bit_count d) ≡ true → values (bit_count d) clock X (λ slot. get_or padded slot X) b ≡ start_value d b
-  inside clock b h =
+  inside : (clocks : List ℕ) (b : ℕ) → nat_lt b (bit_count d) ≡ true → values (bit_count d) clocks X (λ slot. get_or padded slot X) b ≡ start_value d b
+  inside clocks b h =
       let lt : b < bit_count d = grind arith in
       let count = are.count in
-      ap (λ (c : Bool). if c then get_or padded (home b) X else beyond clock X b) h
+      ap (λ (c : Bool). if c then get_or padded (home b) X else beyond clocks X b) h
       ∙ get_or-append-add (Zero ∷ One ∷ X ∷ Z ∷ []) (starts ++ replicate n Zero) b X
       ∙ get_or_append_left starts (replicate n Zero) X b (omega (arith, count, lt))
       ∙ value_at b
 
   -- past the bits nothing is written
-  outside : (clock b : ℕ) → nat_lt b (bit_count d) ≡ false → values (bit_count d) clock X (λ slot. get_or padded slot X) b ≡ start_value d b
-  outside clock b h =
+  outside : (clocks : List ℕ) (b : ℕ) → nat_lt b (bit_count d) ≡ false → values (bit_count d) clocks X (λ slot. get_or padded slot X) b ≡ start_value d b
+  outside clocks b h =
       let ge : bit_count d ≤ b = grind arith in
       let count = are.count in
-      ap (λ (c : Bool). if c then get_or padded (home b) X else beyond clock X b) h
-      ∙ either (b == clock)
+      ap (λ (c : Bool). if c then get_or padded (home b) X else beyond clocks X b) h
+      ∙ either (contains clocks b)
       ∙ sym (get_or_past starts b X (omega (arith, count, ge)))
       ∙ value_at b
     where
@@ -52,8 +52,8 @@ module _ (d : Design) (starts : List Bit4) (are : AreStarts d starts) (n : ℕ) 
       either true = refl
       either false = refl
 
-  pub starts_are : (clock : ℕ) → values (bit_count d) clock X (λ slot. get_or padded slot X) ≡ start_value d
-  starts_are clock = fun_ext (λ b. by_test (nat_lt b (bit_count d)) (inside clock b) (outside clock b))
+  pub starts_are : (clocks : List ℕ) → values (bit_count d) clocks X (λ slot. get_or padded slot X) ≡ start_value d
+  starts_are clocks = fun_ext (λ b. by_test (nat_lt b (bit_count d)) (inside clocks b) (outside clocks b))
 
   below : (bs : List ℕ) (b : ℕ) → contains bs b ≡ true → place_of bs b < length bs
   below [] b h = cc

@@ -72,8 +72,8 @@ fits : (m n : ℕ) → m ≡ n → (nat_le 1 (suc m) && (suc m == suc n)) ≡ tr
 fits m n e = ap (λ c. c && (suc m == suc n)) (le_true m) ∙ eq-eqb (suc m) (suc n) (ap suc e)
 
 pub copy_is_call : SourcesOfDesign → FewAreApart → CopyIsCall
-copy_is_call sources fewer d name a l layout few [] are = All-nil IsCall
-copy_is_call sources fewer d name a l layout few (b ∷ bs) are =
+copy_is_call sources fewer d names a l layout few [] are = All-nil IsCall
+copy_is_call sources fewer d names a l layout few (b ∷ bs) are =
     All-cons IsCall _ [] (record {
       lengths = fits (length (map l.shadow bs)) (length (map home bs)) (length-map bs l.shadow ∙ sym (length-map bs home));
       short = All-cons (λ n. n < 2 ^ 32) (length (map l.shadow (b ∷ bs))) (length (map home (b ∷ bs)) ∷ []) (omega (arith, length-map (b ∷ bs) l.shadow, short))
@@ -97,7 +97,7 @@ copy_is_call sources fewer d name a l layout few (b ∷ bs) are =
     has c h = sym (are.has c) ∙ h
 
     home_below : (c : ℕ) → contains (b ∷ bs) c ≡ true → home c < home l.bits
-    home_below c h = let r = (sources d name a).registers_below c (has c h) in omega (arith, r, layout.bits)
+    home_below c h = let r = (sources d names a).registers_below c (has c h) in omega (arith, r, layout.bits)
 
     short : length (b ∷ bs) < 2 ^ 32
     short = let own = fewer (register_bits d.processes) (b ∷ bs) are.once has in omega (arith, own, a.small)

@@ -67,17 +67,17 @@ bits_below d l tight begin is = let long = begin_length d is.0 is.1 in let same 
 
 -- ---- the program
 
-finished : ProgramsAreMade → ProgramsAreInRange → (d : Design) (clock : ℕ) → IsAcceptedAt d clock → (order : List ℕ) → is_level_order d order ≡ true
-    → (l : Layout) → IsTightLayout d l → (settling blocks registers falling : List ℕ) → IsPlanOf d clock order settling blocks registers falling
-    → (lowered : Lowered) → IsLoweredDesign d clock l settling blocks registers lowered → (phases : Phases) → ArePhasesOf d clock l order lowered phases
+finished : ProgramsAreMade → ProgramsAreInRange → (d : Design) (clocks : List ℕ) → IsAcceptedAt d clocks → (order : List ℕ) → is_level_order d order ≡ true
+    → (l : Layout) → IsTightLayout d l → (settling blocks registers falling : List ℕ) → IsPlanOf d clocks order settling blocks registers falling
+    → (lowered : Lowered) → IsLoweredDesign d clocks l settling blocks registers lowered → (phases : Phases) → ArePhasesOf d clocks l order lowered phases
     → (count : ℕ) → l.first_temp ≤ count → AreIn count lowered.program → count ≤ slots_of_design d
-    → (begin : List Bit4) (p : Program) → p.clock ≡ clock → IsFrameOf d clock p.bits p.inputs p.clocks begin p.signals → p.initial ≡ begin ++ replicate (count - length begin) Zero
+    → (begin : List Bit4) (p : Program) → IsFrameOf d clocks p.bits p.clocks p.inputs p.nets begin p.signals → p.initial ≡ begin ++ replicate (count - length begin) Zero
     → p.first ≡ calls_of_runs lowered.program phases.first.items → p.fall ≡ calls_of_runs lowered.program phases.fall.items
     → p.next ≡ calls_of_runs lowered.program phases.next.items → p.rise ≡ calls_of_runs lowered.program phases.rise.items
-    → IsInRange p × IsProgramOf d clock p
-finished makes ranges d clock at order ordered l tight settling blocks registers falling plan lowered low phases phased count temps slots few begin p clock_is frame initial first fall next rise =
-    subst (λ c. IsMadeOf d c order registers l p → IsInRange p × IsProgramOf d c p) at.clock_is
-    (λ made. (ranges d at.name at.accepted order ordered l tight.layout registers p made, makes d at.name at.accepted order ordered l tight.layout registers p made))
+    → IsInRange p × IsProgramOf d clocks p
+finished makes ranges d clocks at order ordered l tight settling blocks registers falling plan lowered low phases phased count temps slots few begin p frame initial first fall next rise =
+    subst (λ c. IsMadeOf d c order registers l p → IsInRange p × IsProgramOf d c p) at.clocks_are
+    (λ made. (ranges d at.names at.accepted order ordered l tight.layout registers p made, makes d at.names at.accepted order ordered l tight.layout registers p made))
     made_of
   where
     starts : List Bit4
@@ -106,25 +106,25 @@ finished makes ranges d clock at order ordered l tight settling blocks registers
     part_in : (runs : List Run) (calls : List Call) → calls ≡ calls_of_runs lowered.program runs → AreIn (length p.initial) calls
     part_in runs calls is = subst (λ n. AreIn n calls) (sym long) (subst (AreIn count) (sym is) (runs_in count lowered.program runs slots))
 
-    made_of : IsMadeOf d clock order registers l p
+    made_of : IsMadeOf d clocks order registers l p
     made_of = record {
       bits = frame.bits_are;
-      clock_is = clock_is;
+      clocks_are = frame.clocks_are;
       inputs = frame.inputs_are;
-      clocks = frame.clocks_are;
+      nets = frame.nets_are;
       registers = plan.registers_are;
       signals = frame.signals_are;
       constants = subst HasConstants (sym slots_are) (constants_are d starts are pad);
-      starts = ap (values p.bits clock X) slots_are
-          ∙ ap (λ n. values n clock X (λ slot. get_or (begin_bits starts ++ replicate pad Zero) slot X)) frame.bits_are
-          ∙ starts_are d starts are pad clock;
+      starts = ap (values p.bits clocks X) slots_are
+          ∙ ap (λ n. values n clocks X (λ slot. get_or (begin_bits starts ++ replicate pad Zero) slot X)) frame.bits_are
+          ∙ starts_are d starts are pad clocks;
       masks = λ q h.
           ap (λ (bs : List Bit4). get_or bs (mask_of d q) X) begins
           ∙ masks_are d starts are pad (let at_first = begin_length d starts are in omega (arith, at_first, temps, tight.first)) q h;
       resets = calls_of_run lowered.program lowered.resets;
-      resets_are = subst (λ ps. AreResetsOf d clock l ps (calls_of_run lowered.program lowered.resets)) plan.blocks_are low.resets_are;
+      resets_are = subst (λ ps. AreResetsOf d clocks l ps (calls_of_run lowered.program lowered.resets)) plan.blocks_are low.resets_are;
       resets_again = calls_of_run lowered.program lowered.resets;
-      again_are = subst (λ ps. AreResetsOf d clock l ps (calls_of_run lowered.program lowered.resets)) plan.blocks_are low.resets_are;
+      again_are = subst (λ ps. AreResetsOf d clocks l ps (calls_of_run lowered.program lowered.resets)) plan.blocks_are low.resets_are;
       settle_first = calls_of_runs lowered.program lowered.settling.items;
       first_are = subst (λ ps. AreCallsOf d l ps (calls_of_runs lowered.program lowered.settling.items)) plan.settling_are (runs_calls d l lowered.program settling lowered.settling.items low.settling_are);
       first = first ∙ phased.first;
@@ -134,7 +134,7 @@ finished makes ranges d clock at order ordered l tight settling blocks registers
       blocks = calls_of_runs lowered.program lowered.blocks.items;
       blocks_are = subst (λ ps. AreCallsOf d l ps (calls_of_runs lowered.program lowered.blocks.items)) plan.blocks_are (runs_calls d l lowered.program blocks lowered.blocks.items low.blocks_are);
       next = next ∙ phased.next ∙ ap (λ (cs : List Call). calls_of_runs lowered.program lowered.blocks.items ++ cs) low.copy_is;
-      rise = subst (λ (cs : List Call). AreCallsOf d l (rise_processes d clock order) cs) (sym rise) phased.rise;
+      rise = subst (λ (cs : List Call). AreCallsOf d l (rise_processes d clocks order) cs) (sym rise) phased.rise;
       slots = omega (arith, temps, long);
       first_in = part_in phases.first.items p.first first;
       fall_in = part_in phases.fall.items p.fall fall;
@@ -144,18 +144,18 @@ finished makes ranges d clock at order ordered l tight settling blocks registers
     }
 
 -- where there are as many slots as the calls name, or the temporaries begin behind
-pub finished_by : ProgramsAreMade → ProgramsAreInRange → (d : Design) (clock : ℕ) → IsAcceptedAt d clock → (order : List ℕ) → is_level_order d order ≡ true
-    → (l : Layout) → IsTightLayout d l → (settling blocks registers falling : List ℕ) → IsPlanOf d clock order settling blocks registers falling
-    → (lowered : Lowered) → IsLoweredDesign d clock l settling blocks registers lowered → (phases : Phases) → ArePhasesOf d clock l order lowered phases
+pub finished_by : ProgramsAreMade → ProgramsAreInRange → (d : Design) (clocks : List ℕ) → IsAcceptedAt d clocks → (order : List ℕ) → is_level_order d order ≡ true
+    → (l : Layout) → IsTightLayout d l → (settling blocks registers falling : List ℕ) → IsPlanOf d clocks order settling blocks registers falling
+    → (lowered : Lowered) → IsLoweredDesign d clocks l settling blocks registers lowered → (phases : Phases) → ArePhasesOf d clocks l order lowered phases
     → (count named first : ℕ) → count ≡ max named first → first ≡ l.first_temp → All (λ slot. slot < named) (slots_of lowered.program)
     → (named ≢ 0 → Any (λ slot. slot + 1 ≡ named) (slots_of lowered.program))
-    → (begin : List Bit4) (p : Program) → p.clock ≡ clock → IsFrameOf d clock p.bits p.inputs p.clocks begin p.signals → p.initial ≡ begin ++ replicate (count - length begin) Zero
+    → (begin : List Bit4) (p : Program) → IsFrameOf d clocks p.bits p.clocks p.inputs p.nets begin p.signals → p.initial ≡ begin ++ replicate (count - length begin) Zero
     → p.first ≡ calls_of_runs lowered.program phases.first.items → p.fall ≡ calls_of_runs lowered.program phases.fall.items
     → p.next ≡ calls_of_runs lowered.program phases.next.items → p.rise ≡ calls_of_runs lowered.program phases.rise.items
-    → IsInRange p × IsProgramOf d clock p
-finished_by makes ranges d clock at order ordered l tight settling blocks registers falling plan lowered low phases phased count named first is temps enough least begin p clock_is frame initial f a n r =
-    finished makes ranges d clock at order ordered l tight settling blocks registers falling plan lowered low phases phased count
+    → IsInRange p × IsProgramOf d clocks p
+finished_by makes ranges d clocks at order ordered l tight settling blocks registers falling plan lowered low phases phased count named first is temps enough least begin p frame initial f a n r =
+    finished makes ranges d clocks at order ordered l tight settling blocks registers falling plan lowered low phases phased count
     (omega (arith, is, temps))
     (All-weaker (λ slot. slot < named) (λ slot. slot < count) (λ slot k. omega (arith, k, is)) (slots_of lowered.program) enough)
     (let within = count_within d l tight lowered.program named low.slots least in omega (arith, within, is, temps))
-    begin p clock_is frame initial f a n r
+    begin p frame initial f a n r

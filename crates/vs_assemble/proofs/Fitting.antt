@@ -48,11 +48,11 @@ pub record PlanFits (d : Design) (settling blocks : List ℕ) : Type 0 where
   pub few_rises : sum_by (may_store d) blocks ≤ 16777216
   pub few_registers : distinct (register_bits d.processes) ≤ 16777216
 
-pub plan_fits : StoresFit → LevelOrderIs → (d : Design) (clock : ℕ) → IsAcceptedAt d clock → (order : List ℕ) → is_level_order d order ≡ true
-    → (settling blocks registers falling : List ℕ) → IsPlanOf d clock order settling blocks registers falling → PlanFits d settling blocks
-plan_fits fit levels d clock at order ordered settling blocks registers falling plan = record {
+pub plan_fits : StoresFit → LevelOrderIs → (d : Design) (clocks : List ℕ) → IsAcceptedAt d clocks → (order : List ℕ) → is_level_order d order ≡ true
+    → (settling blocks registers falling : List ℕ) → IsPlanOf d clocks order settling blocks registers falling → PlanFits d settling blocks
+plan_fits fit levels d clocks at order ordered settling blocks registers falling plan = record {
   settling_there = subst (AreThere d) (sym plan.settling_are)
-      (All-filter (λ p. not (is_port_or (clock_nets d clock) (slice_get d.processes p))) (λ p. p < length d.processes) order (order_there levels d order ordered));
+      (All-filter (λ p. not (is_port_or (clock_nets d clocks) (slice_get d.processes p))) (λ p. p < length d.processes) order (order_there levels d order ordered));
   blocks_there = subst (AreThere d) (sym plan.blocks_are) (blocks_there 0 (length d.processes) d.processes (omega arith));
   few_falls = subst (λ ps. sum_by (may_store d) ps + sum_by (may_store d) settling ≤ 16777216) (sym plan.blocks_are)
       (subst (λ ps. sum_by (may_store d) (clocked d) + sum_by (may_store d) ps ≤ 16777216) (sym plan.settling_are) (omega (arith, fits.fall, at.accepted.small)));
@@ -66,8 +66,8 @@ plan_fits fit levels d clock at order ordered settling blocks registers falling 
         same : (n : ℕ) → n ≤ n
         same n = omega arith
 
-    fits : StoresFitIn d clock order (may_store d) (may_store d)
-    fits = subst (λ c. StoresFitIn d c order (may_store d) (may_store d)) at.clock_is (fit d at.name at.accepted order ordered (may_store d) (may_store d) within within)
+    fits : StoresFitIn d clocks order (may_store d) (may_store d)
+    fits = subst (λ c. StoresFitIn d c order (may_store d) (may_store d)) at.clocks_are (fit d at.names at.accepted order ordered (may_store d) (may_store d) within within)
 
 copy_cost : (l : Layout) (bs : List ℕ) → length_of (copy_shadows l bs) ≡ length bs
 copy_cost l [] = refl
@@ -86,11 +86,11 @@ has_room fits d l regs tight are = record {
   room = λ q x is. let r = (fits d regs are).room q x is in omega (arith, r, tight.first);
 }
 
-pub plan_there : LevelOrderIs → (d : Design) (clock : ℕ) (order : List ℕ) → is_level_order d order ≡ true
-    → (settling blocks registers falling : List ℕ) → IsPlanOf d clock order settling blocks registers falling → All (λ p. p < length d.processes) settling
-plan_there levels d clock order ordered settling blocks registers falling plan =
+pub plan_there : LevelOrderIs → (d : Design) (clocks : List ℕ) (order : List ℕ) → is_level_order d order ≡ true
+    → (settling blocks registers falling : List ℕ) → IsPlanOf d clocks order settling blocks registers falling → All (λ p. p < length d.processes) settling
+plan_there levels d clocks order ordered settling blocks registers falling plan =
     subst (AreThere d) (sym plan.settling_are)
-    (All-filter (λ p. not (is_port_or (clock_nets d clock) (slice_get d.processes p))) (λ p. p < length d.processes) order (order_there levels d order ordered))
+    (All-filter (λ p. not (is_port_or (clock_nets d clocks) (slice_get d.processes p))) (λ p. p < length d.processes) order (order_there levels d order ordered))
 
 -- the sleeping blocks are within the size
 sleepers_small : (d : Design) (k : ℕ) (xs : List Process) → length (sleepers_from d k xs) ≤ sum_by (sleeper_weight d) xs
@@ -106,7 +106,7 @@ sleepers_small d k (x ∷ xs) =
     omega (arith, rest, sum, here))
 
 -- all slots below the temporaries can be numbered
-pub first_low : (d : Design) (l : Layout) (clock : ℕ) → IsAcceptedAt d clock → IsTightLayout d l → distinct (register_bits d.processes) ≤ 16777216 → l.first_temp ≤ 67108868
-first_low d l clock at tight registers =
+pub first_low : (d : Design) (l : Layout) (clocks : List ℕ) → IsAcceptedAt d clocks → IsTightLayout d l → distinct (register_bits d.processes) ≤ 16777216 → l.first_temp ≤ 67108868
+first_low d l clocks at tight registers =
     let masks = sleepers_small d 0 d.processes in
     omega (arith, tight.first, masks, registers, at.accepted.small, at.accepted.lawful.few_bits)

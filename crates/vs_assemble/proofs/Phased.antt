@@ -41,20 +41,20 @@ one_within : (count : ℕ) (r : Run) → IsRunWithin count r → All (IsRunWithi
 one_within count r h = All-cons (IsRunWithin count) r [] h (All-nil (IsRunWithin count))
 
 -- all together
-pub phased : (d : Design) (clock : ℕ) (l : Layout) (order settling blocks registers falling : List ℕ) → IsPlanOf d clock order settling blocks registers falling
-    → (lowered : Lowered) → IsLoweredDesign d clock l settling blocks registers lowered
+pub phased : (d : Design) (clocks : List ℕ) (l : Layout) (order settling blocks registers falling : List ℕ) → IsPlanOf d clocks order settling blocks registers falling
+    → (lowered : Lowered) → IsLoweredDesign d clocks l settling blocks registers lowered
     → (fall rise : List Run) → AreRunsOf d l lowered.program (cone d falling settling) fall → AreRunsOf d l lowered.program (cone d registers settling) rise
     → (phases : Phases) → AreJoinedRuns (lowered.resets ∷ []) lowered.settling.items phases.first.items → AreJoinedRuns (lowered.resets ∷ []) fall phases.fall.items
     → AreJoinedRuns lowered.blocks.items (lowered.copy ∷ []) phases.next.items → AreJoinedRuns [] rise phases.rise.items
-    → ArePhasesOf d clock l order lowered phases
-phased d clock l order settling blocks registers falling plan lowered low fall rise fall_are rise_are phases first_is fall_is next_is rise_is = record {
+    → ArePhasesOf d clocks l order lowered phases
+phased d clocks l order settling blocks registers falling plan lowered low fall rise fall_are rise_are phases first_is fall_is next_is rise_is = record {
   within = record { each = within };
   first = first_is.calls lowered.program resets settled ∙ ap (λ (cs : List Call). cs ++ calls_of_runs lowered.program lowered.settling.items) (append-nil (calls_of_run lowered.program lowered.resets));
   settle_fall = calls_of_runs lowered.program fall;
   fall_are = subst (λ (ps : List ℕ). AreCallsOf d l ps (calls_of_runs lowered.program fall)) falls (runs_calls d l lowered.program (cone d falling settling) fall fall_are);
   fall = fall_is.calls lowered.program resets fallen ∙ ap (λ (cs : List Call). cs ++ calls_of_runs lowered.program fall) (append-nil (calls_of_run lowered.program lowered.resets));
   next = next_is.calls lowered.program blocked copied ∙ ap (λ (cs : List Call). calls_of_runs lowered.program lowered.blocks.items ++ cs) (append-nil (calls_of_run lowered.program lowered.copy));
-  rise = subst (λ (cs : List Call). AreCallsOf d l (rise_processes d clock order) cs) (sym (rise_is.calls lowered.program none risen))
+  rise = subst (λ (cs : List Call). AreCallsOf d l (rise_processes d clocks order) cs) (sym (rise_is.calls lowered.program none risen))
       (subst (λ (ps : List ℕ). AreCallsOf d l ps (calls_of_runs lowered.program rise)) rises (runs_calls d l lowered.program (cone d registers settling) rise rise_are));
 }
   where
@@ -79,10 +79,10 @@ phased d clock l order settling blocks registers falling plan lowered low fall r
     risen : All (IsRunWithin (length lowered.program)) rise
     risen = runs_within d l lowered.program (cone d registers settling) rise rise_are
 
-    falls : cone d falling settling ≡ fall_processes d clock order
-    falls = cone_same d falling (fall_bits d clock) settling plan.falling_are.same ∙ ap (cone d (fall_bits d clock)) plan.settling_are
+    falls : cone d falling settling ≡ fall_processes d clocks order
+    falls = cone_same d falling (fall_bits d clocks) settling plan.falling_are.same ∙ ap (cone d (fall_bits d clocks)) plan.settling_are
 
-    rises : cone d registers settling ≡ rise_processes d clock order
+    rises : cone d registers settling ≡ rise_processes d clocks order
     rises = cone_same d registers (register_bits d.processes) settling plan.registers_are.has ∙ ap (cone d (register_bits d.processes)) plan.settling_are
 
     within : (phase : Phase) → All (IsRunWithin (length lowered.program)) (runs_at phases phase)

@@ -15,20 +15,20 @@ use Rattle.vs_assemble.specs.Plans.{is_clocked_or, reset_bits_or}
 use Rattle.vs_assemble.proofs.Lists.{by_test, contains-append}
 
 -- one more of an order, which is no port, or is one
-pub ports_kept : (d : Design) (clock : ℕ) (order : List ℕ) (n : ℕ) → n < length order → is_port_or (clock_nets d clock) (slice_get d.processes (get_or order n 0)) ≡ false
-    → but_ports d clock (take (n + 1) order) ≡ but_ports d clock (take n order) ++ get_or order n 0 ∷ []
-ports_kept d clock order n l e =
+pub ports_kept : (d : Design) (clocks : List ℕ) (order : List ℕ) (n : ℕ) → n < length order → is_port_or (clock_nets d clocks) (slice_get d.processes (get_or order n 0)) ≡ false
+    → but_ports d clocks (take (n + 1) order) ≡ but_ports d clocks (take n order) ++ get_or order n 0 ∷ []
+ports_kept d clocks order n l e =
     let p : ℕ = get_or order n 0 in
-    filter_more (λ q. not (is_port_or (clock_nets d clock) (slice_get d.processes q))) order n 0 l
-    ∙ ap (λ (c : Bool). but_ports d clock (take n order) ++ (if not c then (p ∷ []) else [])) e
+    filter_more (λ q. not (is_port_or (clock_nets d clocks) (slice_get d.processes q))) order n 0 l
+    ∙ ap (λ (c : Bool). but_ports d clocks (take n order) ++ (if not c then (p ∷ []) else [])) e
 
-pub ports_left : (d : Design) (clock : ℕ) (order : List ℕ) (n : ℕ) → n < length order → is_port_or (clock_nets d clock) (slice_get d.processes (get_or order n 0)) ≡ true
-    → but_ports d clock (take (n + 1) order) ≡ but_ports d clock (take n order)
-ports_left d clock order n l e =
+pub ports_left : (d : Design) (clocks : List ℕ) (order : List ℕ) (n : ℕ) → n < length order → is_port_or (clock_nets d clocks) (slice_get d.processes (get_or order n 0)) ≡ true
+    → but_ports d clocks (take (n + 1) order) ≡ but_ports d clocks (take n order)
+ports_left d clocks order n l e =
     let p : ℕ = get_or order n 0 in
-    filter_more (λ q. not (is_port_or (clock_nets d clock) (slice_get d.processes q))) order n 0 l
-    ∙ ap (λ (c : Bool). but_ports d clock (take n order) ++ (if not c then (p ∷ []) else [])) e
-    ∙ append-nil (but_ports d clock (take n order))
+    filter_more (λ q. not (is_port_or (clock_nets d clocks) (slice_get d.processes q))) order n 0 l
+    ∙ ap (λ (c : Bool). but_ports d clocks (take n order) ++ (if not c then (p ∷ []) else [])) e
+    ∙ append-nil (but_ports d clocks (take n order))
 
 -- one more process, which is clocked or isn't
 clocked_next : (k n : ℕ) (xs : List Process) → n < length xs → clocked_from k (take (suc n) xs) ≡ clocked_from k (take n xs) ++ (if is_clocked_or (slice_get xs n) then ((k + n) ∷ []) else [])
@@ -118,25 +118,25 @@ pub flag_same : (flags : List Bool) (set : List ℕ) (n : ℕ) → n < length fl
 flag_same flags set n l are e = flag_next flags set n l are ∙ ap (λ (c : Bool). ascending n set ++ (if c then (n ∷ []) else [])) e ∙ append-nil (ascending n set)
 
 -- the bits that the resets of one more process set
-resets_next : (d : Design) (clock n : ℕ) (xs : List Process) → n < length xs → bits_of_resets d clock (take (suc n) xs) ≡ bits_of_resets d clock (take n xs) ++ reset_bits_or d clock (slice_get xs n)
-resets_next d clock n [] l = absurd (omega (arith, l))
-resets_next d clock zero (x ∷ xs) l = append-nil (reset_bits_or d clock (Rattle.std.proofs.Common.Some x))
-resets_next d clock (suc n) (x ∷ xs) l =
-    ap (λ (bs : List ℕ). reset_bits_or d clock (Rattle.std.proofs.Common.Some x) ++ bs) (resets_next d clock n xs (omega (arith, l)))
-    ∙ sym (append_assoc (reset_bits_or d clock (Rattle.std.proofs.Common.Some x)) (bits_of_resets d clock (take n xs)) (reset_bits_or d clock (slice_get xs n)))
+resets_next : (d : Design) (clocks : List ℕ) (n : ℕ) (xs : List Process) → n < length xs → bits_of_resets d clocks (take (suc n) xs) ≡ bits_of_resets d clocks (take n xs) ++ reset_bits_or d clocks (slice_get xs n)
+resets_next d clocks n [] l = absurd (omega (arith, l))
+resets_next d clocks zero (x ∷ xs) l = append-nil (reset_bits_or d clocks (Rattle.std.proofs.Common.Some x))
+resets_next d clocks (suc n) (x ∷ xs) l =
+    ap (λ (bs : List ℕ). reset_bits_or d clocks (Rattle.std.proofs.Common.Some x) ++ bs) (resets_next d clocks n xs (omega (arith, l)))
+    ∙ sym (append_assoc (reset_bits_or d clocks (Rattle.std.proofs.Common.Some x)) (bits_of_resets d clocks (take n xs)) (reset_bits_or d clocks (slice_get xs n)))
 
-pub resets_more : (d : Design) (clock n count : ℕ) (inputs bits more : List ℕ) → n < length d.processes
-    → HasBitsOf count bits (inputs ++ bits_of_resets d clock (take n d.processes)) → HasBitsOf count more (reset_bits_or d clock (slice_get d.processes n))
-    → HasBitsOf count (bits ++ more) (inputs ++ bits_of_resets d clock (take (n + 1) d.processes))
-resets_more d clock n count inputs bits more l h k = record {
+pub resets_more : (d : Design) (clocks : List ℕ) (n count : ℕ) (inputs bits more : List ℕ) → n < length d.processes
+    → HasBitsOf count bits (inputs ++ bits_of_resets d clocks (take n d.processes)) → HasBitsOf count more (reset_bits_or d clocks (slice_get d.processes n))
+    → HasBitsOf count (bits ++ more) (inputs ++ bits_of_resets d clocks (take (n + 1) d.processes))
+resets_more d clocks n count inputs bits more l h k = record {
   same = λ b.
       let at : n + 1 ≡ suc n = omega arith in
-      let here : List ℕ = bits_of_resets d clock (take n d.processes) in
+      let here : List ℕ = bits_of_resets d clocks (take n d.processes) in
       contains-append bits more b
       ∙ ap (λ c. c || contains more b) (h.same b)
       ∙ ap (λ c. contains (inputs ++ here) b || c) (k.same b)
-      ∙ sym (contains-append (inputs ++ here) (reset_bits_or d clock (slice_get d.processes n)) b)
-      ∙ ap (λ bs. contains bs b) (append_assoc inputs here (reset_bits_or d clock (slice_get d.processes n)) ∙ ap (λ (bs : List ℕ). inputs ++ bs) (sym (resets_next d clock n d.processes l)))
-      ∙ sym (ap (λ j. contains (inputs ++ bits_of_resets d clock (take j d.processes)) b) at);
+      ∙ sym (contains-append (inputs ++ here) (reset_bits_or d clocks (slice_get d.processes n)) b)
+      ∙ ap (λ bs. contains bs b) (append_assoc inputs here (reset_bits_or d clocks (slice_get d.processes n)) ∙ ap (λ (bs : List ℕ). inputs ++ bs) (sym (resets_next d clocks n d.processes l)))
+      ∙ sym (ap (λ j. contains (inputs ++ bits_of_resets d clocks (take j d.processes)) b) at);
   below = All-append (λ b. b < count) bits more h.below k.below;
 }

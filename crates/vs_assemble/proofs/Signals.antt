@@ -138,66 +138,61 @@ span_left n s so_far e = sym (append-nil so_far) ∙ sym (ap (λ (c : Bool). so_
 
 -- ---- the data inputs
 
-abbrev pub data_of : ℕ → List Signal → List ℕ
-data_of clock ss = without (signals_bits (filter is_input ss)) (clock ∷ [])
+abbrev pub data_of : List ℕ → List Signal → List ℕ
+data_of clocks ss = without (signals_bits (filter is_input ss)) clocks
 
 -- what a signal adds
-abbrev pub added : ℕ → Signal → List ℕ
-added clock s = if s.input then without (bits_of_signal s) (clock ∷ []) else []
+abbrev pub added : List ℕ → Signal → List ℕ
+added clocks s = if s.input then without (bits_of_signal s) clocks else []
 
-one_more : (clock : ℕ) (s : Signal) (ss : List Signal) → data_of clock (s ∷ ss) ≡ added clock s ++ data_of clock ss
-one_more clock s ss = by_test s.input
+one_more : (clocks : List ℕ) (s : Signal) (ss : List Signal) → data_of clocks (s ∷ ss) ≡ added clocks s ++ data_of clocks ss
+one_more clocks s ss = by_test s.input
     (λ e.
-    ap (λ (c : Bool). without (signals_bits (if c then (s ∷ filter is_input ss) else filter is_input ss)) (clock ∷ [])) e
-    ∙ filter-append (λ b. not (contains (clock ∷ []) b)) (bits_of_signal s) (signals_bits (filter is_input ss))
-    ∙ sym (ap (λ (c : Bool). (if c then without (bits_of_signal s) (clock ∷ []) else []) ++ data_of clock ss) e))
+    ap (λ (c : Bool). without (signals_bits (if c then (s ∷ filter is_input ss) else filter is_input ss)) clocks) e
+    ∙ filter-append (λ b. not (contains clocks b)) (bits_of_signal s) (signals_bits (filter is_input ss))
+    ∙ sym (ap (λ (c : Bool). (if c then without (bits_of_signal s) clocks else []) ++ data_of clocks ss) e))
     (λ e.
-    ap (λ (c : Bool). without (signals_bits (if c then (s ∷ filter is_input ss) else filter is_input ss)) (clock ∷ [])) e
-    ∙ sym (ap (λ (c : Bool). (if c then without (bits_of_signal s) (clock ∷ []) else []) ++ data_of clock ss) e))
+    ap (λ (c : Bool). without (signals_bits (if c then (s ∷ filter is_input ss) else filter is_input ss)) clocks) e
+    ∙ sym (ap (λ (c : Bool). (if c then without (bits_of_signal s) clocks else []) ++ data_of clocks ss) e))
 
-pub data_more : (clock : ℕ) (a : Arena) (n : ℕ) (s : F.Signal) (so_far new : List ℕ) → slice_get a.signals n ≡ Some s → new ≡ so_far ++ added clock (signal_of n s)
-    → so_far ++ data_of clock (drop n (arena_signals a)) ≡ data_of clock (arena_signals a) → new ++ data_of clock (drop (n + 1) (arena_signals a)) ≡ data_of clock (arena_signals a)
-data_more clock a n s so_far new at is h =
-    ap (λ (bs : List ℕ). bs ++ data_of clock (drop (n + 1) (arena_signals a))) is
-    ∙ made_more (data_of clock) (arena_signals a) n (signal_of n s) (added clock (signal_of n s)) so_far (data_of clock (arena_signals a)) (signal_there a n s at) (λ ys. one_more clock (signal_of n s) ys) h
+pub data_more : (clocks : List ℕ) (a : Arena) (n : ℕ) (s : F.Signal) (so_far new : List ℕ) → slice_get a.signals n ≡ Some s → new ≡ so_far ++ added clocks (signal_of n s)
+    → so_far ++ data_of clocks (drop n (arena_signals a)) ≡ data_of clocks (arena_signals a) → new ++ data_of clocks (drop (n + 1) (arena_signals a)) ≡ data_of clocks (arena_signals a)
+data_more clocks a n s so_far new at is h =
+    ap (λ (bs : List ℕ). bs ++ data_of clocks (drop (n + 1) (arena_signals a))) is
+    ∙ made_more (data_of clocks) (arena_signals a) n (signal_of n s) (added clocks (signal_of n s)) so_far (data_of clocks (arena_signals a)) (signal_there a n s at) (λ ys. one_more clocks (signal_of n s) ys) h
 
-pub data_all : (clock : ℕ) (a : Arena) (n count : ℕ) (so_far : List ℕ) → count ≡ length a.signals → count ≤ n → so_far ++ data_of clock (drop n (arena_signals a)) ≡ data_of clock (arena_signals a) → so_far ≡ data_of clock (arena_signals a)
-data_all clock a n count so_far is past h = made_all (data_of clock) refl (arena_signals a) n so_far (data_of clock (arena_signals a)) (past_all a n count is past) h
+pub data_all : (clocks : List ℕ) (a : Arena) (n count : ℕ) (so_far : List ℕ) → count ≡ length a.signals → count ≤ n → so_far ++ data_of clocks (drop n (arena_signals a)) ≡ data_of clocks (arena_signals a) → so_far ≡ data_of clocks (arena_signals a)
+data_all clocks a n count so_far is past h = made_all (data_of clocks) refl (arena_signals a) n so_far (data_of clocks (arena_signals a)) (past_all a n count is past) h
 
-pub added_input : (clock n : ℕ) (s : F.Signal) (so_far new : List ℕ) (span : Span) → s.input ≡ true → span ≡ span_of (signal_of n s) → new ≡ so_far ++ without (count_from span.first span.length) (clock ∷ []) → new ≡ so_far ++ added clock (signal_of n s)
-added_input clock n s so_far new span e is h =
-    h ∙ ap (λ (x : Span). so_far ++ without (count_from x.first x.length) (clock ∷ [])) is
-    ∙ sym (ap (λ (c : Bool). so_far ++ (if c then without (bits_of_signal (signal_of n s)) (clock ∷ []) else [])) e)
+pub added_input : (clocks : List ℕ) (n : ℕ) (s : F.Signal) (so_far new : List ℕ) (span : Span) → s.input ≡ true → span ≡ span_of (signal_of n s) → new ≡ so_far ++ without (count_from span.first span.length) clocks → new ≡ so_far ++ added clocks (signal_of n s)
+added_input clocks n s so_far new span e is h =
+    h ∙ ap (λ (x : Span). so_far ++ without (count_from x.first x.length) clocks) is
+    ∙ sym (ap (λ (c : Bool). so_far ++ (if c then without (bits_of_signal (signal_of n s)) clocks else [])) e)
 
-pub added_none : (clock n : ℕ) (s : F.Signal) (so_far : List ℕ) → s.input ≡ false → so_far ≡ so_far ++ added clock (signal_of n s)
-added_none clock n s so_far e =
-    sym (append-nil so_far) ∙ sym (ap (λ (c : Bool). so_far ++ (if c then without (bits_of_signal (signal_of n s)) (clock ∷ []) else [])) e)
+pub added_none : (clocks : List ℕ) (n : ℕ) (s : F.Signal) (so_far : List ℕ) → s.input ≡ false → so_far ≡ so_far ++ added clocks (signal_of n s)
+added_none clocks n s so_far e =
+    sym (append-nil so_far) ∙ sym (ap (λ (c : Bool). so_far ++ (if c then without (bits_of_signal (signal_of n s)) clocks else [])) e)
 
 -- as many spans as signals
 pub spans_long : (a : Arena) (spans : List Span) → spans ≡ map span_of (arena_signals a) → length spans ≡ length a.signals
 spans_long a spans is = ap length is ∙ length-map (arena_signals a) span_of ∙ length-signals_from 0 a.signals
 
--- ---- the bits of a span but the clock's
+-- ---- the bits of a span but the clocks'
 
-next_bit : (first k clock : ℕ) → without (count_from first (k + 1)) (clock ∷ []) ≡ without (count_from first k) (clock ∷ []) ++ (if not ((first + k) == clock) then ((first + k) ∷ []) else [])
-next_bit first k clock =
+next_bit : (first k : ℕ) (clocks : List ℕ) → without (count_from first (k + 1)) clocks ≡ without (count_from first k) clocks ++ (if not (contains clocks (first + k)) then ((first + k) ∷ []) else [])
+next_bit first k clocks =
     let at : k + 1 ≡ suc k = omega arith in
-    ap (λ n. without (count_from first n) (clock ∷ [])) at
-    ∙ ap (λ (bs : List ℕ). without bs (clock ∷ [])) (count_next first k)
-    ∙ filter-append (λ b. not (contains (clock ∷ []) b)) (count_from first k) ((first + k) ∷ [])
-    ∙ ap (λ (c : Bool). without (count_from first k) (clock ∷ []) ++ (if not c then ((first + k) ∷ []) else [])) (or_none ((first + k) == clock))
-  where
-    or_none : (u : Bool) → (u || false) ≡ u
-    or_none true = refl
-    or_none false = refl
+    ap (λ n. without (count_from first n) clocks) at
+    ∙ ap (λ (bs : List ℕ). without bs clocks) (count_next first k)
+    ∙ filter-append (λ b. not (contains clocks b)) (count_from first k) ((first + k) ∷ [])
 
-pub bit_kept : (first k clock : ℕ) (start so_far new : List ℕ) → ((first + k) ≡ clock → ⊥) → new ≡ so_far ++ (first + k) ∷ [] → so_far ≡ start ++ without (count_from first k) (clock ∷ [])
-    → new ≡ start ++ without (count_from first (k + 1)) (clock ∷ [])
-bit_kept first k clock start so_far new other is h =
-    is ∙ ap (λ (bs : List ℕ). bs ++ (first + k) ∷ []) h ∙ append_assoc start (without (count_from first k) (clock ∷ [])) ((first + k) ∷ [])
-    ∙ sym (ap (λ (bs : List ℕ). start ++ bs) (next_bit first k clock ∙ ap (λ (c : Bool). without (count_from first k) (clock ∷ []) ++ (if not c then ((first + k) ∷ []) else [])) (ne_eqb (first + k) clock other)))
+pub bit_kept : (first k : ℕ) (clocks : List ℕ) (start so_far new : List ℕ) → contains clocks (first + k) ≡ false → new ≡ so_far ++ (first + k) ∷ [] → so_far ≡ start ++ without (count_from first k) clocks
+    → new ≡ start ++ without (count_from first (k + 1)) clocks
+bit_kept first k clocks start so_far new other is h =
+    is ∙ ap (λ (bs : List ℕ). bs ++ (first + k) ∷ []) h ∙ append_assoc start (without (count_from first k) clocks) ((first + k) ∷ [])
+    ∙ sym (ap (λ (bs : List ℕ). start ++ bs) (next_bit first k clocks ∙ ap (λ (c : Bool). without (count_from first k) clocks ++ (if not c then ((first + k) ∷ []) else [])) other))
 
-pub bit_left : (first k clock : ℕ) (start so_far new : List ℕ) → (first + k) ≡ clock → new ≡ so_far → so_far ≡ start ++ without (count_from first k) (clock ∷ [])
-    → new ≡ start ++ without (count_from first (k + 1)) (clock ∷ [])
-bit_left first k clock start so_far new same is h =
-    is ∙ h ∙ sym (ap (λ (bs : List ℕ). start ++ bs) (next_bit first k clock ∙ ap (λ (c : Bool). without (count_from first k) (clock ∷ []) ++ (if not c then ((first + k) ∷ []) else [])) (eq-eqb (first + k) clock same) ∙ append-nil (without (count_from first k) (clock ∷ []))))
+pub bit_left : (first k : ℕ) (clocks : List ℕ) (start so_far new : List ℕ) → contains clocks (first + k) ≡ true → new ≡ so_far → so_far ≡ start ++ without (count_from first k) clocks
+    → new ≡ start ++ without (count_from first (k + 1)) clocks
+bit_left first k clocks start so_far new same is h =
+    is ∙ h ∙ sym (ap (λ (bs : List ℕ). start ++ bs) (next_bit first k clocks ∙ ap (λ (c : Bool). without (count_from first k) clocks ++ (if not c then ((first + k) ∷ []) else [])) same ∙ append-nil (without (count_from first k) clocks)))

@@ -34,8 +34,8 @@ all_few d ps n so_far more h = omega (arith, h, sum_by-take-le (may_store d) ps 
 pub all_runs : (d : Design) (l : Layout) (calls : List Call) (ps : List ℕ) (n : ℕ) (rs : List Run) → length ps ≤ n → AreRunsOf d l calls (take n ps) rs → AreRunsOf d l calls ps rs
 all_runs d l calls ps n rs past h = subst (λ (xs : List ℕ). AreRunsOf d l calls xs rs) (take_all n ps past) h
 
-pub all_resets : (d : Design) (clock : ℕ) (l : Layout) (ps : List ℕ) (n : ℕ) (calls : List Call) → length ps ≤ n → AreResetsOf d clock l (take n ps) calls → AreResetsOf d clock l ps calls
-all_resets d clock l ps n calls past h = subst (λ xs. AreResetsOf d clock l xs calls) (take_all n ps past) h
+pub all_resets : (d : Design) (clocks : List ℕ) (l : Layout) (ps : List ℕ) (n : ℕ) (calls : List Call) → length ps ≤ n → AreResetsOf d clocks l (take n ps) calls → AreResetsOf d clocks l ps calls
+all_resets d clocks l ps n calls past h = subst (λ xs. AreResetsOf d clocks l xs calls) (take_all n ps past) h
 
 -- the slots that a process's calls name
 lowered_slots : (l : Layout) (mask : ℕ) (o : Option Sleeper) (x : Process) (calls : List Call) → IsLoweredAs l mask o x calls → All (λ slot. slot < l.first_temp + process_weight x) (slots_of calls)
@@ -80,22 +80,22 @@ one_more law d l room start ps n old new more rs lt runs few is low =
     }
 
 -- the same of resets
-pub record OneReset (d : Design) (clock : ℕ) (l : Layout) (ps : List ℕ) (n : ℕ) (calls : List Call) : Type 0 where
-  pub calls_are : AreResetsOf d clock l (take (n + 1) ps) calls
+pub record OneReset (d : Design) (clocks : List ℕ) (l : Layout) (ps : List ℕ) (n : ℕ) (calls : List Call) : Type 0 where
+  pub calls_are : AreResetsOf d clocks l (take (n + 1) ps) calls
   pub few : length_of calls ≤ sum_by (may_store d) (take (n + 1) ps)
   pub slots : AreIn (slots_of_design d) calls
 
-pub one_reset : ResetsGrow → (d : Design) (clock : ℕ) (l : Layout) → HasRoom d l → (ps : List ℕ) (n : ℕ) (old new more : List Call) → n < length ps
-    → AreResetsOf d clock l (take n ps) old → length_of old ≤ sum_by (may_store d) (take n ps) → AreIn (slots_of_design d) old
-    → new ≡ old ++ more → IsResetAt d clock l (get_or ps n 0) more → OneReset d clock l ps n new
-one_reset grow d clock l room ps n old new more lt are few slots is low =
+pub one_reset : ResetsGrow → (d : Design) (clocks : List ℕ) (l : Layout) → HasRoom d l → (ps : List ℕ) (n : ℕ) (old new more : List Call) → n < length ps
+    → AreResetsOf d clocks l (take n ps) old → length_of old ≤ sum_by (may_store d) (take n ps) → AreIn (slots_of_design d) old
+    → new ≡ old ++ more → IsResetAt d clocks l (get_or ps n 0) more → OneReset d clocks l ps n new
+one_reset grow d clocks l room ps n old new more lt are few slots is low =
     let p : ℕ = get_or ps n 0 in
-    let next : AreResetsOf d clock l (take n ps ++ p ∷ []) (old ++ more) = grow d clock l (take n ps) p old more are low in
+    let next : AreResetsOf d clocks l (take n ps ++ p ∷ []) (old ++ more) = grow d clocks l (take n ps) p old more are low in
     let own = low.2.stores in
     let stores : length_of more ≤ may_store d p = subst (λ o. length_of more ≤ may_store_or d o) (sym low.1) (omega (arith, own)) in
     let sum : length_of new ≡ length_of old + length_of more = ap length_of is ∙ sum_by-append call_cost old more in
     record {
-      calls_are = subst (λ xs. AreResetsOf d clock l xs new) (sym (take_more ps n 0 lt)) (subst (λ (cs : List Call). AreResetsOf d clock l (take n ps ++ p ∷ []) cs) (sym is) next);
+      calls_are = subst (λ xs. AreResetsOf d clocks l xs new) (sym (take_more ps n 0 lt)) (subst (λ (cs : List Call). AreResetsOf d clocks l (take n ps ++ p ∷ []) cs) (sym is) next);
       few = omega (arith, few, stores, sum, sum_next d ps n lt);
       slots = subst (AreIn (slots_of_design d)) (sym is) (both_in (slots_of_design d) old more slots (few_in d l p low.0 more room low.1 low.2.slots));
     }

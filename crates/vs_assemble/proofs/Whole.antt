@@ -41,16 +41,16 @@ copy_there d l regs tight are below =
 all_of : (calls : List Call) → calls_of_run calls (record { from = 0; to = length calls }) ≡ calls
 all_of calls = take_all (length calls - 0) calls (omega arith)
 
-pub whole : (d : Design) (clock : ℕ) (l : Layout) (settling blocks registers : List ℕ) (lowered : Lowered) (resets settled stepped more most : List Call)
+pub whole : (d : Design) (clocks : List ℕ) (l : Layout) (settling blocks registers : List ℕ) (lowered : Lowered) (resets settled stepped more most : List Call)
     → settled ≡ resets ++ more → stepped ≡ settled ++ most → lowered.program ≡ stepped ++ copy_shadows l registers
-    → AreResetsOf d clock l blocks resets → lowered.resets ≡ record { from = 0; to = length resets }
+    → AreResetsOf d clocks l blocks resets → lowered.resets ≡ record { from = 0; to = length resets }
     → AreRunsOf d l settled settling lowered.settling.items → AreRunsOf d l stepped blocks lowered.blocks.items
     → lowered.copy ≡ record { from = length stepped; to = length lowered.program }
     → AreIn (slots_of_design d) stepped → AreIn (slots_of_design d) (copy_shadows l registers)
-    → IsLoweredDesign d clock l settling blocks registers lowered
-whole d clock l settling blocks registers lowered resets settled stepped more most e f p resets_are resets_run settling_are blocks_are copy_run slots copy_slots = record {
+    → IsLoweredDesign d clocks l settling blocks registers lowered
+whole d clocks l settling blocks registers lowered resets settled stepped more most e f p resets_are resets_run settling_are blocks_are copy_run slots copy_slots = record {
   resets_within = subst (IsRunWithin (length lowered.program)) (sym resets_run) (record { order = omega arith; there = omega (arith, long_settled, long_stepped, long) });
-  resets_are = subst (λ (cs : List Call). AreResetsOf d clock l blocks cs) (sym its_resets) resets_are;
+  resets_are = subst (λ (cs : List Call). AreResetsOf d clocks l blocks cs) (sym its_resets) resets_are;
   settling_are = subst (λ (cs : List Call). AreRunsOf d l cs settling lowered.settling.items) (sym p)
       (runs_grown d l stepped (copy_shadows l registers) settling lowered.settling.items (subst (λ (cs : List Call). AreRunsOf d l cs settling lowered.settling.items) (sym f) (runs_grown d l settled most settling lowered.settling.items settling_are)));
   blocks_are = subst (λ (cs : List Call). AreRunsOf d l cs blocks lowered.blocks.items) (sym p) (runs_grown d l stepped (copy_shadows l registers) blocks lowered.blocks.items blocks_are);

@@ -10,5 +10,5 @@ use Rattle.vs_program.specs.Made.{copy_shadows}
 -- where all slots can be numbered
 abbrev pub CopyIsCall : Type 0
 CopyIsCall =
-    (d : Design) (name : Option (List ℕ)) → IsAcceptedDesign d name → (l : Layout) → IsLayoutOf d l → l.first_temp ≤ 2 ^ 32
+    (d : Design) (names : List (List ℕ)) → IsAcceptedDesign d names → (l : Layout) → IsLayoutOf d l → l.first_temp ≤ 2 ^ 32
     → (regs : List ℕ) → AreRegisters d regs → All IsCall (copy_shadows l regs)

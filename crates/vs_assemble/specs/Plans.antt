@@ -30,9 +30,9 @@ is_clocked_or None = false
 is_clocked_or (Some x) = is_clocked x
 
 -- the bits that its reset sets
-abbrev pub reset_bits_or : Design → ℕ → Option Process → List ℕ
-reset_bits_or d clock None = []
-reset_bits_or d clock (Some x) = if is_clocked x then bits_of_reset (reset_of d clock x) else []
+abbrev pub reset_bits_or : Design → List ℕ → Option Process → List ℕ
+reset_bits_or d clocks None = []
+reset_bits_or d clocks (Some x) = if is_clocked x then bits_of_reset (reset_of d clocks x) else []
 
 -- the layout is one of the design, and its temporaries stand right behind the masks
 pub record IsTightLayout (d : Design) (l : Layout) : Type 0 where
@@ -43,13 +43,13 @@ pub record IsTightLayout (d : Design) (l : Layout) : Type 0 where
 pub record HasRoom (d : Design) (l : Layout) : Type 0 where
   pub room : (q : ℕ) (x : Process) → slice_get d.processes q ≡ Some x → l.first_temp + process_weight x ≤ slots_of_design d
 
--- the processes that settle a first slot, in a level order; the clocked blocks; the bits of the registers; and the bits that change where the clock falls
-pub record IsPlanOf (d : Design) (clock : ℕ) (order settling blocks registers falling : List ℕ) : Type 0 where
-  pub settling_are : settling ≡ first_processes d clock order
+-- the processes that settle a first slot, in a level order; the clocked blocks; the bits of the registers; and the bits that change where the clocks fall
+pub record IsPlanOf (d : Design) (clocks : List ℕ) (order settling blocks registers falling : List ℕ) : Type 0 where
+  pub settling_are : settling ≡ first_processes d clocks order
   pub blocks_are : blocks ≡ clocked d
   pub registers_are : AreRegisters d registers
   pub registers_below : All (λ b. b < bit_count d) registers
-  pub falling_are : HasBitsOf (bit_count d) falling (fall_bits d clock)
+  pub falling_are : HasBitsOf (bit_count d) falling (fall_bits d clocks)
 
 -- these are the values that the bits have before slot 0: what initial processes leave in them (9.9.1), and else z in a net and x in an input or a variable (4.2)
 pub record AreStarts (d : Design) (starts : List Bit4) : Type 0 where
@@ -61,9 +61,10 @@ abbrev pub begin_bits : List Bit4 → List Bit4
 begin_bits starts = (Zero ∷ One ∷ X ∷ Z ∷ []) ++ starts
 
 -- what a program has besides its calls: the design's bits, data inputs, clock nets and shown signals, and what the bits begin with
-pub record IsFrameOf (d : Design) (clock : ℕ) (bits : ℕ) (inputs clocks : List ℕ) (initial : List Bit4) (signals : List Span) : Type 0 where
+pub record IsFrameOf (d : Design) (clocks : List ℕ) (bits : ℕ) (kept inputs nets : List ℕ) (initial : List Bit4) (signals : List Span) : Type 0 where
   pub bits_are : bits ≡ bit_count d
-  pub inputs_are : inputs ≡ data_bits d clock
-  pub clocks_are : AreClockNets d clock clocks
+  pub inputs_are : inputs ≡ data_bits d clocks
+  pub clocks_are : kept ≡ clocks
+  pub nets_are : AreClockNets d clocks nets
   pub initial_is : (starts : List Bit4) × AreStarts d starts × (initial ≡ begin_bits starts)
   pub signals_are : signals ≡ map span_of (shown_signals d)

@@ -33,10 +33,12 @@ use vs_program::{Compiled, Parts, Phases, Run, Span, home, program_law};
 pub struct Frame {
     /// How many bits the design has.
     pub bits: u32,
+    /// The clocks' bits; where there is no clock, the number of the design's bits alone.
+    pub clocks: Vec<u32>,
     /// The bits of the data inputs, in bit order.
     pub inputs: Vec<u32>,
-    /// The clock's bit, and those of the nets that copy it. There is none without a clock.
-    pub clocks: Vec<u32>,
+    /// The clocks' bits, and those of the nets that copy them. There is none without a clock.
+    pub nets: Vec<u32>,
     /// What the slots of the constants and of the bits begin with.
     pub initial: Vec<Bit4>,
     /// The bits of each signal that a waveform shows, in their order: of all but memories.
@@ -60,58 +62,59 @@ pub(crate) struct Lowered {
 
 /// A design compiled: each process lowered once, and the calls put together for each kind of time slot. The only error is that there is no memory.
 ///
-/// The clock is the lowering's, the number of the design's bits where it has none; the order a level order of the design.
+/// The clocks are the lowering's, the number of the design's bits alone where it has none; the order a level order of the design.
 pub fn assemble<T: Lowering>(
     alloc: Global,
     lowering: &T,
-    clock: u32,
+    clocks: &[u32],
     order: &[u32],
     frame: Frame,
 ) -> Result<Compiled, AllocError>
-    requires clock { clock ≡ T.clock_bit lowering.now }
-    requires accepted { IsAcceptedAt (T.design lowering.now) clock }
+    requires clocks { clocks.now ≡ T.clock_list lowering.now }
+    requires accepted { IsAcceptedAt (T.design lowering.now) clocks.now }
     requires order { is_level_order (T.design lowering.now) order.now ≡ true }
     requires layout { IsTightLayout (T.design lowering.now) (T.layout lowering.now) }
-    requires frame { IsFrameOf (T.design lowering.now) clock frame.bits frame.inputs.items frame.clocks.items frame.initial.items frame.signals.items }
-    ensures { IfOk result (IsProgramOf (T.design lowering.now) clock) }
+    requires frame { IsFrameOf (T.design lowering.now) clocks.now frame.bits frame.clocks.items frame.inputs.items frame.nets.items frame.initial.items frame.signals.items }
+    ensures { IfOk result (IsProgramOf (T.design lowering.now) clocks.now) }
 {
     let plan = make_plan(
         alloc,
         lowering,
-        clock,
+        clocks,
         order,
         frame.bits,
         frame.inputs.as_slice(),
     )?;
-    let lowered = lower_design(alloc, lowering, clock, order, &plan)?;
-    let phases = phases(alloc, lowering, clock, order, &plan, frame.bits, &lowered)?;
-    finish(lowering, clock, order, &plan, frame, lowered, phases)
+    let lowered = lower_design(alloc, lowering, clocks, order, &plan)?;
+    let phases = phases(alloc, lowering, clocks, order, &plan, frame.bits, &lowered)?;
+    finish(lowering, clocks, order, &plan, frame, lowered, phases)
 }
 
 /// The parts put together. The slots behind the bits begin with 0.
 fn finish<T: Lowering>(
     lowering: &T,
-    clock: u32,
+    clocks: &[u32],
     order: &[u32],
     plan: &Plan,
     frame: Frame,
     lowered: Lowered,
     phases: Phases,
 ) -> Result<Compiled, AllocError>
-    requires accepted { IsAcceptedAt (T.design lowering.now) clock }
+    requires accepted { IsAcceptedAt (T.design lowering.now) clocks.now }
     requires order { is_level_order (T.design lowering.now) order.now ≡ true }
     requires layout { IsTightLayout (T.design lowering.now) (T.layout lowering.now) }
-    requires plan { IsPlanOf (T.design lowering.now) clock order.now plan.now.settling.items plan.now.blocks.items plan.now.registers.items plan.now.falling.items }
-    requires frame { IsFrameOf (T.design lowering.now) clock frame.bits frame.inputs.items frame.clocks.items frame.initial.items frame.signals.items }
-    requires lowered { IsLoweredDesign (T.design lowering.now) clock (T.layout lowering.now) plan.now.settling.items plan.now.blocks.items plan.now.registers.items lowered }
-    requires phases { ArePhasesOf (T.design lowering.now) clock (T.layout lowering.now) order.now lowered phases }
-    ensures { IfOk result (IsProgramOf (T.design lowering.now) clock) }
+    requires plan { IsPlanOf (T.design lowering.now) clocks.now order.now plan.now.settling.items plan.now.blocks.items plan.now.registers.items plan.now.falling.items }
+    requires frame { IsFrameOf (T.design lowering.now) clocks.now frame.bits frame.clocks.items frame.inputs.items frame.nets.items frame.initial.items frame.signals.items }
+    requires lowered { IsLoweredDesign (T.design lowering.now) clocks.now (T.layout lowering.now) plan.now.settling.items plan.now.blocks.items plan.now.registers.items lowered }
+    requires phases { ArePhasesOf (T.design lowering.now) clocks.now (T.layout lowering.now) order.now lowered phases }
+    ensures { IfOk result (IsProgramOf (T.design lowering.now) clocks.now) }
 {
     program_law();
     let Frame {
         bits,
-        inputs,
         clocks,
+        inputs,
+        nets,
         initial,
         signals,
     } = frame;
@@ -120,9 +123,9 @@ fn finish<T: Lowering>(
     let initial = padded(initial, count)?;
     Ok(Compiled::of(Parts {
         bits,
-        clock,
-        inputs,
         clocks,
+        inputs,
+        nets,
         initial,
         signals,
         calls: program,
@@ -146,18 +149,18 @@ fn padded(bits: Vec<Bit4>, count: u64) -> Result<Vec<Bit4>, AllocError>
 fn phases<T: Lowering>(
     alloc: Global,
     lowering: &T,
-    clock: u32,
+    clocks: &[u32],
     order: &[u32],
     plan: &Plan,
     bits: u32,
     lowered: &Lowered,
 ) -> Result<Phases, AllocError>
-    requires accepted { IsAcceptedAt (T.design lowering.now) clock }
+    requires accepted { IsAcceptedAt (T.design lowering.now) clocks.now }
     requires order { is_level_order (T.design lowering.now) order.now ≡ true }
-    requires plan { IsPlanOf (T.design lowering.now) clock order.now plan.now.settling.items plan.now.blocks.items plan.now.registers.items plan.now.falling.items }
+    requires plan { IsPlanOf (T.design lowering.now) clocks.now order.now plan.now.settling.items plan.now.blocks.items plan.now.registers.items plan.now.falling.items }
     requires bits { bits ≡ bit_count (T.design lowering.now) }
-    requires lowered { IsLoweredDesign (T.design lowering.now) clock (T.layout lowering.now) plan.now.settling.items plan.now.blocks.items plan.now.registers.items lowered.now }
-    ensures { IfOk result (ArePhasesOf (T.design lowering.now) clock (T.layout lowering.now) order.now lowered.now) }
+    requires lowered { IsLoweredDesign (T.design lowering.now) clocks.now (T.layout lowering.now) plan.now.settling.items plan.now.blocks.items plan.now.registers.items lowered.now }
+    ensures { IfOk result (ArePhasesOf (T.design lowering.now) clocks.now (T.layout lowering.now) order.now lowered.now) }
 {
     cycle_law();
     let settling = lowered.settling.as_slice();
@@ -193,16 +196,16 @@ fn phases<T: Lowering>(
 fn lower_design<T: Lowering>(
     alloc: Global,
     lowering: &T,
-    clock: u32,
+    clocks: &[u32],
     order: &[u32],
     plan: &Plan,
 ) -> Result<Lowered, AllocError>
-    requires clock { clock ≡ T.clock_bit lowering.now }
-    requires accepted { IsAcceptedAt (T.design lowering.now) clock }
+    requires clocks { clocks.now ≡ T.clock_list lowering.now }
+    requires accepted { IsAcceptedAt (T.design lowering.now) clocks.now }
     requires order { is_level_order (T.design lowering.now) order.now ≡ true }
     requires layout { IsTightLayout (T.design lowering.now) (T.layout lowering.now) }
-    requires plan { IsPlanOf (T.design lowering.now) clock order.now plan.now.settling.items plan.now.blocks.items plan.now.registers.items plan.now.falling.items }
-    ensures { IfOk result (IsLoweredDesign (T.design lowering.now) clock (T.layout lowering.now) plan.now.settling.items plan.now.blocks.items plan.now.registers.items) }
+    requires plan { IsPlanOf (T.design lowering.now) clocks.now order.now plan.now.settling.items plan.now.blocks.items plan.now.registers.items plan.now.falling.items }
+    ensures { IfOk result (IsLoweredDesign (T.design lowering.now) clocks.now (T.layout lowering.now) plan.now.settling.items plan.now.blocks.items plan.now.registers.items) }
 {
     program_law();
     stores_law();
@@ -211,7 +214,7 @@ fn lower_design<T: Lowering>(
     copy_law();
     let blocks = plan.blocks.as_slice();
     let mut program = Program::new(alloc);
-    lower_resets(alloc, lowering, clock, blocks, &mut program)?;
+    lower_resets(alloc, lowering, clocks, blocks, &mut program)?;
     let resets = Run {
         from: 0,
         to: program.len(),
@@ -258,22 +261,22 @@ fn lower_each<T: Lowering>(
 fn lower_resets<T: Lowering>(
     alloc: Global,
     lowering: &T,
-    clock: u32,
+    clocks: &[u32],
     blocks: &[u32],
     program: &mut Program,
 ) -> Result<(), AllocError>
-    requires clock { clock ≡ T.clock_bit lowering.now }
+    requires clocks { clocks.now ≡ T.clock_list lowering.now }
     requires none { program.old ≡ [] }
     requires blocks { All (λ p. p < length (T.design lowering.now).processes) blocks.now }
     requires few { sum_by (may_store (T.design lowering.now)) blocks.now ≤ 2 ^ 32 }
     requires room { HasRoom (T.design lowering.now) (T.layout lowering.now) }
-    ensures calls { OnOk result (AreResetsOf (T.design lowering.now) clock (T.layout lowering.now) blocks.now program.new) }
+    ensures calls { OnOk result (AreResetsOf (T.design lowering.now) clocks.now (T.layout lowering.now) blocks.now program.new) }
     ensures few { OnOk result (length_of program.new ≤ sum_by (may_store (T.design lowering.now)) blocks.now) }
     ensures slots { OnOk result (AreIn (slots_of_design (T.design lowering.now)) program.new) }
 {
     program_law();
     for process in blocks {
-        lowering.lower_reset(alloc, clock, *process, program)?;
+        lowering.lower_reset(alloc, clocks, *process, program)?;
     }
     Ok(())
 }

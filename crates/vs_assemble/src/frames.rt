@@ -1,7 +1,7 @@
 //! What a program has besides its calls, read off a flat design.
 
-ghost use Rattle.std.specs.Prelude.{◌≡◌, ℕ, ◌+◌, ◌<◌, ◌≤◌, ◌^◌, ◌∷◌, [], ◌++◌, not, length, map, IfOk, OnOk};
-ghost use Rattle.vs_design.specs.Footprints.{without};
+ghost use Rattle.std.specs.Prelude.{◌≡◌, ℕ, ◌+◌, ◌<◌, ◌≤◌, ◌^◌, ◌++◌, not, length, map, IfOk, OnOk};
+ghost use Rattle.vs_design.specs.Footprints.{contains, without};
 ghost use Rattle.vs_design.specs.Values.{count_from};
 ghost use Rattle.vs_cone.specs.Given.{data_bits};
 ghost use Rattle.vs_flat.specs.DesignOf.{arena_signals, design_of};
@@ -16,29 +16,31 @@ use vs_flat::{Flat, bits_of, lawful_law};
 use vs_four::Bit4;
 use vs_program::Span;
 
-/// What a program of a flat design has besides its calls, where its clock is this bit, these are the clock nets, and `starts` has what each bit begins with. The only error is that there is no memory.
+/// What a program of a flat design has besides its calls, where these are its clocks' bits and the clock nets, and `starts` has what each bit begins with. The only error is that there is no memory.
 pub fn frame(
     alloc: Global,
     flat: &Flat,
-    clock: u32,
-    clocks: Vec<u32>,
+    clocks: &[u32],
+    nets: Vec<u32>,
     starts: &[Bit4],
 ) -> Result<Frame, AllocError>
     requires lawful { IsLawful flat.now }
-    requires clocks { AreClockNets (design_of flat.now) clock clocks.items }
+    requires nets { AreClockNets (design_of flat.now) clocks.now nets.items }
     requires starts { AreStarts (design_of flat.now) starts.now }
-    ensures { IfOk result (λ f. IsFrameOf (design_of flat.now) clock f.bits f.inputs.items f.clocks.items f.initial.items f.signals.items) }
+    ensures { IfOk result (λ f. IsFrameOf (design_of flat.now) clocks.now f.bits f.clocks.items f.inputs.items f.nets.items f.initial.items f.signals.items) }
 {
     lawful_law();
     let spans = spans(alloc, flat)?;
     let signals = shown(alloc, flat, spans.as_slice())?;
-    let inputs = data_inputs(alloc, flat, clock, spans.as_slice())?;
+    let inputs = data_inputs(alloc, flat, clocks, spans.as_slice())?;
     let initial = initial(alloc, starts)?;
     let bits = starts.len() as u32;
+    let clocks = Vec::from_slice(alloc, clocks)?;
     Ok(Frame {
         bits,
-        inputs,
         clocks,
+        inputs,
+        nets,
         initial,
         signals,
     })
@@ -74,34 +76,41 @@ fn shown(alloc: Global, flat: &Flat, spans: &[Span]) -> Result<Vec<Span>, AllocE
     Ok(shown)
 }
 
-/// The bits of the inputs of the top but the clock's, where these are the bits of all signals.
+/// The bits of the inputs of the top but the clocks', where these are the bits of all signals.
 fn data_inputs(
     alloc: Global,
     flat: &Flat,
-    clock: u32,
+    clocks: &[u32],
     spans: &[Span],
 ) -> Result<Vec<u32>, AllocError>
     requires lawful { IsLawful flat.now }
     requires spans { spans.now ≡ map span_of (design_of flat.now).signals }
-    ensures { IfOk result (λ v. v.items ≡ data_bits (design_of flat.now) clock) }
+    ensures { IfOk result (λ v. v.items ≡ data_bits (design_of flat.now) clocks.now) }
 {
     let mut bits = Vec::new(alloc);
     for n in 0..flat.signal_count() {
         if flat.signal(n).input {
-            push_bits(&mut bits, spans[n as usize], clock)?;
+            push_bits(&mut bits, spans[n as usize], clocks)?;
         }
     }
     Ok(bits)
 }
 
-/// Adds the bits of a signal, but the clock's.
-fn push_bits(bits: &mut Vec<u32>, span: Span, clock: u32) -> Result<(), AllocError>
+/// Whether this bit is among these.
+fn is_among(bits: &[u32], bit: u32) -> bool
+    ensures { result ≡ contains bits.now bit }
+{
+    bits.iter().any(|other| bit == *other)
+}
+
+/// Adds the bits of a signal, but the clocks'.
+fn push_bits(bits: &mut Vec<u32>, span: Span, clocks: &[u32]) -> Result<(), AllocError>
     requires { span.first + span.length < 2 ^ 32 }
-    ensures { OnOk result (bits.new.items ≡ bits.old.items ++ without (count_from span.first span.length) (clock ∷ [])) }
+    ensures { OnOk result (bits.new.items ≡ bits.old.items ++ without (count_from span.first span.length) clocks.now) }
 {
     for k in 0..span.length {
         let bit = span.first + k;
-        if bit != clock {
+        if !is_among(clocks, bit) {
             bits.push(bit)?;
         }
     }

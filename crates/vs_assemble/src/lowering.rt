@@ -23,18 +23,18 @@ pub trait Lowering: Processes {
         requires few { length_of program.old + may_store (Self.design self.now) process ≤ 2 ^ 32 }
         ensures { OnOk result ((calls : List Call) × (program.new ≡ program.old ++ calls) × IsLoweredAt (Self.design self.now) (layout self.now) process calls) };
 
-    /// Adds the calls of a clocked block's reset, where the design's clock is this bit; a block without one needs none. The only error is that there is no memory; the program then has some of them.
+    /// Adds the calls of a clocked block's reset, where the design's clocks are these bits; a block without one needs none. The only error is that there is no memory; the program then has some of them.
     fn lower_reset(
         &self,
         alloc: Global,
-        clock: u32,
+        clocks: &[u32],
         process: u32,
         program: &mut Program,
     ) -> Result<(), AllocError>
-        requires clock { clock ≡ Self.clock_bit self.now }
+        requires clocks { clocks.now ≡ Self.clock_list self.now }
         requires process { process < length (Self.design self.now).processes }
         requires few { length_of program.old + may_store (Self.design self.now) process ≤ 2 ^ 32 }
-        ensures { OnOk result ((calls : List Call) × (program.new ≡ program.old ++ calls) × IsResetAt (Self.design self.now) clock (layout self.now) process calls) };
+        ensures { OnOk result ((calls : List Call) × (program.new ≡ program.old ++ calls) × IsResetAt (Self.design self.now) clocks.now (layout self.now) process calls) };
 
     /// The slot of a register bit's next value.
     fn shadow(&self, bit: u32) -> u32

@@ -21,13 +21,13 @@ use vs_design::cycle_law;
 /// Which processes run, and which bits lead to others.
 #[derive(Drop)]
 pub(crate) struct Plan {
-    /// The processes that settle a first slot, in a level order: all assigns and combinational blocks but the ports that copy the clock.
+    /// The processes that settle a first slot, in a level order: all assigns and combinational blocks but the ports that copy clocks.
     pub(crate) settling: Vec<u32>,
     /// The clocked blocks, ascending.
     pub(crate) blocks: Vec<u32>,
     /// The bits of the registers, ascending.
     pub(crate) registers: Vec<u32>,
-    /// The bits that change where the clock falls: the data inputs, and what resets set.
+    /// The bits that change where the clocks fall: the data inputs, and what resets set.
     pub(crate) falling: Vec<u32>,
 }
 
@@ -35,25 +35,25 @@ pub(crate) struct Plan {
 pub(crate) fn make_plan<T: Processes>(
     alloc: Global,
     lowering: &T,
-    clock: u32,
+    clocks: &[u32],
     order: &[u32],
     bits: u32,
     inputs: &[u32],
 ) -> Result<Plan, AllocError>
-    requires clock { clock ≡ T.clock_bit lowering.now }
-    requires accepted { IsAcceptedAt (T.design lowering.now) clock }
+    requires clocks { clocks.now ≡ T.clock_list lowering.now }
+    requires accepted { IsAcceptedAt (T.design lowering.now) clocks.now }
     requires order { is_level_order (T.design lowering.now) order.now ≡ true }
     requires bits { bits ≡ bit_count (T.design lowering.now) }
-    requires inputs { inputs.now ≡ data_bits (T.design lowering.now) clock }
-    ensures { IfOk result (λ p. IsPlanOf (T.design lowering.now) clock order.now p.settling.items p.blocks.items p.registers.items p.falling.items) }
+    requires inputs { inputs.now ≡ data_bits (T.design lowering.now) clocks.now }
+    ensures { IfOk result (λ p. IsPlanOf (T.design lowering.now) clocks.now order.now p.settling.items p.blocks.items p.registers.items p.falling.items) }
 {
     cycle_law();
     sources_law();
     list_law();
-    let settling = but_ports(alloc, lowering, clock, order)?;
+    let settling = but_ports(alloc, lowering, clocks, order)?;
     let blocks = clocked(alloc, lowering)?;
     let registers = registers(alloc, lowering, bits)?;
-    let falling = falling(alloc, lowering, clock, bits, inputs)?;
+    let falling = falling(alloc, lowering, clocks, bits, inputs)?;
     Ok(Plan {
         settling,
         blocks,
@@ -62,20 +62,20 @@ pub(crate) fn make_plan<T: Processes>(
     })
 }
 
-/// Of an order the processes but the ports that copy the clock.
+/// Of an order the processes but the ports that copy clocks.
 fn but_ports<T: Processes>(
     alloc: Global,
     lowering: &T,
-    clock: u32,
+    clocks: &[u32],
     order: &[u32],
 ) -> Result<Vec<u32>, AllocError>
-    requires clock { clock ≡ T.clock_bit lowering.now }
+    requires clocks { clocks.now ≡ T.clock_list lowering.now }
     requires order { All (λ p. p < length (T.design lowering.now).processes) order.now }
-    ensures { IfOk result (λ v. v.items ≡ but_ports (T.design lowering.now) clock order.now) }
+    ensures { IfOk result (λ v. v.items ≡ but_ports (T.design lowering.now) clocks.now order.now) }
 {
     let mut settling = Vec::new(alloc);
     for process in order {
-        if !lowering.copies_clock(clock, *process) {
+        if !lowering.copies_clock(clocks, *process) {
             settling.push(*process)?;
         }
     }
@@ -136,23 +136,23 @@ fn flagged(alloc: Global, flags: &[bool]) -> Result<Vec<u32>, AllocError>
     Ok(numbers)
 }
 
-/// The bits that change where the clock falls: these data inputs, and what the resets of the clocked blocks set.
+/// The bits that change where the clocks fall: these data inputs, and what the resets of the clocked blocks set.
 fn falling<T: Processes>(
     alloc: Global,
     lowering: &T,
-    clock: u32,
+    clocks: &[u32],
     bits: u32,
     inputs: &[u32],
 ) -> Result<Vec<u32>, AllocError>
-    requires clock { clock ≡ T.clock_bit lowering.now }
+    requires clocks { clocks.now ≡ T.clock_list lowering.now }
     requires bits { bits ≡ bit_count (T.design lowering.now) }
-    requires inputs { inputs.now ≡ data_bits (T.design lowering.now) clock }
+    requires inputs { inputs.now ≡ data_bits (T.design lowering.now) clocks.now }
     requires below { All (λ b. b < bits) inputs.now }
-    ensures { IfOk result (λ v. HasBitsOf bits v.items (fall_bits (T.design lowering.now) clock)) }
+    ensures { IfOk result (λ v. HasBitsOf bits v.items (fall_bits (T.design lowering.now) clocks.now)) }
 {
     let mut falling = inputs.to_vec(alloc)?;
     for process in 0..lowering.process_count() {
-        lowering.add_reset_bits(clock, process, &mut falling)?;
+        lowering.add_reset_bits(clocks, process, &mut falling)?;
     }
     Ok(falling)
 }

@@ -9,13 +9,13 @@ ghost use Rattle.vs_assemble.specs.Plans.{is_clocked_or, reset_bits_or};
 
 use std::alloc::AllocError;
 
-/// The processes of a design with a clock: which of them are clocked or copy the clock, and which bits each of them needs, writes and resets.
+/// The processes of a design with clocks: which of them are clocked or copy a clock, and which bits each of them needs, writes and resets.
 pub trait Processes {
     // The design.
     ghost design: { Self → Design };
 
-    // The bit of its clock.
-    ghost clock_bit: { Self → ℕ };
+    // The bits of its clocks.
+    ghost clock_list: { Self → List ℕ };
 
     /// How many processes there are.
     fn process_count(&self) -> u32
@@ -26,23 +26,23 @@ pub trait Processes {
         requires { process < length (design self.now).processes }
         ensures { result ≡ is_clocked_or (slice_get (design self.now).processes process) };
 
-    /// Whether a process is a port that copies the clock, which is this bit.
-    fn copies_clock(&self, clock: u32, process: u32) -> bool
-        requires clock { clock ≡ clock_bit self.now }
+    /// Whether a process is a port that copies a clock, which are these bits.
+    fn copies_clock(&self, clocks: &[u32], process: u32) -> bool
+        requires clocks { clocks.now ≡ clock_list self.now }
         requires process { process < length (design self.now).processes }
-        ensures { result ≡ is_port_or (clock_nets (design self.now) clock) (slice_get (design self.now).processes process) };
+        ensures { result ≡ is_port_or (clock_nets (design self.now) clocks.now) (slice_get (design self.now).processes process) };
 
-    /// Adds the bits that a clocked block's reset sets, where the design's clock is this bit. The only error is that there is no memory.
+    /// Adds the bits that a clocked block's reset sets, where the design's clocks are these bits. The only error is that there is no memory.
     fn add_reset_bits(
         &self,
-        clock: u32,
+        clocks: &[u32],
         process: u32,
         bits: &mut Vec<u32>,
     ) -> Result<(), AllocError>
-        requires clock { clock ≡ clock_bit self.now }
+        requires clocks { clocks.now ≡ clock_list self.now }
         requires process { process < length (design self.now).processes }
         ensures { OnOk result ((more : List ℕ) × (bits.new.items ≡ bits.old.items ++ more)
-            × HasBitsOf (bit_count (design self.now)) more (reset_bits_or (design self.now) clock (slice_get (design self.now).processes process))) };
+            × HasBitsOf (bit_count (design self.now)) more (reset_bits_or (design self.now) clocks.now (slice_get (design self.now).processes process))) };
 
     /// The bits that a process reads or waits on.
     fn needs(&self, process: u32) -> &[u32]

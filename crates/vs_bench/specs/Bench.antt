@@ -26,4 +26,4 @@ files vectors (suc lane) = with_file (files vectors lane) (lane_path lane) (stim
 
 -- the job of a bench of so many lanes
 abbrev pub job : ℕ → Job
-job lanes = record { mode = Run; top = Some (codes "top"); clock = Some (codes "clk"); half = 5; share = false; head = []; design = design_path; others = []; stimuli = lane_paths lanes }
+job lanes = record { mode = Run; top = Some (codes "top"); clocks = codes "clk" ∷ []; half = 5; share = false; head = []; design = design_path; others = []; stimuli = lane_paths lanes }

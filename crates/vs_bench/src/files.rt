@@ -38,7 +38,7 @@ pub fn bench_job(alloc: Global, lanes: u32) -> Result<Job, AllocError>
     Ok(Job {
         mode: Mode::Run,
         top: Some(text(alloc, TOP)?),
-        clock: Some(text(alloc, CLOCK)?),
+        clocks: Texts::of(vec![in alloc; text(alloc, CLOCK)?]?),
         half: HALF,
         share: false,
         head: text(alloc, "")?,

@@ -14,7 +14,7 @@ use Rattle.vs_ast.specs.Views as view
 use Rattle.vs_const.specs.declared.faults.Fault.{Fault}
 use Rattle.vs_const.specs.declared.rules.Rule.TheVariants.{DuplicateName, WrongKind}
 use Rattle.vs_const.specs.Faults.{fault, fault_if, least, better}
-use Rattle.vs_const.proofs.Least.{least_append, better_assoc}
+use Rattle.vs_const.proofs.Least.{least_append}
 use Rattle.vs_elaborated.specs.Statements.{Local, locals_of, find_local, is_integer, repeated_locals, untaken_locals}
 use Rattle.vs_maps.specs.declared.maps.NameMap.{NameMap}
 use Rattle.vs_maps.specs.Maps.{Pair, value_at, with_value}
@@ -23,7 +23,6 @@ use Rattle.vs_maps.proofs.NameSets.{same_is}
 use Rattle.vs_bodies.specs.declared.layers.Local.{Local as Kept}
 use Rattle.vs_bodies.specs.Layers.{local_of, AreLocals}
 use Rattle.vs_bodies.specs.Locals.{local, locals, later_faults}
-use Rattle.vs_bodies.proofs.Joins.{better_none}
 
 eqb_sym : (m n : ℕ) → (m == n) ≡ (n == m)
 eqb_sym m n = grind arith
@@ -126,11 +125,8 @@ pub none_of : (o : Option Kept) → is_some o ≡ false → o ≡ None
 none_of None h = refl
 none_of (Some k) h = cc
 
-pair_is : (p q : ℕ) (a b : Bool) → p ≡ q → a ≡ b → (let k : Kept = record { place = p; is_integer = a } in k) ≡ (let k : Kept = record { place = q; is_integer = b } in k)
-pair_is p q a b e h = cc
-
-pub kept_is : (v : Local) (kept : Kept) → kept.place ≡ v.name.place → kept.is_integer ≡ is_integer v → kept ≡ local_of v
-kept_is v kept e h = pair_is kept.place v.name.place kept.is_integer (is_integer v) e h
+pub kept_is : (v : Local) (kept : Kept) → kept.place ≡ v.name.place → kept ≡ local_of v
+kept_is v kept e = ap (λ p. let k : Kept = record { place = p } in k) e
 
 -- ---- faults
 
@@ -201,14 +197,14 @@ first_more : (t : tree.ValueType) (names : List Name) (i : ℕ) (n : Name) → i
 first_more t names i n h e =
     ap (λ k. map (local t) (take k names)) (add-one i) ∙ ap (map (local t)) (take-suc names i n h) ∙ map-append (local t) (take i names) (get_or names i n ∷ []) ∙ ap (λ y. map (local t) (take i names) ++ local t y ∷ []) (sym e)
 
-pub name_added : (t : tree.ValueType) (names : List Name) (old mid new : NameMap Kept) (i : ℕ) (n : Name) (integers : Bool) (found one sum : Option Fault) → i < length names → n ≡ get_or names i n → integers ≡ is_integer (local t n)
-    → ((before : List Local) (v : Local) → v.name ≡ view.name n → integers ≡ is_integer v → AreLocals mid before → AreLocals new (before ++ v ∷ []))
+pub name_added : (t : tree.ValueType) (names : List Name) (old mid new : NameMap Kept) (i : ℕ) (n : Name) (found one sum : Option Fault) → i < length names → n ≡ get_or names i n
+    → ((before : List Local) (v : Local) → v.name ≡ view.name n → AreLocals mid before → AreLocals new (before ++ v ∷ []))
     → ((before : List Local) (v : Local) → v.name ≡ view.name n → AreLocals mid before → one ≡ least (later_faults before (v ∷ [])))
     → sum ≡ better found one → AreAdded t names old mid i found → AreAdded t names old new (i + 1) sum
-name_added t names old mid new i n integers found one sum h e k l f s before_it = record {
+name_added t names old mid new i n found one sum h e l f s before_it = record {
   locals = λ before a.
       subst (AreLocals new) (append_assoc before (first_locals t names i) (local t n ∷ []) ∙ ap (λ z. before ++ z) (sym (first_more t names i n h e)))
-      (l (before ++ first_locals t names i) (local t n) refl k (before_it.locals before a));
+      (l (before ++ first_locals t names i) (local t n) refl (before_it.locals before a));
   fault = λ before a.
       s ∙ ap (λ z. better z one) (before_it.fault before a) ∙ ap (better (least (later_faults before (first_locals t names i)))) (f (before ++ first_locals t names i) (local t n) refl (before_it.locals before a))
       ∙ sym (least_append (later_faults before (first_locals t names i)) (later_faults (before ++ first_locals t names i) (local t n ∷ [])))

@@ -5,6 +5,7 @@ pub mod Turning
 pub mod Naming
 pub mod Declaring
 pub mod Walking
+pub mod Using
 pub mod Saying
 pub mod EventFaults
 pub mod FaultLists

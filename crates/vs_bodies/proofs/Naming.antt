@@ -4,14 +4,13 @@ use mathlib.Core.Path.{fun_ext}
 use Rattle.vs_four.specs.Logic.{BitList}
 use Rattle.vs_design.specs.Clocks.{same_name}
 use Rattle.vs_ast.specs.Views as view
-use Rattle.vs_const.specs.declared.rules.Rule.TheVariants.{LoopVariable}
-use Rattle.vs_const.specs.Meanings.{Meaning, Barred, Find, turn_value, turning, IsFairMeaning, IsFair}
+use Rattle.vs_const.specs.Meanings.{Meaning, Find, turn_value, turning, IsFairMeaning, IsFair}
 use Rattle.vs_elaborated.specs.Statements as statements
 use Rattle.vs_maps.specs.Maps.{value_at}
 use Rattle.vs_maps.specs.MapViews.{pairs}
 use Rattle.vs_maps.specs.declared.maps.NameMap.{NameMap}
 use Rattle.vs_bodies.specs.declared.layers.Local.{Local}
-use Rattle.vs_bodies.specs.Layers.{meaning_of, meaning_or, local_of, AreLocals}
+use Rattle.vs_bodies.specs.Layers.{meaning_or, local_of, AreLocals}
 
 -- a value of 32 bits is fair
 pub fair_turn : (find : Find) (integer : List ℕ) (bits : BitList) → length bits ≡ 32 → IsFair find → IsFair (turning find integer bits)
@@ -21,12 +20,9 @@ fair_turn find integer bits e f = λ name. by name (same_name integer name)
     by name true = record { some = omega (arith, e); most = omega (arith, e); range = sym e }
     by name false = f name
 
-of_local : (declared : ℕ → Meaning) (v : statements.Local) → meaning_of declared (local_of v) ≡ statements.local_meaning declared v
-of_local declared v = refl
-
 of_locals : (declared : ℕ → Meaning) (o : Option statements.Local) (m : Meaning) → meaning_or declared (view.option local_of o) m ≡ statements.local_or declared o m
 of_locals declared None m = refl
-of_locals declared (Some v) m = of_local declared v
+of_locals declared (Some v) m = refl
 
 -- within a named block
 pub block_names : (declared : ℕ → Meaning) (m : NameMap Local) (vs : List statements.Local) (find : Find) → AreLocals m vs
@@ -34,16 +30,9 @@ pub block_names : (declared : ℕ → Meaning) (m : NameMap Local) (vs : List st
 block_names declared m vs find a = fun_ext (λ name. ap (λ o. meaning_or declared o (find name)) (a.each name) ∙ of_locals declared (statements.find_local vs name) (find name))
 
 -- each meaning of a named block is fair
-fair_local : (declared : ℕ → Meaning) (v : statements.Local) → ((place : ℕ) → IsFairMeaning (declared place)) → IsFairMeaning (statements.local_meaning declared v)
-fair_local declared v d = by (statements.is_integer v)
-  where
-    by : (b : Bool) → IsFairMeaning (if b then Barred LoopVariable else declared v.name.place)
-    by true = tt
-    by false = d v.name.place
-
 fair_or : (declared : ℕ → Meaning) (o : Option statements.Local) (m : Meaning) → ((place : ℕ) → IsFairMeaning (declared place)) → IsFairMeaning m → IsFairMeaning (statements.local_or declared o m)
 fair_or declared None m d f = f
-fair_or declared (Some v) m d f = fair_local declared v d
+fair_or declared (Some v) m d f = d v.name.place
 
 pub fair_block : (declared : ℕ → Meaning) (vs : List statements.Local) (find : Find) → ((place : ℕ) → IsFairMeaning (declared place)) → IsFair find → IsFair (statements.scoped declared vs find)
 fair_block declared vs find d f = λ name. fair_or declared (statements.find_local vs name) (find name) d (f name)

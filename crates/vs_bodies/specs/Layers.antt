@@ -1,8 +1,7 @@
 -- What names mean within the loops and the named blocks around a statement.
-use Rattle.std.specs.Prelude.{◌≡◌, ℕ, List, Option, Some, None, if◌then◌else◌}
+use Rattle.std.specs.Prelude.{◌≡◌, ℕ, List, Option, Some, None}
 use Rattle.vs_ast.specs.Views as view
-use Rattle.vs_const.specs.declared.rules.Rule.TheVariants.{LoopVariable}
-use Rattle.vs_const.specs.Meanings.{Meaning, Barred, Find, turning}
+use Rattle.vs_const.specs.Meanings.{Meaning, Find, turning}
 use Rattle.vs_elaborated.specs.Statements as statements
 use Rattle.vs_maps.specs.Maps.{value_at}
 use Rattle.vs_maps.specs.MapViews.{pairs}
@@ -10,13 +9,9 @@ use Rattle.vs_maps.specs.declared.maps.NameMap.{NameMap}
 use Rattle.vs_bodies.specs.declared.layers.Local.{Local}
 use Rattle.vs_bodies.specs.declared.layers.Layers.{Layers, End, Turn', Block'}
 
--- an integer of a named block is named within its loop alone
-abbrev pub meaning_of : (declared : ℕ → Meaning) → Local → Meaning
-meaning_of declared l = if l.is_integer then Barred LoopVariable else declared l.place
-
 abbrev pub meaning_or : (declared : ℕ → Meaning) → Option Local → Meaning → Meaning
 meaning_or declared None m = m
-meaning_or declared (Some l) m = meaning_of declared l
+meaning_or declared (Some l) m = declared l.place
 
 -- the innermost first
 abbrev pub within : (declared : ℕ → Meaning) → Layers → Find → Find
@@ -24,9 +19,9 @@ within declared End find = find
 within declared (Turn' p outer integer bits) find = turning (within declared outer find) integer.now.text bits
 within declared (Block' p outer locals) find = λ name. meaning_or declared (value_at name (pairs locals.now)) (within declared outer find name)
 
--- what is kept of a variable of a named block
+-- what is kept of a variable or an integer of a named block
 abbrev pub local_of : statements.Local → Local
-local_of v = record { place = v.name.place; is_integer = statements.is_integer v }
+local_of v = record { place = v.name.place }
 
 -- a map of these variables: of two of one name the first
 pub record AreLocals (m : NameMap Local) (vs : List statements.Local) : Type 0 where

@@ -28,25 +28,15 @@ fn is_integer(t: &ValueType) -> bool
 }
 
 /// One more name, and its fault if it is one too many.
-fn add_local<'a>(
-    map: &mut NameMap<'a, Local>,
-    n: &'a Name,
-    is_integer: bool,
-) -> Result<Option<Fault>, AllocError>
-    ensures locals { OnOk result ((before : List spec.Local) (v : spec.Local) → v.name ≡ view.name n.now → is_integer ≡ spec.is_integer v → AreLocals map.old before → AreLocals map.new (before ++ v ∷ [])) }
+fn add_local<'a>(map: &mut NameMap<'a, Local>, n: &'a Name) -> Result<Option<Fault>, AllocError>
+    ensures locals { OnOk result ((before : List spec.Local) (v : spec.Local) → v.name ≡ view.name n.now → AreLocals map.old before → AreLocals map.new (before ++ v ∷ [])) }
     ensures fault { IfOk result (λ f. (before : List spec.Local) (v : spec.Local) → v.name ≡ view.name n.now → AreLocals map.old before → f ≡ least (later_faults before (v ∷ []))) }
 {
     let name = n.text.as_slice();
     if map.get(name).is_some() {
         return Ok(fault_at(Rule::DuplicateName, n.place));
     }
-    map.put(
-        name,
-        Local {
-            place: n.place,
-            is_integer,
-        },
-    )?;
+    map.put(name, Local { place: n.place })?;
     Ok(None)
 }
 
@@ -58,10 +48,9 @@ fn add_variables<'a>(
     ensures locals { OnOk result ((before : List spec.Local) → AreLocals map.old before → AreLocals map.new (before ++ locals v.now)) }
     ensures fault { IfOk result (λ f. (before : List spec.Local) → AreLocals map.old before → f ≡ least (later_faults before (locals v.now))) }
 {
-    let integers = is_integer(&v.value_type);
     let mut fault = None;
     for n in &v.names {
-        let found = add_local(map, n, integers)?;
+        let found = add_local(map, n)?;
         fault = first_of(fault, found);
     }
     Ok(fault)

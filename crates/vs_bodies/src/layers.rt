@@ -4,28 +4,27 @@ ghost use Rattle.std.specs.Prelude.{◌≡◌, ℕ, List};
 ghost use Rattle.vs_design.specs.Clocks.{same_name};
 ghost use Rattle.vs_const.specs.Meanings.{Means, Meaning, Find, turn_value, turning};
 ghost use Rattle.vs_elaborated.specs.Statements as spec;
-ghost use Rattle.vs_bodies.specs.Layers.{within, meaning_of, AreLocals};
+ghost use Rattle.vs_bodies.specs.Layers.{within, AreLocals};
 
 use vs_ast::Name;
-use vs_const::{Constant, Env, Named, Rule};
+use vs_const::{Constant, Env, Named};
 use vs_four::{Bits, Range};
 use vs_maps::NameMap;
 
 /// What stands around a body.
 pub trait Surroundings: Env {
-    /// What a variable of a named block means that is declared at a place (9.8.2).
+    /// What a variable or an integer of a named block means that is declared at a place (9.8.2).
     ghost declared: { Self → ℕ → Meaning };
 
-    /// What a variable of a named block means that is declared at this place.
+    /// What a variable or an integer of a named block means that is declared at this place.
     fn declared(&self, place: u32) -> Named
         ensures { Means result (declared self.now place) };
 }
 
-/// A variable or an integer of a named block: where it is declared, and whether it is an integer.
+/// A variable or an integer of a named block, by the place of its declaration.
 #[derive(Clone, Copy)]
 pub struct Local {
     pub place: u32,
-    pub is_integer: bool,
 }
 
 /// The loops and the named blocks around a statement, the innermost first.
@@ -89,17 +88,6 @@ fn turn_value(bits: Bits) -> Named
     }
 }
 
-/// What a variable or an integer of a named block means.
-fn local_meaning<S: Surroundings>(around: &S, local: Local) -> Named
-    ensures { Means result (meaning_of (S.declared around.now) local) }
-{
-    if local.is_integer {
-        Named::Barred(Rule::LoopVariable)
-    } else {
-        around.declared(local.place)
-    }
-}
-
 /// What a name means within these loops and blocks.
 fn find_within<S: Surroundings>(around: &S, layers: &Layers<'_, '_>, name: &[u8]) -> Named
     ensures { Means result (within (S.declared around.now) layers.now (S.names around.now) name.now) }
@@ -119,7 +107,7 @@ fn find_within<S: Surroundings>(around: &S, layers: &Layers<'_, '_>, name: &[u8]
         }
         Layers::Block { outer, locals } => match locals.get(name).copied() {
             None => find_within(around, outer, name),
-            Some(local) => local_meaning(around, local),
+            Some(local) => around.declared(local.place),
         },
     }
 }

@@ -4,6 +4,7 @@
 
 mod blocks;
 mod controls;
+mod integers;
 mod layers;
 mod said;
 mod statements;
@@ -16,6 +17,7 @@ mod words;
 
 pub use blocks::{Block, block_of};
 pub use controls::{check_control, is_clocked};
+pub use integers::{is_variable_among, is_variable_in, uses};
 pub use layers::{Inner, Layers, Local, Surroundings, in_block, in_turn};
 pub use said::{StatementSaid, check_statement};
 pub use statements::BodyKind;

@@ -68,7 +68,7 @@ assign_is s find place a w =
     ∙ ap (λ o. and_process s (Continuous place Written (target_place a.target) (unwrap_or o (Whole no)) (typed a.e find false).expression)) (written (home s) find false a.target w.shaped.0 w.sound clean)
   where
     no : E.Signal
-    no = record { name = []; scope = 0; number = 0; net = true; input = false; range = None; signed = false; first = 0; words = None }
+    no = record { name = []; scope = 0; number = 0; net = true; input = false; range = None; signed = false; first = 0; words = None; integer = false }
 
 pub ok_is : {U F : Type 0} (r : Result U F) (v a b : Draft) → a ≡ b → OnOk r (v ≡ a) → OnOk r (v ≡ b)
 ok_is r v a b e h = subst (λ x. OnOk r (v ≡ x)) e h

@@ -21,7 +21,7 @@ use Rattle.vs_flat.specs.DesignOf.{event_of}
 use Rattle.vs_elaborated.specs.Targets.{meant_signal}
 use Rattle.vs_elaborated.specs.Statements.{Body, event_faults, typed_events, typed_control, typed_statement, is_clocked_by}
 use Rattle.vs_elaborated.specs.Surveys.{block_body}
-use Rattle.vs_const.specs.declared.rules.Rule.TheVariants.{WrongKind}
+use Rattle.vs_const.specs.declared.rules.Rule.TheVariants.{LoopVariable}
 use Rattle.vs_build.specs.Drafts.{Draft, home, and_process, AddsStatement, EndsInParts}
 use Rattle.vs_build.specs.Executable.{IsExecutable, IsRunnable, Awaited, awaited_of, awaited, block_process}
 use Rattle.vs_build.proofs.SignalNames.{signal_is, signal_within, plain_signal}
@@ -128,7 +128,7 @@ not_star (e ∷ es) find = refl
 
 -- what it stands in
 abbrev pub alone : (clocked : Bool) → Body
-alone clocked = record { declared = λ place. Barred WrongKind; in_function = false; clocked = clocked; unrolls = true }
+alone clocked = record { declared = λ place. Barred LoopVariable; in_function = false; clocked = clocked; unrolls = true }
 
 alone_is : (b : tree.AlwaysBlock) (clocked : Bool) → clocked ≡ is_clocked_by b.control → alone clocked ≡ block_body b
 alone_is b clocked e = ap alone e

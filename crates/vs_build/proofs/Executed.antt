@@ -1,5 +1,5 @@
 -- Statements without a fault, and what was added one after the other.
-use Rattle.std.proofs.Common.{rules, ◌≡◌, ℕ, zero, suc, ◌+◌, ◌*◌, ◌<◌, ◌≤◌, Bool, true, false, not, ◌&&◌, ◌||◌, List, [], ◌∷◌, ◌++◌, length, get_or, map, max, take, if◌then◌else◌, Option, Some, None, Vec, Box, Global, Result, OnOk, refl, sym, ap, ◌∙◌, subst, arith, append_assoc, length-append}
+use Rattle.std.proofs.Common.{rules, ◌≡◌, ℕ, zero, suc, ◌+◌, ◌*◌, ◌<◌, ◌≤◌, Bool, true, false, not, ◌&&◌, ◌||◌, List, [], ◌∷◌, ◌++◌, length, get_or, map, max, take, Option, Some, None, Vec, Box, Global, Result, OnOk, refl, sym, ap, ◌∙◌, subst, arith, append_assoc, length-append}
 use Rattle.std.specs.Prelude.{option_to_list, unwrap_or, is_some, nat_lt}
 use Rattle.std.specs.List.{list_all, flat_map}
 use Rattle.std.proofs.Math.Seq.{take-suc, take-length}
@@ -35,7 +35,7 @@ use Rattle.vs_const.specs.Faults.{fault_if}
 use Rattle.vs_flat.specs.Trees.{no_signal, target_tree, sequence}
 use Rattle.vs_elaborated.specs.Numbers.{IsNumbered, AreNumbered}
 use Rattle.vs_elaborated.specs.Targets.{meant_signal, TypedTarget, is_wrong_target, target_rule, target_base, word_target, bit_target, selected_target, typed_target, typed_targets}
-use Rattle.vs_elaborated.specs.Statements.{Body as Within, TypedStatement, Local, is_integer, find_local, local_meaning, local_or, delayed_faults, word_faults, scope_locals, local_faults, scoped, not_there, typed_list, typed_fallback, typed_statement, typed_sequence, typed_arms}
+use Rattle.vs_elaborated.specs.Statements.{Body as Within, TypedStatement, Local, find_local, local_or, delayed_faults, word_faults, scope_locals, local_faults, scoped, not_there, typed_list, typed_fallback, typed_statement, typed_sequence, typed_arms}
 use Rattle.vs_build.specs.Drafts.{Root, Body, Draft, home, and_roots, and_bodies, most_body_levels, AddsExpression, AddsParts, AddsStatement, Adds, EndsInParts, EndsInAssignment, writes_variables, Labelled, total, arms_with, EndsInCase}
 use Rattle.vs_build.specs.Cut.{label_counts}
 use Rattle.vs_build.specs.Buildable.{IsBuildable, IsNameable, part_expressions, memory_of}
@@ -44,7 +44,7 @@ use Rattle.vs_build.specs.Executable.{IsSoundBody, IsExecutable, AreExecutable, 
 use Rattle.vs_build.proofs.Lists.{levels-append, taken_more}
 use Rattle.vs_build.proofs.Selects.{memory_is}
 use Rattle.vs_build.proofs.TargetFacts.{written, named_target, bit_target_is}
-use Rattle.vs_const.specs.declared.rules.Rule.TheVariants.{WrongKind, LoopVariable}
+use Rattle.vs_const.specs.declared.rules.Rule.TheVariants.{WrongKind}
 
 -- ---- what was added one after the other
 
@@ -354,33 +354,19 @@ ends_in_parts s v ts ss m a b h le e f = record { before = s; trees = ts; parts 
 
 -- ---- named blocks (9.8.2)
 
-local_sound : (d : Design) (declared : ℕ → Meaning) (v : Local) → ((place : ℕ) → IsSound d false (declared place)) → IsSound d false (local_meaning declared v)
-local_sound d declared v h = of (is_integer v)
-  where
-    of : (b : Bool) → IsSound d false (if b then Barred LoopVariable else declared v.name.place)
-    of true = tt
-    of false = h v.name.place
-
-local_numbered : (d : Design) (declared : ℕ → Meaning) (v : Local) → ((place : ℕ) → IsNumbered d (declared place)) → IsNumbered d (local_meaning declared v)
-local_numbered d declared v h = of (is_integer v)
-  where
-    of : (b : Bool) → IsNumbered d (if b then Barred LoopVariable else declared v.name.place)
-    of true = tt
-    of false = h v.name.place
-
 pub block_sound : (d : Design) (around : Within) (vs : List Local) (find : Find) → IsSoundBody d around → AreSound d false find → AreSound d false (scoped around.declared vs find)
 block_sound d around vs find b s = λ name. of name (find_local vs name)
   where
     of : (name : List ℕ) (o : Option Local) → IsSound d false (local_or around.declared o (find name))
     of name None = s name
-    of name (Some v) = local_sound d around.declared v b.sound
+    of name (Some v) = b.sound v.name.place
 
 pub block_numbered : (d : Design) (around : Within) (vs : List Local) (find : Find) → IsSoundBody d around → AreNumbered d find → AreNumbered d (scoped around.declared vs find)
 block_numbered d around vs find b n = λ name. of name (find_local vs name)
   where
     of : (name : List ℕ) (o : Option Local) → IsNumbered d (local_or around.declared o (find name))
     of name None = n name
-    of name (Some v) = local_numbered d around.declared v b.numbered
+    of name (Some v) = b.numbered v.name.place
 
 -- ---- sequences
 

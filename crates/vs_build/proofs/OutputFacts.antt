@@ -169,4 +169,4 @@ output_is s find place x e o =
     ∙ ap (λ t. and_process s (Continuous place OutputPort (target_place (output_of e)) (unwrap_or t (Whole no)) (E.At place (E.Name x)))) (written (home s) find false (output_of e) o.fine.shaped o.fine.sound o.fine.clean)
   where
     no : E.Signal
-    no = record { name = []; scope = 0; number = 0; net = true; input = false; range = None; signed = false; first = 0; words = None }
+    no = record { name = []; scope = 0; number = 0; net = true; input = false; range = None; signed = false; first = 0; words = None; integer = false }

@@ -40,9 +40,10 @@ same_ranges (Some r) (Some s) h =
     let b = and_both (r.left == s.left) (r.right == s.right) h in
     ap (λ n. Some (record r { left = n })) (eqb-true r.left s.left b.0) ∙ ap (λ n. Some (record s { right = n })) (eqb-true r.right s.right b.1)
 
-nine : (a b c d e f g h i : Bool) → (a && b && c && d && e && f && g && h && i) ≡ true → (a ≡ true) × (b ≡ true) × (c ≡ true) × (d ≡ true) × (e ≡ true) × (f ≡ true) × (g ≡ true) × (h ≡ true) × (i ≡ true)
-nine a b c d e f g h i k =
-    let p8 = and_both (a && b && c && d && e && f && g && h) i k in
+ten : (a b c d e f g h i j : Bool) → (a && b && c && d && e && f && g && h && i && j) ≡ true → (a ≡ true) × (b ≡ true) × (c ≡ true) × (d ≡ true) × (e ≡ true) × (f ≡ true) × (g ≡ true) × (h ≡ true) × (i ≡ true) × (j ≡ true)
+ten a b c d e f g h i j k =
+    let p9 = and_both (a && b && c && d && e && f && g && h && i) j k in
+    let p8 = and_both (a && b && c && d && e && f && g && h) i p9.0 in
     let p7 = and_both (a && b && c && d && e && f && g) h p8.0 in
     let p6 = and_both (a && b && c && d && e && f) g p7.0 in
     let p5 = and_both (a && b && c && d && e) f p6.0 in
@@ -50,11 +51,11 @@ nine a b c d e f g h i k =
     let p3 = and_both (a && b && c) d p4.0 in
     let p2 = and_both (a && b) c p3.0 in
     let p1 = and_both a b p2.0 in
-    (p1.0, p1.1, p2.1, p3.1, p4.1, p5.1, p6.1, p7.1, p8.1)
+    (p1.0, p1.1, p2.1, p3.1, p4.1, p5.1, p6.1, p7.1, p8.1, p9.1)
 
 pub same_signals : (s t : Signal) → same_signal s t ≡ true → s ≡ t
 same_signals s t h =
-    let p = nine (same_name s.name t.name) (s.scope == t.scope) (s.number == t.number) (same_flag s.net t.net) (same_flag s.input t.input) (same_range s.range t.range) (same_flag s.signed t.signed) (s.first == t.first) (same_range s.words t.words) h in
+    let p = ten (same_name s.name t.name) (s.scope == t.scope) (s.number == t.number) (same_flag s.net t.net) (same_flag s.input t.input) (same_range s.range t.range) (same_flag s.signed t.signed) (s.first == t.first) (same_range s.words t.words) (same_flag s.integer t.integer) h in
     ap (λ x. record s { name = x }) (same_bytes s.name t.name p.0)
     ∙ ap (λ x. record s { name = t.name; scope = x }) (eqb-true s.scope t.scope p.1)
     ∙ ap (λ x. record s { name = t.name; scope = t.scope; number = x }) (eqb-true s.number t.number p.2)
@@ -62,8 +63,9 @@ same_signals s t h =
     ∙ ap (λ x. record s { name = t.name; scope = t.scope; number = t.number; net = t.net; input = x }) (same_flags s.input t.input p.4)
     ∙ ap (λ x. record s { name = t.name; scope = t.scope; number = t.number; net = t.net; input = t.input; range = x }) (same_ranges s.range t.range p.5)
     ∙ ap (λ x. record s { name = t.name; scope = t.scope; number = t.number; net = t.net; input = t.input; range = t.range; signed = x }) (same_flags s.signed t.signed p.6)
-    ∙ ap (λ x. record t { words = s.words; first = x }) (eqb-true s.first t.first p.7)
-    ∙ ap (λ x. record t { words = x }) (same_ranges s.words t.words p.8)
+    ∙ ap (λ x. record t { words = s.words; integer = s.integer; first = x }) (eqb-true s.first t.first p.7)
+    ∙ ap (λ x. record t { integer = s.integer; words = x }) (same_ranges s.words t.words p.8)
+    ∙ ap (λ x. record t { integer = x }) (same_flags s.integer t.integer p.9)
 
 found_is : (s d : Signal) (ss : List Signal) (n : ℕ) → is_this s (slice_get ss n) ≡ true → get_or ss n d ≡ s
 found_is s d [] zero h = cc

@@ -4,7 +4,7 @@ ghost use Rattle.std.specs.Prelude.{◌≡◌, ◌<◌, ◌^◌, None, [], lengt
 ghost use Rattle.vs_ast.specs.Views as view;
 ghost use Rattle.vs_elaborated.specs.Statements.{event_faults, typed_events};
 ghost use Rattle.vs_const.specs.Meanings.{Barred};
-ghost use Rattle.vs_const.specs.declared.rules.Rule.TheVariants.{WrongKind};
+ghost use Rattle.vs_const.specs.declared.rules.Rule.TheVariants.{LoopVariable};
 ghost use Rattle.vs_elaborated.specs.Surveys.{initial_body};
 ghost use Rattle.vs_build.specs.Drafts.{and_initial, and_process, home};
 ghost use Rattle.vs_build.specs.Growth.{draft};
@@ -34,10 +34,10 @@ impl<E: Env> Env for Alone<'_, E> {
 }
 
 impl<E: Env> Surroundings for Alone<'_, E> {
-    ghost declared = { λ a place. Barred WrongKind };
+    ghost declared = { λ a place. Barred LoopVariable };
 
     fn declared(&self, _place: u32) -> Named {
-        Named::Barred(Rule::WrongKind)
+        Named::Barred(Rule::LoopVariable)
     }
 }
 

@@ -1,6 +1,6 @@
 -- Assigns that copy a bit.
 use Rattle.std.proofs.Common.{◌≡◌, ℕ, ◌+◌, ◌<◌, Bool, true, false, List, [], ◌∷◌, ◌++◌, ◌||◌, ◌&&◌, ◌==◌, refl, sym, ap, ◌∙◌, subst, eqb-true, eq-eqb, get_or, set, take, length, Some, None, Option, ◌≢◌, cond, get_or-set_same, get_or-set_other}
-use Rattle.std.specs.Prelude.{slice_get}
+use Rattle.std.specs.Prelude.{slice_get, filter}
 use Rattle.std.proofs.Math.ListN.{length-set}
 use Rattle.std.proofs.lemmas.List.{take_more}
 use Rattle.std.proofs.lemmas.List.Folds.{list_any-append}
@@ -12,10 +12,11 @@ use Rattle.vs_design.specs.Statements.{Target, Whole, PartOf, WordOf, Both}
 use Rattle.vs_design.specs.Designs.{Port, Process, Continuous, Always, Design, bit_count}
 use Rattle.vs_design.specs.Footprints.{contains, all_reads, read_bits, writes_of, waits_of}
 use Rattle.vs_design.specs.Clocks.{name_of}
+use Rattle.vs_design.specs.Dead.{is_port}
 use Rattle.vs_design.specs.Elaborated.{IsLawfulDesign}
 use Rattle.vs_design.specs.Laws.{BitsOfDesign}
 use Rattle.vs_clock.specs.Spread.{targets_at}
-use Rattle.vs_clock.specs.Ports.{one_bit, bit_of, both_bits, whole_bit, port_bits, is_copy, copies, AreTargets}
+use Rattle.vs_clock.specs.Ports.{one_bit, bit_of, both_bits, whole_bit, port_bits, ported_bits, is_copy, copies_by, copies, AreTargets}
 use Rattle.vs_reads.proofs.Tests.{by_test, either_way, or_left, or_right, contains-append, contains_head}
 
 same_other : (q p : ℕ) → (q == p) ≡ false → q ≡ p → ⊥
@@ -86,25 +87,25 @@ copy_below law d l p x b t e h =
 
 -- ---- the table of targets
 
-copies_more : (ps : List Process) (p : ℕ) (x : Process) (b t : ℕ) → slice_get ps p ≡ Some x → copies (take (p + 1) ps) b t ≡ (copies (take p ps) b t || is_copy b t (port_bits x))
-copies_more ps p x b t e =
-    ap {B = Bool} (λ zs. copies zs b t) (take_more ps p x (slice_get_within ps p x e))
-    ∙ list_any-append (λ x. is_copy b t (port_bits x)) (take p ps) (get_or ps p x ∷ [])
-    ∙ ap {B = Bool} (λ z. copies (take p ps) b t || z) (or_nothing (is_copy b t (port_bits (get_or ps p x))) ∙ ap {B = Bool} (λ z. is_copy b t (port_bits z)) (get_or_from_slice_get ps p x x e))
+copies_more : (bits : Process → Option (ℕ × ℕ)) (ps : List Process) (p : ℕ) (x : Process) (b t : ℕ) → slice_get ps p ≡ Some x → copies_by bits (take (p + 1) ps) b t ≡ (copies_by bits (take p ps) b t || is_copy b t (bits x))
+copies_more bits ps p x b t e =
+    ap {B = Bool} (λ zs. copies_by bits zs b t) (take_more ps p x (slice_get_within ps p x e))
+    ∙ list_any-append (λ x. is_copy b t (bits x)) (take p ps) (get_or ps p x ∷ [])
+    ∙ ap {B = Bool} (λ z. copies_by bits (take p ps) b t || z) (or_nothing (is_copy b t (bits (get_or ps p x))) ∙ ap {B = Bool} (λ z. is_copy b t (bits z)) (get_or_from_slice_get ps p x x e))
 
-pub no_targets : (d : Design) (targets : List (List ℕ)) → ((b : ℕ) → targets_at targets b ≡ []) → AreTargets d 0 targets
-no_targets d targets h b t l = ap {B = Bool} (λ zs. contains zs t) (h b)
+pub no_targets : (bits : Process → Option (ℕ × ℕ)) (d : Design) (targets : List (List ℕ)) → ((b : ℕ) → targets_at targets b ≡ []) → AreTargets bits d 0 targets
+no_targets bits d targets h b t l = ap {B = Bool} (λ zs. contains zs t) (h b)
 
 -- one port more
-pub targets_more : (d : Design) (p : ℕ) (x : Process) (from to : ℕ) (targets : List (List ℕ)) → slice_get d.processes p ≡ Some x → port_bits x ≡ Some (from, to) → from < length targets → AreTargets d p targets → AreTargets d (p + 1) (set targets from (targets_at targets from ++ to ∷ []))
-targets_more d p x from to targets e h l a b t k =
+pub targets_more : (bits : Process → Option (ℕ × ℕ)) (d : Design) (p : ℕ) (x : Process) (from to : ℕ) (targets : List (List ℕ)) → slice_get d.processes p ≡ Some x → bits x ≡ Some (from, to) → from < length targets → AreTargets bits d p targets → AreTargets bits d (p + 1) (set targets from (targets_at targets from ++ to ∷ []))
+targets_more bits d p x from to targets e h l a b t k =
     by_test (b == from)
-    (λ s. subst (λ m. contains (targets_at now m) t ≡ copies (take (p + 1) d.processes) m t) (sym (eqb-true b from s))
+    (λ s. subst (λ m. contains (targets_at now m) t ≡ copies_by bits (take (p + 1) d.processes) m t) (sym (eqb-true b from s))
     (ap {B = Bool} (λ zs. contains zs t) here ∙ contains-append (targets_at targets from) (to ∷ []) t
     ∙ ap {B = Bool} (λ z. z || ((t == to) || false)) (a from t l)
-    ∙ ap {B = Bool} (λ z. copies (take p d.processes) from t || z) (or_nothing (t == to) ∙ sym (ap {B = Bool} (λ z. z && (t == to)) (eq-eqb from from refl)))
-    ∙ sym (copies_more d.processes p x from t e ∙ ap {B = Bool} (λ z. copies (take p d.processes) from t || is_copy from t z) h)))
-    (λ s. ap {B = Bool} (λ zs. contains zs t) (other s) ∙ a b t (old_length k) ∙ sym (copies_more d.processes p x b t e ∙ ap {B = Bool} (λ z. copies (take p d.processes) b t || is_copy b t z) h ∙ ap {B = Bool} (λ z. copies (take p d.processes) b t || (z && (t == to))) s ∙ or_nothing (copies (take p d.processes) b t)))
+    ∙ ap {B = Bool} (λ z. copies_by bits (take p d.processes) from t || z) (or_nothing (t == to) ∙ sym (ap {B = Bool} (λ z. z && (t == to)) (eq-eqb from from refl)))
+    ∙ sym (copies_more bits d.processes p x from t e ∙ ap {B = Bool} (λ z. copies_by bits (take p d.processes) from t || is_copy from t z) h)))
+    (λ s. ap {B = Bool} (λ zs. contains zs t) (other s) ∙ a b t (old_length k) ∙ sym (copies_more bits d.processes p x b t e ∙ ap {B = Bool} (λ z. copies_by bits (take p d.processes) b t || is_copy b t z) h ∙ ap {B = Bool} (λ z. copies_by bits (take p d.processes) b t || (z && (t == to))) s ∙ or_nothing (copies_by bits (take p d.processes) b t)))
   where
     now : List (List ℕ)
     now = set targets from (targets_at targets from ++ to ∷ [])
@@ -119,5 +120,23 @@ targets_more d p x from to targets e h l a b t k =
     old_length k = subst (λ m. b < m) (length-set targets from (targets_at targets from ++ to ∷ [])) k
 
 -- a process that is none
-pub targets_same : (d : Design) (p : ℕ) (x : Process) (targets : List (List ℕ)) → slice_get d.processes p ≡ Some x → port_bits x ≡ None → AreTargets d p targets → AreTargets d (p + 1) targets
-targets_same d p x targets e h a b t k = a b t k ∙ sym (copies_more d.processes p x b t e ∙ ap {B = Bool} (λ z. copies (take p d.processes) b t || is_copy b t z) h ∙ or_nothing (copies (take p d.processes) b t))
+pub targets_same : (bits : Process → Option (ℕ × ℕ)) (d : Design) (p : ℕ) (x : Process) (targets : List (List ℕ)) → slice_get d.processes p ≡ Some x → bits x ≡ None → AreTargets bits d p targets → AreTargets bits d (p + 1) targets
+targets_same bits d p x targets e h a b t k = a b t k ∙ sym (copies_more bits d.processes p x b t e ∙ ap {B = Bool} (λ z. copies_by bits (take p d.processes) b t || is_copy b t z) h ∙ or_nothing (copies_by bits (take p d.processes) b t))
+
+-- ---- ports alone
+
+-- what a port copies an assign copies
+pub ported_is : (x : Process) (b t : ℕ) → ported_bits x ≡ Some (b, t) → port_bits x ≡ Some (b, t)
+ported_is x b t h = go (is_port x) h
+  where
+    go : (c : Bool) → (cond c (port_bits x) None) ≡ Some (b, t) → port_bits x ≡ Some (b, t)
+    go true k = k
+    go false k = cc
+
+pub copies_ported : (ps : List Process) (b t : ℕ) → copies_by ported_bits ps b t ≡ copies (filter is_port ps) b t
+copies_ported [] b t = refl
+copies_ported (x ∷ ps) b t = go (is_port x) (copies_ported ps b t)
+  where
+    go : (c : Bool) → copies_by ported_bits ps b t ≡ copies (filter is_port ps) b t → (is_copy b t (cond c (port_bits x) None) || copies_by ported_bits ps b t) ≡ copies (cond c (x ∷ filter is_port ps) (filter is_port ps)) b t
+    go true h = ap {B = Bool} (λ z. is_copy b t (port_bits x) || z) h
+    go false h = h

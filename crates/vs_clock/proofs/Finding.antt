@@ -79,7 +79,7 @@ map-take_more f xs i l = ap (map f) (take_more xs i 0 l) ∙ go (take i xs)
     go [] = refl
     go (y ∷ ys) = ap {B = List Signal} (λ zs. f y ∷ zs) (go ys)
 
-filter_map_snoc : (g : Signal → Option ℕ) (ss : List Signal) (s : Signal) → filter_map g (ss ++ s ∷ []) ≡ filter_map g ss ++ filter_map g (s ∷ [])
+pub filter_map_snoc : (g : Signal → Option ℕ) (ss : List Signal) (s : Signal) → filter_map g (ss ++ s ∷ []) ≡ filter_map g ss ++ filter_map g (s ∷ [])
 filter_map_snoc g [] s = refl
 filter_map_snoc g (x ∷ xs) s = go (g x) (filter_map_snoc g xs s)
   where
@@ -87,13 +87,13 @@ filter_map_snoc g (x ∷ xs) s = go (g x) (filter_map_snoc g xs s)
     go None h = h
     go (Some v) h = ap {B = List ℕ} (λ zs. v ∷ zs) h
 
-one_made : (g : Signal → Option ℕ) (s : Signal) (v : ℕ) → g s ≡ Some v → filter_map g (s ∷ []) ≡ v ∷ []
+pub one_made : (g : Signal → Option ℕ) (s : Signal) (v : ℕ) → g s ≡ Some v → filter_map g (s ∷ []) ≡ v ∷ []
 one_made g s v e = rw e refl
 
-none_made : (g : Signal → Option ℕ) (s : Signal) → g s ≡ None → filter_map g (s ∷ []) ≡ []
+pub none_made : (g : Signal → Option ℕ) (s : Signal) → g s ≡ None → filter_map g (s ∷ []) ≡ []
 none_made g s e = rw e refl
 
-append_nil : (ys : List ℕ) → ys ++ [] ≡ ys
+pub append_nil : (ys : List ℕ) → ys ++ [] ≡ ys
 append_nil [] = refl
 append_nil (y ∷ ys) = ap {B = List ℕ} (λ zs. y ∷ zs) (append_nil ys)
 
@@ -103,12 +103,12 @@ bit_added g f xs i v bits l h e = ap {B = List ℕ} (λ zs. zs ++ v ∷ []) h �
 pub bit_left : (g : Signal → Option ℕ) (f : ℕ → Signal) (xs : List ℕ) (i : ℕ) (bits : List ℕ) → i < length xs → bits ≡ filter_map g (map f (take i xs)) → None ≡ g (f (get_or xs i 0)) → bits ≡ filter_map g (map f (take (i + 1) xs))
 bit_left g f xs i bits l h e = h ∙ sym (ap (filter_map g) (map-take_more f xs i l) ∙ filter_map_snoc g (map f (take i xs)) (f (get_or xs i 0)) ∙ ap {B = List ℕ} (λ zs. filter_map g (map f (take i xs)) ++ zs) (none_made g (f (get_or xs i 0)) (sym e)) ∙ append_nil (filter_map g (map f (take i xs))))
 
-kept_are : (clock : ℕ) (ss : List Signal) → filter_map (reset_bit clock) ss ≡ map first_of (filter (may_reset clock) ss)
-kept_are clock [] = refl
-kept_are clock (s ∷ ss) = by_test (may_reset clock s) (λ e. rw e (ap {B = List ℕ} (λ zs. s.first ∷ zs) (kept_are clock ss))) (λ e. rw e (kept_are clock ss))
+kept_are : (clocks : List ℕ) (ss : List Signal) → filter_map (reset_bit clocks) ss ≡ map first_of (filter (may_reset clocks) ss)
+kept_are clocks [] = refl
+kept_are clocks (s ∷ ss) = by_test (may_reset clocks s) (λ e. rw e (ap {B = List ℕ} (λ zs. s.first ∷ zs) (kept_are clocks ss))) (λ e. rw e (kept_are clocks ss))
 
-pub bits_whole : InputsStay → (a : Arena) (clock : ℕ) (xs : List ℕ) (n : ℕ) (bits : List ℕ) → xs ≡ A.top_inputs a → length xs ≤ n → bits ≡ filter_map (reset_bit clock) (map (signal_at (arena_signals a)) (take n xs)) → bits ≡ one_bit_inputs (design_of a) clock
-bits_whole stay a clock xs n bits e l h = h ∙ ap (λ zs. filter_map (reset_bit clock) (map (signal_at (arena_signals a)) zs)) (take_all n xs l ∙ e) ∙ ap (filter_map (reset_bit clock)) (stay a) ∙ kept_are clock (top_inputs (design_of a))
+pub bits_whole : InputsStay → (a : Arena) (clocks : List ℕ) (xs : List ℕ) (n : ℕ) (bits : List ℕ) → xs ≡ A.top_inputs a → length xs ≤ n → bits ≡ filter_map (reset_bit clocks) (map (signal_at (arena_signals a)) (take n xs)) → bits ≡ one_bit_inputs (design_of a) clocks
+bits_whole stay a clocks xs n bits e l h = h ∙ ap (λ zs. filter_map (reset_bit clocks) (map (signal_at (arena_signals a)) zs)) (take_all n xs l ∙ e) ∙ ap (filter_map (reset_bit clocks)) (stay a) ∙ kept_are clocks (top_inputs (design_of a))
 
 inputs_below : (n : ℕ) (ss : List Flat) (k : ℕ) → k < length (inputs_from n ss) → get_or (inputs_from n ss) k 0 < n + length ss
 inputs_below n [] k l = absurd (omega (arith, l))
@@ -125,7 +125,7 @@ input_there a xs k e l =
 
 -- ---- bits of signals are bits of the design
 
-among_filter : (f : Signal → Bool) (ss : List Signal) (b : ℕ) → contains (map first_of (filter f ss)) b ≡ true → (n : ℕ) × (s : Signal) × (slice_get ss n ≡ Some s) × (s.first ≡ b) × (f s ≡ true)
+pub among_filter : (f : Signal → Bool) (ss : List Signal) (b : ℕ) → contains (map first_of (filter f ss)) b ≡ true → (n : ℕ) × (s : Signal) × (slice_get ss n ≡ Some s) × (s.first ≡ b) × (f s ≡ true)
 among_filter f [] b h = cc
 among_filter f (s ∷ ss) b h =
     by_test (f s)
@@ -159,8 +159,8 @@ signal_below first (x ∷ xs) (suc n) s h e =
 pub bit_below : (d : Design) → IsLawfulDesign d → (n : ℕ) (s : Signal) → slice_get d.signals n ≡ Some s → signal_length s ≡ 1 → s.first < bit_count d
 bit_below d l n s e h = let r = signal_below 0 d.signals n s l.bits_numbered e in omega (arith, r, h)
 
-pub reset_below : (d : Design) → IsLawfulDesign d → (clock b : ℕ) → contains (one_bit_inputs d clock) b ≡ true → b < bit_count d
-reset_below d l clock b h =
-    let r = among_filter (may_reset clock) (top_inputs d) b h in
+pub reset_below : (d : Design) → IsLawfulDesign d → (clocks : List ℕ) (b : ℕ) → contains (one_bit_inputs d clocks) b ≡ true → b < bit_count d
+reset_below d l clocks b h =
+    let r = among_filter (may_reset clocks) (top_inputs d) b h in
     let m = filtered_in (λ s. s.input) d.signals r.0 r.1 r.2 in
-    subst (λ n. n < bit_count d) r.3 (bit_below d l m.0 r.1 m.1 (eqb-true (signal_length r.1) 1 (and_both (signal_length r.1 == 1) (not (r.1.first == clock)) r.4).0))
+    subst (λ n. n < bit_count d) r.3 (bit_below d l m.0 r.1 m.1 (eqb-true (signal_length r.1) 1 (and_both (signal_length r.1 == 1) (not (contains clocks r.1.first)) r.4).0))

@@ -4,6 +4,8 @@ pub mod Wholes
 pub mod Spreading
 pub mod ByKind
 pub mod Least
+pub mod Naming
+pub mod Marking
 pub mod Finding
 pub mod Ruled
 pub mod Branches

@@ -1,10 +1,10 @@
--- The refusal of a design by its clock.
-use Rattle.std.proofs.Common.{◌≡◌, ℕ, zero, suc, ◌+◌, ◌<◌, ◌≤◌, Bool, true, false, List, [], ◌∷◌, ◌&&◌, ◌==◌, refl, sym, ap, ◌∙◌, subst, eqb-true, length, arith, Some, None, Option, find, if◌then◌else◌}
+-- The refusal of a design by its clocks.
+use Rattle.std.proofs.Common.{◌≡◌, ℕ, zero, suc, ◌+◌, ◌<◌, ◌≤◌, Bool, true, false, List, [], ◌∷◌, ◌&&◌, ◌==◌, refl, sym, ap, ◌∙◌, subst, eqb-true, length, map, arith, Some, None, Option, find, if◌then◌else◌, ◌||◌, inl, inr, Result, Ok, Err}
 use Rattle.std.specs.Prelude.{slice_get}
 use Rattle.std.proofs.lemmas.Option.{slice_get_within, slice_get-get_or}
 use Rattle.vs_design.specs.Expressions.{Signal, signal_length}
 use Rattle.vs_design.specs.Designs.{Process, process_place, Design, bit_count}
-use Rattle.vs_design.specs.Clocks.{same_name, named_input, spare_clock, clock_input, clock_nets, root_of, reads_clock, has_other_clock}
+use Rattle.vs_design.specs.Clocks.{same_name, named_input, spare_clock, and_inputs, named_inputs, clock_inputs, clock_bits, clock_nets, root_of, reads_clock, has_other_clock}
 use Rattle.vs_design.specs.Resets.{has_other_form}
 use Rattle.vs_design.specs.Elaborated.{IsLawfulDesign}
 use Rattle.vs_design.specs.Refusals.{otherwise, first_found, where_true, place_at, ClockRefusal, NoClock, ClockRead, NotTheClock, ResetForm, clock_refusal_by, clock_refusal}
@@ -13,8 +13,13 @@ use Rattle.vs_flat.specs.Arena.{Arena}
 use Rattle.vs_flat.specs.Laws.{EachSignal, CountsStay}
 use Rattle.vs_flat.specs.Trees.{no_signal, signal_at}
 use Rattle.vs_flat.specs.DesignOf.{arena_signals, design_of}
+use Rattle.std.specs.Prelude.{IfOk, MatchOption}
+use Rattle.vs_clock.specs.declared.inputs.ClockInputs.{ClockInputs}
 use Rattle.vs_clock.specs.Tests.{IsFirst}
-use Rattle.vs_clock.specs.Clocked.{IsClockInput}
+use Rattle.vs_clock.specs.Clocked.{AreClockInputs}
+use Rattle.vs_clock.specs.Inputs.{AllBelow, AreClockBits, AreNamed}
+use Rattle.vs_design.specs.Footprints.{contains}
+use Rattle.std.specs.List.{list_any}
 use Rattle.vs_reads.proofs.Tests.{by_test, and_both}
 use Rattle.vs_reads.proofs.Numbered.{place_is}
 use Rattle.vs_clock.proofs.Finding.{bit_below}
@@ -66,68 +71,113 @@ first_there d breaks p h = slice_get_within d.processes p h.0 h.1.is
 
 -- ---- the refusal
 
-pub no_clock : (d : Design) (name : Option (List ℕ)) → None ≡ clock_input d name → clock_refusal d name ≡ Some NoClock
-no_clock d name h = ap (clock_refusal_by d) (sym h)
+pub no_clock : (d : Design) (names : List (List ℕ)) → None ≡ clock_inputs d names → clock_refusal d names ≡ Some NoClock
+no_clock d names h = ap (clock_refusal_by d) (sym h)
 
-pub is_read : (d : Design) (name : Option (List ℕ)) (s : Signal) (p at : ℕ) → Some s ≡ clock_input d name → IsFirst d (reads_clock (clock_nets d s.first)) (Some p) → at ≡ place_at d.processes p → clock_refusal d name ≡ Some (ClockRead p at)
-is_read d name s p at h f e =
+pub is_read : (d : Design) (names : List (List ℕ)) (ss : List Signal) (p at : ℕ) → Some ss ≡ clock_inputs d names → IsFirst d (reads_clock (clock_nets d (clock_bits ss))) (Some p) → at ≡ place_at d.processes p → clock_refusal d names ≡ Some (ClockRead p at)
+is_read d names ss p at h f e =
     ap (clock_refusal_by d) (sym h)
-    ∙ ap (λ o. otherwise o (otherwise (found NotTheClock (has_other_clock (clock_nets d s.first) (root_of d s.first)) 0 d.processes) (found ResetForm (has_other_form (clock_nets d s.first) (root_of d s.first)) 0 d.processes))) (some_found ClockRead d (reads_clock (clock_nets d s.first)) p at f e)
+    ∙ ap (λ o. otherwise o (otherwise (found NotTheClock (has_other_clock (clock_nets d (clock_bits ss)) (root_of d (clock_bits ss))) 0 d.processes) (found ResetForm (has_other_form (clock_nets d (clock_bits ss)) (root_of d (clock_bits ss))) 0 d.processes))) (some_found ClockRead d (reads_clock (clock_nets d (clock_bits ss))) p at f e)
 
-not_read : (d : Design) (name : Option (List ℕ)) (s : Signal) → Some s ≡ clock_input d name → IsFirst d (reads_clock (clock_nets d s.first)) None → clock_refusal d name ≡ otherwise (found NotTheClock (has_other_clock (clock_nets d s.first) (root_of d s.first)) 0 d.processes) (found ResetForm (has_other_form (clock_nets d s.first) (root_of d s.first)) 0 d.processes)
-not_read d name s h f =
+not_read : (d : Design) (names : List (List ℕ)) (ss : List Signal) → Some ss ≡ clock_inputs d names → IsFirst d (reads_clock (clock_nets d (clock_bits ss))) None → clock_refusal d names ≡ otherwise (found NotTheClock (has_other_clock (clock_nets d (clock_bits ss)) (root_of d (clock_bits ss))) 0 d.processes) (found ResetForm (has_other_form (clock_nets d (clock_bits ss)) (root_of d (clock_bits ss))) 0 d.processes)
+not_read d names ss h f =
     ap (clock_refusal_by d) (sym h)
-    ∙ ap (λ o. otherwise o (otherwise (found NotTheClock (has_other_clock (clock_nets d s.first) (root_of d s.first)) 0 d.processes) (found ResetForm (has_other_form (clock_nets d s.first) (root_of d s.first)) 0 d.processes))) (none_found ClockRead d (reads_clock (clock_nets d s.first)) f)
+    ∙ ap (λ o. otherwise o (otherwise (found NotTheClock (has_other_clock (clock_nets d (clock_bits ss)) (root_of d (clock_bits ss))) 0 d.processes) (found ResetForm (has_other_form (clock_nets d (clock_bits ss)) (root_of d (clock_bits ss))) 0 d.processes))) (none_found ClockRead d (reads_clock (clock_nets d (clock_bits ss))) f)
 
-pub is_other : (d : Design) (name : Option (List ℕ)) (s : Signal) (p at : ℕ) → Some s ≡ clock_input d name → IsFirst d (reads_clock (clock_nets d s.first)) None → IsFirst d (has_other_clock (clock_nets d s.first) (root_of d s.first)) (Some p) → at ≡ place_at d.processes p → clock_refusal d name ≡ Some (NotTheClock p at)
-is_other d name s p at h f g e = not_read d name s h f ∙ ap (λ o. otherwise o (found ResetForm (has_other_form (clock_nets d s.first) (root_of d s.first)) 0 d.processes)) (some_found NotTheClock d (has_other_clock (clock_nets d s.first) (root_of d s.first)) p at g e)
+pub is_other : (d : Design) (names : List (List ℕ)) (ss : List Signal) (p at : ℕ) → Some ss ≡ clock_inputs d names → IsFirst d (reads_clock (clock_nets d (clock_bits ss))) None → IsFirst d (has_other_clock (clock_nets d (clock_bits ss)) (root_of d (clock_bits ss))) (Some p) → at ≡ place_at d.processes p → clock_refusal d names ≡ Some (NotTheClock p at)
+is_other d names ss p at h f g e = not_read d names ss h f ∙ ap (λ o. otherwise o (found ResetForm (has_other_form (clock_nets d (clock_bits ss)) (root_of d (clock_bits ss))) 0 d.processes)) (some_found NotTheClock d (has_other_clock (clock_nets d (clock_bits ss)) (root_of d (clock_bits ss))) p at g e)
 
-not_other : (d : Design) (name : Option (List ℕ)) (s : Signal) → Some s ≡ clock_input d name → IsFirst d (reads_clock (clock_nets d s.first)) None → IsFirst d (has_other_clock (clock_nets d s.first) (root_of d s.first)) None → clock_refusal d name ≡ found ResetForm (has_other_form (clock_nets d s.first) (root_of d s.first)) 0 d.processes
-not_other d name s h f g = not_read d name s h f ∙ ap (λ o. otherwise o (found ResetForm (has_other_form (clock_nets d s.first) (root_of d s.first)) 0 d.processes)) (none_found NotTheClock d (has_other_clock (clock_nets d s.first) (root_of d s.first)) g)
+not_other : (d : Design) (names : List (List ℕ)) (ss : List Signal) → Some ss ≡ clock_inputs d names → IsFirst d (reads_clock (clock_nets d (clock_bits ss))) None → IsFirst d (has_other_clock (clock_nets d (clock_bits ss)) (root_of d (clock_bits ss))) None → clock_refusal d names ≡ found ResetForm (has_other_form (clock_nets d (clock_bits ss)) (root_of d (clock_bits ss))) 0 d.processes
+not_other d names ss h f g = not_read d names ss h f ∙ ap (λ o. otherwise o (found ResetForm (has_other_form (clock_nets d (clock_bits ss)) (root_of d (clock_bits ss))) 0 d.processes)) (none_found NotTheClock d (has_other_clock (clock_nets d (clock_bits ss)) (root_of d (clock_bits ss))) g)
 
-pub is_formless : (d : Design) (name : Option (List ℕ)) (s : Signal) (p at : ℕ) → Some s ≡ clock_input d name → IsFirst d (reads_clock (clock_nets d s.first)) None → IsFirst d (has_other_clock (clock_nets d s.first) (root_of d s.first)) None → IsFirst d (has_other_form (clock_nets d s.first) (root_of d s.first)) (Some p) → at ≡ place_at d.processes p → clock_refusal d name ≡ Some (ResetForm p at)
-is_formless d name s p at h f g k e = not_other d name s h f g ∙ some_found ResetForm d (has_other_form (clock_nets d s.first) (root_of d s.first)) p at k e
+pub is_formless : (d : Design) (names : List (List ℕ)) (ss : List Signal) (p at : ℕ) → Some ss ≡ clock_inputs d names → IsFirst d (reads_clock (clock_nets d (clock_bits ss))) None → IsFirst d (has_other_clock (clock_nets d (clock_bits ss)) (root_of d (clock_bits ss))) None → IsFirst d (has_other_form (clock_nets d (clock_bits ss)) (root_of d (clock_bits ss))) (Some p) → at ≡ place_at d.processes p → clock_refusal d names ≡ Some (ResetForm p at)
+is_formless d names ss p at h f g k e = not_other d names ss h f g ∙ some_found ResetForm d (has_other_form (clock_nets d (clock_bits ss)) (root_of d (clock_bits ss))) p at k e
 
-pub none_refused : (d : Design) (name : Option (List ℕ)) (s : Signal) → Some s ≡ clock_input d name → IsFirst d (reads_clock (clock_nets d s.first)) None → IsFirst d (has_other_clock (clock_nets d s.first) (root_of d s.first)) None → IsFirst d (has_other_form (clock_nets d s.first) (root_of d s.first)) None → clock_refusal d name ≡ None
-none_refused d name s h f g k = not_other d name s h f g ∙ none_found ResetForm d (has_other_form (clock_nets d s.first) (root_of d s.first)) k
+pub none_refused : (d : Design) (names : List (List ℕ)) (ss : List Signal) → Some ss ≡ clock_inputs d names → IsFirst d (reads_clock (clock_nets d (clock_bits ss))) None → IsFirst d (has_other_clock (clock_nets d (clock_bits ss)) (root_of d (clock_bits ss))) None → IsFirst d (has_other_form (clock_nets d (clock_bits ss)) (root_of d (clock_bits ss))) None → clock_refusal d names ≡ None
+none_refused d names ss h f g k = not_other d names ss h f g ∙ none_found ResetForm d (has_other_form (clock_nets d (clock_bits ss)) (root_of d (clock_bits ss))) k
 
--- ---- the clock's bit is one of the design's, or the number of them
+-- ---- the clocks' bits are bits of the design, or the one is the number of them
 
-find_true : (test : Signal → Bool) (ss : List Signal) (s : Signal) → find test ss ≡ Some s → test s ≡ true
+find_true : (test : Signal → Bool) (ss : List Signal) (s : Signal) → find test ss ≡ Some s → (n : ℕ) × (test s ≡ true) × (slice_get ss n ≡ Some s)
 find_true test [] s h = cc
-find_true test (x ∷ xs) s h = by_test (test x) (λ e. subst (λ (z : Signal). test z ≡ true) (some_same x s (sym (ap {B = Option Signal} (λ t. if t then Some x else find test xs) e) ∙ h)) e) (λ e. find_true test xs s (sym (ap {B = Option Signal} (λ t. if t then Some x else find test xs) e) ∙ h))
+find_true test (x ∷ xs) s h =
+    by_test (test x)
+    (λ e. let same : x ≡ s = some_same x s (sym (ap {B = Option Signal} (λ t. if t then Some x else find test xs) e) ∙ h) in (0, subst (λ (z : Signal). test z ≡ true) same e, ap {B = Option Signal} Some same))
+    (λ e. let r = find_true test xs s (sym (ap {B = Option Signal} (λ t. if t then Some x else find test xs) e) ∙ h) in (suc r.0, r.1, r.2))
   where
     some_same : (x y : Signal) → Some x ≡ Some y → x ≡ y
     some_same x y e = cc
 
-named_below : (d : Design) → IsLawfulDesign d → (name : List ℕ) (n : ℕ) (s : Signal) → slice_get d.signals n ≡ Some s → named_input d name ≡ Some s → s.first < bit_count d
-named_below d l name n s e h =
-    bit_below d l n s e (eqb-true (signal_length s) 1 (and_both (s.input && same_name s.name name) (signal_length s == 1) (find_true (λ s. s.input && same_name s.name name && (signal_length s == 1)) d.signals s h)).1)
+named_below : (d : Design) → IsLawfulDesign d → (name : List ℕ) (s : Signal) → named_input d name ≡ Some s → s.first < bit_count d
+named_below d l name s h =
+    let r = find_true (λ s. s.input && same_name s.name name && (signal_length s == 1)) d.signals s h in
+    bit_below d l r.0 s r.2 (eqb-true (signal_length s) 1 (and_both (s.input && same_name s.name name) (signal_length s == 1) r.1).1)
 
-pub clock_below : (d : Design) → IsLawfulDesign d → (name : Option (List ℕ)) (input : Option ℕ) (bit : ℕ) → IsClockInput d name input bit → bit ≤ bit_count d
-clock_below d l None input bit k = let e = ap (λ (s : Signal). s.first) (some_same (spare_clock d) k.signal k.is) in let b = k.bit_is in omega (arith, e, b)
+all_below : (d : Design) → IsLawfulDesign d → (names : List (List ℕ)) (ss : List Signal) → named_inputs d names ≡ Some ss → AllBelow (bit_count d) (clock_bits ss)
+all_below d l [] ss h b m = let z = subst (λ (xs : List Signal). contains (clock_bits xs) b ≡ true) (sym (some_same [] ss h)) m in cc
   where
-    some_same : (x y : Signal) → Some x ≡ Some y → x ≡ y
+    some_same : (x y : List Signal) → Some x ≡ Some y → x ≡ y
     some_same x y e = cc
-clock_below d l (Some name) None bit k = absurd (let n = k.named in cc)
-clock_below d l (Some name) (Some n) bit k = let m = named_below d l name n k.signal k.there k.is in let b = k.bit_is in omega (arith, m, b)
+all_below d l (name ∷ names) ss h b m =
+    by_test (list_any (same_name name) names)
+    (λ t. absurd (let z = subst (λ (g : Bool). (if g then None else and_inputs (named_input d name) (named_inputs d names)) ≡ Some ss) t h in cc))
+    (λ t. both (named_input d name) refl (named_inputs d names) refl (subst (λ (g : Bool). (if g then None else and_inputs (named_input d name) (named_inputs d names)) ≡ Some ss) t h) (λ xs q k. all_below d l names xs q b k))
+  where
+    some_same : (x y : List Signal) → Some x ≡ Some y → x ≡ y
+    some_same x y e = cc
+
+    both : (o : Option Signal) → named_input d name ≡ o → (r : Option (List Signal)) → named_inputs d names ≡ r → and_inputs o r ≡ Some ss → ((xs : List Signal) → named_inputs d names ≡ Some xs → contains (clock_bits xs) b ≡ true → b < bit_count d) → b < bit_count d
+    both None p r q g f = cc
+    both (Some x) p None q g f = cc
+    both (Some x) p (Some xs) q g f =
+        by_test (b == x.first)
+        (λ e. subst (λ n. n < bit_count d) (sym (eqb-true b x.first e)) (named_below d l name x p))
+        (λ e. f xs q (subst (λ (c : Bool). (c || contains (clock_bits xs) b) ≡ true) e (subst (λ (ys : List Signal). contains (clock_bits ys) b ≡ true) (sym (some_same (x ∷ xs) ss g)) m)))
+
+pub clocks_below : (d : Design) → IsLawfulDesign d → (names : List (List ℕ)) (inputs bits : List ℕ) → AreClockInputs d names inputs bits → AreClockBits d bits
+clocks_below d l [] inputs bits k = inr (k.bits_are ∙ ap clock_bits (sym (some_same (spare_clock d ∷ []) k.signals k.are)))
+  where
+    some_same : (x y : List Signal) → Some x ≡ Some y → x ≡ y
+    some_same x y e = cc
+clocks_below d l (name ∷ names) inputs bits k = inl (λ b m. all_below d l (name ∷ names) k.signals k.are b (subst (λ bs. contains bs b ≡ true) k.bits_are m))
 
 -- ---- what was found
 
-pub in_flat : (f a : Arena) → f ≡ a → (name : Option (List ℕ)) (input : Option ℕ) (bit : ℕ) → IsClockInput (design_of f) name input bit → IsClockInput (design_of a) name input bit
-in_flat f a e name input bit k = subst (λ (b : Arena). IsClockInput (design_of b) name input bit) e k
+-- the clock inputs that are given, and that there are none
+pub inputs_given : (d : Design) (names : List (List ℕ)) (o : Option ClockInputs) (f : ClockInputs) → MatchOption o (clock_inputs d names ≡ None) (λ g. AreClockInputs d names g.numbers.items g.bits.items) → o ≡ Some f → AreClockInputs d names f.numbers.items f.bits.items
+inputs_given d names o f h e = subst (λ (o : Option ClockInputs). MatchOption o (clock_inputs d names ≡ None) (λ g. AreClockInputs d names g.numbers.items g.bits.items)) e h
 
-pub found_input : EachSignal → CountsStay → (f : Arena) (name : List ℕ) (input : ℕ) (s : FlatSignal) → Some (signal_at (arena_signals f) input) ≡ named_input (design_of f) name → input < length f.signals → slice_get f.signals input ≡ Some s → IsClockInput (design_of f) (Some name) (Some input) s.first_bit
-found_input each counts f name input s k l g = record {
-  signal = signal_at (arena_signals f) input;
-  named = refl;
-  there = slice_get-get_or (arena_signals f) input no_signal (subst (λ n. input < n) (sym (counts f).signals) l);
-  is = sym k;
-  bit_is = first_bit_is each f input s g;
-}
+pub none_named : (d : Design) (names : List (List ℕ)) (o : Option ClockInputs) → MatchOption o (clock_inputs d names ≡ None) (λ g. AreClockInputs d names g.numbers.items g.bits.items) → o ≡ None → clock_inputs d names ≡ None
+none_named d names o h e = subst (λ (o : Option ClockInputs). MatchOption o (clock_inputs d names ≡ None) (λ g. AreClockInputs d names g.numbers.items g.bits.items)) e h
 
-pub no_input : (f : Arena) (count : ℕ) → count ≡ bit_count (design_of f) → IsClockInput (design_of f) None None count
-no_input f count e = record { signal = spare_clock (design_of f); named = refl; there = tt; is = refl; bit_is = e }
+pub in_flat : (f a : Arena) → f ≡ a → (names : List (List ℕ)) (inputs bits : List ℕ) → AreClockInputs (design_of f) names inputs bits → AreClockInputs (design_of a) names inputs bits
+in_flat f a e names inputs bits k = subst (λ (b : Arena). AreClockInputs (design_of b) names inputs bits) e k
 
-pub carried : (P : Arena → ℕ → Type 0) (f a : Arena) (m n : ℕ) → f ≡ a → m ≡ n → P f m → P a n
+pub no_inputs : (f : Arena) (count : ℕ) → count ≡ bit_count (design_of f) → AreClockInputs (design_of f) [] [] (count ∷ [])
+no_inputs f count e = record { signals = spare_clock (design_of f) ∷ []; named = refl; there = λ k n i. cc; are = refl; bits_are = ap {B = List ℕ} (λ n. n ∷ []) e }
+
+-- the same of lists that are these
+pub no_inputs_by : (f : Arena) (names : List (List ℕ)) (numbers bits : List ℕ) (count : ℕ) → names ≡ [] → numbers ≡ [] → bits ≡ count ∷ [] → count ≡ bit_count (design_of f) → AreClockInputs (design_of f) names numbers bits
+no_inputs_by f names numbers bits count none empty only e = rw (none, empty, only) (no_inputs f count e)
+
+pub none_given : {A : Type 0} (g : A → List ℕ) (xs : List A) → (length xs == 0) ≡ true → map g xs ≡ []
+none_given g [] h = refl
+none_given g (x ∷ xs) h = absurd (omega (arith, eqb-true (length (x ∷ xs)) 0 h))
+
+pub some_given : {A : Type 0} (g : A → List ℕ) (xs : List A) → (length xs == 0) ≡ false → map g xs ≡ [] → ⊥
+some_given g [] h e = cc
+some_given g (x ∷ xs) h e = cc
+
+-- where there is a name, what is named are the clocks
+named_same : (d : Design) (names : List (List ℕ)) → (names ≡ [] → ⊥) → named_inputs d names ≡ clock_inputs d names
+named_same d [] f = absurd (f refl)
+named_same d (name ∷ names) f = refl
+
+pub named_as_clocks : {E : Type 0} (d : Design) (names : List (List ℕ)) (r : Result (Option ClockInputs) E) → (names ≡ [] → ⊥) → IfOk r (λ o. MatchOption o (named_inputs d names ≡ None) (λ f. AreNamed d names f.numbers.items f.bits.items))
+    → IfOk r (λ o. MatchOption o (clock_inputs d names ≡ None) (λ f. AreClockInputs d names f.numbers.items f.bits.items))
+named_as_clocks d names (Ok None) f h = sym (named_same d names f) ∙ h
+named_as_clocks d names (Ok (Some x)) f h = record { signals = h.signals; named = h.named; there = h.there; are = sym (named_same d names f) ∙ h.are; bits_are = h.bits_are }
+named_as_clocks d names (Err e) f h = tt
+
+pub carried : (P : Arena → List ℕ → Type 0) (f a : Arena) (m n : List ℕ) → f ≡ a → m ≡ n → P f m → P a n
 carried P f a m n e g h = subst (λ b. P b n) e (subst (λ k. P f k) g h)

@@ -38,17 +38,17 @@ use Rattle.vs_reads.proofs.Numbered.{process_there}
 
 -- ---- by a process
 
-pub assign_absent : EachProcess → (a : Arena) (p : ℕ) (r : Flat) (target e : ℕ) (port : Port) → slice_get a.processes p ≡ Some r → r.kind ≡ K.Assign target e port → (c : ℕ) (x : Process) → slice_get (design_of a).processes p ≡ Some x → IsBlockReset a c x B.Absent
+pub assign_absent : EachProcess → (a : Arena) (p : ℕ) (r : Flat) (target e : ℕ) (port : Port) → slice_get a.processes p ≡ Some r → r.kind ≡ K.Assign target e port → (c : List ℕ) (x : Process) → slice_get (design_of a).processes p ≡ Some x → IsBlockReset a c x B.Absent
 assign_absent each a p r target e port i h c x f =
     subst (λ (z : Process). IsBlockReset a c z B.Absent) (process_same (kind_in a r.at (K.Assign target e port)) x (slice_get (design_of a).processes p) (kind_is each a p r (K.Assign target e port) i h) f) (refl, refl)
 
 -- what its events tell of a block
-record IsBy (a : Arena) (c : ℕ) (x : Process) (o : Option Events) (s : Statement) : Type 0 where
+record IsBy (a : Arena) (c : List ℕ) (x : Process) (o : Option Events) (s : Statement) : Type 0 where
   pub form : other_form a c x ≡ not (has_form o s)
   pub reset : reset_of (design_of a) c x ≡ reset_by (root_of (design_of a) c) o s
   pub branch : branch_of (design_of a) c x ≡ branch_by o s
 
-by_events : EachProcess → (a : Arena) (p : ℕ) (r : Flat) (star : Bool) (events : List Event) (statement : ℕ) → slice_get a.processes p ≡ Some r → r.kind ≡ K.Block star events statement → (c : ℕ) (o : Option Events)
+by_events : EachProcess → (a : Arena) (p : ℕ) (r : Flat) (star : Bool) (events : List Event) (statement : ℕ) → slice_get a.processes p ≡ Some r → r.kind ≡ K.Block star events statement → (c : List ℕ) (o : Option Events)
     → events_of (clock_nets (design_of a) c) (root_of (design_of a) c) (map (event_of (signal_at (arena_signals a))) events) ≡ o → (x : Process) → slice_get (design_of a).processes p ≡ Some x → IsBy a c x o (statement_at (arena_statements a) statement)
 by_events each a p r star events statement i h c o e x f =
     subst (λ (z : Process). IsBy a c z o (statement_at (arena_statements a) statement)) (process_same (kind_in a r.at (K.Block star events statement)) x (slice_get (design_of a).processes p) (kind_is each a p r (K.Block star events statement) i h) f)
@@ -58,22 +58,22 @@ by_events each a p r star events statement i h c o e x f =
       branch = ap (λ o. branch_by o (statement_at (arena_statements a) statement)) e;
     })
 
-pub none_absent : EachProcess → (a : Arena) (p : ℕ) (r : Flat) (star : Bool) (events : List Event) (statement : ℕ) → slice_get a.processes p ≡ Some r → r.kind ≡ K.Block star events statement → (c : ℕ)
+pub none_absent : EachProcess → (a : Arena) (p : ℕ) (r : Flat) (star : Bool) (events : List Event) (statement : ℕ) → slice_get a.processes p ≡ Some r → r.kind ≡ K.Block star events statement → (c : List ℕ)
     → events_of (clock_nets (design_of a) c) (root_of (design_of a) c) (map (event_of (signal_at (arena_signals a))) events) ≡ None → (x : Process) → slice_get (design_of a).processes p ≡ Some x → IsBlockReset a c x B.Absent
 none_absent each a p r star events statement i h c e x f =
     let b = by_events each a p r star events statement i h c None e x f in (b.form, b.reset)
 
-pub clock_absent : EachProcess → (a : Arena) (p : ℕ) (r : Flat) (star : Bool) (events : List Event) (statement : ℕ) → slice_get a.processes p ≡ Some r → r.kind ≡ K.Block star events statement → (c : ℕ)
+pub clock_absent : EachProcess → (a : Arena) (p : ℕ) (r : Flat) (star : Bool) (events : List Event) (statement : ℕ) → slice_get a.processes p ≡ Some r → r.kind ≡ K.Block star events statement → (c : List ℕ)
     → (clock : D.Event) × (events_of (clock_nets (design_of a) c) (root_of (design_of a) c) (map (event_of (signal_at (arena_signals a))) events) ≡ Some (ByClock clock)) → (x : Process) → slice_get (design_of a).processes p ≡ Some x → IsBlockReset a c x B.Absent
 clock_absent each a p r star events statement i h c e x f =
     let b = by_events each a p r star events statement i h c (Some (ByClock e.0)) e.1 x f in (b.form, b.reset)
 
-by_reset : (a : Arena) (c : ℕ) (x : Process) (clock reset : D.Event) (s : Statement) (r : BlockReset) → IsBy a c x (Some (ByBoth clock reset)) s → IsEventReset a c reset s r → IsBlockReset a c x r
+by_reset : (a : Arena) (c : List ℕ) (x : Process) (clock reset : D.Event) (s : Statement) (r : BlockReset) → IsBy a c x (Some (ByBoth clock reset)) s → IsEventReset a c reset s r → IsBlockReset a c x r
 by_reset a c x clock reset s B.Formless b k = b.form ∙ ap {B = Bool} (λ o. not (is_some o)) k
 by_reset a c x clock reset s B.Absent b k = (b.form ∙ ap {B = Bool} not k.0, b.reset ∙ k.1)
 by_reset a c x clock reset s (B.Present r) b k = (b.form ∙ ap {B = Bool} (λ o. not (is_some o)) k.0, record { is = b.reset ∙ k.1; branch = b.branch ∙ k.0; edge = k.2; there = k.3 })
 
-pub reset_found : EachProcess → (a : Arena) (p : ℕ) (r : Flat) (star : Bool) (events : List Event) (statement : ℕ) → slice_get a.processes p ≡ Some r → r.kind ≡ K.Block star events statement → (c : ℕ) (reset : D.Event)
+pub reset_found : EachProcess → (a : Arena) (p : ℕ) (r : Flat) (star : Bool) (events : List Event) (statement : ℕ) → slice_get a.processes p ≡ Some r → r.kind ≡ K.Block star events statement → (c : List ℕ) (reset : D.Event)
     → (clock : D.Event) × (events_of (clock_nets (design_of a) c) (root_of (design_of a) c) (map (event_of (signal_at (arena_signals a))) events) ≡ Some (ByBoth clock reset))
     → (o : BlockReset) → IsEventReset a c reset (statement_at (arena_statements a) statement) o → (x : Process) → slice_get (design_of a).processes p ≡ Some x → IsBlockReset a c x o
 reset_found each a p r star events statement i h c reset e o k x f =
@@ -82,11 +82,11 @@ reset_found each a p r star events statement i h c reset e o k x f =
 -- ---- all processes
 
 -- of those before p
-pub record AreBefore (a : Arena) (c p : ℕ) (resets : List (Option Reset)) : Type 0 where
+pub record AreBefore (a : Arena) (c : List ℕ) (p : ℕ) (resets : List (Option Reset)) : Type 0 where
   pub formed : NoneBefore (design_of a) (other_form a c) p
   pub each : (q : ℕ) (x : Process) → q < p → slice_get (design_of a).processes q ≡ Some x → IsReset a c x (reset_at resets q)
 
-pub one_more : (a : Arena) (c p : ℕ) (resets : List (Option Reset)) (r : Option Reset) (x : Process) → length resets ≡ p → slice_get (design_of a).processes p ≡ Some x → other_form a c x ≡ false → IsReset a c x r → AreBefore a c p resets → AreBefore a c (p + 1) (resets ++ r ∷ [])
+pub one_more : (a : Arena) (c : List ℕ) (p : ℕ) (resets : List (Option Reset)) (r : Option Reset) (x : Process) → length resets ≡ p → slice_get (design_of a).processes p ≡ Some x → other_form a c x ≡ false → IsReset a c x r → AreBefore a c p resets → AreBefore a c (p + 1) (resets ++ r ∷ [])
 one_more a c p resets r x l e h k b =
     record { formed = none_more (design_of a) (other_form a c) p x e h b.formed; each = each }
   where
@@ -103,7 +103,7 @@ one_more a c p resets r x l e h k b =
         (subst (λ (z : Process). IsReset a c z r) (process_same x y (slice_get (design_of a).processes p) e (subst (λ n. slice_get (design_of a).processes n ≡ Some y) (eqb-true q p s) f)) k))
         (λ s. let n = less q m s in subst (λ o. IsReset a c y o) (sym (get_or-append resets (r ∷ []) None q (subst (λ m. q < m) (sym l) n))) (b.each q y n f))
 
-pub all_resets : (a : Arena) (c p : ℕ) (resets : List (Option Reset)) → length resets ≡ p → p ≡ length (design_of a).processes → AreBefore a c p resets → IsFirst (design_of a) (other_form a c) None × AreAllResets a c resets
+pub all_resets : (a : Arena) (c : List ℕ) (p : ℕ) (resets : List (Option Reset)) → length resets ≡ p → p ≡ length (design_of a).processes → AreBefore a c p resets → IsFirst (design_of a) (other_form a c) None × AreAllResets a c resets
 all_resets a c p resets l e b = (
   none_is (design_of a) (other_form a c) p (omega (arith, e)) b.formed,
   record { count = l ∙ e; each = λ q x f. b.each q x (let k = slice_get_within (design_of a).processes q x f in omega (arith, k, e)) f },
@@ -130,7 +130,7 @@ found_in test (c ∷ bs) b h =
     tail false e = e
 
 -- the input of a reset is the root of its net
-root_is : (a : Arena) (c : ℕ) (x : Process) (r : Reset) → IsResetOf a c x r → contains (one_bit_inputs (design_of a) c) r.input ≡ true
+root_is : (a : Arena) (c : List ℕ) (x : Process) (r : Reset) → IsResetOf a c x r → contains (one_bit_inputs (design_of a) c) r.input ≡ true
 root_is a c x r h = by_process x h.is
   where
     d : Design
@@ -139,7 +139,7 @@ root_is a c x r h = by_process x h.is
     by_root : (e : D.Event) (i : Option ℕ) (t : Option Statement) → root_of d c e.signal.first ≡ i → reset_with e i t ≡ Some (plain_reset a r) → contains (one_bit_inputs d c) r.input ≡ true
     by_root e None t g k = cc
     by_root e (Some i) None g k = cc
-    by_root e (Some i) (Some t) g k = subst (λ n. contains (one_bit_inputs d c) n ≡ true) (input_same _ _ k) (found_in (λ i. contains (clock_nets d i) e.signal.first) (one_bit_inputs d c) i g)
+    by_root e (Some i) (Some t) g k = subst (λ n. contains (one_bit_inputs d c) n ≡ true) (input_same _ _ k) (found_in (λ i. contains (clock_nets d (i ∷ [])) e.signal.first) (one_bit_inputs d c) i g)
       where
         input_same : (u v : N.Reset) → Some u ≡ Some v → u.input ≡ v.input
         input_same u v e = cc
@@ -153,7 +153,7 @@ root_is a c x r h = by_process x h.is
     by_process (D.Continuous place port target_place target e) k = cc
     by_process (D.Always place star events s) k = by_events (events_of (clock_nets d c) (root_of d c) events) s k
 
-pub have_inputs : (a : Arena) → IsLawfulDesign (design_of a) → (c : ℕ) (resets : List (Option Reset)) → AreAllResets a c resets → HasInputs (bit_count (design_of a)) resets
+pub have_inputs : (a : Arena) → IsLawfulDesign (design_of a) → (c : List ℕ) (resets : List (Option Reset)) → AreAllResets a c resets → HasInputs (bit_count (design_of a)) resets
 have_inputs a l c resets h k r e =
     let d = design_of a in
     let m : k < length d.processes = subst (λ n. k < n) h.count (slice_get_within resets k (Some r) e) in
@@ -161,7 +161,7 @@ have_inputs a l c resets h k r e =
     reset_below d l c r.input (root_is a c x.0 r (subst (λ o. IsReset a c x.0 o) (get_or_from_slice_get resets k (Some r) None e) (h.each k x.0 x.1)))
 
 -- the inputs of the resets are those of the processes
-root_same : (a : Arena) (c i : ℕ) (x : Process) (r : Option Reset) → IsReset a c x r → has_root i (reset_of (design_of a) c x) ≡ is_from i r
+root_same : (a : Arena) (c : List ℕ) (i : ℕ) (x : Process) (r : Option Reset) → IsReset a c x r → has_root i (reset_of (design_of a) c x) ≡ is_from i r
 root_same a c i x None h = ap {B = Bool} (has_root i) h
 root_same a c i x (Some r) h = ap {B = Bool} (has_root i) h.is
 
@@ -171,14 +171,14 @@ any_pairs f g [] (r ∷ rs) l h = absurd (omega (arith, l))
 any_pairs f g (x ∷ ps) [] l h = absurd (omega (arith, l))
 any_pairs f g (x ∷ ps) (r ∷ rs) l h = ap {B = Bool} (λ t. t || list_any f ps) (h 0 x refl) ∙ ap {B = Bool} (λ t. g r || t) (any_pairs f g ps rs (omega (arith, l)) (λ p y e. h (suc p) y e))
 
-pub input_same : (a : Arena) (c : ℕ) (resets : List (Option Reset)) → AreAllResets a c resets → (i : ℕ) → has_input resets i ≡ list_any (λ x. has_root i (reset_of (design_of a) c x)) (design_of a).processes
+pub input_same : (a : Arena) (c : List ℕ) (resets : List (Option Reset)) → AreAllResets a c resets → (i : ℕ) → has_input resets i ≡ list_any (λ x. has_root i (reset_of (design_of a) c x)) (design_of a).processes
 input_same a c resets h i = sym (any_pairs (λ x. has_root i (reset_of (design_of a) c x)) (is_from i) (design_of a).processes resets h.count (λ p x e. root_same a c i x (reset_at resets p) (h.each p x e)))
 
 filter_same : (f g : ℕ → Bool) → ((b : ℕ) → f b ≡ g b) → (bs : List ℕ) → filter f bs ≡ filter g bs
 filter_same f g h [] = refl
 filter_same f g h (b ∷ bs) = ap {B = List ℕ} (λ t. if t then (b ∷ filter f bs) else filter f bs) (h b) ∙ ap {B = List ℕ} (λ (zs : List ℕ). if g b then (b ∷ zs) else zs) (filter_same f g h bs)
 
-pub inputs_are : (a : Arena) (c : ℕ) (resets : List (Option Reset)) (f : ℕ → Bool) → AreAllResets a c resets → ((b : ℕ) → f b ≡ has_input resets b) → filter f (one_bit_inputs (design_of a) c) ≡ reset_inputs (design_of a) c
+pub inputs_are : (a : Arena) (c : List ℕ) (resets : List (Option Reset)) (f : ℕ → Bool) → AreAllResets a c resets → ((b : ℕ) → f b ≡ has_input resets b) → filter f (one_bit_inputs (design_of a) c) ≡ reset_inputs (design_of a) c
 inputs_are a c resets f h k = filter_same f (λ i. list_any (λ x. has_root i (reset_of (design_of a) c x)) (design_of a).processes) (λ b. k b ∙ input_same a c resets h b) (one_bit_inputs (design_of a) c)
 
 -- ---- marks

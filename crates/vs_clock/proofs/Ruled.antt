@@ -104,11 +104,11 @@ port_yes nets x from to false h e = sym (ap {B = Bool} (λ (zs : List ℕ). not 
 
 -- ---- reading a clock net
 
-abbrev pub clocks_in : Design → ℕ → List ℕ → Bool
-clocks_in d clock bits = list_any (contains (clock_nets d clock)) bits
+abbrev pub clocks_in : Design → List ℕ → List ℕ → Bool
+clocks_in d clocks bits = list_any (contains (clock_nets d clocks)) bits
 
-pub any_clock : (d : Design) (clock : ℕ) (n : Labelled) (bits all : List ℕ) (r : Bool) → AreNets d clock n → ((b : ℕ) → contains bits b ≡ contains all b) → r ≡ list_any (is_clock_bit n) bits → r ≡ clocks_in d clock all
-any_clock d clock n bits all r a h e = e ∙ any_test (is_clock_bit n) (contains (clock_nets d clock)) bits (λ b _. a.clock b) ∙ any_same (contains (clock_nets d clock)) bits all h
+pub any_clock : (d : Design) (clocks : List ℕ) (n : Labelled) (bits all : List ℕ) (r : Bool) → AreNets d clocks n → ((b : ℕ) → contains bits b ≡ contains all b) → r ≡ list_any (is_clock_bit n) bits → r ≡ clocks_in d clocks all
+any_clock d clocks n bits all r a h e = e ∙ any_test (is_clock_bit n) (contains (clock_nets d clocks)) bits (λ b _. a.clock b) ∙ any_same (contains (clock_nets d clocks)) bits all h
 
 pub reads_no : (nets : List ℕ) (x : Process) (r : Bool) → r ≡ is_clock_port nets x → r ≡ true → false ≡ reads_clock nets x
 reads_no nets x r h k = sym (ap {B = Bool} (λ t. not t && list_any (contains nets) (reads_of x ++ waits_of x)) (sym h ∙ k))
@@ -139,7 +139,7 @@ none_is d breaks p l n q x e = n q x (let k = slice_get_within d.processes q x e
 
 -- ---- other clocks
 
-events_same : (signal : ℕ → Signal) (events : List Event) → list_any has_edge (map (event_of signal) events) ≡ list_any is_edge_event events
+pub events_same : (signal : ℕ → Signal) (events : List Event) → list_any has_edge (map (event_of signal) events) ≡ list_any is_edge_event events
 events_same signal [] = refl
 events_same signal (e ∷ es) = ap {B = Bool} (λ t. is_edge_event e || t) (events_same signal es)
 
@@ -218,11 +218,11 @@ first_bit_is each a n s e = sym (ap (λ (z : Signal). z.first) (each a n s e))
 
 -- what is known of the events of a design is known of the same one
 pub moved : (a b : Arena) (nets : Labelled) (arm : BlockEvents) (es fs : List Event) → a ≡ b → es ≡ fs
-    → ((n : ℕ) → AreNets (design_of a) n nets → AreEvents (signal_at (arena_signals a)) arm (events_of (clock_nets (design_of a) n) (root_of (design_of a) n) (map (event_of (signal_at (arena_signals a))) es)))
-    → (n : ℕ) → AreNets (design_of b) n nets → AreEvents (signal_at (arena_signals b)) arm (events_of (clock_nets (design_of b) n) (root_of (design_of b) n) (map (event_of (signal_at (arena_signals b))) fs))
+    → ((n : List ℕ) → AreNets (design_of a) n nets → AreEvents (signal_at (arena_signals a)) arm (events_of (clock_nets (design_of a) n) (root_of (design_of a) n) (map (event_of (signal_at (arena_signals a))) es)))
+    → (n : List ℕ) → AreNets (design_of b) n nets → AreEvents (signal_at (arena_signals b)) arm (events_of (clock_nets (design_of b) n) (root_of (design_of b) n) (map (event_of (signal_at (arena_signals b))) fs))
 moved a b nets arm es fs e f h =
-    subst (λ (c : Arena). (n : ℕ) → AreNets (design_of c) n nets → AreEvents (signal_at (arena_signals c)) arm (events_of (clock_nets (design_of c) n) (root_of (design_of c) n) (map (event_of (signal_at (arena_signals c))) fs))) e
-    (subst (λ (gs : List Event). (n : ℕ) → AreNets (design_of a) n nets → AreEvents (signal_at (arena_signals a)) arm (events_of (clock_nets (design_of a) n) (root_of (design_of a) n) (map (event_of (signal_at (arena_signals a))) gs))) f h)
+    subst (λ (c : Arena). (n : List ℕ) → AreNets (design_of c) n nets → AreEvents (signal_at (arena_signals c)) arm (events_of (clock_nets (design_of c) n) (root_of (design_of c) n) (map (event_of (signal_at (arena_signals c))) fs))) e
+    (subst (λ (gs : List Event). (n : List ℕ) → AreNets (design_of a) n nets → AreEvents (signal_at (arena_signals a)) arm (events_of (clock_nets (design_of a) n) (root_of (design_of a) n) (map (event_of (signal_at (arena_signals a))) gs))) f h)
 
 -- whether the branch was found
 pub found_none : (f : ℕ → Statement) (found : Option ℕ) (r : Bool) (o : Option Statement) → is_some found ≡ not r → option_map f found ≡ o → r ≡ not (is_some o)

@@ -1,8 +1,8 @@
--- What is told of the clock of a design.
-use Rattle.std.specs.Prelude.{◌≡◌, ℕ, List, slice_get, Option, Some, is_some, IfSome}
+-- What is told of the clocks of a design.
+use Rattle.std.specs.Prelude.{◌≡◌, ℕ, List, length, slice_get, Option, Some}
 use Rattle.vs_design.specs.Expressions.{Signal}
 use Rattle.vs_design.specs.Designs.{Design}
-use Rattle.vs_design.specs.Clocks.{clock_input}
+use Rattle.vs_design.specs.Clocks.{clock_inputs, clock_bits}
 use Rattle.vs_design.specs.Resets.{reset_inputs}
 use Rattle.vs_flat.specs.Arena.{Arena}
 use Rattle.vs_flat.specs.DesignOf.{design_of}
@@ -11,35 +11,39 @@ use Rattle.vs_clock.specs.declared.resets.Reset.{Reset}
 use Rattle.vs_clock.specs.Nets.{Labelled, AreNets}
 use Rattle.vs_clock.specs.Resets.{AreAllResets}
 
--- the number of its input where it has one, its bit, the nets, the reset of each process by number, and the inputs at the root of these
+-- the numbers of its inputs, none where no clock is named, their bits, the nets, the reset of each process by number, and the inputs at the root of these
 pub record Clocked : Type 0 where
-  pub input : Option ℕ
-  pub bit : ℕ
+  pub inputs : List ℕ
+  pub bits : List ℕ
   pub nets : Labelled
   pub resets : List (Option Reset)
   pub reset_inputs : List ℕ
 
 abbrev pub clocked_of : Inside → Clocked
-clocked_of c = record { input = c.input; bit = c.bit; nets = c.nets; resets = c.resets.items; reset_inputs = c.reset_inputs.items }
+clocked_of c = record { inputs = c.inputs.items; bits = c.bits.items; nets = c.nets; resets = c.resets.items; reset_inputs = c.reset_inputs.items }
 
--- the input of the clock that has this name, and its bit; without a name there is no input, and the number of the design's bits is the bit
-pub record IsClockInput (d : Design) (name : Option (List ℕ)) (input : Option ℕ) (bit : ℕ) : Type 0 where
-  pub signal : Signal
-  pub named : is_some input ≡ is_some name
-  pub there : IfSome input (λ n. slice_get d.signals n ≡ Some signal)
-  pub is : clock_input d name ≡ Some signal
-  pub bit_is : bit ≡ signal.first
+-- each of these is the number of the signal at its place
+abbrev pub AreSignals : Design → List ℕ → List Signal → Type 0
+AreSignals d inputs signals = (k n : ℕ) → slice_get inputs k ≡ Some n → (s : Signal) × (slice_get d.signals n ≡ Some s) × (slice_get signals k ≡ Some s)
 
--- the clock of the design that has this name, or none: its input, which is there exactly where a clock is named, and for each bit whether it is a clock net's, and the input that it copies
-pub record IsClockOf (d : Design) (name : Option (List ℕ)) (c : Clocked) : Type 0 where
-  pub signal : Signal
-  pub named : is_some c.input ≡ is_some name
-  pub there : IfSome c.input (λ n. slice_get d.signals n ≡ Some signal)
-  pub is : clock_input d name ≡ Some signal
-  pub bit_is : c.bit ≡ signal.first
-  pub nets_are : AreNets d signal.first c.nets
+-- the inputs of the clocks that have these names, in this order, and their bits; without a name there is no input, and the number of the design's bits is the one bit
+pub record AreClockInputs (d : Design) (names : List (List ℕ)) (inputs bits : List ℕ) : Type 0 where
+  pub signals : List Signal
+  pub named : length inputs ≡ length names
+  pub there : AreSignals d inputs signals
+  pub are : clock_inputs d names ≡ Some signals
+  pub bits_are : bits ≡ clock_bits signals
 
--- the resets by this clock: that of each process, and the inputs that they copy
+-- the clocks of the design that have these names, or none: their inputs, one for each name, and for each bit whether it is a clock net's, and the input that it copies
+pub record AreClocksOf (d : Design) (names : List (List ℕ)) (c : Clocked) : Type 0 where
+  pub signals : List Signal
+  pub named : length c.inputs ≡ length names
+  pub there : AreSignals d c.inputs signals
+  pub are : clock_inputs d names ≡ Some signals
+  pub bits_are : c.bits ≡ clock_bits signals
+  pub nets_are : AreNets d (clock_bits signals) c.nets
+
+-- the resets by these clocks: that of each process, and the inputs that they copy
 pub record AreResets (a : Arena) (c : Clocked) : Type 0 where
-  pub resets : AreAllResets a c.bit c.resets
-  pub inputs : c.reset_inputs ≡ reset_inputs (design_of a) c.bit
+  pub resets : AreAllResets a c.bits c.resets
+  pub inputs : c.reset_inputs ≡ reset_inputs (design_of a) c.bits

@@ -1,5 +1,5 @@
 -- What is found of the resets of processes.
-use Rattle.std.specs.Prelude.{◌≡◌, ◌<◌, ℕ, Bool, true, false, is_some, length, Option, Some, None}
+use Rattle.std.specs.Prelude.{◌≡◌, ◌<◌, ℕ, Bool, true, false, List, is_some, length, Option, Some, None}
 use Rattle.vs_design.specs.Statements.{Statement}
 use Rattle.vs_design.specs.Designs.{is_edge, Process}
 use Rattle.vs_design.specs.Designs as D
@@ -19,22 +19,22 @@ abbrev pub branch_at : D.Event → Statement → Option Statement
 branch_at e s = reset_branch e.edge e.signal.first s
 
 -- the reset of a block with this statement by this event
-abbrev pub IsEventReset : Arena → ℕ → D.Event → Statement → BlockReset → Type 0
-IsEventReset a clock e s B.Formless = branch_at e s ≡ None
-IsEventReset a clock e s B.Absent = (is_some (branch_at e s) ≡ true) × (reset_with e (root_of (design_of a) clock e.signal.first) (branch_at e s) ≡ None)
-IsEventReset a clock e s (B.Present r) =
-    (branch_at e s ≡ Some (plain_branch a r)) × (reset_with e (root_of (design_of a) clock e.signal.first) (branch_at e s) ≡ Some (plain_reset a r)) × (is_edge r.edge ≡ true) × (r.branch < length a.statements)
+abbrev pub IsEventReset : Arena → List ℕ → D.Event → Statement → BlockReset → Type 0
+IsEventReset a clocks e s B.Formless = branch_at e s ≡ None
+IsEventReset a clocks e s B.Absent = (is_some (branch_at e s) ≡ true) × (reset_with e (root_of (design_of a) clocks e.signal.first) (branch_at e s) ≡ None)
+IsEventReset a clocks e s (B.Present r) =
+    (branch_at e s ≡ Some (plain_branch a r)) × (reset_with e (root_of (design_of a) clocks e.signal.first) (branch_at e s) ≡ Some (plain_reset a r)) × (is_edge r.edge ≡ true) × (r.branch < length a.statements)
 
-abbrev pub other_form : Arena → ℕ → Process → Bool
-other_form a clock x = has_other_form (clock_nets (design_of a) clock) (root_of (design_of a) clock) x
+abbrev pub other_form : Arena → List ℕ → Process → Bool
+other_form a clocks x = has_other_form (clock_nets (design_of a) clocks) (root_of (design_of a) clocks) x
 
 -- what a process has of a reset
-abbrev pub IsBlockReset : Arena → ℕ → Process → BlockReset → Type 0
-IsBlockReset a clock x B.Formless = other_form a clock x ≡ true
-IsBlockReset a clock x B.Absent = (other_form a clock x ≡ false) × (reset_of (design_of a) clock x ≡ None)
-IsBlockReset a clock x (B.Present r) = (other_form a clock x ≡ false) × IsResetOf a clock x r
+abbrev pub IsBlockReset : Arena → List ℕ → Process → BlockReset → Type 0
+IsBlockReset a clocks x B.Formless = other_form a clocks x ≡ true
+IsBlockReset a clocks x B.Absent = (other_form a clocks x ≡ false) × (reset_of (design_of a) clocks x ≡ None)
+IsBlockReset a clocks x (B.Present r) = (other_form a clocks x ≡ false) × IsResetOf a clocks x r
 
 -- the first process without the form of a block with a reset, or the resets of all
-abbrev pub AreForms : Arena → ℕ → Forms → Type 0
-AreForms a clock (F.Formless p) = IsFirst (design_of a) (other_form a clock) (Some p)
-AreForms a clock (F.All resets) = IsFirst (design_of a) (other_form a clock) None × AreAllResets a clock resets.items
+abbrev pub AreForms : Arena → List ℕ → Forms → Type 0
+AreForms a clocks (F.Formless p) = IsFirst (design_of a) (other_form a clocks) (Some p)
+AreForms a clocks (F.All resets) = IsFirst (design_of a) (other_form a clocks) None × AreAllResets a clocks resets.items

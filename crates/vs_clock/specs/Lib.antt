@@ -10,4 +10,5 @@ pub mod Refused
 pub mod Resets
 pub mod Roots
 pub mod Spread
+pub mod Dead
 pub mod Tests

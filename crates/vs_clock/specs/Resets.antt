@@ -16,9 +16,9 @@ abbrev pub branch_by : Option Events → Statement → Option Statement
 branch_by (Some (ByBoth clock reset)) s = reset_branch reset.edge reset.signal.first s
 branch_by _ s = None
 
-abbrev pub branch_of : Design → ℕ → Process → Option Statement
-branch_of d clock (Always place star events s) = branch_by (events_of (clock_nets d clock) (root_of d clock) events) s
-branch_of d clock _ = None
+abbrev pub branch_of : Design → List ℕ → Process → Option Statement
+branch_of d clocks (Always place star events s) = branch_by (events_of (clock_nets d clocks) (root_of d clocks) events) s
+branch_of d clocks _ = None
 
 -- the plain statement of the branch, and the reset as the plain design has it
 abbrev pub plain_branch : Arena → Reset → Statement
@@ -27,25 +27,25 @@ plain_branch a r = statement_at (arena_statements a) r.branch
 abbrev pub plain_reset : Arena → Reset → N.Reset
 plain_reset a r = record { net = r.net; edge = net_edge r.edge; input = r.input; writes = branch_writes (plain_branch a r); updates = branch_updates (plain_branch a r) }
 
--- the reset of a process, in the design that has this clock
-pub record IsResetOf (a : Arena) (clock : ℕ) (x : Process) (r : Reset) : Type 0 where
-  pub is : reset_of (design_of a) clock x ≡ Some (plain_reset a r)
-  pub branch : branch_of (design_of a) clock x ≡ Some (plain_branch a r)
+-- the reset of a process, in the design that has these clocks
+pub record IsResetOf (a : Arena) (clocks : List ℕ) (x : Process) (r : Reset) : Type 0 where
+  pub is : reset_of (design_of a) clocks x ≡ Some (plain_reset a r)
+  pub branch : branch_of (design_of a) clocks x ≡ Some (plain_branch a r)
   pub edge : is_edge r.edge ≡ true
   pub there : r.branch < length a.statements
 
 -- and there is none exactly where the design has none
-abbrev pub IsReset : Arena → ℕ → Process → Option Reset → Type 0
-IsReset a clock x None = reset_of (design_of a) clock x ≡ None
-IsReset a clock x (Some r) = IsResetOf a clock x r
+abbrev pub IsReset : Arena → List ℕ → Process → Option Reset → Type 0
+IsReset a clocks x None = reset_of (design_of a) clocks x ≡ None
+IsReset a clocks x (Some r) = IsResetOf a clocks x r
 
 abbrev pub reset_at : List (Option Reset) → ℕ → Option Reset
 reset_at resets p = slice_index_or resets p None
 
 -- of all processes by number
-pub record AreAllResets (a : Arena) (clock : ℕ) (resets : List (Option Reset)) : Type 0 where
+pub record AreAllResets (a : Arena) (clocks : List ℕ) (resets : List (Option Reset)) : Type 0 where
   pub count : length resets ≡ length (design_of a).processes
-  pub each : (p : ℕ) (x : Process) → slice_get (design_of a).processes p ≡ Some x → IsReset a clock x (reset_at resets p)
+  pub each : (p : ℕ) (x : Process) → slice_get (design_of a).processes p ≡ Some x → IsReset a clocks x (reset_at resets p)
 
 -- some of these resets copies the input
 abbrev pub is_from : ℕ → Option Reset → Bool

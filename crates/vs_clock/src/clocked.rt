@@ -1,16 +1,16 @@
-//! The rules on the clock of a design, and on its resets.
+//! The rules on the clocks of a design, and on its resets.
 
-ghost use Rattle.std.specs.Prelude.{◌≡◌, None, IfOk, IfErr, OnOk, option_map};
+ghost use Rattle.std.specs.Prelude.{◌≡◌, None, IfOk, IfErr, OnOk, map};
 ghost use Rattle.vs_design.specs.Refusals.{clock_refusal};
 ghost use Rattle.vs_flat.specs.DesignOf.{design_of};
 ghost use Rattle.vs_reads.specs.Footprint.{footprints_of};
-ghost use Rattle.vs_clock.specs.Clocked.{AreResets, IsClockOf};
+ghost use Rattle.vs_clock.specs.Clocked.{AreClocksOf, AreResets};
 ghost use Rattle.vs_clock.specs.Refused.{IsClockError};
 
 use crate::clocks::Clocks;
 use crate::error::ClockError;
 use crate::first::{first_other, first_reading};
-use crate::inputs::clock_of;
+use crate::inputs::{ClockInputs, clocks_of};
 use crate::marks::inputs_of;
 use crate::nets::Nets;
 use crate::resets::{Forms, resets_of};
@@ -19,27 +19,28 @@ use vs_flat::trees_law;
 use vs_reads::Footprints;
 use vs_typed::Typed;
 
-/// The clock of a design by the name of its input, or a design without a clock where none is named: then all inputs are data inputs, and each clocked block is
+/// The clocks of a design by the names of their inputs, or a design without a clock where none is named: then all inputs are data inputs, and each clocked block is
 /// `NotTheClock`. The rules are tried in the order of `ClockError`, and each answers its first process.
 pub fn check(
     alloc: Global,
     typed: &Typed,
     footprints: &Footprints,
-    clock: Option<&[u8]>,
+    clocks: &[&[u8]],
 ) -> Result<Clocks, ClockError>
     requires { footprints.now ≡ footprints_of (design_of typed.now) }
-    ensures clock { IfOk result (IsClockOf (design_of typed.now) (option_map (λ c. c.now) clock.entry)) }
+    ensures clocks { IfOk result (AreClocksOf (design_of typed.now) (map (λ c. c.now) clocks.now)) }
     ensures resets { IfOk result (AreResets typed.now) }
-    ensures lawful { OnOk result (clock_refusal (design_of typed.now) (option_map (λ c. c.now) clock.entry) ≡ None) }
-    ensures refused { IfErr result (IsClockError (design_of typed.now) (option_map (λ c. c.now) clock.entry)) }
+    ensures lawful { OnOk result (clock_refusal (design_of typed.now) (map (λ c. c.now) clocks.now) ≡ None) }
+    ensures refused { IfErr result (IsClockError (design_of typed.now) (map (λ c. c.now) clocks.now)) }
 {
     trees_law();
     let flat = typed.flat();
-    let found = match clock_of(flat, clock) {
-        Some(found) => found,
+    let found = clocks_of(alloc, flat, clocks)?;
+    let ClockInputs { numbers, bits } = match found {
+        Some(inputs) => inputs,
         None => return Err(ClockError::NoClock),
     };
-    let nets = Nets::of(alloc, flat, found.bit)?;
+    let nets = Nets::of(alloc, flat, bits.as_slice())?;
     match first_reading(flat, footprints, &nets) {
         Some(process) => {
             let at = flat.process(process).at;
@@ -62,5 +63,5 @@ pub fn check(
         }
     };
     let inputs = inputs_of(alloc, flat, &nets, resets.as_slice())?;
-    Ok(Clocks::of(found.number, found.bit, nets, resets, inputs))
+    Ok(Clocks::of(numbers, bits, nets, resets, inputs))
 }

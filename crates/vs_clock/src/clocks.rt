@@ -1,4 +1,4 @@
-//! The clock and the resets of a design.
+//! The clocks and the resets of a design.
 
 ghost use Rattle.std.specs.Prelude.{◌≡◌};
 
@@ -6,11 +6,11 @@ use crate::nets::Nets;
 use crate::resets::Reset;
 use std::marker::Model;
 
-/// The clock of a design: its input, where it has one, the nets that copy it and that copy other inputs, and the resets of its blocks.
+/// The clocks of a design: their inputs, where it has any, the nets that copy them and that copy other inputs, and the resets of its blocks.
 #[derive(Drop)]
 pub struct Clocks {
-    input: Option<u32>,
-    bit: u32,
+    inputs: Vec<u32>,
+    bits: Vec<u32>,
     nets: Nets,
     resets: Vec<Option<Reset>>,
     reset_inputs: Vec<u32>,
@@ -28,37 +28,37 @@ impl Clocks {
     ghost use Rattle.vs_clock.specs.Nets.{is_clock_bit, root_at};
     ghost use Rattle.vs_clock.specs.Resets.{reset_at};
 
-    /// The clock with this input, its bit, these nets and resets.
+    /// The clocks with these inputs, their bits, these nets and resets.
     pub(crate) fn of(
-        input: Option<u32>,
-        bit: u32,
+        inputs: Vec<u32>,
+        bits: Vec<u32>,
         nets: Nets,
         resets: Vec<Option<Reset>>,
         reset_inputs: Vec<u32>,
     ) -> Clocks
-        ensures { result ≡ record { input = input; bit = bit; nets = nets; resets = resets.items; reset_inputs = reset_inputs.items } }
+        ensures { result ≡ record { inputs = inputs.items; bits = bits.items; nets = nets; resets = resets.items; reset_inputs = reset_inputs.items } }
     {
         Clocks {
-            input,
-            bit,
+            inputs,
+            bits,
             nets,
             resets,
             reset_inputs,
         }
     }
 
-    /// The number of the clock input. None: no clock is named, and each input is a data input.
-    pub fn input(&self) -> Option<u32>
-        ensures { result ≡ self.now.input }
+    /// The numbers of the clock inputs, in the order in which they are named. None: no clock is named, and each input is a data input.
+    pub fn inputs(&self) -> &[u32]
+        ensures { result.now ≡ self.now.inputs }
     {
-        self.input
+        self.inputs.as_slice()
     }
 
-    /// The bit of the clock input. Without one it is the number of the design's bits, which is none of them.
-    pub fn bit(&self) -> u32
-        ensures { result ≡ self.now.bit }
+    /// The bits of the clock inputs. Where no clock is named it is one, the number of the design's bits, which is none of them.
+    pub fn bits(&self) -> &[u32]
+        ensures { result.now ≡ self.now.bits }
     {
-        self.bit
+        self.bits.as_slice()
     }
 
     /// Whether this bit is a clock net's. Without a clock input no bit of the design is.

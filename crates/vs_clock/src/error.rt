@@ -1,12 +1,12 @@
-//! Why a design has no lawful clock.
+//! Why a design has no lawful clocks.
 
 use std::alloc::AllocError;
 use thiserror::Error;
 
-/// Why the clock of a design, or a reset, is refused. Of several rules that are broken it is the first in this order, and of several processes the first one; it begins at token `at`.
+/// Why the clocks of a design, or a reset, are refused. Of several rules that are broken it is the first in this order, and of several processes the first one; it begins at token `at`.
 #[derive(Clone, Copy, PartialEq, Eq, Debug, Error)]
 pub enum ClockError {
-    /// The top has no one-bit input of this name.
+    /// The top has no one-bit input of one of these names, or a name is there twice.
     #[error("the top has no such clock")]
     NoClock,
     /// The process reads or waits on a clock net, and isn't an assign that hands it on.

@@ -1,6 +1,6 @@
 //! The events of clocked blocks (IEEE 1364-2005, 9.7.2).
 
-ghost use Rattle.std.specs.Prelude.{◌≡◌, ℕ, ◌<◌, ◌&&◌, length, map, slice_get, Some};
+ghost use Rattle.std.specs.Prelude.{◌≡◌, ℕ, ◌<◌, ◌&&◌, length, map, slice_get, Some, List};
 ghost use Rattle.vs_flat.specs.declared.processes.Event.{Event};
 ghost use Rattle.vs_design.specs.Clocks.{is_clock_event, is_reset_event, both_events, events_of, clock_nets, root_of};
 ghost use Rattle.vs_flat.specs.DesignOf.{arena_signals, design_of, event_of};
@@ -27,7 +27,7 @@ pub(crate) enum BlockEvents {
 /// Whether an event is a posedge of a clock net.
 fn is_clock(flat: &Flat, nets: &Nets, event: Event) -> bool
     requires { event.signal < length flat.now.signals }
-    ensures { (clock : ℕ) → AreNets (design_of flat.now) clock nets.now → result ≡ is_clock_event (clock_nets (design_of flat.now) clock) (event_of (signal_at (arena_signals flat.now)) event) }
+    ensures { (clock : List ℕ) → AreNets (design_of flat.now) clock nets.now → result ≡ is_clock_event (clock_nets (design_of flat.now) clock) (event_of (signal_at (arena_signals flat.now)) event) }
 {
     match event.edge {
         Edge::Posedge => match only_bit(flat, event.signal) {
@@ -41,7 +41,7 @@ fn is_clock(flat: &Flat, nets: &Nets, event: Event) -> bool
 /// Whether an event is an edge of a reset net.
 fn is_reset(flat: &Flat, nets: &Nets, event: Event) -> bool
     requires { event.signal < length flat.now.signals }
-    ensures { (clock : ℕ) → AreNets (design_of flat.now) clock nets.now → result ≡ is_reset_event (root_of (design_of flat.now) clock) (event_of (signal_at (arena_signals flat.now)) event) }
+    ensures { (clock : List ℕ) → AreNets (design_of flat.now) clock nets.now → result ≡ is_reset_event (root_of (design_of flat.now) clock) (event_of (signal_at (arena_signals flat.now)) event) }
 {
     match event.edge {
         Edge::Posedge | Edge::Negedge => match only_bit(flat, event.signal) {
@@ -56,7 +56,7 @@ fn is_reset(flat: &Flat, nets: &Nets, event: Event) -> bool
 fn are_both(flat: &Flat, nets: &Nets, clock: Event, reset: Event) -> bool
     requires clock { clock.signal < length flat.now.signals }
     requires reset { reset.signal < length flat.now.signals }
-    ensures { (c : ℕ) → AreNets (design_of flat.now) c nets.now → result ≡ (is_clock_event (clock_nets (design_of flat.now) c) (event_of (signal_at (arena_signals flat.now)) clock)
+    ensures { (c : List ℕ) → AreNets (design_of flat.now) c nets.now → result ≡ (is_clock_event (clock_nets (design_of flat.now) c) (event_of (signal_at (arena_signals flat.now)) clock)
         && is_reset_event (root_of (design_of flat.now) c) (event_of (signal_at (arena_signals flat.now)) reset)) }
 {
     if is_clock(flat, nets, clock) {
@@ -71,7 +71,7 @@ fn both_events(flat: &Flat, nets: &Nets, e: Event, f: Event) -> BlockEvents
     requires first { e.signal < length flat.now.signals }
     requires second { f.signal < length flat.now.signals }
     ensures there { HasSignal (length flat.now.signals) result }
-    ensures events { (c : ℕ) → AreNets (design_of flat.now) c nets.now → AreEvents (signal_at (arena_signals flat.now)) result
+    ensures events { (c : List ℕ) → AreNets (design_of flat.now) c nets.now → AreEvents (signal_at (arena_signals flat.now)) result
         (both_events (clock_nets (design_of flat.now) c) (root_of (design_of flat.now) c) (event_of (signal_at (arena_signals flat.now)) e) (event_of (signal_at (arena_signals flat.now)) f)) }
 {
     if are_both(flat, nets, e, f) {
@@ -87,7 +87,7 @@ fn both_events(flat: &Flat, nets: &Nets, e: Event, f: Event) -> BlockEvents
 pub(crate) fn events_of(flat: &Flat, nets: &Nets, events: &[Event]) -> BlockEvents
     requires { (k : ℕ) (e : Event) → slice_get events.now k ≡ Some e → e.signal < length flat.now.signals }
     ensures there { HasSignal (length flat.now.signals) result }
-    ensures events { (c : ℕ) → AreNets (design_of flat.now) c nets.now → AreEvents (signal_at (arena_signals flat.now)) result
+    ensures events { (c : List ℕ) → AreNets (design_of flat.now) c nets.now → AreEvents (signal_at (arena_signals flat.now)) result
         (events_of (clock_nets (design_of flat.now) c) (root_of (design_of flat.now) c) (map (event_of (signal_at (arena_signals flat.now))) events.now)) }
 {
     if events.len() == 1 {

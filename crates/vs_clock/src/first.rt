@@ -1,6 +1,6 @@
 //! The first process that breaks a rule.
 
-ghost use Rattle.std.specs.Prelude.{◌≡◌, ℕ};
+ghost use Rattle.std.specs.Prelude.{◌≡◌, ℕ, List};
 ghost use Rattle.vs_design.specs.Clocks.{reads_clock, has_other_clock, clock_nets, root_of};
 ghost use Rattle.vs_flat.specs.DesignOf.{design_of};
 ghost use Rattle.vs_flat.specs.Lawful.{IsLawful};
@@ -17,7 +17,7 @@ use vs_reads::Footprints;
 pub(crate) fn first_reading(flat: &Flat, footprints: &Footprints, nets: &Nets) -> Option<u32>
     requires lawful { IsLawful flat.now }
     requires footprints { footprints.now ≡ footprints_of (design_of flat.now) }
-    ensures { (c : ℕ) → AreNets (design_of flat.now) c nets.now → IsFirst (design_of flat.now) (reads_clock (clock_nets (design_of flat.now) c)) result }
+    ensures { (c : List ℕ) → AreNets (design_of flat.now) c nets.now → IsFirst (design_of flat.now) (reads_clock (clock_nets (design_of flat.now) c)) result }
 {
     trees_law();
     for p in 0..flat.process_count() {
@@ -31,7 +31,7 @@ pub(crate) fn first_reading(flat: &Flat, footprints: &Footprints, nets: &Nets) -
 /// The first clocked block whose events are others than a posedge of a clock net, or that and an edge of a reset net.
 pub(crate) fn first_other(flat: &Flat, nets: &Nets) -> Option<u32>
     requires { IsLawful flat.now }
-    ensures { (c : ℕ) → AreNets (design_of flat.now) c nets.now → IsFirst (design_of flat.now) (has_other_clock (clock_nets (design_of flat.now) c) (root_of (design_of flat.now) c)) result }
+    ensures { (c : List ℕ) → AreNets (design_of flat.now) c nets.now → IsFirst (design_of flat.now) (has_other_clock (clock_nets (design_of flat.now) c) (root_of (design_of flat.now) c)) result }
 {
     trees_law();
     for p in 0..flat.process_count() {

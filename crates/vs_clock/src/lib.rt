@@ -4,6 +4,7 @@
 mod clocked;
 mod clocks;
 mod compared;
+mod dead;
 mod error;
 mod events;
 mod first;
@@ -20,6 +21,7 @@ mod targets;
 
 pub use clocked::check;
 pub use clocks::Clocks;
+pub use dead::dead_blocks;
 pub use error::ClockError;
 pub use inputs::are_same;
 pub use resets::Reset;

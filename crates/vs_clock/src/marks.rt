@@ -1,6 +1,6 @@
 //! The inputs of a design that its resets copy.
 
-ghost use Rattle.std.specs.Prelude.{◌≡◌, ℕ, false, slice_index_or, filter, IfOk};
+ghost use Rattle.std.specs.Prelude.{◌≡◌, ℕ, false, slice_index_or, filter, IfOk, List};
 ghost use Rattle.vs_design.specs.Designs.{bit_count};
 ghost use Rattle.vs_design.specs.Resets.{reset_inputs};
 ghost use Rattle.vs_flat.specs.DesignOf.{design_of};
@@ -28,7 +28,7 @@ fn marks_of(alloc: Global, bits: u32, resets: &[Option<Reset>]) -> Result<Vec<bo
 }
 
 /// Whether a bit is marked.
-fn is_marked(marks: &[bool], bit: u32) -> bool
+pub(crate) fn is_marked(marks: &[bool], bit: u32) -> bool
     ensures { result ≡ slice_index_or marks.now bit false }
 {
     match marks.get(bit as usize) {
@@ -58,7 +58,7 @@ pub(crate) fn inputs_of(
     resets: &[Option<Reset>],
 ) -> Result<Vec<u32>, AllocError>
     requires { HasInputs (bit_count (design_of flat.now)) resets.now }
-    ensures { (c : ℕ) → AreNets (design_of flat.now) c nets.now → AreAllResets flat.now c resets.now → IfOk result (λ v. v.items ≡ reset_inputs (design_of flat.now) c) }
+    ensures { (c : List ℕ) → AreNets (design_of flat.now) c nets.now → AreAllResets flat.now c resets.now → IfOk result (λ v. v.items ≡ reset_inputs (design_of flat.now) c) }
 {
     trees_law();
     let marks = marks_of(alloc, count_bits(flat), resets)?;

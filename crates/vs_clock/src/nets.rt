@@ -1,13 +1,14 @@
 //! The clock nets and the reset nets of a design.
 
-ghost use Rattle.std.specs.Prelude.{◌≡◌, ◌≤◌, ℕ, length, IfOk};
-ghost use Rattle.std.specs.List.{list_any};
+ghost use Rattle.std.specs.Prelude.{◌≡◌, ℕ, length, nat_lt, IfOk};
+ghost use Rattle.std.specs.List.{list_all, list_any};
 ghost use Rattle.vs_design.specs.Designs.{bit_count};
 ghost use Rattle.vs_flat.specs.DesignOf.{design_of};
 ghost use Rattle.vs_flat.specs.Lawful.{IsLawful};
 ghost use Rattle.vs_design.specs.Clocks.{clock_nets};
 ghost use Rattle.vs_design.specs.Footprints.{contains};
-ghost use Rattle.vs_clock.specs.Roots.{AreAllTargets};
+ghost use Rattle.vs_clock.specs.Inputs.{AreClockBits};
+ghost use Rattle.vs_clock.specs.Roots.{AreAllTargets, AreWithin};
 ghost use Rattle.vs_clock.specs.Spread.{has_label};
 
 use crate::inputs::reset_bits;
@@ -16,10 +17,10 @@ use crate::roots::roots_of;
 use crate::targets::Targets;
 use std::alloc::{AllocError, Global};
 use std::marker::Model;
-use vs_design::spare_law;
+use vs_design::{clocks_law, spare_law};
 use vs_flat::{Flat, count_bits, trees_law};
 
-/// For each bit whether it copies the clock, and the input that it copies; and these inputs.
+/// For each bit whether it copies a clock, and the input that it copies; and these inputs.
 #[derive(Drop)]
 pub(crate) struct Nets {
     clock: Vec<Option<u32>>,
@@ -27,26 +28,36 @@ pub(crate) struct Nets {
     inputs: Vec<u32>,
 }
 
-/// For each bit a label where it copies the clock. A clock that is none of the design's bits has its label behind theirs.
+/// Whether all these bits are below this number.
+fn are_below(bits: &[u32], count: u32) -> bool
+    ensures { result ≡ list_all (λ b. nat_lt b count) bits.now }
+{
+    bits.iter().all(|bit| *bit < count)
+}
+
+/// For each bit a label where it copies a clock. A clock that is none of the design's bits has its label behind theirs.
 fn clock_labels(
     alloc: Global,
     flat: &Flat,
     targets: &Targets,
-    clock: u32,
+    clocks: &[u32],
 ) -> Result<Vec<Option<u32>>, AllocError>
     requires lawful { IsLawful flat.now }
     requires count { length targets.now ≡ bit_count (design_of flat.now) }
+    requires within { AreWithin targets.now }
     requires targets { AreAllTargets (design_of flat.now) targets.now }
-    requires clock { clock ≤ bit_count (design_of flat.now) }
-    ensures { IfOk result (λ v. (b : ℕ) → has_label v.items b ≡ contains (clock_nets (design_of flat.now) clock) b) }
+    requires clocks { AreClockBits (design_of flat.now) clocks.now }
+    ensures { IfOk result (λ v. (b : ℕ) → has_label v.items b ≡ contains (clock_nets (design_of flat.now) clocks.now) b) }
 {
     spare_law();
+    clocks_law();
     trees_law();
-    if clock < count_bits(flat) {
-        return roots_of(alloc, flat, targets, &[clock]);
+    let count = count_bits(flat);
+    if are_below(clocks, count) {
+        return roots_of(alloc, targets, clocks);
     }
-    let mut labels = roots_of(alloc, flat, targets, &[])?;
-    labels.push(Some(clock))?;
+    let mut labels = roots_of(alloc, targets, &[])?;
+    labels.push(Some(count))?;
     Ok(labels)
 }
 
@@ -61,17 +72,19 @@ impl Model for Nets {
 impl Nets {
     ghost use Rattle.vs_clock.specs.Nets.{AreNets, is_clock_bit, root_at};
 
-    /// The nets of a design whose clock is this bit; the number of its bits stands for none.
-    pub(crate) fn of(alloc: Global, flat: &Flat, clock: u32) -> Result<Nets, AllocError>
+    /// The nets of a design whose clocks are these bits; the number of its bits alone stands for none.
+    pub(crate) fn of(alloc: Global, flat: &Flat, clocks: &[u32]) -> Result<Nets, AllocError>
         requires lawful { IsLawful flat.now }
-        requires clock { clock ≤ bit_count (design_of flat.now) }
-        ensures { IfOk result (AreNets (design_of flat.now) clock) }
+        requires clocks { AreClockBits (design_of flat.now) clocks.now }
+        ensures { IfOk result (AreNets (design_of flat.now) clocks.now) }
     {
         let targets = targets_of(alloc, flat)?;
-        let inputs = reset_bits(alloc, flat, clock)?;
+        let inputs = reset_bits(alloc, flat, clocks)?;
+        let clock = clock_labels(alloc, flat, &targets, clocks)?;
+        let roots = roots_of(alloc, &targets, inputs.as_slice())?;
         Ok(Nets {
-            clock: clock_labels(alloc, flat, &targets, clock)?,
-            roots: roots_of(alloc, flat, &targets, inputs.as_slice())?,
+            clock,
+            roots,
             inputs,
         })
     }

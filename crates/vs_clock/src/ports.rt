@@ -2,17 +2,20 @@
 
 ghost use Rattle.std.specs.Prelude.{◌≡◌, ◌<◌, ℕ, length, slice_get, IfOk, Some};
 ghost use Rattle.vs_design.specs.Clocks.{name_of};
+ghost use Rattle.vs_design.specs.Dead.{ports_alone};
 ghost use Rattle.vs_design.specs.Designs as D;
 ghost use Rattle.vs_flat.specs.DesignOf.{arena_signals, arena_trees, design_of};
 ghost use Rattle.vs_flat.specs.Lawful.{IsLawful};
 ghost use Rattle.vs_flat.specs.Trees.{signal_at, signal_of, tree_at};
-ghost use Rattle.vs_clock.specs.Roots.{AreAllTargets};
-ghost use Rattle.vs_clock.specs.Ports.{bit_of, both_bits, one_bit, only_part, port_bits, target_bit};
+ghost use Rattle.vs_clock.specs.Roots.{AreAllTargets, AreWithin};
+ghost use Rattle.vs_clock.specs.Ports.{bit_of, both_bits, is_port_kind, one_bit, only_part, port_bits, ported_bits, target_bit};
 
 use crate::targets::Targets;
 use std::alloc::{AllocError, Global};
 use vs_design::footprint_law;
-use vs_flat::{Flat, Kind, Node, Signal, count_bits, lawful_law, names_law, range_bits, trees_law};
+use vs_flat::{
+    Flat, Kind, Node, Port, Signal, count_bits, lawful_law, names_law, range_bits, trees_law,
+};
 use vs_shape::{local_of, node_of};
 
 /// The bit of this signal, if it has one.
@@ -102,10 +105,34 @@ pub(crate) fn copied_bits(flat: &Flat, p: u32) -> Option<(u32, u32)>
     }
 }
 
+/// Whether a process is an assign that stands for a port of an instance.
+fn is_port(kind: &Kind) -> bool
+    ensures { result ≡ is_port_kind kind.now }
+{
+    match kind {
+        Kind::Assign { port, .. } => !matches!(port, Port::Written),
+        Kind::Block { .. } => false,
+    }
+}
+
+/// The bit that process p copies, and the bit that it copies it to, where it stands for a port between nets of one bit.
+fn ported_bits(flat: &Flat, p: u32) -> Option<(u32, u32)>
+    requires lawful { IsLawful flat.now }
+    requires there { p < length flat.now.processes }
+    ensures { (x : D.Process) → slice_get (design_of flat.now).processes p ≡ Some x → result ≡ ported_bits x }
+{
+    trees_law();
+    if is_port(&flat.process(p).kind) {
+        return copied_bits(flat, p);
+    }
+    None
+}
+
 /// The bits that assigns copy each bit to.
 pub(crate) fn targets_of(alloc: Global, flat: &Flat) -> Result<Targets, AllocError>
     requires { IsLawful flat.now }
     ensures count { IfOk result (λ t. length t ≡ D.bit_count (design_of flat.now)) }
+    ensures within { IfOk result (λ t. AreWithin t) }
     ensures targets { IfOk result (λ t. AreAllTargets (design_of flat.now) t) }
 {
     trees_law();
@@ -113,6 +140,25 @@ pub(crate) fn targets_of(alloc: Global, flat: &Flat) -> Result<Targets, AllocErr
     let mut targets = Targets::none(alloc, count_bits(flat))?;
     for p in 0..flat.process_count() {
         match copied_bits(flat, p) {
+            Some((from, to)) => targets.add(from, to)?,
+            None => {}
+        }
+    }
+    Ok(targets)
+}
+
+/// The bits that ports copy each bit to.
+pub(crate) fn port_targets_of(alloc: Global, flat: &Flat) -> Result<Targets, AllocError>
+    requires { IsLawful flat.now }
+    ensures count { IfOk result (λ t. length t ≡ D.bit_count (design_of flat.now)) }
+    ensures within { IfOk result (λ t. AreWithin t) }
+    ensures targets { IfOk result (λ t. AreAllTargets (ports_alone (design_of flat.now)) t) }
+{
+    trees_law();
+    footprint_law();
+    let mut targets = Targets::none(alloc, count_bits(flat))?;
+    for p in 0..flat.process_count() {
+        match ported_bits(flat, p) {
             Some((from, to)) => targets.add(from, to)?,
             None => {}
         }

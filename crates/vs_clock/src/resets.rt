@@ -1,6 +1,6 @@
 //! The asynchronous resets of clocked blocks (IEEE 1364-2005, 9.7.2).
 
-ghost use Rattle.std.specs.Prelude.{◌≡◌, ℕ, ◌<◌, true, length, slice_get, IfOk};
+ghost use Rattle.std.specs.Prelude.{◌≡◌, ℕ, ◌<◌, true, length, slice_get, IfOk, List};
 ghost use Rattle.vs_design.specs.Designs as D;
 ghost use Rattle.vs_design.specs.Fits.{fits_statement};
 ghost use Rattle.vs_flat.specs.DesignOf.{arena_signals, arena_statements, design_of, event_of};
@@ -54,7 +54,7 @@ fn event_reset(typed: &Typed, nets: &Nets, event: Event, statement: u32) -> Bloc
     requires event { event.signal < length typed.now.signals }
     requires there { statement < length typed.now.statements }
     requires fits { fits_statement (statement_at (arena_statements typed.now) statement) ≡ true }
-    ensures { (c : ℕ) → AreNets (design_of typed.now) c nets.now → IsEventReset typed.now c (event_of (signal_at (arena_signals typed.now)) event) (statement_at (arena_statements typed.now) statement) result }
+    ensures { (c : List ℕ) → AreNets (design_of typed.now) c nets.now → IsEventReset typed.now c (event_of (signal_at (arena_signals typed.now)) event) (statement_at (arena_statements typed.now) statement) result }
 {
     trees_law();
     let net = typed.flat().signal(event.signal).first_bit;
@@ -75,7 +75,7 @@ fn event_reset(typed: &Typed, nets: &Nets, event: Event, statement: u32) -> Bloc
 /// What process p has of a reset.
 fn block_reset(typed: &Typed, nets: &Nets, p: u32) -> BlockReset
     requires { p < length typed.now.processes }
-    ensures { (c : ℕ) → AreNets (design_of typed.now) c nets.now → (x : D.Process) → slice_get (design_of typed.now).processes p ≡ Some x → IsBlockReset typed.now c x result }
+    ensures { (c : List ℕ) → AreNets (design_of typed.now) c nets.now → (x : D.Process) → slice_get (design_of typed.now).processes p ≡ Some x → IsBlockReset typed.now c x result }
 {
     trees_law();
     names_law();
@@ -97,7 +97,7 @@ fn block_reset(typed: &Typed, nets: &Nets, p: u32) -> BlockReset
 
 /// The resets of all processes, or the first block with a reset that hasn't the form of one.
 pub(crate) fn resets_of(alloc: Global, typed: &Typed, nets: &Nets) -> Result<Forms, AllocError>
-    ensures { IfOk result (λ f. (c : ℕ) → AreNets (design_of typed.now) c nets.now → AreForms typed.now c f) }
+    ensures { IfOk result (λ f. (c : List ℕ) → AreNets (design_of typed.now) c nets.now → AreForms typed.now c f) }
 {
     trees_law();
     let mut resets = Vec::new(alloc);

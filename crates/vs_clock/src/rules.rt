@@ -1,6 +1,6 @@
 //! The tests of single processes.
 
-ghost use Rattle.std.specs.Prelude.{◌≡◌, ℕ, ◌<◌, length, slice_get, Some};
+ghost use Rattle.std.specs.Prelude.{◌≡◌, ℕ, ◌<◌, length, slice_get, Some, List};
 ghost use Rattle.vs_design.specs.Designs as D;
 ghost use Rattle.vs_design.specs.Clocks.{is_clock_port, reads_clock, has_other_clock, clock_nets, root_of};
 ghost use Rattle.vs_flat.specs.DesignOf.{design_of};
@@ -18,7 +18,7 @@ use vs_reads::{Footprints, footprint_law};
 fn is_port(flat: &Flat, nets: &Nets, p: u32) -> bool
     requires lawful { IsLawful flat.now }
     requires process { p < length flat.now.processes }
-    ensures { (c : ℕ) → AreNets (design_of flat.now) c nets.now → (x : D.Process) → slice_get (design_of flat.now).processes p ≡ Some x → result ≡ is_clock_port (clock_nets (design_of flat.now) c) x }
+    ensures { (c : List ℕ) → AreNets (design_of flat.now) c nets.now → (x : D.Process) → slice_get (design_of flat.now).processes p ≡ Some x → result ≡ is_clock_port (clock_nets (design_of flat.now) c) x }
 {
     match copied_bits(flat, p) {
         Some((from, _)) => nets.is_clock(from),
@@ -31,7 +31,7 @@ pub(crate) fn is_reading(flat: &Flat, footprints: &Footprints, nets: &Nets, p: u
     requires lawful { IsLawful flat.now }
     requires footprints { footprints.now ≡ footprints_of (design_of flat.now) }
     requires process { p < length flat.now.processes }
-    ensures { (c : ℕ) → AreNets (design_of flat.now) c nets.now → (x : D.Process) → slice_get (design_of flat.now).processes p ≡ Some x → result ≡ reads_clock (clock_nets (design_of flat.now) c) x }
+    ensures { (c : List ℕ) → AreNets (design_of flat.now) c nets.now → (x : D.Process) → slice_get (design_of flat.now).processes p ≡ Some x → result ≡ reads_clock (clock_nets (design_of flat.now) c) x }
 {
     trees_law();
     footprint_law();
@@ -48,7 +48,7 @@ pub(crate) fn is_reading(flat: &Flat, footprints: &Footprints, nets: &Nets, p: u
 pub(crate) fn is_other(flat: &Flat, nets: &Nets, p: u32) -> bool
     requires lawful { IsLawful flat.now }
     requires process { p < length flat.now.processes }
-    ensures { (c : ℕ) → AreNets (design_of flat.now) c nets.now → (x : D.Process) → slice_get (design_of flat.now).processes p ≡ Some x → result ≡ has_other_clock (clock_nets (design_of flat.now) c) (root_of (design_of flat.now) c) x }
+    ensures { (c : List ℕ) → AreNets (design_of flat.now) c nets.now → (x : D.Process) → slice_get (design_of flat.now).processes p ≡ Some x → result ≡ has_other_clock (clock_nets (design_of flat.now) c) (root_of (design_of flat.now) c) x }
 {
     trees_law();
     names_law();

@@ -33,6 +33,13 @@ impl Targets {
         Ok(Targets { of })
     }
 
+    /// Of how many bits they are.
+    pub(crate) fn len(&self) -> usize
+        ensures { result ≡ length self.now }
+    {
+        self.of.len()
+    }
+
     /// Adds an assign that copies a bit.
     pub(crate) fn add(&mut self, bit: u32, to: u32) -> Result<(), AllocError>
         requires { bit < length self.old }

@@ -2,7 +2,7 @@
 use Rattle.std.proofs.Common.{◌≡◌, ℕ, zero, suc, ◌<◌, arith, length, Bool, true, false, ◌||◌, List, [], ◌∷◌, Option, Some, slice_get, sym, ap, ◌∙◌, subst, refl}
 use Rattle.std.specs.List.{list_any}
 use Rattle.vs_design.specs.Accepted.{is_empty}
-use Rattle.vs_design.specs.Clocks.{clock_nets, reads_clock}
+use Rattle.vs_design.specs.Clocks.{clock_bits, clock_nets, reads_clock}
 use Rattle.vs_design.specs.Designs.{Process, Design, bit_count}
 use Rattle.vs_design.specs.Elaborated.{IsLawfulDesign}
 use Rattle.vs_design.specs.Footprints.{contains, writes_of}
@@ -26,14 +26,14 @@ use Rattle.vs_compile.proofs.Lists.{at_process, is_none, same_any, same_test}
 use Rattle.vs_compile.proofs.Needs.{bits_of}
 use Rattle.vs_compile.proofs.Ports.{needs_tell}
 
-pub accepted_at : (d : Design) (c : Clocked) → IsAcceptedBy d c → IsAcceptedAt d c.bit
+pub accepted_at : (d : Design) (c : Clocked) → IsAcceptedBy d c → IsAcceptedAt d c.bits
 accepted_at d c h = record {
-  name = h.name;
+  names = h.names;
   accepted = h.accepted;
-  clock_is = ap (λ (s : Signal). s.first) (some_is h.accepted.clock h.clock.signal (sym h.accepted.clock_found ∙ h.clock.is)) ∙ sym h.clock.bit_is;
+  clocks_are = ap clock_bits (some_is h.accepted.clocks h.clocks.signals (sym h.accepted.clocks_found ∙ h.clocks.are)) ∙ sym h.clocks.bits_are;
 }
   where
-    some_is : (a b : Signal) → Some a ≡ Some b → a ≡ b
+    some_is : (a b : List Signal) → Some a ≡ Some b → a ≡ b
     some_is a b q = cc
 
 pub are_facts : (a : Arena) (fs : List Footprint) (c : Clocked) → IsAcceptedBy (design_of a) c → fs ≡ footprints_of (design_of a) → AreResets a c → AreFacts a fs c
@@ -42,12 +42,12 @@ are_facts a fs c h foot resets =
     record {
       accepted = at;
       footprints_are = foot;
-      nets = subst (λ n. AreNets (design_of a) n c.nets) (sym h.clock.bit_is) h.clock.nets_are;
+      nets = subst (λ n. AreNets (design_of a) n c.nets) (sym h.clocks.bits_are) h.clocks.nets_are;
       resets = resets;
     }
 
-pub none_missing : (d : Design) (clock : ℕ) → IsAcceptedAt d clock → (p : ℕ) (x : Process) → slice_get d.processes p ≡ Some x → missing_bits x ≡ []
-none_missing d clock at p x e = is_none (missing_bits x) (at_process (λ z. is_empty (missing_bits z)) d.processes p x at.accepted.sensitive e)
+pub none_missing : (d : Design) (clocks : List ℕ) → IsAcceptedAt d clocks → (p : ℕ) (x : Process) → slice_get d.processes p ≡ Some x → missing_bits x ≡ []
+none_missing d clocks at p x e = is_none (missing_bits x) (at_process (λ z. is_empty (missing_bits z)) d.processes p x at.accepted.sensitive e)
 
 none_passes : (test : Process → Bool) (ps : List Process) (p : ℕ) (x : Process) → list_any test ps ≡ false → slice_get ps p ≡ Some x → test x ≡ false
 none_passes test [] p x h e = cc
@@ -65,18 +65,18 @@ none_passes test (y ∷ ps) (suc p) x h e = none_passes test ps p x (right (test
     right false v k = k
     right true v k = cc
 
-pub clock_unread : (d : Design) (clock : ℕ) → IsAcceptedAt d clock → (p : ℕ) (x : Process) → slice_get d.processes p ≡ Some x → reads_clock (clock_nets d clock) x ≡ false
-clock_unread d clock at p x e =
-    subst (λ c. reads_clock (clock_nets d c) x ≡ false) at.clock_is (none_passes (reads_clock (clock_nets d at.accepted.clock.first)) d.processes p x at.accepted.clock_unread e)
+pub clock_unread : (d : Design) (clocks : List ℕ) → IsAcceptedAt d clocks → (p : ℕ) (x : Process) → slice_get d.processes p ≡ Some x → reads_clock (clock_nets d clocks) x ≡ false
+clock_unread d clocks at p x e =
+    subst (λ c. reads_clock (clock_nets d c) x ≡ false) at.clocks_are (none_passes (reads_clock (clock_nets d (clock_bits at.accepted.clocks))) d.processes p x at.accepted.clock_unread e)
 
 -- ---- what is known of a design
 
 pub record KnownFacts (k : Known) (fs : List Footprint) (nets : Labelled) : Type 0 where
-  pub accepted : IsAcceptedAt (design_of k.arena) k.clock
+  pub accepted : IsAcceptedAt (design_of k.arena) k.clocks
   pub footprints_are : fs ≡ footprints_of (design_of k.arena)
-  pub nets_are : AreNets (design_of k.arena) k.clock nets
+  pub nets_are : AreNets (design_of k.arena) k.clocks nets
 
-pub known_facts : (a : Arena) (fs : List Footprint) (c : Clocked) (k : Known) → record { arena = a; clock = c.bit } ≡ k → AreFacts a fs c → KnownFacts k fs c.nets
+pub known_facts : (a : Arena) (fs : List Footprint) (c : Clocked) (k : Known) → record { arena = a; clocks = c.bits } ≡ k → AreFacts a fs c → KnownFacts k fs c.nets
 known_facts a fs c k is are = subst (λ (z : Known). KnownFacts z fs c.nets) is (record { accepted = are.accepted; footprints_are = are.footprints_are; nets_are = are.nets })
 
 -- there is a process of each number below their count
@@ -92,7 +92,7 @@ needs_known k fs nets facts p low list has =
     let d = design_of k.arena in
     let x = there d.processes p low in
     subst (λ (o : Option Process). HasBitsOf (bit_count d) list (needs_or o)) (sym x.1)
-    (has d x.0 facts.footprints_are facts.accepted.accepted.lawful x.1 (none_missing d k.clock facts.accepted p x.0 x.1))
+    (has d x.0 facts.footprints_are facts.accepted.accepted.lawful x.1 (none_missing d k.clocks facts.accepted p x.0 x.1))
 
 pub writes_known : EachHasItsBits → (k : Known) (fs : List Footprint) (nets : Labelled) → KnownFacts k fs nets → (p : ℕ) → p < length (design_of k.arena).processes → (list : List ℕ) → list ≡ R.writes_at fs p
     → HasBitsOf (bit_count (design_of k.arena)) list (writes_at (design_of k.arena) p)
@@ -105,24 +105,24 @@ writes_known bits k fs nets facts p low list is =
     (bits_of (bit_count d) (R.writes_at (footprints_of d) p) (writes_of x.0) (bits d facts.accepted.accepted.lawful p x.0 x.1).writes))
 
 -- a process needs a clock net where it is a port that copies the clock
-pub ports_known : (k : Known) (fs : List Footprint) (nets : Labelled) → KnownFacts k fs nets → (p : ℕ) → p < length (design_of k.arena).processes → (clock : ℕ) → clock ≡ k.clock → (list : List ℕ)
+pub ports_known : (k : Known) (fs : List Footprint) (nets : Labelled) → KnownFacts k fs nets → (p : ℕ) → p < length (design_of k.arena).processes → (clocks : List ℕ) → clocks ≡ k.clocks → (list : List ℕ)
     → HasBitsOf (bit_count (design_of k.arena)) list (needs_at (design_of k.arena) p) → (result : Bool) → result ≡ list_any (is_clock_bit nets) list
-    → result ≡ is_port_or (clock_nets (design_of k.arena) clock) (slice_get (design_of k.arena).processes p)
-ports_known k fs nets facts p low clock this list has result is =
+    → result ≡ is_port_or (clock_nets (design_of k.arena) clocks) (slice_get (design_of k.arena).processes p)
+ports_known k fs nets facts p low clocks this list has result is =
     let d = design_of k.arena in
     let x = there d.processes p low in
-    let all = clock_nets d k.clock in
+    let all = clock_nets d k.clocks in
     let at : needs_at d p ≡ needs x.0 = ap needs_or x.1 in
     is
     ∙ same_test (is_clock_bit nets) (contains all) list facts.nets_are.clock
     ∙ same_any (contains all) list (needs_at d p) has.same
     ∙ ap (list_any (contains all)) at
-    ∙ needs_tell all x.0 (clock_unread d k.clock facts.accepted p x.0 x.1)
+    ∙ needs_tell all x.0 (clock_unread d k.clocks facts.accepted p x.0 x.1)
     ∙ sym (ap (λ c. is_port_or (clock_nets d c) (slice_get d.processes p)) this ∙ ap (is_port_or all) x.1)
 
 -- the reset of each process is the one that is told of the clock
-pub reset_known : (a : Arena) (fs : List Footprint) (c : Clocked) (k : Known) → record { arena = a; clock = c.bit } ≡ k → AreFacts a fs c → (p : ℕ) (result : Option Reset) → result ≡ reset_at c.resets p
-    → (x : Process) → slice_get (design_of k.arena).processes p ≡ Some x → IsReset k.arena k.clock x result
+pub reset_known : (a : Arena) (fs : List Footprint) (c : Clocked) (k : Known) → record { arena = a; clocks = c.bits } ≡ k → AreFacts a fs c → (p : ℕ) (result : Option Reset) → result ≡ reset_at c.resets p
+    → (x : Process) → slice_get (design_of k.arena).processes p ≡ Some x → IsReset k.arena k.clocks x result
 reset_known a fs c k is are p result same =
-    subst (λ (z : Known). (x : Process) → slice_get (design_of z.arena).processes p ≡ Some x → IsReset z.arena z.clock x result) is
-    (λ x e. subst (λ (o : Option Reset). IsReset a c.bit x o) (sym same) (are.resets.resets.each p x e))
+    subst (λ (z : Known). (x : Process) → slice_get (design_of z.arena).processes p ≡ Some x → IsReset z.arena z.clocks x result) is
+    (λ x e. subst (λ (o : Option Reset). IsReset a c.bits x o) (sym same) (are.resets.resets.each p x e))

@@ -172,9 +172,9 @@ pub record HasBranch (x : Process) (edge : N.Edge) (taken : Statement) : Type 0 
   pub fixed : is_fixed taken ≡ true
   pub clocked : is_clocked x ≡ true
 
-pub has_branch : (d : Design) (clock : ℕ) (x : Process) (r : N.Reset) (t : Statement) → reset_of d clock x ≡ Some r → branch_of d clock x ≡ Some t → HasBranch x r.edge t
-has_branch d clock (Continuous place port target_place target e) r t h k = cc
-has_branch d clock (Always place star events s) r t h k = by_events (events_of (clock_nets d clock) (root_of d clock) events) refl h k
+pub has_branch : (d : Design) (clocks : List ℕ) (x : Process) (r : N.Reset) (t : Statement) → reset_of d clocks x ≡ Some r → branch_of d clocks x ≡ Some t → HasBranch x r.edge t
+has_branch d clocks (Continuous place port target_place target e) r t h k = cc
+has_branch d clocks (Always place star events s) r t h k = by_events (events_of (clock_nets d clocks) (root_of d clocks) events) refl h k
   where
     edge_is : (e : Event) (i : Option ℕ) → reset_with e i (Some t) ≡ Some r → net_edge e.edge ≡ r.edge
     edge_is e None h = cc
@@ -211,10 +211,10 @@ has_branch d clock (Always place star events s) r t h k = by_events (events_of (
             clocked = clocked;
           }
 
-    by_events : (o : Option Events) → events_of (clock_nets d clock) (root_of d clock) events ≡ o → Rattle.vs_design.specs.Resets.reset_by (root_of d clock) o s ≡ Some r → Rattle.vs_clock.specs.Resets.branch_by o s ≡ Some t → HasBranch (Always place star events s) r.edge t
+    by_events : (o : Option Events) → events_of (clock_nets d clocks) (root_of d clocks) events ≡ o → Rattle.vs_design.specs.Resets.reset_by (root_of d clocks) o s ≡ Some r → Rattle.vs_clock.specs.Resets.branch_by o s ≡ Some t → HasBranch (Always place star events s) r.edge t
     by_events None e h k = cc
     by_events (Some (ByClock c)) e h k = cc
-    by_events (Some (ByBoth c f)) e h k = by_statement f (root_of d clock f.signal.first) s (clocked_by (clock_nets d clock) (root_of d clock) events c f e) k h
+    by_events (Some (ByBoth c f)) e h k = by_statement f (root_of d clocks f.signal.first) s (clocked_by (clock_nets d clocks) (root_of d clocks) events c f e) k h
 
 -- ---- what the block weighs
 

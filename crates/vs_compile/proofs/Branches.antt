@@ -66,9 +66,9 @@ not_left xs ys b h = go (contains xs b) refl
 left_apart : (taken other : Statement) → AreApart (blocking_bits taken ++ blocking_bits other) (nonblocking_bits taken ++ nonblocking_bits other) → AreApart (blocking_bits taken) (nonblocking_bits taken)
 left_apart taken other h b k = not_left (blocking_bits taken) (blocking_bits other) b (h b (left_has (nonblocking_bits taken) (nonblocking_bits other) b k))
 
-pub branch_is : (d : Design) (clock : ℕ) → IsAcceptedAt d clock → (p : ℕ) (x : Process) → slice_get d.processes p ≡ Some x → (r : N.Reset) (taken : Statement) → reset_of d clock x ≡ Some r → branch_of d clock x ≡ Some taken → IsBranch x r taken
-branch_is d clock at p x e r taken is branch =
-    let h = has_branch d clock x r taken is branch in
+pub branch_is : (d : Design) (clocks : List ℕ) → IsAcceptedAt d clocks → (p : ℕ) (x : Process) → slice_get d.processes p ≡ Some x → (r : N.Reset) (taken : Statement) → reset_of d clocks x ≡ Some r → branch_of d clocks x ≡ Some taken → IsBranch x r taken
+branch_is d clocks at p x e r taken is branch =
+    let h = has_branch d clocks x r taken is branch in
     let s = If h.c taken h.other in
     let block = Always h.place h.star h.events s in
     let fit : fits_statement s ≡ true = subst (λ z. fits_process z ≡ true) h.is (at_process fits_process d.processes p x at.accepted.fit e) in
@@ -85,10 +85,10 @@ branch_is d clock at p x e r taken is branch =
     }
 
 -- it names bits of the design alone
-branch_named : StatementIsWithin → (d : Design) (clock : ℕ) → IsAcceptedAt d clock → (p : ℕ) (x : Process) → slice_get d.processes p ≡ Some x → (r : N.Reset) (taken : Statement) → reset_of d clock x ≡ Some r → branch_of d clock x ≡ Some taken
+branch_named : StatementIsWithin → (d : Design) (clocks : List ℕ) → IsAcceptedAt d clocks → (p : ℕ) (x : Process) → slice_get d.processes p ≡ Some x → (r : N.Reset) (taken : Statement) → reset_of d clocks x ≡ Some r → branch_of d clocks x ≡ Some taken
     → statement_within (bit_count d) taken ≡ true
-branch_named law d clock at p x e r taken is branch =
-    let h = has_branch d clock x r taken is branch in
+branch_named law d clocks at p x e r taken is branch =
+    let h = has_branch d clocks x r taken is branch in
     let s = If h.c taken h.other in
     let n = bit_count d in
     let formed : is_formed_process d (Always h.place h.star h.events s) ≡ true = subst (λ z. is_formed_process d z ≡ true) h.is (at_process (is_formed_process d) d.processes p x at.accepted.lawful.formed e) in
@@ -117,12 +117,12 @@ in_sum f (y ∷ ps) zero x e = let same : y ≡ x = some_is y x e in omega (arit
     some_is a b q = cc
 in_sum f (y ∷ ps) (suc p) x e = omega (arith, in_sum f ps p x e, sum_by-cons f y ps)
 
-can_reset : StatementIsWithin → BodyReads → AscendingIsOnce → FewAreApart → SourcesOfDesign → (d : Design) (clock : ℕ) → IsAcceptedAt d clock → (p : ℕ) (x : Process) → slice_get d.processes p ≡ Some x
-    → (r : N.Reset) (taken : Statement) (low : Bool) → reset_of d clock x ≡ Some r → branch_of d clock x ≡ Some taken → r.edge ≡ (if low then N.Negedge else N.Posedge) → r.writes ≡ branch_writes taken → r.updates ≡ branch_updates taken → CanReset d x low r taken
-can_reset law reads once few sources d clock at p x e r taken low is branch edge writes updates =
-    let h = branch_is d clock at p x e r taken is branch in
-    let source : SourcesAre d clock = subst (λ c. SourcesAre d c) at.clock_is (sources d at.name at.accepted) in
-    let inside : AreInside (bit_count d) (statement_bits taken) = λ b m. registers_below sources d clock at b (writes_in d.processes p x e h.block.clocked b (h.within b m)) in
+can_reset : StatementIsWithin → BodyReads → AscendingIsOnce → FewAreApart → SourcesOfDesign → (d : Design) (clocks : List ℕ) → IsAcceptedAt d clocks → (p : ℕ) (x : Process) → slice_get d.processes p ≡ Some x
+    → (r : N.Reset) (taken : Statement) (low : Bool) → reset_of d clocks x ≡ Some r → branch_of d clocks x ≡ Some taken → r.edge ≡ (if low then N.Negedge else N.Posedge) → r.writes ≡ branch_writes taken → r.updates ≡ branch_updates taken → CanReset d x low r taken
+can_reset law reads once few sources d clocks at p x e r taken low is branch edge writes updates =
+    let h = branch_is d clocks at p x e r taken is branch in
+    let source : SourcesAre d clocks = subst (λ c. SourcesAre d c) at.clocks_are (sources d at.names at.accepted) in
+    let inside : AreInside (bit_count d) (statement_bits taken) = λ b m. registers_below sources d clocks at b (writes_in d.processes p x e h.block.clocked b (h.within b m)) in
     let room = has_room once few (bit_count d) x low r.input taken (subst (λ (g : N.Edge). HasBranch x g taken) edge h.block) inside in
     let all = in_sum process_weight d.processes p x e in
     record {
@@ -132,7 +132,7 @@ can_reset law reads once few sources d clock at p x e r taken low is branch edge
       inside = inside;
       is = record { input_is = refl; edge_is = edge; writes_are = λ s. fixed_writes reads taken h.fixed.fixed s ∙ sym writes; updates_are = λ s. fixed_updates reads taken h.fixed.fixed s ∙ sym updates };
       room = room;
-      names = branch_named law d clock at p x e r taken is branch;
+      names = branch_named law d clocks at p x e r taken is branch;
       light = omega (arith, room.weight, all, at.accepted.small);
     }
 
@@ -141,10 +141,10 @@ edge_falls Negedge = refl
 edge_falls Posedge = refl
 edge_falls Any = refl
 
-pub resets : StatementIsWithin → BodyReads → AscendingIsOnce → FewAreApart → SourcesOfDesign → (a : Arena) (clock : ℕ) → IsAcceptedAt (design_of a) clock → (p : ℕ) (x : Process) → slice_get (design_of a).processes p ≡ Some x
-    → (r : Reset) → C.IsResetOf a clock x r → CanReset (design_of a) x (falls r.edge) (plain_reset a r) (plain_branch a r)
-resets law reads once few sources a clock at p x e r i =
-    can_reset law reads once few sources (design_of a) clock at p x e (plain_reset a r) (plain_branch a r) (falls r.edge) i.is i.branch (edge_falls r.edge) refl refl
+pub resets : StatementIsWithin → BodyReads → AscendingIsOnce → FewAreApart → SourcesOfDesign → (a : Arena) (clocks : List ℕ) → IsAcceptedAt (design_of a) clocks → (p : ℕ) (x : Process) → slice_get (design_of a).processes p ≡ Some x
+    → (r : Reset) → C.IsResetOf a clocks x r → CanReset (design_of a) x (falls r.edge) (plain_reset a r) (plain_branch a r)
+resets law reads once few sources a clocks at p x e r i =
+    can_reset law reads once few sources (design_of a) clocks at p x e (plain_reset a r) (plain_branch a r) (falls r.edge) i.is i.branch (edge_falls r.edge) refl refl
 
 ready : (d : Design) (x : Process) (low : Bool) (r : N.Reset) (taken : Statement) (count first : ℕ) (calls : List Call) → CanReset d x low r taken → count ≡ bit_count d → 4 + count ≤ first
     → first + Rattle.vs_program.specs.Lowered.process_stores x < 2 ^ 32 → length_of calls + Rattle.vs_program.specs.Lowered.process_stores x ≤ 2 ^ 32 → IsResetReady count (record { calls = calls; next = first }) low r.input taken
@@ -175,17 +175,17 @@ ready_as n code calls next low asked input taken same at is h = subst (λ (b : B
   few = let long = ap length_of same in omega (arith, h.few, long);
 })
 
-pub ready_by : StatementIsWithin → BodyReads → AscendingIsOnce → FewAreApart → SourcesOfDesign → RegistersInOrder → (k : Known) → IsAcceptedAt (design_of k.arena) k.clock
+pub ready_by : StatementIsWithin → BodyReads → AscendingIsOnce → FewAreApart → SourcesOfDesign → RegistersInOrder → (k : Known) → IsAcceptedAt (design_of k.arena) k.clocks
     → (count : ℕ) (shadows : List ℕ) (first : ℕ) → IsTable (design_of k.arena) count shadows first → (p : ℕ) (x : Process) → slice_get (design_of k.arena).processes p ≡ Some x
-    → (r : Reset) → C.IsResetOf k.arena k.clock x r → (calls : List Call) → length_of calls + may_store (design_of k.arena) p ≤ 2 ^ 32
+    → (r : Reset) → C.IsResetOf k.arena k.clocks x r → (calls : List Call) → length_of calls + may_store (design_of k.arena) p ≤ 2 ^ 32
     → (a : Arena) → a ≡ k.arena → count ≡ A.bit_count a.signals → IsResetReady (A.bit_count a.signals) (record { calls = calls; next = first }) (falls r.edge) r.input (plain_branch a r)
 ready_by law reads once few sources ordered k at count shadows first table p x e r i calls left a same counted =
     let d = design_of k.arena in
-    let can = resets law reads once few sources k.arena k.clock at p x e r i in
+    let can = resets law reads once few sources k.arena k.clocks at p x e r i in
     subst (λ n. IsResetReady n (record { calls = calls; next = first }) (falls r.edge) r.input (plain_branch a r)) counted
     (subst (λ (z : Arena). IsResetReady count (record { calls = calls; next = first }) (falls r.edge) r.input (plain_branch z r)) (sym same)
     (ready d x (falls r.edge) (plain_reset k.arena r) (plain_branch k.arena r) count first calls can table.count_is table.layout.layout.layout.temps_above
-    (temps_fit few ordered d k.clock at count shadows first table p x e) (stores_left d p x (length_of calls) e left)))
+    (temps_fit few ordered d k.clocks at count shadows first table p x e) (stores_left d p x (length_of calls) e left)))
 
 -- ---- what is then added
 
@@ -194,21 +194,21 @@ Adds a r first old new =
     (l : Layout) (x : Process) → l.bits ≡ A.bit_count a.signals → l.first_temp ≡ first → IsResetOf (plain_reset a r) (falls r.edge) r.input (plain_branch a r)
     → HasResetRoom x (falls r.edge) r.input (plain_branch a r) → AddsReset l (Some (plain_reset a r)) x old new
 
-pub added_by : StatementIsWithin → BodyReads → AscendingIsOnce → FewAreApart → SourcesOfDesign → (k : Known) → IsAcceptedAt (design_of k.arena) k.clock → (count : ℕ) (shadows : List ℕ) (first : ℕ)
-    → (l : Laid) → record { known = k; count = count; shadows = shadows; first = first } ≡ l → (p : ℕ) → p < length (design_of l.known.arena).processes → (at : ℕ) → at ≡ l.known.clock
-    → (r : Reset) → ((x : Process) → slice_get (design_of k.arena).processes p ≡ Some x → C.IsResetOf k.arena k.clock x r)
+pub added_by : StatementIsWithin → BodyReads → AscendingIsOnce → FewAreApart → SourcesOfDesign → (k : Known) → IsAcceptedAt (design_of k.arena) k.clocks → (count : ℕ) (shadows : List ℕ) (first : ℕ)
+    → (l : Laid) → record { known = k; count = count; shadows = shadows; first = first } ≡ l → (p : ℕ) → p < length (design_of l.known.arena).processes → (at : List ℕ) → at ≡ l.known.clocks
+    → (r : Reset) → ((x : Process) → slice_get (design_of k.arena).processes p ≡ Some x → C.IsResetOf k.arena k.clocks x r)
     → (old new : List Call) (a : Arena) → a ≡ k.arena → count ≡ A.bit_count a.signals → Adds a r first old new
     → (calls : List Call) × (new ≡ old ++ calls) × IsResetAt (design_of l.known.arena) at (laid_layout l) p calls
 added_by law reads once few sources k accepted count shadows first l is p low at this r each old new a same counted done =
-    subst (λ (z : Laid). p < length (design_of z.known.arena).processes → at ≡ z.known.clock → (calls : List Call) × (new ≡ old ++ calls) × IsResetAt (design_of z.known.arena) at (laid_layout z) p calls) is here low this
+    subst (λ (z : Laid). p < length (design_of z.known.arena).processes → at ≡ z.known.clocks → (calls : List Call) × (new ≡ old ++ calls) × IsResetAt (design_of z.known.arena) at (laid_layout z) p calls) is here low this
   where
-    here : p < length (design_of k.arena).processes → at ≡ k.clock → (calls : List Call) × (new ≡ old ++ calls) × IsResetAt (design_of k.arena) at (table_layout count shadows first) p calls
-    here least clock =
+    here : p < length (design_of k.arena).processes → at ≡ k.clocks → (calls : List Call) × (new ≡ old ++ calls) × IsResetAt (design_of k.arena) at (table_layout count shadows first) p calls
+    here least clocks =
         let d = design_of k.arena in
         let x = there d.processes p least in
         let i = each x.0 x.1 in
-        let can = resets law reads once few sources k.arena k.clock accepted p x.0 x.1 r i in
+        let can = resets law reads once few sources k.arena k.clocks accepted p x.0 x.1 r i in
         let so : Adds k.arena r first old new = subst (λ (z : Arena). Adds z r first old new) same done in
         let adds = so (table_layout count shadows first) x.0 (counted ∙ ap (λ (z : Arena). A.bit_count z.signals) same) refl can.is can.room in
-        let own : reset_of d at x.0 ≡ Some (plain_reset k.arena r) = ap (λ c. reset_of d c x.0) clock ∙ i.is in
+        let own : reset_of d at x.0 ≡ Some (plain_reset k.arena r) = ap (λ c. reset_of d c x.0) clocks ∙ i.is in
         (adds.calls, adds.is, (x.0, x.1, subst (λ (o : Option N.Reset). IsLoweredReset (table_layout count shadows first) o x.0 adds.calls) (sym own) adds.lowered))

@@ -25,18 +25,18 @@ use Rattle.vs_compile.proofs.Lists.{all_from}
 use Rattle.vs_compile.proofs.Lowering.{few_stores}
 
 -- the registers of an accepted design, ascending
-pub registers_once : AscendingIsOnce → SourcesOfDesign → (d : Design) (clock : ℕ) → IsAcceptedAt d clock → AreRegisters d (ascending (bit_count d) (register_bits d.processes))
-registers_once once sources d clock at = once (bit_count d) (register_bits d.processes) (sources d at.name at.accepted).registers_below
+pub registers_once : AscendingIsOnce → SourcesOfDesign → (d : Design) (clocks : List ℕ) → IsAcceptedAt d clocks → AreRegisters d (ascending (bit_count d) (register_bits d.processes))
+registers_once once sources d clocks at = once (bit_count d) (register_bits d.processes) (sources d at.names at.accepted).registers_below
 
-pub registers_below : SourcesOfDesign → (d : Design) (clock : ℕ) → IsAcceptedAt d clock → (b : ℕ) → contains (register_bits d.processes) b ≡ true → b < bit_count d
-registers_below sources d clock at = (sources d at.name at.accepted).registers_below
+pub registers_below : SourcesOfDesign → (d : Design) (clocks : List ℕ) → IsAcceptedAt d clocks → (b : ℕ) → contains (register_bits d.processes) b ≡ true → b < bit_count d
+registers_below sources d clocks at = (sources d at.names at.accepted).registers_below
 
 -- the temporaries of a process have numbers
-pub temps_fit : FewAreApart → RegistersInOrder → (d : Design) (clock : ℕ) → IsAcceptedAt d clock → (count : ℕ) (shadows : List ℕ) (first : ℕ) → IsTable d count shadows first
+pub temps_fit : FewAreApart → RegistersInOrder → (d : Design) (clocks : List ℕ) → IsAcceptedAt d clocks → (count : ℕ) (shadows : List ℕ) (first : ℕ) → IsTable d count shadows first
     → (p : ℕ) (x : Process) → slice_get d.processes p ≡ Some x → first + process_stores x < 2 ^ 32
-temps_fit few ordered d clock at count shadows first table p x e =
-    let low = first_low d (record { bits = count; shadow = slice_index shadows; first_temp = first }) clock at table.layout in
-    let own = few_stores few d clock at (ascending (bit_count d) (register_bits d.processes)) (ordered d at.name at.accepted) p x e in
+temps_fit few ordered d clocks at count shadows first table p x e =
+    let low = first_low d (record { bits = count; shadow = slice_index shadows; first_temp = first }) clocks at table.layout in
+    let own = few_stores few d clocks at (ascending (bit_count d) (register_bits d.processes)) (ordered d at.names at.accepted) p x e in
     omega (arith, low, own)
 
 -- the calls of a process that doesn't sleep
@@ -47,8 +47,8 @@ lowered_at d l p x awake e calls lowered =
 -- ---- a block without a reset
 
 -- no calls are those of its reset
-reset_at : NoneAreNeeded → (d : Design) (clock : ℕ) (l : Layout) (p : ℕ) → p < length d.processes → ((x : Process) → slice_get d.processes p ≡ Some x → reset_of d clock x ≡ None) → (at : ℕ) → at ≡ clock → IsResetAt d at l p []
-reset_at none d clock l p low unset at this =
+reset_at : NoneAreNeeded → (d : Design) (clocks : List ℕ) (l : Layout) (p : ℕ) → p < length d.processes → ((x : Process) → slice_get d.processes p ≡ Some x → reset_of d clocks x ≡ None) → (at : List ℕ) → at ≡ clocks → IsResetAt d at l p []
+reset_at none d clocks l p low unset at this =
     let x = there d.processes p low in
     let is : reset_of d at x.0 ≡ None = ap (λ c. reset_of d c x.0) this ∙ unset x.0 x.1 in
     (x.0, x.1, subst (λ (o : Option N.Reset). IsLoweredReset l o x.0 []) (sym is) (none l x.0))
@@ -82,20 +82,20 @@ asleep_by k count shadows first l is table p old new a same done =
     (table_layout count shadows first) table.layout.layout refl)
 
 pub none_by : NoneAreNeeded → (k : Known) (count : ℕ) (shadows : List ℕ) (first : ℕ) (l : Laid) → record { known = k; count = count; shadows = shadows; first = first } ≡ l
-    → (p : ℕ) → p < length (design_of l.known.arena).processes → ((x : Process) → slice_get (design_of k.arena).processes p ≡ Some x → reset_of (design_of k.arena) k.clock x ≡ None)
-    → (at : ℕ) → at ≡ l.known.clock → IsResetAt (design_of l.known.arena) at (laid_layout l) p []
+    → (p : ℕ) → p < length (design_of l.known.arena).processes → ((x : Process) → slice_get (design_of k.arena).processes p ≡ Some x → reset_of (design_of k.arena) k.clocks x ≡ None)
+    → (at : List ℕ) → at ≡ l.known.clocks → IsResetAt (design_of l.known.arena) at (laid_layout l) p []
 none_by none k count shadows first l is p low unset at this =
-    let each = subst (λ (z : Laid). (x : Process) → slice_get (design_of z.known.arena).processes p ≡ Some x → reset_of (design_of z.known.arena) z.known.clock x ≡ None) is unset in
-    reset_at none (design_of l.known.arena) l.known.clock (laid_layout l) p low each at this
+    let each = subst (λ (z : Laid). (x : Process) → slice_get (design_of z.known.arena).processes p ≡ Some x → reset_of (design_of z.known.arena) z.known.clocks x ≡ None) is unset in
+    reset_at none (design_of l.known.arena) l.known.clocks (laid_layout l) p low each at this
 
 -- ---- what a layout is made of
 
-pub ascending_registers : FewAreApart → AscendingIsOnce → SourcesOfDesign → (d : Design) (clock : ℕ) → IsAcceptedAt d clock → (count : ℕ) → count ≡ bit_count d
+pub ascending_registers : FewAreApart → AscendingIsOnce → SourcesOfDesign → (d : Design) (clocks : List ℕ) → IsAcceptedAt d clocks → (count : ℕ) → count ≡ bit_count d
     → (regs : List ℕ) → regs ≡ ascending count (register_bits d.processes) → AreFewRegisters d count regs
-ascending_registers few once sources d clock at count counted regs is =
-    let are : AreRegisters d regs = subst (AreRegisters d) (sym (is ∙ ap (λ n. ascending n (register_bits d.processes)) counted)) (registers_once once sources d clock at) in
+ascending_registers few once sources d clocks at count counted regs is =
+    let are : AreRegisters d regs = subst (AreRegisters d) (sym (is ∙ ap (λ n. ascending n (register_bits d.processes)) counted)) (registers_once once sources d clocks at) in
     record {
       are = are;
-      below = all_from (λ b. b < count) regs (λ b h. let low = registers_below sources d clock at b (sym (are.has b) ∙ h) in omega (arith, low, counted));
-      few = few_registers few d clock at regs are;
+      below = all_from (λ b. b < count) regs (λ b h. let low = registers_below sources d clocks at b (sym (are.has b) ∙ h) in omega (arith, low, counted));
+      few = few_registers few d clocks at regs are;
     }

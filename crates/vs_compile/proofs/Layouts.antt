@@ -65,14 +65,14 @@ sleepers_small d k (x ∷ xs) =
     (λ e. let here : length (sleepers_from d k (x ∷ xs)) ≡ length (sleepers_from d (suc k) xs) = ap (λ (c : Bool). length (if c then (k ∷ sleepers_from d (suc k) xs) else sleepers_from d (suc k) xs)) e in
     omega (arith, rest, sum, here))
 
-pub few_registers : FewAreApart → (d : Design) (clock : ℕ) → IsAcceptedAt d clock → (regs : List ℕ) → AreRegisters d regs → length regs ≤ 16777216
-few_registers few d clock at regs are =
+pub few_registers : FewAreApart → (d : Design) (clocks : List ℕ) → IsAcceptedAt d clocks → (regs : List ℕ) → AreRegisters d regs → length regs ≤ 16777216
+few_registers few d clocks at regs are =
     let own = register_count few d regs are in
     let left = distinct_left (register_bits d.processes) (memory_bits d) in
     omega (arith, own, left, at.accepted.small)
 
-pub first_low : (d : Design) (l : Layout) (clock : ℕ) → IsAcceptedAt d clock → IsTightLayout d l → l.first_temp ≤ 67108868
-first_low d l clock at tight =
+pub first_low : (d : Design) (l : Layout) (clocks : List ℕ) → IsAcceptedAt d clocks → IsTightLayout d l → l.first_temp ≤ 67108868
+first_low d l clocks at tight =
     let rest = sleepers_small d 0 d.processes in
     let left = distinct_left (register_bits d.processes) (memory_bits d) in
     omega (arith, tight.first, rest, left, at.accepted.small, at.accepted.lawful.few_bits)

@@ -36,13 +36,13 @@ writes_in (y ∷ ps) (suc p) x e clocked b h =
     contains-append (if is_clocked y then writes_of y else []) (register_bits ps) b
     ∙ or_right (contains (if is_clocked y then writes_of y else []) b) (contains (register_bits ps) b) (writes_in ps p x e clocked b h)
 
-pub few_stores : FewAreApart → (d : Design) (clock : ℕ) → IsAcceptedAt d clock → (regs : List ℕ) → AreRegisters d regs → (p : ℕ) (x : Process) → slice_get d.processes p ≡ Some x → process_stores x ≤ 33554432
-few_stores few d clock at regs are p x e =
+pub few_stores : FewAreApart → (d : Design) (clocks : List ℕ) → IsAcceptedAt d clocks → (regs : List ℕ) → AreRegisters d regs → (p : ℕ) (x : Process) → slice_get d.processes p ≡ Some x → process_stores x ≤ 33554432
+few_stores few d clocks at regs are p x e =
     let weight = weighs d p x e in
     by_test (is_clocked x)
     (λ c.
     let own = distinct_within (writes_of x) regs (λ b h. are.has b ∙ writes_in d.processes p x e c b h) in
-    let most = few_registers few d clock at regs are in
+    let most = few_registers few d clocks at regs are in
     let here : process_stores x ≡ process_weight x + distinct (writes_of x) = ap (λ (t : Bool). process_weight x + (if t then distinct (writes_of x) else 0)) c in
     omega (arith, weight, own, most, here, at.accepted.small))
     (λ c.

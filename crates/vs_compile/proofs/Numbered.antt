@@ -27,12 +27,12 @@ ascending_next set n =
     ∙ ap (filter (contains set)) (count_more 0 n ∙ ap (λ k. count_from 0 n ++ k ∷ []) same)
     ∙ filter-append (contains set) (count_from 0 n) (n ∷ [])
 
-pub nets_more : (d : Design) (clock : ℕ) (nets : Labelled) (n : ℕ) → AreNets d clock nets → is_clock_bit nets n ≡ true → ascending (n + 1) (clock_nets d clock) ≡ ascending n (clock_nets d clock) ++ n ∷ []
-nets_more d clock nets n are e = ascending_next (clock_nets d clock) n ∙ ap (λ (c : Bool). ascending n (clock_nets d clock) ++ (if c then (n ∷ []) else [])) (sym (are.clock n) ∙ e)
+pub nets_more : (d : Design) (clocks : List ℕ) (nets : Labelled) (n : ℕ) → AreNets d clocks nets → is_clock_bit nets n ≡ true → ascending (n + 1) (clock_nets d clocks) ≡ ascending n (clock_nets d clocks) ++ n ∷ []
+nets_more d clocks nets n are e = ascending_next (clock_nets d clocks) n ∙ ap (λ (c : Bool). ascending n (clock_nets d clocks) ++ (if c then (n ∷ []) else [])) (sym (are.clock n) ∙ e)
 
-pub nets_same : (d : Design) (clock : ℕ) (nets : Labelled) (n : ℕ) → AreNets d clock nets → is_clock_bit nets n ≡ false → ascending (n + 1) (clock_nets d clock) ≡ ascending n (clock_nets d clock)
-nets_same d clock nets n are e =
-    ascending_next (clock_nets d clock) n ∙ ap (λ (c : Bool). ascending n (clock_nets d clock) ++ (if c then (n ∷ []) else [])) (sym (are.clock n) ∙ e) ∙ append-nil (ascending n (clock_nets d clock))
+pub nets_same : (d : Design) (clocks : List ℕ) (nets : Labelled) (n : ℕ) → AreNets d clocks nets → is_clock_bit nets n ≡ false → ascending (n + 1) (clock_nets d clocks) ≡ ascending n (clock_nets d clocks)
+nets_same d clocks nets n are e =
+    ascending_next (clock_nets d clocks) n ∙ ap (λ (c : Bool). ascending n (clock_nets d clocks) ++ (if c then (n ∷ []) else [])) (sym (are.clock n) ∙ e) ∙ append-nil (ascending n (clock_nets d clocks))
 
 -- lists with the same numbers of a range have one ascending list of it
 filter_same : (first n : ℕ) (xs ys : List ℕ) → ((b : ℕ) → b < first + n → contains xs b ≡ contains ys b) → filter (contains xs) (count_from first n) ≡ filter (contains ys) (count_from first n)
@@ -43,11 +43,11 @@ filter_same first (suc n) xs ys h =
     ∙ ap (λ (c : Bool). if c then (first ∷ filter (contains ys) (count_from (suc first) n)) else filter (contains ys) (count_from (suc first) n)) (h first (omega arith))
 
 -- among the design's bits the clock nets are its own
-own_below : (d : Design) (clock : ℕ) → SourcesAre d clock → (b : ℕ) → b < bit_count d → contains (clock_nets d clock) b ≡ contains (own_nets d clock) b
-own_below d clock from b l = by_net (contains (clock_nets d clock) b) (contains (own_nets d clock) b) (from.nets_own b)
+own_below : (d : Design) (clocks : List ℕ) → SourcesAre d clocks → (b : ℕ) → b < bit_count d → contains (clock_nets d clocks) b ≡ contains (own_nets d clocks) b
+own_below d clocks from b l = by_net (contains (clock_nets d clocks) b) (contains (own_nets d clocks) b) (from.nets_own b)
     (λ h. elim (from.nets_are b h) [
       | inl own ↦ own
-      | inr q ↦ let at = q.0 in let past = q.1 in absurd (omega (arith, l, at, past))
+      | inr q ↦ let past = q.1 in absurd (omega (arith, l, past))
     ])
   where
     by_net : (u v : Bool) → (v ≡ true → u ≡ true) → (u ≡ true → v ≡ true) → u ≡ v
@@ -57,13 +57,13 @@ own_below d clock from b l = by_net (contains (clock_nets d clock) b) (contains 
     by_net false true f g = f refl
 
 -- the ascending list of them is the clock nets of the design's bits, and no longer
-pub are_clock_nets : FewAreApart → AscendingIsOnce → SourcesOfDesign → (d : Design) (clock : ℕ) → IsAcceptedAt d clock → (count : ℕ) → count ≡ bit_count d
-    → (bits : List ℕ) → bits ≡ ascending count (clock_nets d clock) → AreClockNets d clock bits
-are_clock_nets few once sources d clock at count counted bits is =
-    let nets = own_nets d clock in
-    let from : SourcesAre d clock = subst (SourcesAre d) at.clock_is (sources d at.name at.accepted) in
-    let own : ascending (bit_count d) (clock_nets d clock) ≡ ascending (bit_count d) nets = filter_same 0 (bit_count d) (clock_nets d clock) nets (λ b l. own_below d clock from b (omega (arith, l))) in
-    let each : HasEachOnce nets bits = subst (HasEachOnce nets) (sym (is ∙ ap (λ n. ascending n (clock_nets d clock)) counted ∙ own)) (once (bit_count d) nets from.nets_below) in
+pub are_clock_nets : FewAreApart → AscendingIsOnce → SourcesOfDesign → (d : Design) (clocks : List ℕ) → IsAcceptedAt d clocks → (count : ℕ) → count ≡ bit_count d
+    → (bits : List ℕ) → bits ≡ ascending count (clock_nets d clocks) → AreClockNets d clocks bits
+are_clock_nets few once sources d clocks at count counted bits is =
+    let nets = own_nets d clocks in
+    let from : SourcesAre d clocks = subst (SourcesAre d) at.clocks_are (sources d at.names at.accepted) in
+    let own : ascending (bit_count d) (clock_nets d clocks) ≡ ascending (bit_count d) nets = filter_same 0 (bit_count d) (clock_nets d clocks) nets (λ b l. own_below d clocks from b (omega (arith, l))) in
+    let each : HasEachOnce nets bits = subst (HasEachOnce nets) (sym (is ∙ ap (λ n. ascending n (clock_nets d clocks)) counted ∙ own)) (once (bit_count d) nets from.nets_below) in
     let most = few nets bits each.once (λ b h. sym (each.has b) ∙ h) in
     let least = distinct_within nets nets (λ b h. h) in
     record { has = each.has; few = omega (arith, most, least) }

@@ -15,15 +15,15 @@ abbrev pub reset_lists : Inside → List (List ℕ)
 reset_lists r = map (λ (v : Vec ℕ Global). v.items) r.of.items
 
 -- of the first n processes, by number, the bits that its reset sets
-pub record AreSet (d : Design) (clock n : ℕ) (lists : List (List ℕ)) : Type 0 where
+pub record AreSet (d : Design) (clocks : List ℕ) (n : ℕ) (lists : List (List ℕ)) : Type 0 where
   pub count : length lists ≡ n
-  pub each : (p : ℕ) → p < n → HasBitsOf (bit_count d) (slice_index_or lists p []) (reset_bits_or d clock (slice_get d.processes p))
+  pub each : (p : ℕ) → p < n → HasBitsOf (bit_count d) (slice_index_or lists p []) (reset_bits_or d clocks (slice_get d.processes p))
 
 -- what is known of a design all of whose functions have been lowered, with the bits that the resets of its processes set
 pub record HasFacts (t : Templated) (footprints : List Footprint) (clocks : Clocked) (lists : List (List ℕ)) : Type 0 where
   pub whole : t.functions ≡ length t.arena.bodies
   pub facts : AreFacts t.arena footprints clocks
-  pub set : AreSet (design_of t.arena) clocks.bit (length (design_of t.arena).processes) lists
+  pub set : AreSet (design_of t.arena) clocks.bits (length (design_of t.arena).processes) lists
 
 -- the reset is active at 0
 abbrev pub falls : Edge → Bool

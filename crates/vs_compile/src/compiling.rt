@@ -23,7 +23,7 @@ use vs_zero::start_values;
 
 /// The program of an accepted design: straight programs over planes, one for each kind of time slot (IEEE 1364-2005, clause 11). The only error is that there is no memory.
 ///
-/// The footprints, the clock with its resets, and the level order are those of the design.
+/// The footprints, the clocks with their resets, and the level order are those of the design.
 pub fn compile(
     alloc: Global,
     typed: &Typed,
@@ -35,13 +35,13 @@ pub fn compile(
     requires footprints { footprints.now ≡ footprints_of (design_of typed.now) }
     requires resets { AreResets typed.now clocks.now }
     requires order { is_level_order (design_of typed.now) order.now ≡ true }
-    ensures { IfOk result (IsProgramOf (design_of typed.now) clocks.now.bit) }
+    ensures { IfOk result (IsProgramOf (design_of typed.now) clocks.now.bits) }
 {
     accepted_law();
     let facts = Facts::of(alloc, typed, footprints, clocks)?;
     let lowerer = Lowerer::of(alloc, facts)?;
     let nets = nets_of(alloc, typed, clocks)?;
     let starts = start_values(alloc, typed)?;
-    let frame = frame(alloc, typed.flat(), clocks.bit(), nets, starts.as_slice())?;
-    assemble(alloc, &lowerer, clocks.bit(), order.list(), frame)
+    let frame = frame(alloc, typed.flat(), clocks.bits(), nets, starts.as_slice())?;
+    assemble(alloc, &lowerer, clocks.bits(), order.list(), frame)
 }

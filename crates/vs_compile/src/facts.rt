@@ -16,7 +16,7 @@ use vs_reads::{Footprints, footprint_law};
 use vs_typed::Typed;
 use vs_values::Templates;
 
-/// What is known of the processes of an accepted design, whose functions have been lowered, and of its clock.
+/// What is known of the processes of an accepted design, whose functions have been lowered, and of its clocks.
 #[derive(Drop)]
 pub(crate) struct Facts<'a> {
     templates: Templates<'a>,
@@ -25,14 +25,14 @@ pub(crate) struct Facts<'a> {
     reset_bits: ResetBits,
 }
 
-// Clauses see the flat design and the bit of its clock.
+// Clauses see the flat design and the bits of its clocks.
 impl<'a> Model for Facts<'a> {
     ghost use Rattle.vs_compile.specs.Known.{Known};
     ghost use Rattle.vs_compile.specs.Resets.{HasFacts};
 
     ghost Value = { Known };
 
-    ghost view = { λ f. record { arena = f.templates.arena; clock = f.clocks.now.bit } };
+    ghost view = { λ f. record { arena = f.templates.arena; clocks = f.clocks.now.bits } };
 
     ghost invariant = { λ f. HasFacts f.templates f.footprints.now f.clocks.now f.reset_bits };
 }
@@ -45,7 +45,7 @@ impl<'a> Facts<'a> {
     ghost use Rattle.vs_compile.specs.Known.{AreFacts};
     ghost use Rattle.vs_compile.specs.Laid.{AreFewRegisters};
 
-    /// A design, its footprints and its clock. The only error is that there is no memory.
+    /// A design, its footprints and its clocks. The only error is that there is no memory.
     pub(crate) fn of(
         alloc: Global,
         typed: &'a Typed,
@@ -53,7 +53,7 @@ impl<'a> Facts<'a> {
         clocks: &'a Clocks,
     ) -> Result<Facts<'a>, AllocError>
         requires { AreFacts typed.now footprints.now clocks.now }
-        ensures { IfOk result (λ f. f ≡ record { arena = typed.now; clock = clocks.now.bit }) }
+        ensures { IfOk result (λ f. f ≡ record { arena = typed.now; clocks = clocks.now.bits }) }
     {
         let reset_bits = ResetBits::of_design(alloc, typed, footprints, clocks)?;
         let templates = templates(alloc, typed)?;
@@ -68,7 +68,7 @@ impl<'a> Facts<'a> {
     /// The design. It is accepted.
     pub(crate) fn typed(&self) -> &'a Typed
         ensures same { result.now ≡ self.now.arena }
-        ensures accepted { IsAcceptedAt (design_of self.now.arena) self.now.clock }
+        ensures accepted { IsAcceptedAt (design_of self.now.arena) self.now.clocks }
     {
         let _clocks = self.clocks;
         self.templates.typed()
@@ -78,7 +78,7 @@ impl<'a> Facts<'a> {
     pub(crate) fn templates(&self) -> &Templates<'a>
         ensures same { result.now.arena ≡ self.now.arena }
         ensures whole { result.now.functions ≡ length result.now.arena.bodies }
-        ensures accepted { IsAcceptedAt (design_of self.now.arena) self.now.clock }
+        ensures accepted { IsAcceptedAt (design_of self.now.arena) self.now.clocks }
     {
         let _clocks = self.clocks;
         &self.templates
@@ -86,7 +86,7 @@ impl<'a> Facts<'a> {
 
     /// The reset of a process, where it has one.
     pub(crate) fn reset(&self, process: u32) -> Option<Reset>
-        ensures { (x : Process) → slice_get (design_of self.now.arena).processes process ≡ Some x → IsReset self.now.arena self.now.clock x result }
+        ensures { (x : Process) → slice_get (design_of self.now.arena).processes process ≡ Some x → IsReset self.now.arena self.now.clocks x result }
     {
         self.clocks.reset(process)
     }
@@ -128,7 +128,7 @@ impl<'a> Processes for Facts<'a> {
 
     ghost design = { λ (k : Known). design_of k.arena };
 
-    ghost clock_bit = { λ (k : Known). k.clock };
+    ghost clock_list = { λ (k : Known). k.clocks };
 
     fn process_count(&self) -> u32 {
         trees_law();
@@ -140,14 +140,14 @@ impl<'a> Processes for Facts<'a> {
         is_clocked(self.templates.typed(), process)
     }
 
-    fn copies_clock(&self, _clock: u32, process: u32) -> bool {
+    fn copies_clock(&self, _clocks: &[u32], process: u32) -> bool {
         footprint_law();
         has_clock(self.clocks, needs(self.footprints, process))
     }
 
     fn add_reset_bits(
         &self,
-        _clock: u32,
+        _clocks: &[u32],
         process: u32,
         bits: &mut Vec<u32>,
     ) -> Result<(), AllocError> {

@@ -29,7 +29,7 @@ pub(crate) struct Lowerer<'a> {
     first_temp: u32,
 }
 
-// Clauses see the flat design, the bit of its clock, and the layout.
+// Clauses see the flat design, the bits of its clocks, and the layout.
 impl<'a> Model for Lowerer<'a> {
     ghost use Rattle.vs_flat.specs.DesignOf.{design_of};
     ghost use Rattle.vs_compile.specs.Laid.{Laid, IsTable};
@@ -72,7 +72,7 @@ impl<'a> Processes for Lowerer<'a> {
 
     ghost design = { λ (l : Laid). design_of l.known.arena };
 
-    ghost clock_bit = { λ (l : Laid). l.known.clock };
+    ghost clock_list = { λ (l : Laid). l.known.clocks };
 
     fn process_count(&self) -> u32 {
         self.facts.process_count()
@@ -82,17 +82,17 @@ impl<'a> Processes for Lowerer<'a> {
         self.facts.is_clocked(process)
     }
 
-    fn copies_clock(&self, clock: u32, process: u32) -> bool {
-        self.facts.copies_clock(clock, process)
+    fn copies_clock(&self, clocks: &[u32], process: u32) -> bool {
+        self.facts.copies_clock(clocks, process)
     }
 
     fn add_reset_bits(
         &self,
-        clock: u32,
+        clocks: &[u32],
         process: u32,
         bits: &mut Vec<u32>,
     ) -> Result<(), AllocError> {
-        self.facts.add_reset_bits(clock, process, bits)
+        self.facts.add_reset_bits(clocks, process, bits)
     }
 
     fn needs(&self, process: u32) -> &[u32] {
@@ -141,7 +141,7 @@ impl<'a> Lowering for Lowerer<'a> {
     fn lower_reset(
         &self,
         alloc: Global,
-        _clock: u32,
+        _clocks: &[u32],
         process: u32,
         program: &mut Program,
     ) -> Result<(), AllocError> {

@@ -1,6 +1,6 @@
 //! The clock nets of a design.
 
-ghost use Rattle.std.specs.Prelude.{◌≡◌, ℕ, IfOk};
+ghost use Rattle.std.specs.Prelude.{◌≡◌, ℕ, List, IfOk};
 ghost use Rattle.vs_design.specs.Designs.{Design};
 ghost use Rattle.vs_design.specs.Footprints.{ascending};
 ghost use Rattle.vs_design.specs.Clocks.{clock_nets};
@@ -17,19 +17,19 @@ use vs_typed::Typed;
 
 /// The bits of the clock nets, ascending; without a clock there are none. The only error is that there is no memory.
 pub(crate) fn nets_of(alloc: Global, typed: &Typed, clocks: &Clocks) -> Result<Vec<u32>, AllocError>
-    requires accepted { IsAcceptedAt (design_of typed.now) clocks.now.bit }
-    requires nets { AreNets (design_of typed.now) clocks.now.bit clocks.now.nets }
-    ensures { IfOk result (λ v. AreClockNets (design_of typed.now) clocks.now.bit v.items) }
+    requires accepted { IsAcceptedAt (design_of typed.now) clocks.now.bits }
+    requires nets { AreNets (design_of typed.now) clocks.now.bits clocks.now.nets }
+    ensures { IfOk result (λ v. AreClockNets (design_of typed.now) clocks.now.bits v.items) }
 {
     trees_law();
     sources_law();
     list_law();
-    clock_bits(alloc, clocks, count_bits(typed.flat()))
+    net_bits(alloc, clocks, count_bits(typed.flat()))
 }
 
 /// Of so many bits those that are clock nets', ascending.
-fn clock_bits(alloc: Global, clocks: &Clocks, count: u32) -> Result<Vec<u32>, AllocError>
-    ensures { (d : Design) (clock : ℕ) → AreNets d clock clocks.now.nets → IfOk result (λ v. v.items ≡ ascending count (clock_nets d clock)) }
+fn net_bits(alloc: Global, clocks: &Clocks, count: u32) -> Result<Vec<u32>, AllocError>
+    ensures { (d : Design) (bits : List ℕ) → AreNets d bits clocks.now.nets → IfOk result (λ v. v.items ≡ ascending count (clock_nets d bits)) }
 {
     let mut bits = Vec::new(alloc);
     for bit in 0..count {

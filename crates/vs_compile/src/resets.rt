@@ -69,7 +69,7 @@ impl ResetBits {
         clocks: &Clocks,
     ) -> Result<ResetBits, AllocError>
         requires { AreFacts typed.now footprints.now clocks.now }
-        ensures { IfOk result (AreSet (design_of typed.now) clocks.now.bit (length (design_of typed.now).processes)) }
+        ensures { IfOk result (AreSet (design_of typed.now) clocks.now.bits (length (design_of typed.now).processes)) }
     {
         trees_law();
         let count = count_bits(typed.flat()) as usize;
@@ -100,7 +100,7 @@ fn gathered(
     requires zero_count { length from_zero.old ≡ bit_count (design_of typed.now) }
     requires x { state_of from_x.old ≡ unknown }
     requires zero { IsZero from_zero.old }
-    ensures { IfOk result (AreSet (design_of typed.now) clocks.now.bit (length (design_of typed.now).processes)) }
+    ensures { IfOk result (AreSet (design_of typed.now) clocks.now.bits (length (design_of typed.now).processes)) }
 {
     trees_law();
     let mut all = ResetBits::none(alloc);
@@ -127,7 +127,7 @@ fn bits_of(
     requires zero_count { length from_zero.old ≡ bit_count (design_of typed.now) }
     requires x { state_of from_x.old ≡ unknown }
     requires zero { IsZero from_zero.old }
-    ensures bits { IfOk result (λ v. HasBitsOf (bit_count (design_of typed.now)) v.items (reset_bits_or (design_of typed.now) clocks.now.bit (slice_get (design_of typed.now).processes p))) }
+    ensures bits { IfOk result (λ v. HasBitsOf (bit_count (design_of typed.now)) v.items (reset_bits_or (design_of typed.now) clocks.now.bits (slice_get (design_of typed.now).processes p))) }
     ensures x { OnOk result (state_of from_x.new ≡ unknown) }
     ensures zero { OnOk result (IsZero from_zero.new) }
 {

@@ -1,5 +1,5 @@
 -- Stores and weights.
-use Rattle.std.proofs.Common.{◌≡◌, ℕ, zero, suc, ◌+◌, ◌≤◌, ◌<◌, nat_lt, Bool, true, false, List, [], ◌∷◌, ◌++◌, ◌&&◌, ◌||◌, ◌==◌, if◌then◌else◌, length, Option, Some, None, sym, ap, ◌∙◌, subst, refl, eqb-true, eq-eqb, ne_eqb, arith, inl, inr, ◌⊎◌, slice_get, length-append}
+use Rattle.std.proofs.Common.{◌≡◌, ℕ, zero, suc, ◌+◌, ◌≤◌, ◌<◌, nat_lt, Bool, true, false, List, [], ◌∷◌, ◌++◌, ◌&&◌, ◌||◌, ◌==◌, not, if◌then◌else◌, length, Option, Some, None, sym, ap, ◌∙◌, subst, refl, eqb-true, eq-eqb, ne_eqb, arith, inl, inr, ◌⊎◌, slice_get, length-append}
 use Rattle.std.specs.Prelude.{sum_by}
 use Rattle.std.specs.List.{filter}
 use Rattle.std.proofs.lemmas.Bool.{and_parts, both_ways}
@@ -11,7 +11,8 @@ use Rattle.vs_design.specs.Values.{count_from, bits_of_signal}
 use Rattle.vs_design.specs.Statements.{Whole, PartOf, WordOf, Both}
 use Rattle.vs_design.specs.Designs.{Process, Continuous, Always, is_clocked, Design, top_inputs, bit_count}
 use Rattle.vs_design.specs.Footprints.{contains, without, signals_bits, input_bits, memory_bits, writes_of}
-use Rattle.vs_design.specs.Clocks.{name_of, is_one_of, port_target, port_targets, nets_within, clock_input, clock_nets, own_nets, is_clock_port}
+use Rattle.vs_design.specs.Elaborated.{have_bits_from}
+use Rattle.vs_design.specs.Clocks.{clock_bits, name_of, is_one_of, port_target, port_targets, nets_within, clock_inputs, clock_nets, own_clocks, own_nets, spare_clock, is_clock_port}
 use Rattle.vs_design.specs.Sizes.{distinct, process_weight, register_bits, sleeper_weight}
 use Rattle.vs_design.specs.Cycles.{AreApart}
 use Rattle.vs_design.specs.Networks.{network_of}
@@ -23,7 +24,9 @@ use Rattle.vs_cone.specs.Counts.{clocked_from, stores_of, AreWithin, StoresFit}
 use Rattle.vs_cone.proofs.Writes.{by_test}
 use Rattle.vs_cone.proofs.Processes.{in_left, in_right, contains-append, process_number, writes_are}
 use Rattle.vs_cone.proofs.Lists.{distinct_more}
-use Rattle.vs_cone.proofs.Given.{register_block, ClockPlace, among, beyond, clock_place}
+use Rattle.vs_cone.proofs.ClockWriters.{names_place}
+use Rattle.vs_cone.proofs.OwnClocks.{AreOnce, input_bit, named_once, no_nets, own_or_spare, without_less}
+use Rattle.vs_cone.proofs.Given.{contains_filter, register_block}
 
 -- ---- sums over parts of a list
 
@@ -140,12 +143,12 @@ targets_more nets more sub (x ∷ xs) b h =
     left true v x y = refl
     left false v x y = cc
 
-nets_more : (k : ℕ) (xs : List Process) (clock : ℕ) → Sub (nets_within k xs clock) (nets_within (suc k) xs clock)
-nets_more zero xs clock b h = in_left (clock ∷ []) (port_targets (clock ∷ []) xs) b h
-nets_more (suc k) xs clock b h =
-    by_test (b == clock)
-    (λ e. ap (λ c. c || contains (port_targets (nets_within (suc k) xs clock) xs) b) e)
-    (λ e. in_right (clock ∷ []) (port_targets (nets_within (suc k) xs clock) xs) b (targets_more (nets_within k xs clock) (nets_within (suc k) xs clock) (nets_more k xs clock) xs b (subst (λ c. (c || contains (port_targets (nets_within k xs clock) xs) b) ≡ true) e h)))
+nets_more : (k : ℕ) (xs : List Process) (clocks : List ℕ) → Sub (nets_within k xs clocks) (nets_within (suc k) xs clocks)
+nets_more zero xs clocks b h = in_left clocks (port_targets clocks xs) b h
+nets_more (suc k) xs clocks b h =
+    by_test (contains clocks b)
+    (λ e. in_left clocks (port_targets (nets_within (suc k) xs clocks) xs) b e)
+    (λ e. in_right clocks (port_targets (nets_within (suc k) xs clocks) xs) b (targets_more (nets_within k xs clocks) (nets_within (suc k) xs clocks) (nets_more k xs clocks) xs b (subst (λ c. (c || contains (port_targets (nets_within k xs clocks) xs) b) ≡ true) e (sym (contains-append clocks (port_targets (nets_within k xs clocks) xs) b) ∙ h))))
 
 -- how many bits a port drives: one
 port_count : List ℕ → Process → ℕ
@@ -163,14 +166,15 @@ targets_count nets more sub (x ∷ xs) =
       | inr same ↦ let len : length (port_target nets x) ≡ length (port_target more x) = ap length same in omega (arith, rest, both, all, len)
     ]
 
-nets_count : (d : Design) (clock : ℕ) → length (clock_nets d clock) ≤ 1 + sum_by (port_count (clock_nets d clock)) d.processes
-nets_count d clock = go (length d.processes)
+nets_count : (d : Design) (clocks : List ℕ) → length (clock_nets d clocks) ≤ length clocks + sum_by (port_count (clock_nets d clocks)) d.processes
+nets_count d clocks = go (length d.processes)
   where
-    go : (k : ℕ) → length (nets_within k d.processes clock) ≤ 1 + sum_by (port_count (nets_within k d.processes clock)) d.processes
+    go : (k : ℕ) → length (nets_within k d.processes clocks) ≤ length clocks + sum_by (port_count (nets_within k d.processes clocks)) d.processes
     go zero = omega arith
     go (suc k) =
-        let h = targets_count (nets_within k d.processes clock) (nets_within (suc k) d.processes clock) (nets_more k d.processes clock) d.processes in
-        omega (arith, h)
+        let h = targets_count (nets_within k d.processes clocks) (nets_within (suc k) d.processes clocks) (nets_more k d.processes clocks) d.processes in
+        let both = length-append clocks (port_targets (nets_within k d.processes clocks) d.processes) in
+        omega (arith, h, both)
 
 -- ---- what each process adds
 
@@ -208,25 +212,25 @@ all_weigh d nets (x ∷ xs) =
 
 -- ---- the assigns and combinational blocks of an order
 
-but_fits : (d : Design) (clock : ℕ) (stores : ℕ → ℕ) → AreWithin d stores → (ps : List ℕ)
+but_fits : (d : Design) (clocks : List ℕ) (stores : ℕ → ℕ) → AreWithin d stores → (ps : List ℕ)
     → ((p : ℕ) → contains ps p ≡ true → (x : Process) × (slice_get d.processes p ≡ Some x) × (is_clocked x ≡ false))
-    → sum_by stores (but_ports d clock ps) ≤ sum_by (λ p. of_or (own_stores d (clock_nets d clock)) (slice_get d.processes p)) ps
+    → sum_by stores (but_ports d clocks ps) ≤ sum_by (λ p. of_or (own_stores d (clock_nets d clocks)) (slice_get d.processes p)) ps
 unfolding own_stores
-but_fits d clock stores within [] h = omega arith
-but_fits d clock stores within (p ∷ ps) h =
-    let rest = but_fits d clock stores within ps (λ q k. h q (in_right (p ∷ []) ps q k)) in
+but_fits d clocks stores within [] h = omega arith
+but_fits d clocks stores within (p ∷ ps) h =
+    let rest = but_fits d clocks stores within ps (λ q k. h q (in_right (p ∷ []) ps q k)) in
     let r = h p (in_left (p ∷ []) ps p (ap (λ c. c || false) (eq-eqb p p refl))) in
-    let sum = sum_by-cons (λ q. of_or (own_stores d (clock_nets d clock)) (slice_get d.processes q)) p ps in
-    by_test (is_port_or (clock_nets d clock) (slice_get d.processes p))
+    let sum = sum_by-cons (λ q. of_or (own_stores d (clock_nets d clocks)) (slice_get d.processes q)) p ps in
+    by_test (is_port_or (clock_nets d clocks) (slice_get d.processes p))
     (λ e. rw e (omega (arith, rest, sum)))
     (λ e.
     let bound = within.each p r.0 r.1 in
     let here : stores_of d r.0 ≡ process_weight r.0 + 0 + sleeper_weight d r.0 = ap (λ (c : Bool). process_weight r.0 + (if c then distinct (writes_of r.0) else 0) + sleeper_weight d r.0) r.2 in
-    let own : of_or (own_stores d (clock_nets d clock)) (slice_get d.processes p) ≡ process_weight r.0 + sleeper_weight d r.0 =
-    ap (of_or (own_stores d (clock_nets d clock))) r.1
-    ∙ ap (λ (c : Bool). if c then 0 else (if is_clock_port (clock_nets d clock) r.0 then 0 else (process_weight r.0 + sleeper_weight d r.0))) r.2
-    ∙ ap (λ (c : Bool). if c then 0 else (process_weight r.0 + sleeper_weight d r.0)) (subst (λ o. is_port_or (clock_nets d clock) o ≡ false) r.1 e) in
-    rw e (omega (arith, rest, sum, bound, here, own, sum_by-cons stores p (but_ports d clock ps))))
+    let own : of_or (own_stores d (clock_nets d clocks)) (slice_get d.processes p) ≡ process_weight r.0 + sleeper_weight d r.0 =
+    ap (of_or (own_stores d (clock_nets d clocks))) r.1
+    ∙ ap (λ (c : Bool). if c then 0 else (if is_clock_port (clock_nets d clocks) r.0 then 0 else (process_weight r.0 + sleeper_weight d r.0))) r.2
+    ∙ ap (λ (c : Bool). if c then 0 else (process_weight r.0 + sleeper_weight d r.0)) (subst (λ o. is_port_or (clock_nets d clocks) o ≡ false) r.1 e) in
+    rw e (omega (arith, rest, sum, bound, here, own, sum_by-cons stores p (but_ports d clocks ps))))
 
 -- ---- the clocked blocks
 
@@ -324,61 +328,98 @@ fewer (b ∷ bs) c =
     other true e f h = let g : (b == c) ≡ true = eq-eqb b c (sym (eqb-true c b e)) in cc
     other false e f h = omega arith
 
--- the data inputs and the clock nets are within the inputs and the ports of the clock
-inputs_count : (d : Design) (name : Option (List ℕ)) (s : Signal) → clock_input d name ≡ Some s → length (data_bits d s.first) + length (own_nets d s.first) ≤ sum_by signal_length (top_inputs d) + sum_by (port_count (clock_nets d s.first)) d.processes
-inputs_count d name s h = by_place (clock_place d name s h) (nat_lt s.first (bit_count d)) refl
+-- no bits are more without some of them
+data_few : (bs cs : List ℕ) → length (without bs cs) ≤ length bs
+data_few [] cs = omega arith
+data_few (b ∷ bs) cs =
+    let rest = data_few bs cs in
+    by_test (contains cs b) (λ e. rw e (omega (arith, rest))) (λ e. rw e (omega (arith, rest)))
+
+-- clocks that are among the bits, each once, are no more among what is left
+without_fewer : (cs bs : List ℕ) → AreOnce cs → ((c : ℕ) → contains cs c ≡ true → contains bs c ≡ true) → length (without bs cs) + length cs ≤ length bs
+without_fewer [] bs once has = omega (arith, without_none bs)
   where
-    all : length (signals_bits (top_inputs d)) ≡ sum_by signal_length (top_inputs d)
-    all = length-signals_bits (top_inputs d)
+    without_none : (bs : List ℕ) → length (without bs []) ≡ length bs
+    without_none [] = refl
+    without_none (b ∷ bs) = ap suc (without_none bs)
+without_fewer (c ∷ cs) bs once has =
+    let here : contains bs c ≡ true = has c (ap (λ t. t || contains cs c) (eq-eqb c c refl)) in
+    let less : length (without bs (c ∷ [])) + 1 ≤ length bs = subst (λ (k : Bool). length (without bs (c ∷ [])) + (if k then 1 else 0) ≤ length bs) here (fewer bs c) in
+    let rest = without_fewer cs (without bs (c ∷ [])) once.1 (λ b h. left_there b h) in
+    let same = without_less bs cs c in
+    omega (arith, less, rest, same)
+  where
+    or_later : (u v : Bool) → v ≡ true → (u || v) ≡ true
+    or_later true v h = refl
+    or_later false v h = h
 
-    past : (m n : ℕ) → nat_lt m n ≡ false → n ≤ m
-    past m n e = grind arith
+    left_there : (b : ℕ) → contains cs b ≡ true → contains (without bs (c ∷ [])) b ≡ true
+    left_there b h =
+        let apart : (b == c) ≡ false = by_test (b == c) (λ e. absurd (both_ways (contains cs c) once.0 (subst (λ k. contains cs k ≡ true) (eqb-true b c e) h))) (λ e. e) in
+        contains_filter (λ k. not (contains (c ∷ []) k)) bs b
+        ∙ ap (λ t. t && not ((b == c) || false)) (has b (or_later (b == c) (contains cs b) h))
+        ∙ ap (λ t. not (t || false)) apart
 
-    below : (m n : ℕ) → nat_lt m n ≡ true → m < n
-    below m n e = grind arith
+same_signals : (xs ys : List Signal) → Some xs ≡ Some ys → xs ≡ ys
+same_signals xs ys e = cc
 
-    data_few : length (data_bits d s.first) ≤ length (input_bits d)
-    data_few = go (contains (input_bits d) s.first) (fewer (input_bits d) s.first)
+-- the data inputs and the clock nets are within the inputs and the ports of the clocks
+inputs_count : (d : Design) → have_bits_from 0 d.signals ≡ true → (names : List (List ℕ)) (ss : List Signal) → clock_inputs d names ≡ Some ss
+    → length (data_bits d (clock_bits ss)) + length (own_nets d (clock_bits ss)) ≤ sum_by signal_length (top_inputs d) + sum_by (port_count (clock_nets d (clock_bits ss))) d.processes
+inputs_count d numbered [] ss h = elim (own_or_spare d [] ss h numbered) [
+  | inl all ↦ absurd (let is = same_signals (spare_clock d ∷ []) ss h in spare_not_own d (subst (λ (xs : List Signal). own_clocks d (clock_bits xs) ≡ clock_bits xs) (sym is) all))
+  | inr spare ↦
+      let none : length (own_nets d (clock_bits ss)) ≡ 0 = ap (λ (cs : List ℕ). length (clock_nets d cs)) spare.0 ∙ ap length (no_nets (length d.processes) d.processes) in
+      let few = data_few (input_bits d) (clock_bits ss) in
+      let all = length-signals_bits (top_inputs d) in
+      omega (arith, all, few, none)
+]
+  where
+    spare_not_own : (d : Design) → own_clocks d (bit_count d ∷ []) ≡ bit_count d ∷ [] → ⊥
+    spare_not_own d h =
+        let off : nat_lt (bit_count d) (bit_count d) ≡ false = not_below (bit_count d) in
+        let k : [] ≡ bit_count d ∷ [] = subst (λ (t : Bool). (if t then (bit_count d ∷ []) else []) ≡ bit_count d ∷ []) off h in cc
       where
-        go : (k : Bool) → length (data_bits d s.first) + (if k then 1 else 0) ≤ length (input_bits d) → length (data_bits d s.first) ≤ length (input_bits d)
-        go true e = omega (arith, e)
-        go false e = omega (arith, e)
-
-    by_place : ClockPlace d s → (c : Bool) → nat_lt s.first (bit_count d) ≡ c → length (data_bits d s.first) + length (own_nets d s.first) ≤ sum_by signal_length (top_inputs d) + sum_by (port_count (clock_nets d s.first)) d.processes
-    by_place place false e =
-        let none : length (own_nets d s.first) ≡ 0 = ap (λ (c : Bool). length (if c then clock_nets d s.first else [])) e in
-        omega (arith, all, data_few, none)
-    by_place (beyond l) true e = absurd (let k = below s.first (bit_count d) e in omega (arith, k, l))
-    by_place (among n is inside one) true e =
-        let few : length (data_bits d s.first) + 1 ≤ length (input_bits d) = subst (λ (k : Bool). length (data_bits d s.first) + (if k then 1 else 0) ≤ length (input_bits d)) inside (fewer (input_bits d) s.first) in
-        let own : length (own_nets d s.first) ≡ length (clock_nets d s.first) = ap (λ (c : Bool). length (if c then clock_nets d s.first else [])) e in
-        omega (arith, all, few, own, nets_count d s.first)
+        not_below : (n : ℕ) → nat_lt n n ≡ false
+        not_below n = grind arith
+inputs_count d numbered (name ∷ names) ss h = elim (own_or_spare d (name ∷ names) ss h numbered) [
+  | inl all ↦
+      let few = without_fewer (clock_bits ss) (input_bits d) (named_once d numbered (name ∷ names) ss h) (λ c k. input_bit d c (names_place d (name ∷ names) ss h c k)) in
+      let own : length (own_nets d (clock_bits ss)) ≡ length (clock_nets d (clock_bits ss)) = ap (λ (cs : List ℕ). length (clock_nets d cs)) all in
+      let inputs = length-signals_bits (top_inputs d) in
+      omega (arith, inputs, few, own, nets_count d (clock_bits ss))
+  | inr spare ↦
+      let none : length (own_nets d (clock_bits ss)) ≡ 0 = ap (λ (cs : List ℕ). length (clock_nets d cs)) spare.0 ∙ ap length (no_nets (length d.processes) d.processes) in
+      let few = data_few (input_bits d) (clock_bits ss) in
+      let all = length-signals_bits (top_inputs d) in
+      omega (arith, all, few, none)
+]
 
 -- ---- all together
 
 pub stores_fit : AcceptedIsLawful → LevelOrderIs → StoresFit
-stores_fit lawful levels d name a order ordered stores resets within resetting =
-    let L : IsLawful (network_of d a.clock.first) = lawful d name a d.initials (same_order d.initials) in
+stores_fit lawful levels d names a order ordered stores resets within resetting =
+    let L : IsLawful (network_of d (clock_bits a.clocks)) = lawful d names a d.initials (same_order d.initials) in
     let o = levels d order ordered in
-    let own = but_fits d a.clock.first stores within order (λ p h. (o.members p).0 h) in
-    let apart = sum_apart (own_stores d (clock_nets d a.clock.first)) d.processes order o.once in
-    let weighed = all_weigh d (clock_nets d a.clock.first) d.processes in
+    let own = but_fits d (clock_bits a.clocks) stores within order (λ p h. (o.members p).0 h) in
+    let apart = sum_apart (own_stores d (clock_nets d (clock_bits a.clocks))) d.processes order o.once in
+    let weighed = all_weigh d (clock_nets d (clock_bits a.clocks)) d.processes in
     let blocks = clocked_fit d stores 0 d.processes (λ j x e. subst (λ n. stores n ≤ stores_of d x) (zero_add j) (within.each j x e)) in
     let zeroed = clocked_fit d resets 0 d.processes (λ j x e. subst (λ n. resets n ≤ stores_of d x) (zero_add j) (resetting.each j x e)) in
     let bits = bits_fit d.processes (sole L) in
-    let inputs = inputs_count d name a.clock a.clock_found in
+    let inputs = inputs_count d a.lawful.bits_numbered names a.clocks a.clocks_found in
     let registers = distinct_more (register_bits d.processes) (register_bits d.processes ++ memory_bits d) (λ b h. in_left (register_bits d.processes) (memory_bits d) b h) in
     record {
       fall = omega (arith, own, apart, weighed, zeroed, bits, inputs, registers);
       rise = omega (arith, own, apart, weighed, blocks, bits, inputs, registers);
-      cones = λ changed. cones_fit d stores changed (but_ports d a.clock.first order);
+      cones = λ changed. cones_fit d stores changed (but_ports d (clock_bits a.clocks) order);
     }
   where
     zero_add : (j : ℕ) → j ≡ 0 + j
     zero_add j = omega arith
 
-    sole : IsLawful (network_of d a.clock.first) → AreSole d.processes
+    sole : IsLawful (network_of d (clock_bits a.clocks)) → AreSole d.processes
     sole L i j x y b e f u v =
         sym (L.one_writer i j b
-        (ap (λ q. writes q b) (process_number d a.clock.first i x e) ∙ writes_are d a.clock.first x b ∙ u)
-        (ap (λ q. writes q b) (process_number d a.clock.first j y f) ∙ writes_are d a.clock.first y b ∙ v))
+        (ap (λ q. writes q b) (process_number d (clock_bits a.clocks) i x e) ∙ writes_are d (clock_bits a.clocks) x b ∙ u)
+        (ap (λ q. writes q b) (process_number d (clock_bits a.clocks) j y f) ∙ writes_are d (clock_bits a.clocks) y b ∙ v))

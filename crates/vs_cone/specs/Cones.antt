@@ -1,4 +1,4 @@
--- The processes that a slot has to run: all but the clock's ports in a first one, and in a later one those that changed bits lead to.
+-- The processes that a slot has to run: all but the clocks' ports in a first one, and in a later one those that changed bits lead to.
 use Rattle.std.specs.Prelude.{ℕ, Bool, false, not, List, [], ◌∷◌, ◌++◌, if◌then◌else◌, Option, Some, None, slice_get}
 use Rattle.std.specs.List.{list_any, filter}
 use Rattle.vs_design.specs.Designs.{Process, Design}
@@ -16,7 +16,7 @@ abbrev pub writes_or : Option Process → List ℕ
 writes_or None = []
 writes_or (Some x) = writes_of x
 
--- whether it is a port that copies the clock
+-- whether it is a port that copies a clock
 abbrev pub is_port_or : List ℕ → Option Process → Bool
 is_port_or nets None = false
 is_port_or nets (Some x) = is_clock_port nets x
@@ -38,6 +38,6 @@ abbrev pub cone : Design → List ℕ → List ℕ → List ℕ
 cone d changed [] = []
 cone d changed (p ∷ order) = if is_touched d changed p then (p ∷ cone d (writes_at d p ++ changed) order) else cone d changed order
 
--- of the order the processes but the ports that copy the clock
-abbrev pub but_ports : Design → ℕ → List ℕ → List ℕ
-but_ports d clock order = filter (λ p. not (is_port_or (clock_nets d clock) (slice_get d.processes p))) order
+-- of the order the processes but the ports that copy clocks
+abbrev pub but_ports : Design → List ℕ → List ℕ → List ℕ
+but_ports d clocks order = filter (λ p. not (is_port_or (clock_nets d clocks) (slice_get d.processes p))) order

@@ -2,7 +2,7 @@
 use Rattle.std.specs.Prelude.{◌≡◌, ℕ, suc, ◌+◌, ◌≤◌, true, List, [], ◌∷◌, if◌then◌else◌, length, sum_by, Some, slice_get, Option}
 use Rattle.vs_design.specs.Designs.{Process, is_clocked, Design}
 use Rattle.vs_design.specs.Footprints.{writes_of}
-use Rattle.vs_design.specs.Clocks.{own_nets}
+use Rattle.vs_design.specs.Clocks.{clock_bits, own_nets}
 use Rattle.vs_design.specs.Sizes.{distinct, process_weight, register_bits, sleeper_weight, size}
 use Rattle.vs_design.specs.Levels.{is_level_order}
 use Rattle.vs_design.specs.Accepted.{IsAcceptedDesign}
@@ -27,16 +27,16 @@ pub record AreWithin (d : Design) (stores : ℕ → ℕ) : Type 0 where
   pub each : (p : ℕ) (x : Process) → slice_get d.processes p ≡ Some x → stores p ≤ stores_of d x
 
 -- the stores of each kind of slot are within the size
-pub record StoresFitIn (d : Design) (clock : ℕ) (order : List ℕ) (stores resets : ℕ → ℕ) : Type 0 where
-  -- where the clock falls: one for each bit of the data inputs and each clock net, of which there are none without a clock, those of the clocked blocks' resets, and those of the processes but the clock's ports
-  pub fall : length (data_bits d clock) + length (own_nets d clock) + sum_by resets (clocked d) + sum_by stores (but_ports d clock order) ≤ size d
-  -- where it rises: one for each clock net, those of the clocked blocks, one for each register bit, and those of the processes but the clock's ports
-  pub rise : length (own_nets d clock) + (sum_by stores (clocked d) + distinct (register_bits d.processes)) + sum_by stores (but_ports d clock order) ≤ size d
+pub record StoresFitIn (d : Design) (clocks : List ℕ) (order : List ℕ) (stores resets : ℕ → ℕ) : Type 0 where
+  -- where the clocks fall: one for each bit of the data inputs and each clock net, of which there are none without a clock, those of the clocked blocks' resets, and those of the processes but the clocks' ports
+  pub fall : length (data_bits d clocks) + length (own_nets d clocks) + sum_by resets (clocked d) + sum_by stores (but_ports d clocks order) ≤ size d
+  -- where it rises: one for each clock net, those of the clocked blocks, one for each register bit, and those of the processes but the clocks' ports
+  pub rise : length (own_nets d clocks) + (sum_by stores (clocked d) + distinct (register_bits d.processes)) + sum_by stores (but_ports d clocks order) ≤ size d
   -- a cone makes no more stores than the list from which it is taken
-  pub cones : (changed : List ℕ) → sum_by stores (cone d changed (but_ports d clock order)) ≤ sum_by stores (but_ports d clock order)
+  pub cones : (changed : List ℕ) → sum_by stores (cone d changed (but_ports d clocks order)) ≤ sum_by stores (but_ports d clocks order)
 
 -- of an accepted design they are, whichever its level order is
 abbrev pub StoresFit : Type 0
 StoresFit =
-    (d : Design) (name : Option (List ℕ)) (a : IsAcceptedDesign d name) (order : List ℕ) → is_level_order d order ≡ true
-    → (stores resets : ℕ → ℕ) → AreWithin d stores → AreWithin d resets → StoresFitIn d a.clock.first order stores resets
+    (d : Design) (names : List (List ℕ)) (a : IsAcceptedDesign d names) (order : List ℕ) → is_level_order d order ≡ true
+    → (stores resets : ℕ → ℕ) → AreWithin d stores → AreWithin d resets → StoresFitIn d (clock_bits a.clocks) order stores resets

@@ -8,7 +8,7 @@ use Rattle.vs_net.specs.Settle.{settle, IsFed}
 use Rattle.vs_net.specs.Lawful.{Settles}
 use Rattle.vs_design.specs.Designs.{Design}
 use Rattle.vs_design.specs.Footprints.{contains}
-use Rattle.vs_design.specs.Clocks.{clock_nets}
+use Rattle.vs_design.specs.Clocks.{clock_bits, clock_nets}
 use Rattle.vs_design.specs.Levels.{is_level_order}
 use Rattle.vs_design.specs.Networks.{network_of}
 use Rattle.vs_design.specs.Accepted.{IsAcceptedDesign}
@@ -20,26 +20,26 @@ pub record IsSettled (n : Network) (s : State) : Type 0 where
   pub each : (p : ℕ) → Settles (kind (n.process p)) → write_all s (given n from p s) ≡ s
 
 -- all clock nets have this value
-pub record HaveClock (d : Design) (clock : ℕ) (v : Bit4) (s : State) : Type 0 where
-  pub nets : (b : ℕ) → contains (clock_nets d clock) b ≡ true → s b ≡ v
+pub record HaveClock (d : Design) (clocks : List ℕ) (v : Bit4) (s : State) : Type 0 where
+  pub nets : (b : ℕ) → contains (clock_nets d clocks) b ≡ true → s b ≡ v
 
 -- no assign and no combinational block writes the bits `changed`, and the state has all other bits but the clock nets as before
-pub record IsChangedAt (d : Design) (clock : ℕ) (changed : List ℕ) (before s : State) : Type 0 where
-  pub sources : (p b : ℕ) → Settles (kind ((network_of d clock).process p)) → writes ((network_of d clock).process p) b ≡ true
+pub record IsChangedAt (d : Design) (clocks : List ℕ) (changed : List ℕ) (before s : State) : Type 0 where
+  pub sources : (p b : ℕ) → Settles (kind ((network_of d clocks).process p)) → writes ((network_of d clocks).process p) b ≡ true
       → contains changed b ≡ false
-  pub others : (b : ℕ) → contains changed b ≡ false → contains (clock_nets d clock) b ≡ false → s b ≡ before b
+  pub others : (b : ℕ) → contains changed b ≡ false → contains (clock_nets d clocks) b ≡ false → s b ≡ before b
 
--- once inputs, registers and clock nets have their values, one pass over a level order without the clock's ports ends the slot
+-- once inputs, registers and clock nets have their values, one pass over a level order without the clocks' ports ends the slot
 abbrev pub FirstSlots : Type 0
 FirstSlots =
-    (d : Design) (name : Option (List ℕ)) (a : IsAcceptedDesign d name) (order : List ℕ) → is_level_order d order ≡ true
-    → (before : State) (slot : Slot) (v : Bit4) (s : State) → IsFed (network_of d a.clock.first) before slot s → HaveClock d a.clock.first v s
-    → IsSlotEnd (network_of d a.clock.first) before slot (settle (network_of d a.clock.first) before (but_ports d a.clock.first order) s)
+    (d : Design) (names : List (List ℕ)) (a : IsAcceptedDesign d names) (order : List ℕ) → is_level_order d order ≡ true
+    → (before : State) (slot : Slot) (v : Bit4) (s : State) → IsFed (network_of d (clock_bits a.clocks)) before slot s → HaveClock d (clock_bits a.clocks) v s
+    → IsSlotEnd (network_of d (clock_bits a.clocks)) before slot (settle (network_of d (clock_bits a.clocks)) before (but_ports d (clock_bits a.clocks) order) s)
 
 -- where the slot begins with settled values, it is enough to run of these the cone of what changed
 abbrev pub LaterSlots : Type 0
 LaterSlots =
-    (d : Design) (name : Option (List ℕ)) (a : IsAcceptedDesign d name) (order : List ℕ) → is_level_order d order ≡ true
-    → (before : State) (slot : Slot) (v : Bit4) (s : State) (changed : List ℕ) → IsSettled (network_of d a.clock.first) before
-    → IsFed (network_of d a.clock.first) before slot s → HaveClock d a.clock.first v s → IsChangedAt d a.clock.first changed before s
-    → IsSlotEnd (network_of d a.clock.first) before slot (settle (network_of d a.clock.first) before (cone d changed (but_ports d a.clock.first order)) s)
+    (d : Design) (names : List (List ℕ)) (a : IsAcceptedDesign d names) (order : List ℕ) → is_level_order d order ≡ true
+    → (before : State) (slot : Slot) (v : Bit4) (s : State) (changed : List ℕ) → IsSettled (network_of d (clock_bits a.clocks)) before
+    → IsFed (network_of d (clock_bits a.clocks)) before slot s → HaveClock d (clock_bits a.clocks) v s → IsChangedAt d (clock_bits a.clocks) changed before s
+    → IsSlotEnd (network_of d (clock_bits a.clocks)) before slot (settle (network_of d (clock_bits a.clocks)) before (cone d changed (but_ports d (clock_bits a.clocks) order)) s)

@@ -13,7 +13,7 @@ ghost use Rattle.vs_cone.specs.Writes.{WritesAre};
 
 use vs_design::{clock_law, cycle_law, footprint_law, lawful_law, pass_law, spare_law};
 
-/// In any slot it is enough to run the assigns and combinational blocks of a level order but the clock's ports, once the inputs, the registers and all clock nets have their values.
+/// In any slot it is enough to run the assigns and combinational blocks of a level order but the clocks' ports, once the inputs, the registers and all clock nets have their values.
 pub fn first_law()
     ensures { FirstSlots }
 {
@@ -31,7 +31,7 @@ pub fn later_law()
     clock_law();
 }
 
-/// What a slot comes to in which the clock falls: a first one, before which no values are settled, and a later one. Resets act here.
+/// What a slot comes to in which the clocks fall: a first one, before which no values are settled, and a later one. Resets act here.
 pub fn fall_law()
     ensures first { FirstFall }
     ensures later { LaterFall }
@@ -41,7 +41,7 @@ pub fn fall_law()
     clock_law();
 }
 
-/// What a slot comes to in which the clock rises: each register has what a run of its block gives from the values before, first its blocking writes (9.2.1) and then its updates (9.2.2).
+/// What a slot comes to in which the clocks rise: each register has what a run of its block gives from the values before, first its blocking writes (9.2.1) and then its updates (9.2.2).
 pub fn rise_law()
     ensures { LaterRise }
 {

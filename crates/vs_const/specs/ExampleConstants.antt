@@ -20,15 +20,15 @@ abbrev pub to_zero : ℕ → Range
 to_zero left = record { left = left; right = 0 }
 
 abbrev pub vector : Signal
-vector = record { name = 118 ∷ []; scope = 0; number = 0; net = true; input = false; range = Some (to_zero 3); signed = false; first = 0; words = None }
+vector = record { name = 118 ∷ []; scope = 0; number = 0; net = true; input = false; range = Some (to_zero 3); signed = false; first = 0; words = None; integer = false }
 
 -- four words of eight bits
 abbrev pub memory : Signal
-memory = record { name = 109 ∷ []; scope = 0; number = 1; net = false; input = false; range = Some (to_zero 7); signed = false; first = 4; words = Some (to_zero 3) }
+memory = record { name = 109 ∷ []; scope = 0; number = 1; net = false; input = false; range = Some (to_zero 7); signed = false; first = 4; words = Some (to_zero 3); integer = false }
 
 -- a local signal of a function
 abbrev pub local : ℕ → Signal
-local number = record { name = []; scope = 0; number = number; net = false; input = number == 0; range = Some (to_zero 3); signed = false; first = 4 * number; words = None }
+local number = record { name = []; scope = 0; number = number; net = false; input = number == 0; range = Some (to_zero 3); signed = false; first = 4 * number; words = None; integer = false }
 
 -- a function of one input
 abbrev pub header : Header

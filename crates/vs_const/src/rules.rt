@@ -40,7 +40,7 @@ pub enum Rule {
     TooManyProcesses,
     /// A loop takes more than 4,096 turns, or all loops together make more than 1,048,576 copies of statements (9.6).
     LoopTurns,
-    /// An integer is named outside its loops, assigned within one, heads a loop within its own, or heads loops of two processes (9.6).
+    /// An integer that is no variable is named outside its loops, or an integer is assigned within one, heads a loop within its own, or heads loops of two processes (9.6).
     LoopVariable,
     /// A function names what it may not, or a call has another number of arguments than the function has inputs (10.4.4).
     FunctionRule,

@@ -13,7 +13,7 @@ use Rattle.vs_design.specs.Elaborated.{IsLawfulDesign, is_formed_process, are_nu
 use Rattle.vs_design.specs.Sizes.{size}
 use Rattle.vs_design.specs.Rules.{function_latches, mixed_assigns, missing_bits, latches}
 use Rattle.vs_design.specs.Initials.{has_other_start}
-use Rattle.vs_design.specs.Clocks.{clock_input, clock_nets, root_of, reads_clock, has_other_clock}
+use Rattle.vs_design.specs.Clocks.{clock_inputs, clock_bits, clock_nets, root_of, reads_clock, has_other_clock}
 use Rattle.vs_design.specs.Resets.{has_other_form}
 use Rattle.vs_design.specs.Levels.{level_order}
 use Rattle.vs_design.specs.Races.{race_bits}
@@ -410,7 +410,7 @@ block_refusal_is d l r h = both r (otherwise_some (option_map FunctionLatch (lea
     both r (inl e) = let m = mapped_some FunctionLatch (least (function_latches d.functions)) r e in subst (IsBlockRefusal d) m.2 (least_is (function_latches d.functions) m.0 m.1)
     both r (inr e) = go r (no_least (function_latches d.functions) (none_mapped FunctionLatch (least (function_latches d.functions)) e.0)) (first_in_text d l (block_refusal_at d) breaks_block r none some e.1)
 
--- ---- the clock, and time zero
+-- ---- the clocks, and time zero
 
 -- where a test at a process gives a refusal, it is found at the first process that passes
 tested_first : {A : Type 0} (d : Design) (test : Process → Bool) (f : ℕ → Process → A) (a : A) → first_found (λ p process. where_true (test process) (f p process)) 0 d.processes ≡ Some a → (p : ℕ) × (process : Process) × IsFirstOf d test p process × (f p process ≡ a)
@@ -431,13 +431,13 @@ tested_first {A} d test f a h =
     value false x e = cc
 
 pub clock_refusal_is : ClockRefusalIs
-clock_refusal_is d name r h = go (clock_input d name) refl r h
+clock_refusal_is d names r h = go (clock_inputs d names) refl r h
   where
-    reads : Signal → Process → Bool
-    reads clock = reads_clock (clock_nets d clock.first)
+    reads : List Signal → Process → Bool
+    reads clocks = reads_clock (clock_nets d (clock_bits clocks))
 
-    others : Signal → Process → Bool
-    others clock = has_other_clock (clock_nets d clock.first) (root_of d clock.first)
+    others : List Signal → Process → Bool
+    others clocks = has_other_clock (clock_nets d (clock_bits clocks)) (root_of d (clock_bits clocks))
 
     same_read : (p a q b : ℕ) → ClockRead p a ≡ ClockRead q b → (p ≡ q) × (a ≡ b)
     same_read p a q b e = (cc, cc)
@@ -445,46 +445,46 @@ clock_refusal_is d name r h = go (clock_input d name) refl r h
     same_other : (p a q b : ℕ) → NotTheClock p a ≡ NotTheClock q b → (p ≡ q) × (a ≡ b)
     same_other p a q b e = (cc, cc)
 
-    by_read : (clock : Signal) → clock_input d name ≡ Some clock → (r : ClockRefusal) → (p : ℕ) × (process : Process) × IsFirstOf d (reads_clock (clock_nets d clock.first)) p process × (ClockRead p (process_place process) ≡ r) → IsClockRefusal d name r
-    by_read clock e NoClock m = cc
-    by_read clock e (ClockRead p at) m = let q = same_read m.0 (process_place m.1) p at m.3 in (clock, e, (m.1, subst (λ n. IsFirstOf d (reads_clock (clock_nets d clock.first)) n m.1) q.0 m.2, sym q.1))
-    by_read clock e (NotTheClock p at) m = cc
-    by_read clock e (ResetForm p at) m = cc
+    by_read : (clocks : List Signal) → clock_inputs d names ≡ Some clocks → (r : ClockRefusal) → (p : ℕ) × (process : Process) × IsFirstOf d (reads_clock (clock_nets d (clock_bits clocks))) p process × (ClockRead p (process_place process) ≡ r) → IsClockRefusal d names r
+    by_read clocks e NoClock m = cc
+    by_read clocks e (ClockRead p at) m = let q = same_read m.0 (process_place m.1) p at m.3 in (clocks, e, (m.1, subst (λ n. IsFirstOf d (reads_clock (clock_nets d (clock_bits clocks))) n m.1) q.0 m.2, sym q.1))
+    by_read clocks e (NotTheClock p at) m = cc
+    by_read clocks e (ResetForm p at) m = cc
 
-    by_other : (clock : Signal) → clock_input d name ≡ Some clock → (r : ClockRefusal) → list_any (reads_clock (clock_nets d clock.first)) d.processes ≡ false
-        → (p : ℕ) × (process : Process) × IsFirstOf d (has_other_clock (clock_nets d clock.first) (root_of d clock.first)) p process × (NotTheClock p (process_place process) ≡ r) → IsClockRefusal d name r
-    by_other clock e NoClock u m = cc
-    by_other clock e (ClockRead p at) u m = cc
-    by_other clock e (ResetForm p at) u m = cc
-    by_other clock e (NotTheClock p at) u m = let q = same_other m.0 (process_place m.1) p at m.3 in (clock, e, u, (m.1, subst (λ n. IsFirstOf d (has_other_clock (clock_nets d clock.first) (root_of d clock.first)) n m.1) q.0 m.2, sym q.1))
+    by_other : (clocks : List Signal) → clock_inputs d names ≡ Some clocks → (r : ClockRefusal) → list_any (reads_clock (clock_nets d (clock_bits clocks))) d.processes ≡ false
+        → (p : ℕ) × (process : Process) × IsFirstOf d (has_other_clock (clock_nets d (clock_bits clocks)) (root_of d (clock_bits clocks))) p process × (NotTheClock p (process_place process) ≡ r) → IsClockRefusal d names r
+    by_other clocks e NoClock u m = cc
+    by_other clocks e (ClockRead p at) u m = cc
+    by_other clocks e (ResetForm p at) u m = cc
+    by_other clocks e (NotTheClock p at) u m = let q = same_other m.0 (process_place m.1) p at m.3 in (clocks, e, u, (m.1, subst (λ n. IsFirstOf d (has_other_clock (clock_nets d (clock_bits clocks)) (root_of d (clock_bits clocks))) n m.1) q.0 m.2, sym q.1))
 
     same_form : (p a q b : ℕ) → ResetForm p a ≡ ResetForm q b → (p ≡ q) × (a ≡ b)
     same_form p a q b e = (cc, cc)
 
-    by_form : (clock : Signal) → clock_input d name ≡ Some clock → (r : ClockRefusal) → list_any (reads_clock (clock_nets d clock.first)) d.processes ≡ false → list_any (has_other_clock (clock_nets d clock.first) (root_of d clock.first)) d.processes ≡ false
-        → (p : ℕ) × (process : Process) × IsFirstOf d (has_other_form (clock_nets d clock.first) (root_of d clock.first)) p process × (ResetForm p (process_place process) ≡ r) → IsClockRefusal d name r
-    by_form clock e NoClock u v m = cc
-    by_form clock e (ClockRead p at) u v m = cc
-    by_form clock e (NotTheClock p at) u v m = cc
-    by_form clock e (ResetForm p at) u v m = let q = same_form m.0 (process_place m.1) p at m.3 in (clock, e, u, v, (m.1, subst (λ n. IsFirstOf d (has_other_form (clock_nets d clock.first) (root_of d clock.first)) n m.1) q.0 m.2, sym q.1))
+    by_form : (clocks : List Signal) → clock_inputs d names ≡ Some clocks → (r : ClockRefusal) → list_any (reads_clock (clock_nets d (clock_bits clocks))) d.processes ≡ false → list_any (has_other_clock (clock_nets d (clock_bits clocks)) (root_of d (clock_bits clocks))) d.processes ≡ false
+        → (p : ℕ) × (process : Process) × IsFirstOf d (has_other_form (clock_nets d (clock_bits clocks)) (root_of d (clock_bits clocks))) p process × (ResetForm p (process_place process) ≡ r) → IsClockRefusal d names r
+    by_form clocks e NoClock u v m = cc
+    by_form clocks e (ClockRead p at) u v m = cc
+    by_form clocks e (NotTheClock p at) u v m = cc
+    by_form clocks e (ResetForm p at) u v m = let q = same_form m.0 (process_place m.1) p at m.3 in (clocks, e, u, v, (m.1, subst (λ n. IsFirstOf d (has_other_form (clock_nets d (clock_bits clocks)) (root_of d (clock_bits clocks))) n m.1) q.0 m.2, sym q.1))
 
-    go : (o : Option Signal) → clock_input d name ≡ o → (r : ClockRefusal) → clock_refusal_by d o ≡ Some r → IsClockRefusal d name r
+    go : (o : Option (List Signal)) → clock_inputs d names ≡ o → (r : ClockRefusal) → clock_refusal_by d o ≡ Some r → IsClockRefusal d names r
     go None e NoClock h = e
     go None e (ClockRead p at) h = cc
     go None e (NotTheClock p at) h = cc
     go None e (ResetForm p at) h = cc
-    go (Some clock) e r h = either (otherwise_some (first_found (λ p process. where_true (reads_clock (clock_nets d clock.first) process) (ClockRead p (process_place process))) 0 d.processes) (otherwise (first_found (λ p process. where_true (has_other_clock (clock_nets d clock.first) (root_of d clock.first) process) (NotTheClock p (process_place process))) 0 d.processes) (first_found (λ p process. where_true (has_other_form (clock_nets d clock.first) (root_of d clock.first) process) (ResetForm p (process_place process))) 0 d.processes)) r h)
+    go (Some clocks) e r h = either (otherwise_some (first_found (λ p process. where_true (reads_clock (clock_nets d (clock_bits clocks)) process) (ClockRead p (process_place process))) 0 d.processes) (otherwise (first_found (λ p process. where_true (has_other_clock (clock_nets d (clock_bits clocks)) (root_of d (clock_bits clocks)) process) (NotTheClock p (process_place process))) 0 d.processes) (first_found (λ p process. where_true (has_other_form (clock_nets d (clock_bits clocks)) (root_of d (clock_bits clocks)) process) (ResetForm p (process_place process))) 0 d.processes)) r h)
       where
-        second : list_any (reads_clock (clock_nets d clock.first)) d.processes ≡ false → ((first_found (λ p process. where_true (has_other_clock (clock_nets d clock.first) (root_of d clock.first) process) (NotTheClock p (process_place process))) 0 d.processes) ≡ Some r) ⊎ (((first_found (λ p process. where_true (has_other_clock (clock_nets d clock.first) (root_of d clock.first) process) (NotTheClock p (process_place process))) 0 d.processes) ≡ None) × ((first_found (λ p process. where_true (has_other_form (clock_nets d clock.first) (root_of d clock.first) process) (ResetForm p (process_place process))) 0 d.processes) ≡ Some r)) → IsClockRefusal d name r
-        second u (inl m) = by_other clock e r u (tested_first d (has_other_clock (clock_nets d clock.first) (root_of d clock.first)) (λ p process. NotTheClock p (process_place process)) r m)
-        second u (inr m) = by_form clock e r u (any_none (λ p process. where_true (has_other_clock (clock_nets d clock.first) (root_of d clock.first) process) (NotTheClock p (process_place process))) (has_other_clock (clock_nets d clock.first) (root_of d clock.first)) 0 d.processes (λ p x f. true_where (has_other_clock (clock_nets d clock.first) (root_of d clock.first) x) (NotTheClock p (process_place x)) f) m.0)
-            (tested_first d (has_other_form (clock_nets d clock.first) (root_of d clock.first)) (λ p process. ResetForm p (process_place process)) r m.1)
+        second : list_any (reads_clock (clock_nets d (clock_bits clocks))) d.processes ≡ false → ((first_found (λ p process. where_true (has_other_clock (clock_nets d (clock_bits clocks)) (root_of d (clock_bits clocks)) process) (NotTheClock p (process_place process))) 0 d.processes) ≡ Some r) ⊎ (((first_found (λ p process. where_true (has_other_clock (clock_nets d (clock_bits clocks)) (root_of d (clock_bits clocks)) process) (NotTheClock p (process_place process))) 0 d.processes) ≡ None) × ((first_found (λ p process. where_true (has_other_form (clock_nets d (clock_bits clocks)) (root_of d (clock_bits clocks)) process) (ResetForm p (process_place process))) 0 d.processes) ≡ Some r)) → IsClockRefusal d names r
+        second u (inl m) = by_other clocks e r u (tested_first d (has_other_clock (clock_nets d (clock_bits clocks)) (root_of d (clock_bits clocks))) (λ p process. NotTheClock p (process_place process)) r m)
+        second u (inr m) = by_form clocks e r u (any_none (λ p process. where_true (has_other_clock (clock_nets d (clock_bits clocks)) (root_of d (clock_bits clocks)) process) (NotTheClock p (process_place process))) (has_other_clock (clock_nets d (clock_bits clocks)) (root_of d (clock_bits clocks))) 0 d.processes (λ p x f. true_where (has_other_clock (clock_nets d (clock_bits clocks)) (root_of d (clock_bits clocks)) x) (NotTheClock p (process_place x)) f) m.0)
+            (tested_first d (has_other_form (clock_nets d (clock_bits clocks)) (root_of d (clock_bits clocks))) (λ p process. ResetForm p (process_place process)) r m.1)
 
-        either : ((first_found (λ p process. where_true (reads_clock (clock_nets d clock.first) process) (ClockRead p (process_place process))) 0 d.processes) ≡ Some r) ⊎ (((first_found (λ p process. where_true (reads_clock (clock_nets d clock.first) process) (ClockRead p (process_place process))) 0 d.processes) ≡ None) × (otherwise (first_found (λ p process. where_true (has_other_clock (clock_nets d clock.first) (root_of d clock.first) process) (NotTheClock p (process_place process))) 0 d.processes) (first_found (λ p process. where_true (has_other_form (clock_nets d clock.first) (root_of d clock.first) process) (ResetForm p (process_place process))) 0 d.processes) ≡ Some r)) → IsClockRefusal d name r
-        either (inl m) = by_read clock e r (tested_first d (reads_clock (clock_nets d clock.first)) (λ p process. ClockRead p (process_place process)) r m)
+        either : ((first_found (λ p process. where_true (reads_clock (clock_nets d (clock_bits clocks)) process) (ClockRead p (process_place process))) 0 d.processes) ≡ Some r) ⊎ (((first_found (λ p process. where_true (reads_clock (clock_nets d (clock_bits clocks)) process) (ClockRead p (process_place process))) 0 d.processes) ≡ None) × (otherwise (first_found (λ p process. where_true (has_other_clock (clock_nets d (clock_bits clocks)) (root_of d (clock_bits clocks)) process) (NotTheClock p (process_place process))) 0 d.processes) (first_found (λ p process. where_true (has_other_form (clock_nets d (clock_bits clocks)) (root_of d (clock_bits clocks)) process) (ResetForm p (process_place process))) 0 d.processes) ≡ Some r)) → IsClockRefusal d names r
+        either (inl m) = by_read clocks e r (tested_first d (reads_clock (clock_nets d (clock_bits clocks))) (λ p process. ClockRead p (process_place process)) r m)
         either (inr m) =
-            second (any_none (λ p process. where_true (reads_clock (clock_nets d clock.first) process) (ClockRead p (process_place process))) (reads_clock (clock_nets d clock.first)) 0 d.processes (λ p x f. true_where (reads_clock (clock_nets d clock.first) x) (ClockRead p (process_place x)) f) m.0)
-            (otherwise_some (first_found (λ p process. where_true (has_other_clock (clock_nets d clock.first) (root_of d clock.first) process) (NotTheClock p (process_place process))) 0 d.processes) (first_found (λ p process. where_true (has_other_form (clock_nets d clock.first) (root_of d clock.first) process) (ResetForm p (process_place process))) 0 d.processes) r m.1)
+            second (any_none (λ p process. where_true (reads_clock (clock_nets d (clock_bits clocks)) process) (ClockRead p (process_place process))) (reads_clock (clock_nets d (clock_bits clocks))) 0 d.processes (λ p x f. true_where (reads_clock (clock_nets d (clock_bits clocks)) x) (ClockRead p (process_place x)) f) m.0)
+            (otherwise_some (first_found (λ p process. where_true (has_other_clock (clock_nets d (clock_bits clocks)) (root_of d (clock_bits clocks)) process) (NotTheClock p (process_place process))) 0 d.processes) (first_found (λ p process. where_true (has_other_form (clock_nets d (clock_bits clocks)) (root_of d (clock_bits clocks)) process) (ResetForm p (process_place process))) 0 d.processes) r m.1)
 
 -- what is found first, at this place of the list, and nothing before it
 record FoundIn {A : Type 0} (find : ℕ → Process → Option A) (k : ℕ) (ps : List Process) (a : A) : Type 0 where
@@ -543,14 +543,14 @@ race_refusal_is d r h =
         subst (λ n. IsRaceRefusal d (Race n b at)) s.0 (x, i, subst (IsLeastOf (bits p x)) s.1 (least_is (bits p x) m.0 m.1), sym s.2, before)
 
 pub zero_refusal_is : ZeroRefusalIs
-zero_refusal_is d name r h = go (clock_input d name) refl r h
+zero_refusal_is d names r h = go (clock_inputs d names) refl r h
   where
     same_zero : (p a q b : ℕ) → TimeZero p a ≡ TimeZero q b → (p ≡ q) × (a ≡ b)
     same_zero p a q b e = (cc, cc)
 
-    go : (o : Option Signal) → clock_input d name ≡ o → (r : ZeroRefusal) → zero_refusal_by d o ≡ Some r → IsZeroRefusal d name r
+    go : (o : Option (List Signal)) → clock_inputs d names ≡ o → (r : ZeroRefusal) → zero_refusal_by d o ≡ Some r → IsZeroRefusal d names r
     go None e r h = cc
-    go (Some clock) e (TimeZero p at) h =
-        let m = tested_first d (is_uncertain d (families d clock.first (level_order d))) (λ p process. TimeZero p (process_place process)) (TimeZero p at) h in
+    go (Some clocks) e (TimeZero p at) h =
+        let m = tested_first d (is_uncertain d (families d (clock_bits clocks) (level_order d))) (λ p process. TimeZero p (process_place process)) (TimeZero p at) h in
         let q = same_zero m.0 (process_place m.1) p at m.3 in
-        (clock, e, (m.1, subst (λ n. IsFirstOf d (is_uncertain d (families d clock.first (level_order d))) n m.1) q.0 m.2, sym q.1))
+        (clocks, e, (m.1, subst (λ n. IsFirstOf d (is_uncertain d (families d (clock_bits clocks) (level_order d))) n m.1) q.0 m.2, sym q.1))

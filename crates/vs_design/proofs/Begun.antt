@@ -1,5 +1,5 @@
 -- Before slot 0 the bits of an accepted design's network have what initial processes leave in them, in whatever order these run.
-use Rattle.std.proofs.Common.{◌≡◌, ◌≢◌, ℕ, zero, suc, ◌≤◌, ◌<◌, Bool, true, false, List, [], ◌∷◌, ◌++◌, ◌||◌, ◌&&◌, not, if◌then◌else◌, refl, sym, ap, ◌∙◌, subst, length, map, arith, nat_lt, Option, Some}
+use Rattle.std.proofs.Common.{◌≡◌, ◌≢◌, ℕ, zero, suc, ◌≤◌, ◌<◌, Bool, true, false, List, [], ◌∷◌, ◌++◌, ◌||◌, ◌&&◌, not, if◌then◌else◌, refl, sym, ap, ◌∙◌, subst, length, map, arith, nat_lt, Some}
 use Rattle.std.specs.Prelude.{slice_get}
 use Rattle.std.specs.List.{flat_map, list_all}
 use Rattle.vs_net.specs.Network.{State, Update, write_all, is_written, flatten, Network, AClocked, kind, writes, made}
@@ -14,6 +14,7 @@ use Rattle.vs_design.specs.Fits.{fits_initial}
 use Rattle.vs_design.specs.Rules.{written_bits}
 use Rattle.vs_design.specs.Races.{at_once_bits, blocking_bits, nonblocking_bits}
 use Rattle.vs_design.specs.Initials.{initial_writes, initial_updates, initial_bits, sole_bits, starters, settled_bits, stirring_bits, late_bits, clashes, clashed_bits, first_value, start_value, IsOrderOf}
+use Rattle.vs_design.specs.Clocks.{clock_bits}
 use Rattle.vs_design.specs.Networks.{process_of, block_process, all_processes, kept_bits, updates_to, network_in, network_of}
 use Rattle.vs_design.specs.Accepted.{IsAcceptedDesign}
 use Rattle.vs_design.proofs.Lists.{by_test, and_both, or_neither, contains-left, contains-right, contains_filter}
@@ -56,7 +57,7 @@ listed_late (i ∷ is) f b h =
 
 -- ---- the rules
 
-module _ (d : Design) (name : Option (List ℕ)) (a : IsAcceptedDesign d name) where
+module _ (d : Design) (names : List (List ℕ)) (a : IsAcceptedDesign d names) where
   -- what the rule TwoDrivers says of a bit that an initial process writes
   no_clash : (b : ℕ) → contains (initial_bits d.initials) b ≡ true → clashes d b ≡ false
   no_clash b h = none_pass (clashes d) (initial_bits d.initials) b (empty_is (clashed_bits d) a.no_clash) h
@@ -91,24 +92,24 @@ module _ (d : Design) (name : Option (List ℕ)) (a : IsAcceptedDesign d name) w
   writer_listed [] b h = cc
   writer_listed (x ∷ ps) b h = split (writes_of x) (written_bits ps) b h (λ w. (0, x, refl, w)) (λ w. let r = writer_listed ps b w in (suc r.0, r.1, r.2, r.3))
 
-  keeps_as_block : (x : Process) (b : ℕ) → is_clocked x ≡ true → contains (writes_of x) b ≡ true → kept_bits (process_of d a.clock.first x) b ≡ true
+  keeps_as_block : (x : Process) (b : ℕ) → is_clocked x ≡ true → contains (writes_of x) b ≡ true → kept_bits (process_of d (clock_bits a.clocks) x) b ≡ true
   keeps_as_block (Continuous place port target_place target e) b k w = cc
-  keeps_as_block (Always place star events st) b k w = subst (λ c. kept_bits (block_process d a.clock.first c (Always place star events st) events st) b ≡ true) (sym k) w
+  keeps_as_block (Always place star events st) b k w = subst (λ c. kept_bits (block_process d (clock_bits a.clocks) c (Always place star events st) events st) b ≡ true) (sym k) w
 
-  pub who_keeps : (b : ℕ) → contains (initial_bits d.initials) b ≡ true → (p : ℕ) × (kept_bits ((network_of d a.clock.first).process p) b ≡ true)
+  pub who_keeps : (b : ℕ) → contains (initial_bits d.initials) b ≡ true → (p : ℕ) × (kept_bits ((network_of d (clock_bits a.clocks)).process p) b ≡ true)
   who_keeps b h =
       by_test (contains (written_bits d.processes) b)
       (λ w. by_writer (writer_listed d.processes b w))
       (λ w. by_sole (sole_bits d) refl (contains_filter (λ b. not (contains (written_bits d.processes) b)) (initial_bits d.initials) b ∙ rw (h, w) refl))
     where
-      by_writer : (p : ℕ) × (x : Process) × (slice_get d.processes p ≡ Some x) × (contains (writes_of x) b ≡ true) → (p : ℕ) × (kept_bits ((network_of d a.clock.first).process p) b ≡ true)
+      by_writer : (p : ℕ) × (x : Process) × (slice_get d.processes p ≡ Some x) × (contains (writes_of x) b ≡ true) → (p : ℕ) × (kept_bits ((network_of d (clock_bits a.clocks)).process p) b ≡ true)
       by_writer (p, x, e, w) = by_test (is_clocked x)
-          (λ k. (p, subst (λ y. kept_bits y b ≡ true) (sym (process_there d a.clock.first p x e)) (keeps_as_block x b k w)))
+          (λ k. (p, subst (λ y. kept_bits y b ≡ true) (sym (process_there d (clock_bits a.clocks) p x e)) (keeps_as_block x b k w)))
           (λ k. absurd (either_way (contains (settled_bits d.processes) b) (listed_settled d.processes p x b e k w) (unsettled_start b h)))
 
-      by_sole : (bs : List ℕ) → sole_bits d ≡ bs → contains bs b ≡ true → (p : ℕ) × (kept_bits ((network_of d a.clock.first).process p) b ≡ true)
+      by_sole : (bs : List ℕ) → sole_bits d ≡ bs → contains bs b ≡ true → (p : ℕ) × (kept_bits ((network_of d (clock_bits a.clocks)).process p) b ≡ true)
       by_sole [] e c = cc
-      by_sole (m ∷ bs) e c = let k = keeper_there d a.clock.first m bs e in (k.0, subst (λ y. kept_bits y b ≡ true) (sym k.1) c)
+      by_sole (m ∷ bs) e c = let k = keeper_there d (clock_bits a.clocks) m bs e in (k.0, subst (λ y. kept_bits y b ≡ true) (sym k.1) c)
 
   -- such a bit is one that the process writes
   pub kept_written : (x : N.Process) (b : ℕ) → kept_bits x b ≡ true → writes x b ≡ true
@@ -118,10 +119,10 @@ module _ (d : Design) (name : Option (List ℕ)) (a : IsAcceptedDesign d name) w
   kept_written (N.Comb waits targets run) b h = cc
   kept_written (N.Clocked clock reset targets run) b h = h
 
-  is_counted : (p b : ℕ) → kept_bits ((network_of d a.clock.first).process p) b ≡ true → p < length (all_processes d a.clock.first)
-  is_counted p b h = by_test (nat_lt p (length (all_processes d a.clock.first)))
-      (λ e. less p (length (all_processes d a.clock.first)) e)
-      (λ e. absurd (let k = subst (λ x. kept_bits x b ≡ true) (beyond_count (all_processes d a.clock.first) p (not_less p (length (all_processes d a.clock.first)) e)) h in cc))
+  is_counted : (p b : ℕ) → kept_bits ((network_of d (clock_bits a.clocks)).process p) b ≡ true → p < length (all_processes d (clock_bits a.clocks))
+  is_counted p b h = by_test (nat_lt p (length (all_processes d (clock_bits a.clocks))))
+      (λ e. less p (length (all_processes d (clock_bits a.clocks))) e)
+      (λ e. absurd (let k = subst (λ x. kept_bits x b ≡ true) (beyond_count (all_processes d (clock_bits a.clocks)) p (not_less p (length (all_processes d (clock_bits a.clocks))) e)) h in cc))
     where
       less : (m n : ℕ) → nat_lt m n ≡ true → m < n
       less m n h = grind arith
@@ -130,11 +131,11 @@ module _ (d : Design) (name : Option (List ℕ)) (a : IsAcceptedDesign d name) w
       not_less m n h = grind arith
 
   -- initial processes write to a process its own bits alone
-  pub initial_own : (order : List Initial) (p b : ℕ) → is_written (flatten (all_initial (network_in d a.clock.first order) p)) b ≡ true → writes ((network_of d a.clock.first).process p) b ≡ true
-  initial_own order p b h = kept_written ((network_of d a.clock.first).process p) b (one (written-append (flatten (m.initial p)) (flatten (m.initial_updates p)) b))
+  pub initial_own : (order : List Initial) (p b : ℕ) → is_written (flatten (all_initial (network_in d (clock_bits a.clocks) order) p)) b ≡ true → writes ((network_of d (clock_bits a.clocks)).process p) b ≡ true
+  initial_own order p b h = kept_written ((network_of d (clock_bits a.clocks)).process p) b (one (written-append (flatten (m.initial p)) (flatten (m.initial_updates p)) b))
     where
       m : Network
-      m = network_in d a.clock.first order
+      m = network_in d (clock_bits a.clocks) order
 
       kept : (us : List Update) → is_written (flatten (updates_to (kept_bits (m.process p)) us)) b ≡ true → kept_bits (m.process p) b ≡ true
       kept us w = (and_both (is_written (flatten us) b) (kept_bits (m.process p) b) (sym (own_written (kept_bits (m.process p)) us b) ∙ w)).1
@@ -145,14 +146,14 @@ module _ (d : Design) (name : Option (List ℕ)) (a : IsAcceptedDesign d name) w
           (λ w. kept (flat_map initial_updates order) (sym (e ∙ ap (λ c. c || is_written (flatten (m.initial_updates p)) b) w) ∙ sym (ap (λ ws. is_written ws b) (flat_append (m.initial p) (m.initial_updates p))) ∙ h))
 
   -- an update of an initial process is to a bit that no clocked block writes at once
-  pub initial_apart : (order : List Initial) → IsOrderOf d.initials order → (p b : ℕ) (s : State) → is_written (flatten ((network_in d a.clock.first order).initial_updates p)) b ≡ true → is_written (made ((network_of d a.clock.first).process p) s) b ≡ false
+  pub initial_apart : (order : List Initial) → IsOrderOf d.initials order → (p b : ℕ) (s : State) → is_written (flatten ((network_in d (clock_bits a.clocks) order).initial_updates p)) b ≡ true → is_written (made ((network_of d (clock_bits a.clocks)).process p) s) b ≡ false
   initial_apart order o p b s h =
       by_test (is_written (made (m.process p) s) b)
       (λ w. absurd (either_way (contains (stirring_bits d.processes) b) (stirring p (kept_now (m.process p) (and_both (is_written (flatten (flat_map initial_updates order)) b) (kept_bits (m.process p) b) both).1) w) (late_apart b in_initial in_late)))
       (λ w. w)
     where
       m : Network
-      m = network_in d a.clock.first order
+      m = network_in d (clock_bits a.clocks) order
 
       both : (is_written (flatten (flat_map initial_updates order)) b && kept_bits (m.process p) b) ≡ true
       both = sym (own_written (kept_bits (m.process p)) (flat_map initial_updates order) b) ∙ h
@@ -174,14 +175,14 @@ module _ (d : Design) (name : Option (List ℕ)) (a : IsAcceptedDesign d name) w
       kept_now (N.Clocked clock reset targets run) k = refl
 
       stirring : (p : ℕ) → kind (m.process p) ≡ AClocked → is_written (made (m.process p) s) b ≡ true → contains (stirring_bits d.processes) b ≡ true
-      stirring = by_kind d a.clock.first (λ p x. kind x ≡ AClocked → is_written (made x s) b ≡ true → contains (stirring_bits d.processes) b ≡ true) (record {
+      stirring = by_kind d (clock_bits a.clocks) (λ p x. kind x ≡ AClocked → is_written (made x s) b ≡ true → contains (stirring_bits d.processes) b ≡ true) (record {
         assigns = λ p place port target_place target e h w. cc;
         combs = λ p place star events st h k w. cc;
         clocked = λ p place star events st h k w z. listed_stirring d.processes p (Always place star events st) b h
-            (subst (λ (c : Bool). contains (if c then blocking_bits st else []) b ≡ true) (sym k) (body_once st s (block_facts d name a p place star events st h).fit b z));
+            (subst (λ (c : Bool). contains (if c then blocking_bits st else []) b ≡ true) (sym k) (body_once st s (block_facts d names a p place star events st h).fit b z));
         inputs = λ p i r l e f w. cc;
         clock = λ p i r l e f w. cc;
-        spare = λ p l f w. cc;
+        spare = λ p i m l f named past w. cc;
         keeper = λ p l k bs e w z. absurd (either_way (is_written [] b) z (unwritten_none b));
         none = λ p w. cc;
       })
@@ -190,10 +191,10 @@ module _ (d : Design) (name : Option (List ℕ)) (a : IsAcceptedDesign d name) w
 
   module _ (order : List Initial) (o : IsOrderOf d.initials order) (b : ℕ) where
     abbrev net : Network
-    net = network_in d a.clock.first order
+    net = network_in d (clock_bits a.clocks) order
 
     others_first : (p x : ℕ) → kept_bits (net.process p) b ≡ true → x ≢ p → kept_bits (net.process x) b ≡ false
-    others_first p x h ne = by_test (kept_bits (net.process x) b) (λ e. absurd (ne (one_writer d name a a.clock.first p x b (kept_written (net.process p) b h) (kept_written (net.process x) b e)))) (λ e. e)
+    others_first p x h ne = by_test (kept_bits (net.process x) b) (λ e. absurd (ne (one_writer d names a p x b (kept_written (net.process p) b h) (kept_written (net.process x) b e)))) (λ e. e)
 
     unwritten_by : (us : List Update) (x : ℕ) → kept_bits (net.process x) b ≡ false → is_written (flatten (updates_to (kept_bits (net.process x)) us)) b ≡ false
     unwritten_by us x h = own_written (kept_bits (net.process x)) us b ∙ ap (λ c. is_written (flatten us) b && c) h ∙ and_no (is_written (flatten us) b)
@@ -227,7 +228,7 @@ module _ (d : Design) (name : Option (List ℕ)) (a : IsAcceptedDesign d name) w
     pub begun : (at_first net b ≡ first_value d b) × (beginning net b ≡ start_value d b)
     begun = by_test (contains (initial_bits d.initials) b) (λ h. kept (who_keeps b h)) (λ h. untouched h)
       where
-        kept : (p : ℕ) × (kept_bits ((network_of d a.clock.first).process p) b ≡ true) → (at_first net b ≡ first_value d b) × (beginning net b ≡ start_value d b)
+        kept : (p : ℕ) × (kept_bits ((network_of d (clock_bits a.clocks)).process p) b ≡ true) → (at_first net b ≡ first_value d b) × (beginning net b ≡ start_value d b)
         kept (p, k) =
             let l = is_counted p b k in
             let first : write_all net.idle (flatten (net.initial p)) b ≡ first_value d b = own_value (kept_bits (net.process p)) (map initial_writes order) net.idle b k ∙ first_in_order net.idle in (

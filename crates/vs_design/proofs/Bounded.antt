@@ -16,6 +16,7 @@ use Rattle.vs_design.specs.Bodies.{assignment_writes, effect_of, is_taken, body,
 use Rattle.vs_design.specs.Designs.{Process, Continuous, Always, is_clocked, Initial, Design}
 use Rattle.vs_design.specs.Footprints.{contains, target_reads, read_bits, waits_of, without, signals_bits, wait_signals, statement_bits}
 use Rattle.vs_design.specs.Initials.{IsOrderOf}
+use Rattle.vs_design.specs.Clocks.{clock_bits}
 use Rattle.vs_design.specs.Networks.{network_in, process_of, block_process}
 use Rattle.vs_design.specs.Bounds.{assignments, arms_assignments, wakers, size_of, feeds_of}
 use Rattle.vs_design.specs.Accepted.{IsAcceptedDesign}
@@ -76,48 +77,48 @@ any_of test (c ∷ bs) b h k =
     (λ e. or_left (test c) (list_any test bs) (subst (λ m. test m ≡ true) (eqb-true b c e) k))
     (λ e. or_right (test c) (list_any test bs) (any_of test bs b (subst (λ z. (z || contains bs b) ≡ true) e h) k))
 
-module _ (d : Design) (name : Option (List ℕ)) (a : IsAcceptedDesign d name) (order : List Initial) (o : IsOrderOf d.initials order) where
+module _ (d : Design) (names : List (List ℕ)) (a : IsAcceptedDesign d names) (order : List Initial) (o : IsOrderOf d.initials order) where
   abbrev net_work : Network
-  net_work = network_in d a.clock.first order
+  net_work = network_in d (clock_bits a.clocks) order
 
   L : IsLawful net_work
-  L = lawful d name a order o
+  L = lawful d names a order o
 
-  fed : (p q b : ℕ) → listens (net_work.process p) b ≡ true → writes (net_work.process q) b ≡ true → feeds_of d a.clock.first q p ≡ true
-  fed p q b = by_kind d a.clock.first (λ p x. listens x b ≡ true → writes (net_work.process q) b ≡ true → feeds_of d a.clock.first q p ≡ true) (record {
+  fed : (p q b : ℕ) → listens (net_work.process p) b ≡ true → writes (net_work.process q) b ≡ true → feeds_of d (clock_bits a.clocks) q p ≡ true
+  fed p q b = by_kind d (clock_bits a.clocks) (λ p x. listens x b ≡ true → writes (net_work.process q) b ≡ true → feeds_of d (clock_bits a.clocks) q p ≡ true) (record {
     assigns = λ p place port target_place target e h l w. rw h (any_of (writes (net_work.process q)) (target_reads target ++ read_bits e) b l w);
     combs = λ p place star events st h k l w. rw h (any_of (writes (net_work.process q)) (waits_of (Always place star events st)) b l w);
     clocked = λ p place star events st h k l w. absurd (either_way false l refl);
     inputs = λ p i s l e f g w. absurd (either_way false g refl);
     clock = λ p i s l e f g w. absurd (either_way false g refl);
-    spare = λ p l f g w. absurd (either_way false g refl);
+    spare = λ p i m l f named past g w. absurd (either_way false g refl);
     keeper = λ p l m bs e g w. absurd (either_way false g refl);
     none = λ p l w. absurd (either_way false l refl);
   }) p
 
   woken_by : (p : ℕ) (o : Option Process) → slice_get d.processes p ≡ o → (b : ℕ) → contains (wakers o) b ≡ true → listens (net_work.process p) b ≡ true
   woken_by p None h b k = cc
-  woken_by p (Some x) h b k = rw (process_there d a.clock.first p x h) (go x k)
+  woken_by p (Some x) h b k = rw (process_there d (clock_bits a.clocks) p x h) (go x k)
     where
-      go : (x : Process) → contains (wakers (Some x)) b ≡ true → listens (process_of d a.clock.first x) b ≡ true
+      go : (x : Process) → contains (wakers (Some x)) b ≡ true → listens (process_of d (clock_bits a.clocks) x) b ≡ true
       go (Continuous place port target_place target e) k = k
       go (Always place star events st) k = blocks (is_clocked (Always place star events st)) refl k
         where
-          blocks : (c : Bool) → is_clocked (Always place star events st) ≡ c → contains (waits_of (Always place star events st)) b ≡ true → listens (block_process d a.clock.first c (Always place star events st) events st) b ≡ true
+          blocks : (c : Bool) → is_clocked (Always place star events st) ≡ c → contains (waits_of (Always place star events st)) b ≡ true → listens (block_process d (clock_bits a.clocks) c (Always place star events st) events st) b ≡ true
           blocks false e k = k
           blocks true e k = absurd (either_way false (subst (λ (z : Bool). contains (if not z then without (signals_bits (wait_signals (Always place star events st))) (statement_bits st) else []) b ≡ true) e k) refl)
 
-  fed_only : (p q : ℕ) → feeds_of d a.clock.first q p ≡ true → (b : ℕ) × (listens (net_work.process p) b ≡ true) × (writes (net_work.process q) b ≡ true)
+  fed_only : (p q : ℕ) → feeds_of d (clock_bits a.clocks) q p ≡ true → (b : ℕ) × (listens (net_work.process p) b ≡ true) × (writes (net_work.process q) b ≡ true)
   fed_only p q h = let r = any_bit (writes (net_work.process q)) (wakers (slice_get d.processes p)) h in (r.0, woken_by p (slice_get d.processes p) refl r.0 r.1, r.2)
 
   few : (p : ℕ) (s : State) → kind (net_work.process p) ≡ AClocked → written_at_once (made (net_work.process p) s) + length (updates (net_work.process p) s) ≤ size_of d p
-  few p s = by_kind d a.clock.first (λ p x. kind x ≡ AClocked → written_at_once (made x s) + length (updates x s) ≤ size_of d p) (record {
+  few p s = by_kind d (clock_bits a.clocks) (λ p x. kind x ≡ AClocked → written_at_once (made x s) + length (updates x s) ≤ size_of d p) (record {
     assigns = λ p place port target_place target e h w. cc;
     combs = λ p place star events st h k w. cc;
     clocked = λ p place star events st h k w. rw h (body_few st s);
     inputs = λ p i r l e f w. cc;
     clock = λ p i r l e f w. cc;
-    spare = λ p l f w. cc;
+    spare = λ p i m l f named past w. cc;
     keeper = λ p l m bs e w. omega arith;
     none = λ p w. cc;
   }) p
@@ -155,15 +156,15 @@ module _ (d : Design) (name : Option (List ℕ)) (a : IsAcceptedDesign d name) (
   seconded p r e = seconded_by p (reset_of (net_work.process p)) refl r e
 
 pub bound_of : BoundOfDesign
-bound_of d name a order o =
-    let n = network_in d a.clock.first order in
-    let w = weight n (lawful d name a order o) (feeds_of d a.clock.first) (size_of d) (master d name a order o) (fed d name a order o) (fed_only d name a order o) (few d name a order o) (mastered d name a order o) (second d name a order o) (seconded d name a order o) in
-    let r = runs n (lawful d name a order o) (feeds_of d a.clock.first) (size_of d) (master d name a order o) (fed d name a order o) (fed_only d name a order o) (few d name a order o) (mastered d name a order o) (second d name a order o) (seconded d name a order o) in
-    let h = weighed n (lawful d name a order o) (feeds_of d a.clock.first) (size_of d) (master d name a order o) (fed d name a order o) (fed_only d name a order o) (few d name a order o) (mastered d name a order o) (second d name a order o) (seconded d name a order o) in
-    (w, r, h, slots_end n (lawful d name a order o) (feeds_of d a.clock.first) (size_of d) w r h)
+bound_of d names a order o =
+    let n = network_in d (clock_bits a.clocks) order in
+    let w = weight n (lawful d names a order o) (feeds_of d (clock_bits a.clocks)) (size_of d) (master d names a order o) (fed d names a order o) (fed_only d names a order o) (few d names a order o) (mastered d names a order o) (second d names a order o) (seconded d names a order o) in
+    let r = runs n (lawful d names a order o) (feeds_of d (clock_bits a.clocks)) (size_of d) (master d names a order o) (fed d names a order o) (fed_only d names a order o) (few d names a order o) (mastered d names a order o) (second d names a order o) (seconded d names a order o) in
+    let h = weighed n (lawful d names a order o) (feeds_of d (clock_bits a.clocks)) (size_of d) (master d names a order o) (fed d names a order o) (fed_only d names a order o) (few d names a order o) (mastered d names a order o) (second d names a order o) (seconded d names a order o) in
+    (w, r, h, slots_end n (lawful d names a order o) (feeds_of d (clock_bits a.clocks)) (size_of d) w r h)
 
 pub runs_end_of : RunsEndOfDesign
-runs_end_of d name a order o =
-    let n = network_in d a.clock.first order in
-    let b = bound_of d name a order o in
-    runs_end n (lawful d name a order o) (feeds_of d a.clock.first) (size_of d) b.0 b.1 b.2
+runs_end_of d names a order o =
+    let n = network_in d (clock_bits a.clocks) order in
+    let b = bound_of d names a order o in
+    runs_end n (lawful d names a order o) (feeds_of d (clock_bits a.clocks)) (size_of d) b.0 b.1 b.2

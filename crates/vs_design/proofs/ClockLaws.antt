@@ -12,7 +12,7 @@ use Rattle.vs_design.specs.Expressions.{Expression}
 use Rattle.vs_design.specs.Statements.{Target, Statement}
 use Rattle.vs_design.specs.Designs.{Event, Process, Continuous, Always, is_clocked, Design}
 use Rattle.vs_design.specs.Footprints.{contains, read_bits, target_reads, target_bits, statement_bits, statement_reads, writes_of, reads_of, waits_of, without}
-use Rattle.vs_design.specs.Clocks.{edge_bit, is_clock_net, port_target, port_targets, clock_nets, root_of, is_clock_port, reads_clock, is_clock_event, is_reset_event, ByClock, ByBoth, both_events, events_of, clock_bit, has_other_clock}
+use Rattle.vs_design.specs.Clocks.{clock_bits, first_clock, edge_bit, is_clock_net, port_target, port_targets, clock_nets, root_of, is_clock_port, reads_clock, is_clock_event, is_reset_event, ByClock, ByBoth, both_events, events_of, clock_bit, has_other_clock}
 use Rattle.vs_design.specs.Levels.{level_order, needs}
 use Rattle.vs_design.specs.Networks.{network_of}
 use Rattle.vs_design.specs.Accepted.{IsAcceptedDesign}
@@ -24,7 +24,7 @@ use Rattle.vs_design.proofs.Order.{no_loop}
 use Rattle.vs_design.proofs.Parts.{by_kind, process_there, none_at}
 use Rattle.vs_design.proofs.LawfulParts.{one_writer}
 use Rattle.vs_design.proofs.ClosedNets.{closed}
-use Rattle.vs_design.proofs.ClockNets.{clock_number, clock_process, clock_in, net_is, PortAt, PortFacts, port_at, port_listed, is_port, port_facts, clock_port}
+use Rattle.vs_design.proofs.ClockNets.{first_clock_in, clock_process, clock_in, net_is, PortAt, PortFacts, port_at, port_listed, is_port, port_facts, clock_port}
 
 not_both : (a : Bool) → (not a) ≡ false → a ≡ true
 not_both true h = refl
@@ -38,48 +38,33 @@ stirs_of d (Some p) b = contains (stirred d (level_order d) p) b
 abbrev pub stirs_at : Design → ℕ → ℕ → Bool
 stirs_at d p b = stirs_of d (slice_get d.processes p) b
 
-module _ (d : Design) (name : Option (List ℕ)) (a : IsAcceptedDesign d name) where
+module _ (d : Design) (names : List (List ℕ)) (a : IsAcceptedDesign d names) where
   abbrev pub nets : List ℕ
-  nets = clock_nets d a.clock.first
+  nets = clock_nets d (clock_bits a.clocks)
 
   abbrev pub net_work : Network
-  net_work = network_of d a.clock.first
+  net_work = network_of d (clock_bits a.clocks)
 
-  pub clock_is : kind (net_work.process (clock_number d name a)) ≡ TheClock
-  clock_is = rw (clock_process d name a) refl
+  pub clock_is : (c : ℕ) (h : contains (clock_bits a.clocks) c ≡ true) → kind (net_work.process (clock_process d names a c h).0) ≡ TheClock
+  clock_is c h = ap kind (clock_process d names a c h).1
 
-  clock_writes : writes (net_work.process (clock_number d name a)) a.clock.first ≡ true
-  clock_writes = rw (clock_process d name a) (eq-eqb a.clock.first a.clock.first refl)
-
-  pub clock_one : (p : ℕ) → kind (net_work.process p) ≡ TheClock → p ≡ clock_number d name a
-  clock_one p h = one_writer d name a a.clock.first (clock_number d name a) p a.clock.first clock_writes (writes_clock p h)
-    where
-      writes_clock : (p : ℕ) → kind (net_work.process p) ≡ TheClock → writes (net_work.process p) a.clock.first ≡ true
-      writes_clock = by_kind d a.clock.first (λ p x. kind x ≡ TheClock → writes x a.clock.first ≡ true) (record {
-        assigns = λ p place port target_place target e h w. cc;
-        combs = λ p place star events st h k w. cc;
-        clocked = λ p place star events st h k w. cc;
-        inputs = λ p i r l e f w. cc;
-        clock = λ p i r l e f w. eq-eqb a.clock.first a.clock.first refl;
-        spare = λ p l f w. eq-eqb a.clock.first a.clock.first refl;
-        keeper = λ p l m bs e w. cc;
-        none = λ p w. cc;
-      })
+  clock_writes : (c : ℕ) (h : contains (clock_bits a.clocks) c ≡ true) → writes (net_work.process (clock_process d names a c h).0) c ≡ true
+  clock_writes c h = subst (λ x. writes x c ≡ true) (sym (clock_process d names a c h).1) (eq-eqb c c refl)
 
   pub clock_bit_is : (p b : ℕ) → kind (net_work.process p) ≡ TheClock → writes (net_work.process p) b ≡ true → contains nets b ≡ true
-  clock_bit_is p b = by_kind d a.clock.first (λ p x. kind x ≡ TheClock → writes x b ≡ true → contains nets b ≡ true) (record {
+  clock_bit_is p b = by_kind d (clock_bits a.clocks) (λ p x. kind x ≡ TheClock → writes x b ≡ true → contains nets b ≡ true) (record {
     assigns = λ p place port target_place target e h w. cc;
     combs = λ p place star events st h k w. cc;
     clocked = λ p place star events st h k w. cc;
     inputs = λ p i r l e f w. cc;
-    clock = λ p i r l e f w z. subst (λ m. contains nets m ≡ true) (sym (eqb-true b a.clock.first z)) (clock_in (length d.processes) d.processes a.clock.first);
-    spare = λ p l f w z. subst (λ m. contains nets m ≡ true) (sym (eqb-true b a.clock.first z)) (clock_in (length d.processes) d.processes a.clock.first);
+    clock = λ p i r l e f w z. subst (λ m. contains nets m ≡ true) (sym (eqb-true b r.first z)) (clock_in (length d.processes) d.processes (clock_bits a.clocks) r.first f);
+    spare = λ p i m l f named past w z. subst (λ n. contains nets n ≡ true) (sym (eqb-true b m z)) (clock_in (length d.processes) d.processes (clock_bits a.clocks) m named);
     keeper = λ p l m bs e w. cc;
     none = λ p w. cc;
   }) p
 
   abbrev pub roots : ℕ → Option ℕ
-  roots = root_of d a.clock.first
+  roots = root_of d (clock_bits a.clocks)
 
   -- a clocked block has its events
   pub events_there : (p place : ℕ) (star : Bool) (events : List Event) (st : Statement) → slice_get d.processes p ≡ Some (Always place star events st) → is_clocked (Always place star events st) ≡ true → is_some (events_of nets roots events) ≡ true
@@ -109,14 +94,14 @@ module _ (d : Design) (name : Option (List ℕ)) (a : IsAcceptedDesign d name) w
   clock_bit_net (e ∷ f ∷ g ∷ es) h = cc
 
   pub clock_net_is : (p : ℕ) → kind (net_work.process p) ≡ AClocked → contains nets (clock_net (net_work.process p)) ≡ true
-  clock_net_is p = by_kind d a.clock.first (λ p x. kind x ≡ AClocked → contains nets (clock_net x) ≡ true) (record {
+  clock_net_is p = by_kind d (clock_bits a.clocks) (λ p x. kind x ≡ AClocked → contains nets (clock_net x) ≡ true) (record {
     assigns = λ p place port target_place target e h w. cc;
     combs = λ p place star events st h k w. cc;
     clocked = λ p place star events st h k w. clock_bit_net events (events_there p place star events st h k);
     inputs = λ p i r l e f w. cc;
     clock = λ p i r l e f w. cc;
-    spare = λ p l f w. cc;
-    keeper = λ p l m bs e w. clock_in (length d.processes) d.processes a.clock.first;
+    spare = λ p i m l f named past w. cc;
+    keeper = λ p l m bs e w. clock_in (length d.processes) d.processes (clock_bits a.clocks) (first_clock (clock_bits a.clocks)) (first_clock_in d names a);
     none = λ p w. cc;
   }) p
 
@@ -137,21 +122,21 @@ module _ (d : Design) (name : Option (List ℕ)) (a : IsAcceptedDesign d name) w
           one n h = by_test (b == n) (λ e. eqb-true b n e) (λ e. absurd (either_way (contains [] b) (subst (λ x. (x || false) ≡ true) e h) refl))
 
   pub nets_written : (b : ℕ) → contains nets b ≡ true → (p : ℕ) × (writes (net_work.process p) b ≡ true) × ((kind (net_work.process p) ≡ TheClock) ⊎ (kind (net_work.process p) ≡ AnAssign))
-  nets_written b h = go (net_is (length d.processes) d.processes a.clock.first b h)
+  nets_written b h = go (net_is (length d.processes) d.processes (clock_bits a.clocks) b h)
     where
-      go : (b ≡ a.clock.first) ⊎ (contains (port_targets nets d.processes) b ≡ true) → (p : ℕ) × (writes (net_work.process p) b ≡ true) × ((kind (net_work.process p) ≡ TheClock) ⊎ (kind (net_work.process p) ≡ AnAssign))
-      go (inl e) = (clock_number d name a, subst (λ m. writes (net_work.process (clock_number d name a)) m ≡ true) (sym e) clock_writes, inl clock_is)
+      go : (contains (clock_bits a.clocks) b ≡ true) ⊎ (contains (port_targets nets d.processes) b ≡ true) → (p : ℕ) × (writes (net_work.process p) b ≡ true) × ((kind (net_work.process p) ≡ TheClock) ⊎ (kind (net_work.process p) ≡ AnAssign))
+      go (inl e) = ((clock_process d names a b e).0, clock_writes b e, inl (clock_is b e))
       go (inr k) =
           let q = port_at nets d.processes b k in
           let w = port_written b q in
-          let at = process_there d a.clock.first q.number q.process q.is in
+          let at = process_there d (clock_bits a.clocks) q.number q.process q.is in
           (q.number, rw at (written q.process w), inr (rw at (rw q.port.is refl)))
         where
-          written : (x : Process) → contains (writes_of x) b ≡ true → writes (Rattle.vs_design.specs.Networks.process_of d a.clock.first x) b ≡ true
+          written : (x : Process) → contains (writes_of x) b ≡ true → writes (Rattle.vs_design.specs.Networks.process_of d (clock_bits a.clocks) x) b ≡ true
           written (Continuous place port target_place target e) w = w
           written (Always place star events st) w = blocks (is_clocked (Always place star events st))
             where
-              blocks : (c : Bool) → writes (Rattle.vs_design.specs.Networks.block_process d a.clock.first c (Always place star events st) events st) b ≡ true
+              blocks : (c : Bool) → writes (Rattle.vs_design.specs.Networks.block_process d (clock_bits a.clocks) c (Always place star events st) events st) b ≡ true
               blocks true = w
               blocks false = w
 
@@ -176,25 +161,25 @@ module _ (d : Design) (name : Option (List ℕ)) (a : IsAcceptedDesign d name) w
   second_part xs ys b h = (or_neither (contains xs b) (contains ys b) (sym (contains-append xs ys b) ∙ h)).1
 
   pub comb_nets : (p b : ℕ) → kind (net_work.process p) ≡ AComb → contains nets b ≡ true → listens (net_work.process p) b ≡ false
-  comb_nets p b = by_kind d a.clock.first (λ p x. kind x ≡ AComb → contains nets b ≡ true → listens x b ≡ false) (record {
+  comb_nets p b = by_kind d (clock_bits a.clocks) (λ p x. kind x ≡ AComb → contains nets b ≡ true → listens x b ≡ false) (record {
     assigns = λ p place port target_place target e h w. cc;
     combs = λ p place star events st h k w n. second_part (reads_of (Always place star events st)) (waits_of (Always place star events st)) b (unread p (Always place star events st) b h refl n);
     clocked = λ p place star events st h k w n. refl;
     inputs = λ p i r l e f w n. refl;
     clock = λ p i r l e f w n. refl;
-    spare = λ p l f w n. refl;
+    spare = λ p i m l f named past w n. refl;
     keeper = λ p l m bs e w n. refl;
     none = λ p w n. refl;
   }) p
 
   pub clocked_local : (p : ℕ) (s t : State) → kind (net_work.process p) ≡ AClocked → ((b : ℕ) → contains nets b ≡ false → ((r : ℕ) → r ≢ p → kind (net_work.process r) ≡ AClocked → stirs_at d r b ≡ false) → s b ≡ t b) → effects (net_work.process p) s ≡ effects (net_work.process p) t
-  clocked_local p s t = by_kind d a.clock.first (λ p x. kind x ≡ AClocked → ((b : ℕ) → contains nets b ≡ false → ((r : ℕ) → r ≢ p → kind (net_work.process r) ≡ AClocked → stirs_at d r b ≡ false) → s b ≡ t b) → effects x s ≡ effects x t) (record {
+  clocked_local p s t = by_kind d (clock_bits a.clocks) (λ p x. kind x ≡ AClocked → ((b : ℕ) → contains nets b ≡ false → ((r : ℕ) → r ≢ p → kind (net_work.process r) ≡ AClocked → stirs_at d r b ≡ false) → s b ≡ t b) → effects x s ≡ effects x t) (record {
     assigns = λ p place port target_place target e h w z. cc;
     combs = λ p place star events st h k w z. cc;
     clocked = λ p place star events st h k w z. ap {B = List Update} (λ (x : Effect). x.writes ∷ x.updates) (body_reads st s t (λ b q. z b (not_a_net p place star events st h k b q) (λ r ne kr. unstirred p r b place star events st h k ne q)));
     inputs = λ p i r l e f w z. refl;
     clock = λ p i r l e f w z. refl;
-    spare = λ p l f w z. refl;
+    spare = λ p i m l f named past w z. refl;
     keeper = λ p l m bs e w z. refl;
     none = λ p w z. refl;
   }) p
@@ -218,28 +203,28 @@ module _ (d : Design) (name : Option (List ℕ)) (a : IsAcceptedDesign d name) w
 
   -- what a process writes at once it stirs
   pub stirs_own : (p b : ℕ) (s : State) → kind (net_work.process p) ≡ AClocked → is_written (made (net_work.process p) s) b ≡ true → stirs_at d p b ≡ true
-  stirs_own p b s = by_kind d a.clock.first (λ p x. kind x ≡ AClocked → is_written (made x s) b ≡ true → stirs_at d p b ≡ true) (record {
+  stirs_own p b s = by_kind d (clock_bits a.clocks) (λ p x. kind x ≡ AClocked → is_written (made x s) b ≡ true → stirs_at d p b ≡ true) (record {
     assigns = λ p place port target_place target e h w. cc;
     combs = λ p place star events st h k w. cc;
     clocked = λ p place star events st h k w z. subst (λ (o : Option Process). stirs_of d o b ≡ true) (sym h)
         (stir_grows d (level_order d) (at_once_bits (Always place star events st)) b
-        (subst (λ (c : Bool). contains (if c then blocking_bits st else []) b ≡ true) (sym k) (body_once st s (block_facts d name a p place star events st h).fit b z)));
+        (subst (λ (c : Bool). contains (if c then blocking_bits st else []) b ≡ true) (sym k) (body_once st s (block_facts d names a p place star events st h).fit b z)));
     inputs = λ p i r l e f w. cc;
     clock = λ p i r l e f w. cc;
-    spare = λ p l f w. cc;
+    spare = λ p i m l f named past w. cc;
     keeper = λ p l m bs e w z. absurd (either_way (is_written [] b) z (unwritten_none b));
     none = λ p w. cc;
   }) p
 
   -- and so it does what is made of it
   pub stirs_on : (p r b c : ℕ) → stirs_at d p b ≡ true → listens (net_work.process r) b ≡ true → Settles (kind (net_work.process r)) → writes (net_work.process r) c ≡ true → stirs_at d p c ≡ true
-  stirs_on p r b c g = by_kind d a.clock.first (λ r x. listens x b ≡ true → Settles (kind x) → writes x c ≡ true → stirs_at d p c ≡ true) (record {
+  stirs_on p r b c g = by_kind d (clock_bits a.clocks) (λ r x. listens x b ≡ true → Settles (kind x) → writes x c ≡ true → stirs_at d p c ≡ true) (record {
     assigns = λ r place port target_place target e h l k w. on r (Continuous place port target_place target e) h refl (contains-left (reads_of (Continuous place port target_place target e)) (waits_of (Continuous place port target_place target e)) b l) w;
     combs = λ r place star events st h k l z w. on r (Always place star events st) h k (contains-right (reads_of (Always place star events st)) (waits_of (Always place star events st)) b l) w;
     clocked = λ r place star events st h k l z w. absurd z;
     inputs = λ r i s l e f m z w. absurd z;
     clock = λ r i s l e f m z w. absurd z;
-    spare = λ r l f m z w. absurd z;
+    spare = λ r i s l f named past m z w. absurd z;
     keeper = λ r l m bs e f z w. absurd z;
     none = λ r m z w. absurd z;
   }) r
@@ -252,18 +237,18 @@ module _ (d : Design) (name : Option (List ℕ)) (a : IsAcceptedDesign d name) w
           by_process (Some y) e f = closed_stir d (level_order d) [] (at_once_bits y) a.no_cycle (λ q z m o i. cc) (λ q z m o y i. cc) r x b c h k f n w
 
   pub assign_nets : (p : ℕ) → kind (net_work.process p) ≡ AnAssign → IsClockPort (contains nets) (net_work.process p) ⊎ ((b : ℕ) → contains nets b ≡ true → (listens (net_work.process p) b ≡ false) × (writes (net_work.process p) b ≡ false))
-  assign_nets p = by_kind d a.clock.first (λ p x. kind x ≡ AnAssign → IsClockPort (contains nets) x ⊎ ((b : ℕ) → contains nets b ≡ true → (listens x b ≡ false) × (writes x b ≡ false))) (record {
+  assign_nets p = by_kind d (clock_bits a.clocks) (λ p x. kind x ≡ AnAssign → IsClockPort (contains nets) x ⊎ ((b : ℕ) → contains nets b ≡ true → (listens x b ≡ false) × (writes x b ≡ false))) (record {
     assigns = λ p place port target_place target e h w.
         by_test (is_clock_port nets (Continuous place port target_place target e))
         (λ k. inl (clock_port nets place target_place port target e (Rattle.vs_design.proofs.ClockNets.port_of nets (Continuous place port target_place target e) (port_facts nets (Continuous place port target_place target e) k).0 (port_facts nets (Continuous place port target_place target e) k).1)
-        (λ b q. closed d.processes a.clock.first b (port_listed nets d.processes p (Continuous place port target_place target e) b h q))
+        (λ b q. closed d.processes (clock_bits a.clocks) b (port_listed nets d.processes p (Continuous place port target_place target e) b h q))
         (λ b q r. no_loop d (level_order d) [] p (Continuous place port target_place target e) b a.no_cycle refl h refl q (contains-left (target_reads target ++ read_bits e) [] b r))))
         (λ k. inr (λ b n. (first_part (target_reads target ++ read_bits e) [] b (unread p (Continuous place port target_place target e) b h k n), unwritten p place port target_place target e h k b n)));
     combs = λ p place star events st h k w. cc;
     clocked = λ p place star events st h k w. cc;
     inputs = λ p i r l e f w. cc;
     clock = λ p i r l e f w. cc;
-    spare = λ p l f w. cc;
+    spare = λ p i m l f named past w. cc;
     keeper = λ p l m bs e w. cc;
     none = λ p w. cc;
   }) p
@@ -272,18 +257,18 @@ module _ (d : Design) (name : Option (List ℕ)) (a : IsAcceptedDesign d name) w
           → (b : ℕ) → contains nets b ≡ true → contains (target_bits target) b ≡ false
       unwritten p place port target_place target e h k b n =
           by_test (contains (target_bits target) b)
-          (λ q. absurd (go q (net_is (length d.processes) d.processes a.clock.first b n)))
+          (λ q. absurd (go q (net_is (length d.processes) d.processes (clock_bits a.clocks) b n)))
           (λ q. q)
         where
-          at : net_work.process p ≡ Rattle.vs_design.specs.Networks.process_of d a.clock.first (Continuous place port target_place target e)
-          at = process_there d a.clock.first p (Continuous place port target_place target e) h
+          at : net_work.process p ≡ Rattle.vs_design.specs.Networks.process_of d (clock_bits a.clocks) (Continuous place port target_place target e)
+          at = process_there d (clock_bits a.clocks) p (Continuous place port target_place target e) h
 
-          go : contains (target_bits target) b ≡ true → (b ≡ a.clock.first) ⊎ (contains (port_targets nets d.processes) b ≡ true) → ⊥
+          go : contains (target_bits target) b ≡ true → (contains (clock_bits a.clocks) b ≡ true) ⊎ (contains (port_targets nets d.processes) b ≡ true) → ⊥
           go q (inl m) =
               let w : writes (net_work.process p) b ≡ true = rw at q in
-              let same : p ≡ clock_number d name a = one_writer d name a a.clock.first (clock_number d name a) p b (subst (λ m. writes (net_work.process (clock_number d name a)) m ≡ true) (sym m) clock_writes) w in
+              let same : p ≡ (clock_process d names a b m).0 = one_writer d names a (clock_process d names a b m).0 p b (clock_writes b m) w in
               let ka : kind (net_work.process p) ≡ AnAssign = rw at refl in
-              let kc : kind (net_work.process p) ≡ TheClock = subst (λ m. kind (net_work.process m) ≡ TheClock) (sym same) clock_is in
+              let kc : kind (net_work.process p) ≡ TheClock = subst (λ m. kind (net_work.process m) ≡ TheClock) (sym same) (clock_is b m) in
               apart (kind (net_work.process p)) ka kc
             where
               apart : (x : Kind) → x ≡ AnAssign → x ≡ TheClock → ⊥

@@ -1,11 +1,12 @@
 -- After as many turns as there are processes no port leads on from a clock net.
-use Rattle.std.proofs.Common.{◌≡◌, ℕ, zero, suc, ◌+◌, ◌≤◌, ◌<◌, Bool, true, false, cond, List, [], ◌∷◌, ◌++◌, ◌||◌, ◌==◌, ◌⊎◌, inl, inr, refl, sym, ap, ◌∙◌, subst, length, arith, length-append, eqb-true}
+use Rattle.std.proofs.Common.{◌≡◌, ℕ, zero, suc, ◌+◌, ◌≤◌, ◌<◌, true, List, [], ◌∷◌, ◌++◌, ◌==◌, ◌⊎◌, inl, inr, refl, sym, ap, ◌∙◌, subst, length, arith, length-append}
 use Rattle.vs_design.specs.Designs.{Process}
 use Rattle.vs_design.specs.Footprints.{contains}
 use Rattle.vs_design.specs.Clocks.{port_target, port_targets, nets_within, clock_nets}
 use Rattle.vs_design.specs.Laws.{ClockNetsAre}
-use Rattle.vs_design.proofs.Lists.{by_test, or_left, or_right}
-use Rattle.vs_design.proofs.ClockNets.{port_of, port_value, port_more, nets_more}
+use Rattle.vs_design.proofs.Lists.{or_left, contains-right}
+use Rattle.vs_design.proofs.ClockNets.{clock_in, port_of, port_value, port_more, nets_more}
+use Rattle.vs_design.proofs.Signals.{split}
 
 -- more nets give a process the same port target, or one where it had none
 target_more : (xs ys : List ℕ) (x : Process) → ((b : ℕ) → contains xs b ≡ true → contains ys b ≡ true) → (port_target xs x ≡ port_target ys x) ⊎ ((port_target xs x ≡ []) × (1 ≤ length (port_target ys x)))
@@ -49,7 +50,11 @@ few_targets : (xs : List ℕ) (ps : List Process) → length (port_targets xs ps
 few_targets xs [] = omega arith
 few_targets xs (x ∷ ps) = let a = one_target xs x in let b = few_targets xs ps in let l = length-append (port_target xs x) (port_targets xs ps) in omega (arith, a, b, l)
 
-module _ (ps : List Process) (c : ℕ) where
+append_nil : (us : List ℕ) → us ++ [] ≡ us
+append_nil [] = refl
+append_nil (u ∷ us) = ap {B = List ℕ} (λ vs. u ∷ vs) (append_nil us)
+
+module _ (ps : List Process) (c : List ℕ) where
   targets : ℕ → List ℕ
   targets k = port_targets (nets_within k ps c) ps
 
@@ -59,7 +64,7 @@ module _ (ps : List Process) (c : ℕ) where
 
   stays : (k : ℕ) → targets k ≡ targets (suc k) → targets (suc k) ≡ targets (suc (suc k))
   unfolding targets
-  stays k e = ap {B = List ℕ} (λ us. port_targets (c ∷ us) ps) e
+  stays k e = ap {B = List ℕ} (λ us. port_targets (c ++ us) ps) e
 
   -- the ports stay the same from some turn on, or there is one more at each
   grows : (k : ℕ) → (targets k ≡ targets (suc k)) ⊎ (suc k ≤ length (targets k))
@@ -67,7 +72,7 @@ module _ (ps : List Process) (c : ℕ) where
   grows zero = start (targets zero) refl
     where
       start : (us : List ℕ) → targets zero ≡ us → (targets zero ≡ targets 1) ⊎ (1 ≤ length (targets zero))
-      start [] e = inl (ap {B = List ℕ} (λ us. port_targets (c ∷ us) ps) (sym e))
+      start [] e = inl (ap {B = List ℕ} (λ us. port_targets us ps) (sym (append_nil c)) ∙ ap {B = List ℕ} (λ us. port_targets (c ++ us) ps) (sym e))
       start (u ∷ us) e = inr (subst (λ (vs : List ℕ). 1 ≤ length vs) (sym e) (omega arith))
   grows (suc k) = go (grows k) (step k)
     where
@@ -85,7 +90,7 @@ module _ (ps : List Process) (c : ℕ) where
       go (inr l) (inl h) = h
       go (inr l) (inr k) = let f = few_targets (nets_within (suc m) ps c) ps in absurd (omega arith)
 
-pub closed : (ps : List Process) (c b : ℕ) → contains (port_targets (nets_within (length ps) ps c) ps) b ≡ true → contains (nets_within (length ps) ps c) b ≡ true
+pub closed : (ps : List Process) (c : List ℕ) (b : ℕ) → contains (port_targets (nets_within (length ps) ps c) ps) b ≡ true → contains (nets_within (length ps) ps c) b ≡ true
 unfolding targets
 closed ps c b h = go (length ps) refl h
   where
@@ -95,32 +100,17 @@ closed ps c b h = go (length ps) refl h
         none : (ps : List Process) → length ps ≡ 0 → contains (port_targets (nets_within zero ps c) ps) b ≡ true → ⊥
         none [] e h = cc
         none (x ∷ ps) e h = omega arith
-    go (suc m) e h = or_right (b == c) (contains (port_targets (nets_within m ps c) ps) b) (subst (λ us. contains us b ≡ true) (sym (settled ps c m e)) h)
+    go (suc m) e h = contains-right c (port_targets (nets_within m ps c) ps) b (subst (λ us. contains us b ≡ true) (sym (settled ps c m e)) h)
 
--- the clock nets are the clock input and what ports lead to from them
+-- the clock nets are the clock inputs and what ports lead to from them
 pub clock_nets_are : ClockNetsAre
 unfolding targets
 clock_nets_are d c b = (there (length d.processes) refl, back)
   where
-    one_of : (x : Bool) (b' : ℕ) → (((b == b') || x) ≡ true) → (b ≡ b') ⊎ (x ≡ true)
-    one_of x b' h = by_test (b == b') (λ e. inl (eqb-true b b' e)) (λ e. inr (subst (λ z. (z || x) ≡ true) e h))
+    there : (m : ℕ) → length d.processes ≡ m → contains (nets_within m d.processes c) b ≡ true → (contains c b ≡ true) ⊎ (contains (port_targets (nets_within m d.processes c) d.processes) b ≡ true)
+    there zero e h = inl h
+    there (suc m) e h = split c (port_targets (nets_within m d.processes c) d.processes) b h (λ k. inl k) (λ k. inr (subst (λ us. contains us b ≡ true) (settled d.processes c m e) k))
 
-    there : (m : ℕ) → length d.processes ≡ m → contains (nets_within m d.processes c) b ≡ true → (b ≡ c) ⊎ (contains (port_targets (nets_within m d.processes c) d.processes) b ≡ true)
-    there zero e h = go (one_of false c h)
-      where
-        go : (b ≡ c) ⊎ (false ≡ true) → (b ≡ c) ⊎ (contains (port_targets (nets_within zero d.processes c) d.processes) b ≡ true)
-        go (inl k) = inl k
-        go (inr k) = cc
-    there (suc m) e h = go (one_of (contains (port_targets (nets_within m d.processes c) d.processes) b) c h)
-      where
-        go : (b ≡ c) ⊎ (contains (port_targets (nets_within m d.processes c) d.processes) b ≡ true) → (b ≡ c) ⊎ (contains (port_targets (nets_within (suc m) d.processes c) d.processes) b ≡ true)
-        go (inl k) = inl k
-        go (inr k) = inr (subst (λ us. contains us b ≡ true) (settled d.processes c m e) k)
-
-    back : (b ≡ c) ⊎ (contains (port_targets (clock_nets d c) d.processes) b ≡ true) → contains (clock_nets d c) b ≡ true
-    back (inl k) = clock_in (length d.processes)
-      where
-        clock_in : (n : ℕ) → contains (nets_within n d.processes c) b ≡ true
-        clock_in zero = or_left (b == c) false (Rattle.std.proofs.Common.eq-eqb b c k)
-        clock_in (suc n) = or_left (b == c) _ (Rattle.std.proofs.Common.eq-eqb b c k)
+    back : (contains c b ≡ true) ⊎ (contains (port_targets (clock_nets d c) d.processes) b ≡ true) → contains (clock_nets d c) b ≡ true
+    back (inl k) = clock_in (length d.processes) d.processes c b k
     back (inr k) = closed d.processes c b k

@@ -9,7 +9,7 @@ use Rattle.vs_design.specs.Elaborated.{is_formed_process, is_formed_initial, IsL
 use Rattle.vs_design.specs.Sizes.{awake_size, sleeper_weight, size}
 use Rattle.vs_design.specs.Rules.{function_latches, mixed_assigns, missing_bits, latches}
 use Rattle.vs_design.specs.Initials.{has_other_start}
-use Rattle.vs_design.specs.Clocks.{clock_input, clock_nets, root_of, reads_clock, has_other_clock}
+use Rattle.vs_design.specs.Clocks.{clock_inputs, clock_bits, clock_nets, root_of, reads_clock, has_other_clock}
 use Rattle.vs_design.specs.Resets.{has_other_form}
 use Rattle.vs_design.specs.Levels.{level_order}
 use Rattle.vs_design.specs.Races.{race_bits, is_none, race_free}
@@ -274,46 +274,46 @@ clear_races d order k (x ∷ ps) h =
     let g = and_both (is_none (race_bits d order k x)) (race_free d order (suc k) ps) h in
     none_otherwise _ _ (none_race d order k x g.0) (clear_races d order (suc k) ps g.1)
 
--- ---- the clock, and time zero
+-- ---- the clocks, and time zero
 
--- what nothing of the clock and of time zero refuses
-record ClockFacts (d : Design) (clock : Signal) : Type 0 where
-  pub unread : list_any (reads_clock (clock_nets d clock.first)) d.processes ≡ false
-  pub one : list_any (has_other_clock (clock_nets d clock.first) (root_of d clock.first)) d.processes ≡ false
-  pub forms : list_any (has_other_form (clock_nets d clock.first) (root_of d clock.first)) d.processes ≡ false
-  pub awake : list_any (is_uncertain d (families d clock.first (level_order d))) d.processes ≡ false
+-- what nothing of the clocks and of time zero refuses
+record ClockFacts (d : Design) (clocks : List Signal) : Type 0 where
+  pub unread : list_any (reads_clock (clock_nets d (clock_bits clocks))) d.processes ≡ false
+  pub one : list_any (has_other_clock (clock_nets d (clock_bits clocks)) (root_of d (clock_bits clocks))) d.processes ≡ false
+  pub forms : list_any (has_other_form (clock_nets d (clock_bits clocks)) (root_of d (clock_bits clocks))) d.processes ≡ false
+  pub awake : list_any (is_uncertain d (families d (clock_bits clocks) (level_order d))) d.processes ≡ false
 
-clock_clear : (d : Design) (o : Option Signal) → clock_refusal_by d o ≡ None → zero_refusal_by d o ≡ None → (clock : Signal) × (o ≡ Some clock) × ClockFacts d clock
+clock_clear : (d : Design) (o : Option (List Signal)) → clock_refusal_by d o ≡ None → zero_refusal_by d o ≡ None → (clocks : List Signal) × (o ≡ Some clocks) × ClockFacts d clocks
 clock_clear d None h k = cc
-clock_clear d (Some clock) h k =
-    let a = otherwise_none (first_found (λ p process. where_true (reads_clock (clock_nets d clock.first) process) (ClockRead p (process_place process))) 0 d.processes) (otherwise (first_found (λ p process. where_true (has_other_clock (clock_nets d clock.first) (root_of d clock.first) process) (NotTheClock p (process_place process))) 0 d.processes) (first_found (λ p process. where_true (has_other_form (clock_nets d clock.first) (root_of d clock.first) process) (ResetForm p (process_place process))) 0 d.processes)) h in
-    let b = otherwise_none (first_found (λ p process. where_true (has_other_clock (clock_nets d clock.first) (root_of d clock.first) process) (NotTheClock p (process_place process))) 0 d.processes) (first_found (λ p process. where_true (has_other_form (clock_nets d clock.first) (root_of d clock.first) process) (ResetForm p (process_place process))) 0 d.processes) a.1 in (
-      clock,
+clock_clear d (Some clocks) h k =
+    let a = otherwise_none (first_found (λ p process. where_true (reads_clock (clock_nets d (clock_bits clocks)) process) (ClockRead p (process_place process))) 0 d.processes) (otherwise (first_found (λ p process. where_true (has_other_clock (clock_nets d (clock_bits clocks)) (root_of d (clock_bits clocks)) process) (NotTheClock p (process_place process))) 0 d.processes) (first_found (λ p process. where_true (has_other_form (clock_nets d (clock_bits clocks)) (root_of d (clock_bits clocks)) process) (ResetForm p (process_place process))) 0 d.processes)) h in
+    let b = otherwise_none (first_found (λ p process. where_true (has_other_clock (clock_nets d (clock_bits clocks)) (root_of d (clock_bits clocks)) process) (NotTheClock p (process_place process))) 0 d.processes) (first_found (λ p process. where_true (has_other_form (clock_nets d (clock_bits clocks)) (root_of d (clock_bits clocks)) process) (ResetForm p (process_place process))) 0 d.processes) a.1 in (
+      clocks,
       refl,
       record {
-        unread = any_none (λ p process. where_true (reads_clock (clock_nets d clock.first) process) (ClockRead p (process_place process))) (reads_clock (clock_nets d clock.first)) 0 d.processes (λ p x f. true_where (reads_clock (clock_nets d clock.first) x) (ClockRead p (process_place x)) f) a.0;
-        one = any_none (λ p process. where_true (has_other_clock (clock_nets d clock.first) (root_of d clock.first) process) (NotTheClock p (process_place process))) (has_other_clock (clock_nets d clock.first) (root_of d clock.first)) 0 d.processes (λ p x f. true_where (has_other_clock (clock_nets d clock.first) (root_of d clock.first) x) (NotTheClock p (process_place x)) f) b.0;
-        forms = any_none (λ p process. where_true (has_other_form (clock_nets d clock.first) (root_of d clock.first) process) (ResetForm p (process_place process))) (has_other_form (clock_nets d clock.first) (root_of d clock.first)) 0 d.processes (λ p x f. true_where (has_other_form (clock_nets d clock.first) (root_of d clock.first) x) (ResetForm p (process_place x)) f) b.1;
-        awake = any_none (λ p process. where_true (is_uncertain d (families d clock.first (level_order d)) process) (TimeZero p (process_place process))) (is_uncertain d (families d clock.first (level_order d))) 0 d.processes (λ p x f. true_where (is_uncertain d (families d clock.first (level_order d)) x) (TimeZero p (process_place x)) f) k;
+        unread = any_none (λ p process. where_true (reads_clock (clock_nets d (clock_bits clocks)) process) (ClockRead p (process_place process))) (reads_clock (clock_nets d (clock_bits clocks))) 0 d.processes (λ p x f. true_where (reads_clock (clock_nets d (clock_bits clocks)) x) (ClockRead p (process_place x)) f) a.0;
+        one = any_none (λ p process. where_true (has_other_clock (clock_nets d (clock_bits clocks)) (root_of d (clock_bits clocks)) process) (NotTheClock p (process_place process))) (has_other_clock (clock_nets d (clock_bits clocks)) (root_of d (clock_bits clocks))) 0 d.processes (λ p x f. true_where (has_other_clock (clock_nets d (clock_bits clocks)) (root_of d (clock_bits clocks)) x) (NotTheClock p (process_place x)) f) b.0;
+        forms = any_none (λ p process. where_true (has_other_form (clock_nets d (clock_bits clocks)) (root_of d (clock_bits clocks)) process) (ResetForm p (process_place process))) (has_other_form (clock_nets d (clock_bits clocks)) (root_of d (clock_bits clocks))) 0 d.processes (λ p x f. true_where (has_other_form (clock_nets d (clock_bits clocks)) (root_of d (clock_bits clocks)) x) (ResetForm p (process_place x)) f) b.1;
+        awake = any_none (λ p process. where_true (is_uncertain d (families d (clock_bits clocks) (level_order d)) process) (TimeZero p (process_place process))) (is_uncertain d (families d (clock_bits clocks) (level_order d))) 0 d.processes (λ p x f. true_where (is_uncertain d (families d (clock_bits clocks) (level_order d)) x) (TimeZero p (process_place x)) f) k;
       },
     )
 
-clear_clock : (d : Design) (o : Option Signal) (clock : Signal) → o ≡ Some clock → ClockFacts d clock → (clock_refusal_by d o ≡ None) × (zero_refusal_by d o ≡ None)
-clear_clock d o clock e f = subst (λ q. (clock_refusal_by d q ≡ None) × (zero_refusal_by d q ≡ None)) (sym e) (
-  none_otherwise _ _ (none_any (λ p process. where_true (reads_clock (clock_nets d clock.first) process) (ClockRead p (process_place process))) (reads_clock (clock_nets d clock.first)) 0 d.processes (λ p x g. where_false (reads_clock (clock_nets d clock.first) x) (ClockRead p (process_place x)) g) f.unread)
-      (none_otherwise _ _ (none_any (λ p process. where_true (has_other_clock (clock_nets d clock.first) (root_of d clock.first) process) (NotTheClock p (process_place process))) (has_other_clock (clock_nets d clock.first) (root_of d clock.first)) 0 d.processes (λ p x g. where_false (has_other_clock (clock_nets d clock.first) (root_of d clock.first) x) (NotTheClock p (process_place x)) g) f.one)
-      (none_any (λ p process. where_true (has_other_form (clock_nets d clock.first) (root_of d clock.first) process) (ResetForm p (process_place process))) (has_other_form (clock_nets d clock.first) (root_of d clock.first)) 0 d.processes (λ p x g. where_false (has_other_form (clock_nets d clock.first) (root_of d clock.first) x) (ResetForm p (process_place x)) g) f.forms)),
-  none_any (λ p process. where_true (is_uncertain d (families d clock.first (level_order d)) process) (TimeZero p (process_place process))) (is_uncertain d (families d clock.first (level_order d))) 0 d.processes (λ p x g. where_false (is_uncertain d (families d clock.first (level_order d)) x) (TimeZero p (process_place x)) g) f.awake,
+clear_clock : (d : Design) (o : Option (List Signal)) (clocks : List Signal) → o ≡ Some clocks → ClockFacts d clocks → (clock_refusal_by d o ≡ None) × (zero_refusal_by d o ≡ None)
+clear_clock d o clocks e f = subst (λ q. (clock_refusal_by d q ≡ None) × (zero_refusal_by d q ≡ None)) (sym e) (
+  none_otherwise _ _ (none_any (λ p process. where_true (reads_clock (clock_nets d (clock_bits clocks)) process) (ClockRead p (process_place process))) (reads_clock (clock_nets d (clock_bits clocks))) 0 d.processes (λ p x g. where_false (reads_clock (clock_nets d (clock_bits clocks)) x) (ClockRead p (process_place x)) g) f.unread)
+      (none_otherwise _ _ (none_any (λ p process. where_true (has_other_clock (clock_nets d (clock_bits clocks)) (root_of d (clock_bits clocks)) process) (NotTheClock p (process_place process))) (has_other_clock (clock_nets d (clock_bits clocks)) (root_of d (clock_bits clocks))) 0 d.processes (λ p x g. where_false (has_other_clock (clock_nets d (clock_bits clocks)) (root_of d (clock_bits clocks)) x) (NotTheClock p (process_place x)) g) f.one)
+      (none_any (λ p process. where_true (has_other_form (clock_nets d (clock_bits clocks)) (root_of d (clock_bits clocks)) process) (ResetForm p (process_place process))) (has_other_form (clock_nets d (clock_bits clocks)) (root_of d (clock_bits clocks))) 0 d.processes (λ p x g. where_false (has_other_form (clock_nets d (clock_bits clocks)) (root_of d (clock_bits clocks)) x) (ResetForm p (process_place x)) g) f.forms)),
+  none_any (λ p process. where_true (is_uncertain d (families d (clock_bits clocks) (level_order d)) process) (TimeZero p (process_place process))) (is_uncertain d (families d (clock_bits clocks) (level_order d))) 0 d.processes (λ p x g. where_false (is_uncertain d (families d (clock_bits clocks) (level_order d)) x) (TimeZero p (process_place x)) g) f.awake,
 )
 
 -- ---- the law
 
 pub accepted_exactly : AcceptedExactly
-accepted_exactly d name lawful = (there, back)
+accepted_exactly d names lawful = (there, back)
   where
-    there : IsAcceptedDesign d name → IsUnrefused d name
+    there : IsAcceptedDesign d names → IsUnrefused d names
     there a =
-        let c = clear_clock d (clock_input d name) a.clock a.clock_found (record { unread = a.clock_unread; one = a.one_clock; forms = a.reset_forms; awake = a.awake }) in
+        let c = clear_clock d (clock_inputs d names) a.clocks a.clocks_found (record { unread = a.clock_unread; one = a.one_clock; forms = a.reset_forms; awake = a.awake }) in
         record {
           widths = none_otherwise _ _ (fit_all d lawful a.fit a.fit_initials) (where_false (nat_lt 16777216 (judged_size d)) (TooLarge (told_size d)) (is_small (judged_size d) 16777216 (small_judged d a.small)));
           blocks = none_otherwise _ _ (mapped_least FunctionLatch (function_latches d.functions) a.no_function_latch) (blocks_clear d lawful a.unmixed a.sensitive a.no_latch a.initial_form);
@@ -324,11 +324,11 @@ accepted_exactly d name lawful = (there, back)
           zero = c.1;
         }
 
-    back : IsUnrefused d name → IsAcceptedDesign d name
+    back : IsUnrefused d names → IsAcceptedDesign d names
     back u =
         let w = otherwise_none (first_in width_found (in_text_order d)) (too_large d) u.widths in
         let fit = all_fit d lawful w.0 in
-        let c = clock_clear d (clock_input d name) u.clocks u.zero in
+        let c = clock_clear d (clock_inputs d names) u.clocks u.zero in
         let b = otherwise_none (option_map FunctionLatch (least (function_latches d.functions))) (first_in (block_refusal_at d) (in_text_order d)) u.blocks in
         let clean = clear_blocks d lawful b.1 in
         let drivers = unshared d lawful u.drivers in
@@ -344,8 +344,8 @@ accepted_exactly d name lawful = (there, back)
           no_latch = clean.no_latch;
           one_driver = drivers.0;
           no_clash = drivers.1;
-          clock = c.0;
-          clock_found = c.1;
+          clocks = c.0;
+          clocks_found = c.1;
           clock_unread = c.2.unread;
           one_clock = c.2.one;
           reset_forms = c.2.forms;

@@ -1,5 +1,5 @@
 -- The worked designs, by computation.
-use Rattle.std.proofs.Common.{[], ◌∷◌, None, refl, lit≤}
+use Rattle.std.proofs.Common.{[], ◌∷◌, refl, lit≤}
 use Rattle.vs_net.specs.Network.{write_all, is_written, flatten}
 use Rattle.vs_net.specs.Queue.{change, changes, is_held}
 use Rattle.vs_design.specs.Clocks.{spare_clock}
@@ -7,7 +7,7 @@ use Rattle.vs_design.specs.Accepted.{IsAcceptedDesign}
 use Rattle.vs_design.specs.Cycles.{IsCycle, Feeds}
 use Rattle.vs_design.specs.ExampleParts.{clk, clk_signal}
 use Rattle.vs_design.specs.ExampleCalls.{CallsComputed, greatest}
-use Rattle.vs_design.specs.ExampleDesigns.{DesignsComputed, and_gate, free_gate, counter, if_and_choice, three_registers, woken, set_once, chain, quiet, sleeper, never_run, resettable, reset_through_port, port, adder, clocked_instance, clock_alias, reset_alias, sum}
+use Rattle.vs_design.specs.ExampleDesigns.{DesignsComputed, and_gate, free_gate, counter, if_and_choice, three_registers, woken, set_once, chain, quiet, sleeper, never_run, resettable, reset_through_port, port, adder, clocked_instance, clock_alias, reset_alias, c0, e1, two_clocks, c_and_e, dead_clock_left, sum}
 use Rattle.vs_design.specs.ExampleRefusals.{RefusalsComputed, loop}
 
 and_gate_is_accepted : IsAcceptedDesign and_gate clk
@@ -23,8 +23,8 @@ and_gate_is_accepted = record {
   no_latch = refl;
   one_driver = refl;
   no_clash = refl;
-  clock = clk_signal;
-  clock_found = refl;
+  clocks = clk_signal ∷ [];
+  clocks_found = refl;
   clock_unread = refl;
   one_clock = refl;
   reset_forms = refl;
@@ -33,7 +33,7 @@ and_gate_is_accepted = record {
   awake = refl;
 }
 
-free_gate_is_accepted : IsAcceptedDesign free_gate None
+free_gate_is_accepted : IsAcceptedDesign free_gate []
 free_gate_is_accepted = record {
   lawful = record { scopes = refl; numbered = refl; bits_numbered = refl; declared = refl; memories = refl; formed = refl; initials = refl; behind = refl; functions = refl; clocked_words = refl; few_bits = lit≤ tt; few_processes = lit≤ tt };
   fit = refl;
@@ -46,8 +46,8 @@ free_gate_is_accepted = record {
   no_latch = refl;
   one_driver = refl;
   no_clash = refl;
-  clock = spare_clock free_gate;
-  clock_found = refl;
+  clocks = spare_clock free_gate ∷ [];
+  clocks_found = refl;
   clock_unread = refl;
   one_clock = refl;
   reset_forms = refl;
@@ -56,7 +56,30 @@ free_gate_is_accepted = record {
   awake = refl;
 }
 
-free_and_is_accepted : IsAcceptedDesign and_gate None
+dead_clock_is_accepted : IsAcceptedDesign dead_clock_left []
+dead_clock_is_accepted = record {
+  lawful = record { scopes = refl; numbered = refl; bits_numbered = refl; declared = refl; memories = refl; formed = refl; initials = refl; behind = refl; functions = refl; clocked_words = refl; few_bits = lit≤ tt; few_processes = lit≤ tt };
+  fit = refl;
+  fit_initials = refl;
+  small = lit≤ tt;
+  unmixed = refl;
+  sensitive = refl;
+  no_function_latch = refl;
+  initial_form = refl;
+  no_latch = refl;
+  one_driver = refl;
+  no_clash = refl;
+  clocks = spare_clock dead_clock_left ∷ [];
+  clocks_found = refl;
+  clock_unread = refl;
+  one_clock = refl;
+  reset_forms = refl;
+  no_cycle = refl;
+  no_race = refl;
+  awake = refl;
+}
+
+free_and_is_accepted : IsAcceptedDesign and_gate []
 free_and_is_accepted = record {
   lawful = record { scopes = refl; numbered = refl; bits_numbered = refl; declared = refl; memories = refl; formed = refl; initials = refl; behind = refl; functions = refl; clocked_words = refl; few_bits = lit≤ tt; few_processes = lit≤ tt };
   fit = refl;
@@ -69,8 +92,8 @@ free_and_is_accepted = record {
   no_latch = refl;
   one_driver = refl;
   no_clash = refl;
-  clock = spare_clock and_gate;
-  clock_found = refl;
+  clocks = spare_clock and_gate ∷ [];
+  clocks_found = refl;
   clock_unread = refl;
   one_clock = refl;
   reset_forms = refl;
@@ -92,8 +115,8 @@ counter_is_accepted = record {
   no_latch = refl;
   one_driver = refl;
   no_clash = refl;
-  clock = clk_signal;
-  clock_found = refl;
+  clocks = clk_signal ∷ [];
+  clocks_found = refl;
   clock_unread = refl;
   one_clock = refl;
   reset_forms = refl;
@@ -116,8 +139,8 @@ if_and_choice_is_accepted = record {
   no_latch = refl;
   one_driver = refl;
   no_clash = refl;
-  clock = clk_signal;
-  clock_found = refl;
+  clocks = clk_signal ∷ [];
+  clocks_found = refl;
   clock_unread = refl;
   one_clock = refl;
   reset_forms = refl;
@@ -139,8 +162,8 @@ three_registers_is_accepted = record {
   no_latch = refl;
   one_driver = refl;
   no_clash = refl;
-  clock = clk_signal;
-  clock_found = refl;
+  clocks = clk_signal ∷ [];
+  clocks_found = refl;
   clock_unread = refl;
   one_clock = refl;
   reset_forms = refl;
@@ -163,8 +186,8 @@ woken_is_accepted = record {
   no_latch = refl;
   one_driver = refl;
   no_clash = refl;
-  clock = clk_signal;
-  clock_found = refl;
+  clocks = clk_signal ∷ [];
+  clocks_found = refl;
   clock_unread = refl;
   one_clock = refl;
   reset_forms = refl;
@@ -186,8 +209,8 @@ set_once_is_accepted = record {
   no_latch = refl;
   one_driver = refl;
   no_clash = refl;
-  clock = clk_signal;
-  clock_found = refl;
+  clocks = clk_signal ∷ [];
+  clocks_found = refl;
   clock_unread = refl;
   one_clock = refl;
   reset_forms = refl;
@@ -209,8 +232,8 @@ chain_is_accepted = record {
   no_latch = refl;
   one_driver = refl;
   no_clash = refl;
-  clock = clk_signal;
-  clock_found = refl;
+  clocks = clk_signal ∷ [];
+  clocks_found = refl;
   clock_unread = refl;
   one_clock = refl;
   reset_forms = refl;
@@ -232,8 +255,8 @@ sleeper_is_accepted = record {
   no_latch = refl;
   one_driver = refl;
   no_clash = refl;
-  clock = clk_signal;
-  clock_found = refl;
+  clocks = clk_signal ∷ [];
+  clocks_found = refl;
   clock_unread = refl;
   one_clock = refl;
   reset_forms = refl;
@@ -255,8 +278,8 @@ never_run_is_accepted = record {
   no_latch = refl;
   one_driver = refl;
   no_clash = refl;
-  clock = clk_signal;
-  clock_found = refl;
+  clocks = clk_signal ∷ [];
+  clocks_found = refl;
   clock_unread = refl;
   one_clock = refl;
   reset_forms = refl;
@@ -278,8 +301,8 @@ resettable_is_accepted = record {
   no_latch = refl;
   one_driver = refl;
   no_clash = refl;
-  clock = clk_signal;
-  clock_found = refl;
+  clocks = clk_signal ∷ [];
+  clocks_found = refl;
   clock_unread = refl;
   one_clock = refl;
   reset_forms = refl;
@@ -301,8 +324,8 @@ reset_through_port_is_accepted = record {
   no_latch = refl;
   one_driver = refl;
   no_clash = refl;
-  clock = clk_signal;
-  clock_found = refl;
+  clocks = clk_signal ∷ [];
+  clocks_found = refl;
   clock_unread = refl;
   one_clock = refl;
   reset_forms = refl;
@@ -325,8 +348,8 @@ quiet_is_accepted = record {
   no_latch = refl;
   one_driver = refl;
   no_clash = refl;
-  clock = clk_signal;
-  clock_found = refl;
+  clocks = clk_signal ∷ [];
+  clocks_found = refl;
   clock_unread = refl;
   one_clock = refl;
   reset_forms = refl;
@@ -348,8 +371,8 @@ port_is_accepted = record {
   no_latch = refl;
   one_driver = refl;
   no_clash = refl;
-  clock = clk_signal;
-  clock_found = refl;
+  clocks = clk_signal ∷ [];
+  clocks_found = refl;
   clock_unread = refl;
   one_clock = refl;
   reset_forms = refl;
@@ -371,8 +394,8 @@ adder_is_accepted = record {
   no_latch = refl;
   one_driver = refl;
   no_clash = refl;
-  clock = clk_signal;
-  clock_found = refl;
+  clocks = clk_signal ∷ [];
+  clocks_found = refl;
   clock_unread = refl;
   one_clock = refl;
   reset_forms = refl;
@@ -394,8 +417,8 @@ clocked_instance_is_accepted = record {
   no_latch = refl;
   one_driver = refl;
   no_clash = refl;
-  clock = clk_signal;
-  clock_found = refl;
+  clocks = clk_signal ∷ [];
+  clocks_found = refl;
   clock_unread = refl;
   one_clock = refl;
   reset_forms = refl;
@@ -417,8 +440,31 @@ clock_alias_is_accepted = record {
   no_latch = refl;
   one_driver = refl;
   no_clash = refl;
-  clock = clk_signal;
-  clock_found = refl;
+  clocks = clk_signal ∷ [];
+  clocks_found = refl;
+  clock_unread = refl;
+  one_clock = refl;
+  reset_forms = refl;
+  no_cycle = refl;
+  no_race = refl;
+  awake = refl;
+}
+
+two_clocks_is_accepted : IsAcceptedDesign two_clocks c_and_e
+two_clocks_is_accepted = record {
+  lawful = record { scopes = refl; numbered = refl; bits_numbered = refl; declared = refl; memories = refl; formed = refl; initials = refl; behind = refl; functions = refl; clocked_words = refl; few_bits = lit≤ tt; few_processes = lit≤ tt };
+  fit = refl;
+  fit_initials = refl;
+  small = lit≤ tt;
+  unmixed = refl;
+  sensitive = refl;
+  no_function_latch = refl;
+  initial_form = refl;
+  no_latch = refl;
+  one_driver = refl;
+  no_clash = refl;
+  clocks = c0 ∷ e1 ∷ [];
+  clocks_found = refl;
   clock_unread = refl;
   one_clock = refl;
   reset_forms = refl;
@@ -440,8 +486,8 @@ reset_alias_is_accepted = record {
   no_latch = refl;
   one_driver = refl;
   no_clash = refl;
-  clock = clk_signal;
-  clock_found = refl;
+  clocks = clk_signal ∷ [];
+  clocks_found = refl;
   clock_unread = refl;
   one_clock = refl;
   reset_forms = refl;
@@ -463,8 +509,8 @@ sum_is_accepted = record {
   no_latch = refl;
   one_driver = refl;
   no_clash = refl;
-  clock = clk_signal;
-  clock_found = refl;
+  clocks = clk_signal ∷ [];
+  clocks_found = refl;
   clock_unread = refl;
   one_clock = refl;
   reset_forms = refl;
@@ -485,6 +531,15 @@ loop_is_cycle = ((feeds_01, feeds_10), (refl, (refl, tt)), (lit≤ tt, tt))
 pub designs_computed : DesignsComputed
 unfolding change changes is_held write_all is_written flatten
 designs_computed = record {
+  dead_clock_size = refl;
+  dead_clock_nets = refl;
+  dead_clock_without = refl;
+  dead_clock_accepted = dead_clock_is_accepted;
+  dead_clock_ends = refl;
+  dead_instance_nets = refl;
+  dead_instance_blocks = refl;
+  half_dead_nets = refl;
+  half_dead_blocks = refl;
   reset_through_port_accepted = reset_through_port_is_accepted;
   reset_through_port_late = refl;
   reset_through_port_ends = refl;
@@ -544,6 +599,10 @@ designs_computed = record {
   clock_alias_accepted = clock_alias_is_accepted;
   clock_alias_nets = refl;
   clock_alias_ends = refl;
+  two_clocks_size = refl;
+  two_clocks_accepted = two_clocks_is_accepted;
+  two_clocks_nets = refl;
+  two_clocks_ends = refl;
   reset_alias_size = refl;
   reset_alias_accepted = reset_alias_is_accepted;
   reset_alias_nets = refl;
@@ -578,6 +637,11 @@ refusals_computed = record {
   joined_alias_refused = refl;
   other_clock_refused = refl;
   no_clock_refused = refl;
+  clock_value_refused = refl;
+  clock_value_passes = refl;
+  unnamed_clock_refused = refl;
+  no_second_clock_refused = refl;
+  clock_twice_refused = refl;
   free_counter_refused = refl;
   too_wide_refused = refl;
   divided_refused = refl;
@@ -607,8 +671,8 @@ greatest_is_accepted = record {
   no_latch = refl;
   one_driver = refl;
   no_clash = refl;
-  clock = clk_signal;
-  clock_found = refl;
+  clocks = clk_signal ∷ [];
+  clocks_found = refl;
   clock_unread = refl;
   one_clock = refl;
   reset_forms = refl;

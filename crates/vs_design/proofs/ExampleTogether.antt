@@ -1,5 +1,5 @@
 -- The worked designs in which memories, functions and blocking assignments meet, by computation.
-use Rattle.std.proofs.Common.{refl, lit≤}
+use Rattle.std.proofs.Common.{[], ◌∷◌, refl, lit≤}
 use Rattle.vs_net.specs.Network.{write_all, is_written, flatten}
 use Rattle.vs_net.specs.Queue.{change, changes, is_held}
 use Rattle.vs_design.specs.Accepted.{IsAcceptedDesign}
@@ -20,8 +20,8 @@ stored_is_accepted = record {
   no_latch = refl;
   one_driver = refl;
   no_clash = refl;
-  clock = clk_signal;
-  clock_found = refl;
+  clocks = clk_signal ∷ [];
+  clocks_found = refl;
   clock_unread = refl;
   one_clock = refl;
   reset_forms = refl;

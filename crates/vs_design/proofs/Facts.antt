@@ -1,5 +1,5 @@
 -- What acceptance says of each process.
-use Rattle.std.proofs.Common.{◌≡◌, ℕ, Bool, true, false, List, [], ◌&&◌, not, if◌then◌else◌, refl, sym, ap, ◌∙◌, subst, Option, Some}
+use Rattle.std.proofs.Common.{◌≡◌, ℕ, Bool, true, false, List, [], ◌&&◌, not, if◌then◌else◌, refl, sym, ap, ◌∙◌, subst, Some}
 use Rattle.std.specs.Prelude.{slice_get}
 use Rattle.vs_design.specs.Expressions.{Expression}
 use Rattle.vs_design.specs.Statements.{Target, Statement}
@@ -24,8 +24,8 @@ pub record AssignFacts (d : Design) (target : Target) (e : Expression) : Type 0 
   pub fit_target : fits_target target ≡ true
   pub fit_value : is_fit e ≡ true
 
-pub assign_facts : (d : Design) (name : Option (List ℕ)) → IsAcceptedDesign d name → (p place : ℕ) (port : Port) (target_place : ℕ) (target : Target) (e : Expression) → slice_get d.processes p ≡ Some (Continuous place port target_place target e) → AssignFacts d target e
-assign_facts d name a p place port target_place target e h =
+pub assign_facts : (d : Design) (names : List (List ℕ)) → IsAcceptedDesign d names → (p place : ℕ) (port : Port) (target_place : ℕ) (target : Target) (e : Expression) → slice_get d.processes p ≡ Some (Continuous place port target_place target e) → AssignFacts d target e
+assign_facts d names a p place port target_place target e h =
     let k = and_both (is_formed_target d is_net target && has_constant_selects target && is_formed d e) (is_formed_port port target e) (all_at (is_formed_process d) d.processes p (Continuous place port target_place target e) a.lawful.formed h) in
     let f = and_both (is_formed_target d is_net target) (has_constant_selects target) (and_both (is_formed_target d is_net target && has_constant_selects target) (is_formed d e) k.0).0 in
     let g = and_both (fits_target target) (is_fit e) (all_at fits_process d.processes p (Continuous place port target_place target e) a.fit h) in
@@ -35,8 +35,8 @@ pub record BlockFacts (d : Design) (st : Statement) : Type 0 where
   pub variables : (b : ℕ) → contains (statement_bits st) b ≡ true → contains (variable_bits d) b ≡ true
   pub fit : fits_statement st ≡ true
 
-pub block_facts : (d : Design) (name : Option (List ℕ)) → IsAcceptedDesign d name → (p place : ℕ) (star : Bool) (events : List Event) (st : Statement) → slice_get d.processes p ≡ Some (Always place star events st) → BlockFacts d st
-block_facts d name a p place star events st h = record {
+pub block_facts : (d : Design) (names : List (List ℕ)) → IsAcceptedDesign d names → (p place : ℕ) (star : Bool) (events : List Event) (st : Statement) → slice_get d.processes p ≡ Some (Always place star events st) → BlockFacts d st
+block_facts d names a p place star events st h = record {
   variables = λ b w. statement_kind d st b (and_both (are_formed_events d star events) (is_formed_statement d st) (all_at (is_formed_process d) d.processes p (Always place star events st) a.lawful.formed h)).1 w;
   fit = all_at fits_process d.processes p (Always place star events st) a.fit h;
 }
@@ -89,8 +89,8 @@ comb_facts_by place star events st k none_mixed no_latches none_missing = record
         let m : without (without (statement_reads st) (statement_bits st)) (signals_bits (wait_signals x)) ≡ [] = subst (λ (c : Bool). without (if not c then without (statement_reads st) (statement_bits st) else statement_reads st) (signals_bits (wait_signals x)) ≡ []) k missing in
         absurd (either_way (contains (without (without (statement_reads st) (statement_bits st)) (signals_bits (wait_signals x))) b) (contains_without (without (statement_reads st) (statement_bits st)) (signals_bits (wait_signals x)) b q e) (ap (λ ys. contains ys b) m)))
 
-pub comb_facts : (d : Design) (name : Option (List ℕ)) → IsAcceptedDesign d name → (p place : ℕ) (star : Bool) (events : List Event) (st : Statement) → slice_get d.processes p ≡ Some (Always place star events st) → is_clocked (Always place star events st) ≡ false → CombFacts (Always place star events st) st
-comb_facts d name a p place star events st h k = comb_facts_by place star events st k
+pub comb_facts : (d : Design) (names : List (List ℕ)) → IsAcceptedDesign d names → (p place : ℕ) (star : Bool) (events : List Event) (st : Statement) → slice_get d.processes p ≡ Some (Always place star events st) → is_clocked (Always place star events st) ≡ false → CombFacts (Always place star events st) st
+comb_facts d names a p place star events st h k = comb_facts_by place star events st k
     (empty_is (mixed_assigns (Always place star events st)) (all_at (λ p. is_empty (mixed_assigns p)) d.processes p (Always place star events st) a.unmixed h))
     (empty_is (latches (Always place star events st)) (all_at (λ p. is_empty (latches p)) d.processes p (Always place star events st) a.no_latch h))
     (empty_is (missing_bits (Always place star events st)) (all_at (λ p. is_empty (missing_bits p)) d.processes p (Always place star events st) a.sensitive h))

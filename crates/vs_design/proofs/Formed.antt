@@ -50,7 +50,8 @@ range_is (Some r) (Some s) h =
 
 pub signal_is : (s t : Signal) → same_signal s t ≡ true → s ≡ t
 signal_is s t h =
-    let z = and_both (same_name s.name t.name && (s.scope == t.scope) && (s.number == t.number) && same_flag s.net t.net && same_flag s.input t.input && same_range s.range t.range && same_flag s.signed t.signed && (s.first == t.first)) (same_range s.words t.words) h in
+    let y = and_both (same_name s.name t.name && (s.scope == t.scope) && (s.number == t.number) && same_flag s.net t.net && same_flag s.input t.input && same_range s.range t.range && same_flag s.signed t.signed && (s.first == t.first) && same_range s.words t.words) (same_flag s.integer t.integer) h in
+    let z = and_both (same_name s.name t.name && (s.scope == t.scope) && (s.number == t.number) && same_flag s.net t.net && same_flag s.input t.input && same_range s.range t.range && same_flag s.signed t.signed && (s.first == t.first)) (same_range s.words t.words) y.0 in
     let a = and_both (same_name s.name t.name && (s.scope == t.scope) && (s.number == t.number) && same_flag s.net t.net && same_flag s.input t.input && same_range s.range t.range && same_flag s.signed t.signed) (s.first == t.first) z.0 in
     let b = and_both (same_name s.name t.name && (s.scope == t.scope) && (s.number == t.number) && same_flag s.net t.net && same_flag s.input t.input && same_range s.range t.range) (same_flag s.signed t.signed) a.0 in
     let c = and_both (same_name s.name t.name && (s.scope == t.scope) && (s.number == t.number) && same_flag s.net t.net && same_flag s.input t.input) (same_range s.range t.range) b.0 in
@@ -58,15 +59,15 @@ signal_is s t h =
     let e = and_both (same_name s.name t.name && (s.scope == t.scope) && (s.number == t.number)) (same_flag s.net t.net) d.0 in
     let f = and_both (same_name s.name t.name && (s.scope == t.scope)) (s.number == t.number) e.0 in
     let g = and_both (same_name s.name t.name) (s.scope == t.scope) f.0 in
-    all s.name t.name s.scope t.scope s.number t.number s.net t.net s.input t.input s.range t.range s.signed t.signed s.first t.first s.words t.words
-    (name_is s.name t.name g.0) (eqb-true s.scope t.scope g.1) (eqb-true s.number t.number f.1) (flag_is s.net t.net e.1) (flag_is s.input t.input d.1) (range_is s.range t.range c.1) (flag_is s.signed t.signed b.1) (eqb-true s.first t.first a.1) (range_is s.words t.words z.1)
+    all s.name t.name s.scope t.scope s.number t.number s.net t.net s.input t.input s.range t.range s.signed t.signed s.first t.first s.words t.words s.integer t.integer
+    (name_is s.name t.name g.0) (eqb-true s.scope t.scope g.1) (eqb-true s.number t.number f.1) (flag_is s.net t.net e.1) (flag_is s.input t.input d.1) (range_is s.range t.range c.1) (flag_is s.signed t.signed b.1) (eqb-true s.first t.first a.1) (range_is s.words t.words z.1) (flag_is s.integer t.integer y.1)
   where
-    signal : List ℕ → ℕ → ℕ → Bool → Bool → Option Range → Bool → ℕ → Option Range → Signal
-    signal n c m w i r g f v = record { name = n; scope = c; number = m; net = w; input = i; range = r; signed = g; first = f; words = v }
+    signal : List ℕ → ℕ → ℕ → Bool → Bool → Option Range → Bool → ℕ → Option Range → Bool → Signal
+    signal n c m w i r g f v x = record { name = n; scope = c; number = m; net = w; input = i; range = r; signed = g; first = f; words = v; integer = x }
 
-    all : (n n' : List ℕ) (c c' m m' : ℕ) (w w' i i' : Bool) (r r' : Option Range) (g g' : Bool) (f f' : ℕ) (v v' : Option Range) → n ≡ n' → c ≡ c' → m ≡ m' → w ≡ w' → i ≡ i' → r ≡ r' → g ≡ g' → f ≡ f' → v ≡ v'
-        → signal n c m w i r g f v ≡ signal n' c' m' w' i' r' g' f' v'
-    all n n' c c' m m' w w' i i' r r' g g' f f' v v' h1 h2 h3 h4 h5 h6 h7 h8 h9 = cc
+    all : (n n' : List ℕ) (c c' m m' : ℕ) (w w' i i' : Bool) (r r' : Option Range) (g g' : Bool) (f f' : ℕ) (v v' : Option Range) (x x' : Bool) → n ≡ n' → c ≡ c' → m ≡ m' → w ≡ w' → i ≡ i' → r ≡ r' → g ≡ g' → f ≡ f' → v ≡ v' → x ≡ x'
+        → signal n c m w i r g f v x ≡ signal n' c' m' w' i' r' g' f' v' x'
+    all n n' c c' m m' w w' i i' r r' g g' f f' v v' x x' h1 h2 h3 h4 h5 h6 h7 h8 h9 h10 = cc
 
 -- the signal is one of the design
 pub signal_at : (d : Design) (s : Signal) → is_signal d s ≡ true → slice_get d.signals s.number ≡ Some s

@@ -1,5 +1,5 @@
 -- An accepted design's network is lawful.
-use Rattle.std.proofs.Common.{◌≡◌, ℕ, true, false, List, [], ◌∷◌, sym, ◌∙◌, subst, Option, ◌⊎◌, inl, inr}
+use Rattle.std.proofs.Common.{◌≡◌, ℕ, true, false, List, [], ◌∷◌, sym, ◌∙◌, subst, ◌⊎◌, inl, inr}
 use Rattle.vs_net.specs.Network.{State, flatten, branch}
 use Rattle.vs_net.specs.Queue.{Slot, Fall, Rise, start, slots_of, ends}
 use Rattle.vs_net.specs.Solution.{beginning, IsSolution}
@@ -10,7 +10,7 @@ use mathlib.Core.Path.{fun_ext}
 use Rattle.vs_design.specs.Designs.{Initial, Design}
 use Rattle.vs_design.specs.Initials.{start_value, IsOrderOf}
 use Rattle.vs_design.specs.Accepted.{IsAcceptedDesign}
-use Rattle.vs_design.specs.Clocks.{root_of}
+use Rattle.vs_design.specs.Clocks.{clock_bits, first_clock, root_of}
 use Rattle.vs_design.proofs.ResetLaws.{roots_written, input_roots, assign_roots, reset_net_is, reset_run}
 use Rattle.vs_net.proofs.Runs.{every_order}
 use Rattle.vs_net.proofs.Unique.{one_solution}
@@ -30,114 +30,114 @@ use Rattle.vs_design.proofs.Order.{is_ordered}
 use Rattle.vs_design.proofs.LawfulParts.{exact, local, apart, comb_updates, clocked_own, one_writer, idle_x, idle_xz}
 use Rattle.vs_design.proofs.Starts.{same_order}
 use Rattle.vs_design.proofs.Begun.{begun, initial_own, initial_clocked, initial_apart}
-use Rattle.vs_design.proofs.ClockNets.{clock_number}
+use Rattle.vs_design.proofs.ClockNets.{first_clock_in, clock_process}
 use Rattle.vs_design.proofs.ClockLaws.{clock_is, clock_bit_is, clock_net_is, nets_written, assign_nets, comb_nets, stirs_at, stirs_own, stirs_on, clocked_local}
 use Rattle.vs_design.proofs.SleepLaws.{is_sleeper}
 use Rattle.vs_design.proofs.TimeLaws.{late_or_spare, late_of_listened, early_idle, early_comb, early_made, late_idle, late_reset, late_asleep, late_input, late_clock, late_made, quiet_or_woken}
 
 -- before slot 0 the bits have what initial processes leave in them
-pub begins : (d : Design) (name : Option (List ℕ)) (a : IsAcceptedDesign d name) (order : List Initial) → IsOrderOf d.initials order → beginning (network_in d a.clock.first order) ≡ start_value d
-begins d name a order o = fun_ext (λ b. (begun d name a order o b).1)
+pub begins : (d : Design) (names : List (List ℕ)) (a : IsAcceptedDesign d names) (order : List Initial) → IsOrderOf d.initials order → beginning (network_in d (clock_bits a.clocks) order) ≡ start_value d
+begins d names a order o = fun_ext (λ b. (begun d names a order o b).1)
 
 pub beginning_is : BeginningIs
-beginning_is d name a b = (begun d name a d.initials (same_order d.initials) b).1
+beginning_is d names a b = (begun d names a d.initials (same_order d.initials) b).1
 
 -- a block that wakes does so by a bit that it listens to, of which the late set says all
-woken_late : (d : Design) (name : Option (List ℕ)) (a : IsAcceptedDesign d name) (p : ℕ) → let f = families d a.clock.first (level_order d) in let x = (network_of d a.clock.first).process p in
-    IsQuietBlock (λ b. has (f.early b)) x ⊎ IsWokenBlock (λ b. has (f.early b)) (λ b. has (f.late b)) x → IsQuietBlock (λ b. has (f.early b)) x ⊎ IsWokenBlock (λ b. has (f.early b)) (late_or_spare d name a) x
-woken_late d name a p (inl q) = inl q
-woken_late d name a p (inr w) = inr (record { bit = w.bit; listened = w.listened; unknown = w.unknown; known = λ v h. w.known v (late_of_listened d name a p w.bit v w.listened h) })
+woken_late : (d : Design) (names : List (List ℕ)) (a : IsAcceptedDesign d names) (p : ℕ) → let f = families d (clock_bits a.clocks) (level_order d) in let x = (network_of d (clock_bits a.clocks)).process p in
+    IsQuietBlock (λ b. has (f.early b)) x ⊎ IsWokenBlock (λ b. has (f.early b)) (λ b. has (f.late b)) x → IsQuietBlock (λ b. has (f.early b)) x ⊎ IsWokenBlock (λ b. has (f.early b)) (late_or_spare d names a) x
+woken_late d names a p (inl q) = inl q
+woken_late d names a p (inr w) = inr (record { bit = w.bit; listened = w.listened; unknown = w.unknown; known = λ v h. w.known v (late_of_listened d names a p w.bit v w.listened h) })
 
 pub lawful : AcceptedIsLawful
-lawful d name a order o = record {
-  beyond = λ p h. beyond_count (all_processes d a.clock.first) p h;
-  one_writer = λ p q b g h. one_writer d name a a.clock.first p q b g h;
-  idle_x = λ p b g h. idle_x d name a a.clock.first p b g h;
-  idle_xz = λ b. idle_xz d name a a.clock.first b;
-  initial_own = λ p b h. initial_own d name a order p b h;
-  initial_clocked = λ p k. initial_clocked ((network_of d a.clock.first).process p) order k;
-  initial_apart = λ p b s h. initial_apart d name a order o p b s h;
+lawful d names a order o = record {
+  beyond = λ p h. beyond_count (all_processes d (clock_bits a.clocks)) p h;
+  one_writer = λ p q b g h. one_writer d names a p q b g h;
+  idle_x = λ p b g h. idle_x d names a (clock_bits a.clocks) p b g h;
+  idle_xz = λ b. idle_xz d names a (clock_bits a.clocks) b;
+  initial_own = λ p b h. initial_own d names a order p b h;
+  initial_clocked = λ p k. initial_clocked ((network_of d (clock_bits a.clocks)).process p) order k;
+  initial_apart = λ p b s h. initial_apart d names a order o p b s h;
   selects = λ b. false;
   select_driven = λ b h. cc;
   select_made = λ p b s t h k w known. cc;
-  own = λ p b s h w. sym (exact d name a a.clock.first p b s h) ∙ w;
-  exact = λ p b s h known w. exact d name a a.clock.first p b s h ∙ w;
-  local = λ p s t h k. local d name a a.clock.first p s t h k;
-  apart = λ p b h. apart d name a a.clock.first p b h;
-  comb_updates = λ p s h. comb_updates d name a a.clock.first p s h;
-  clocked_own = λ p b s h k. clocked_own d name a a.clock.first p b s h k;
+  own = λ p b s h w. sym (exact d names a (clock_bits a.clocks) p b s h) ∙ w;
+  exact = λ p b s h known w. exact d names a (clock_bits a.clocks) p b s h ∙ w;
+  local = λ p s t h k. local d names a (clock_bits a.clocks) p s t h k;
+  apart = λ p b h. apart d names a (clock_bits a.clocks) p b h;
+  comb_updates = λ p s h. comb_updates d names a (clock_bits a.clocks) p s h;
+  clocked_own = λ p b s h k. clocked_own d names a (clock_bits a.clocks) p b s h k;
   order = level_order d;
-  ordered = is_ordered d a.clock.first order (level_order d) [] (λ p. ⊥) a.no_cycle (λ p h. cc);
-  clock_nets = contains (clock_nets d a.clock.first);
-  clock = clock_number d name a;
-  clock_is = clock_is d name a;
-  nets_written = λ b h. nets_written d name a b h;
-  clock_net_is = λ p h. clock_net_is d name a p h;
-  clock_bit_is = λ p b h k. clock_bit_is d name a p b h k;
-  assign_nets = λ p h. assign_nets d name a p h;
-  comb_nets = λ p b h k. comb_nets d name a p b h k;
+  ordered = is_ordered d (clock_bits a.clocks) order (level_order d) [] (λ p. ⊥) a.no_cycle (λ p h. cc);
+  clock_nets = contains (clock_nets d (clock_bits a.clocks));
+  clock = (clock_process d names a (first_clock (clock_bits a.clocks)) (first_clock_in d names a)).0;
+  clock_is = clock_is d names a (first_clock (clock_bits a.clocks)) (first_clock_in d names a);
+  nets_written = λ b h. nets_written d names a b h;
+  clock_net_is = λ p h. clock_net_is d names a p h;
+  clock_bit_is = λ p b h k. clock_bit_is d names a p b h k;
+  assign_nets = λ p h. assign_nets d names a p h;
+  comb_nets = λ p b h k. comb_nets d names a p b h k;
   stirs = stirs_at d;
-  stirs_own = λ p b s h w. stirs_own d name a p b s h w;
-  stirs_on = λ p r b c h l st w. stirs_on d name a p r b c h l st w;
-  clocked_local = λ p s t h k. clocked_local d name a p s t h k;
-  roots = root_of d a.clock.first;
-  roots_written = λ b i h. roots_written d name a b i h;
-  input_roots = λ p h. input_roots d name a p h;
-  assign_roots = λ p h. assign_roots d name a p h;
-  reset_net_is = λ p r h. reset_net_is d name a p r h;
-  reset_run = λ p r s h k. reset_run d name a p r s h k;
-  sleepers = λ p x h. is_sleeper d name a order o p x h;
-  early = λ b. has ((families d a.clock.first (level_order d)).early b);
-  late = late_or_spare d name a;
+  stirs_own = λ p b s h w. stirs_own d names a p b s h w;
+  stirs_on = λ p r b c h l st w. stirs_on d names a p r b c h l st w;
+  clocked_local = λ p s t h k. clocked_local d names a p s t h k;
+  roots = root_of d (clock_bits a.clocks);
+  roots_written = λ b i h. roots_written d names a b i h;
+  input_roots = λ p h. input_roots d names a p h;
+  assign_roots = λ p h. assign_roots d names a p h;
+  reset_net_is = λ p r h. reset_net_is d names a p r h;
+  reset_run = λ p r s h k. reset_run d names a p r s h k;
+  sleepers = λ p x h. is_sleeper d names a order o p x h;
+  early = λ b. has ((families d (clock_bits a.clocks) (level_order d)).early b);
+  late = late_or_spare d names a;
   time_zero = record {
-    early_idle = λ b h. subst (λ v. has ((families d a.clock.first (level_order d)).early b) v ≡ true) (sym (begun d name a order o b).0) (early_idle d name a b h);
-    early_comb = λ p b h k. early_comb d name a p b h k;
-    early_made = λ p h n s k. early_made d name a p h n s k;
-    late_idle = λ b h. or_left _ _ (subst (λ v. has ((families d a.clock.first (level_order d)).late b) v ≡ true) (sym (begun d name a order o b).1) (late_idle d name a b h));
-    late_reset = λ p b r h w. or_left _ _ (subst (λ v. has ((families d a.clock.first (level_order d)).late b) v ≡ true) (sym (write_all_at (flatten (branch r)) (beginning (network_in d a.clock.first order)) (start_value d) b (begun d name a order o b).1)) (late_reset d name a p b r h w));
-    late_asleep = λ p b x h w. or_left _ _ (late_asleep d name a p b x h w);
-    late_input = λ p b v h k l. or_left _ _ (late_input d name a p b v h k l);
-    late_clock = λ p b h k. late_clock d name a p b h k;
-    late_made = λ p h s k. λ b w t. or_left _ _ (late_made d name a p h s (λ c l. late_of_listened d name a p c (s c) l (k c l)) b w t);
+    early_idle = λ b h. subst (λ v. has ((families d (clock_bits a.clocks) (level_order d)).early b) v ≡ true) (sym (begun d names a order o b).0) (early_idle d names a b h);
+    early_comb = λ p b h k. early_comb d names a p b h k;
+    early_made = λ p h n s k. early_made d names a p h n s k;
+    late_idle = λ b h. or_left _ _ (subst (λ v. has ((families d (clock_bits a.clocks) (level_order d)).late b) v ≡ true) (sym (begun d names a order o b).1) (late_idle d names a b h));
+    late_reset = λ p b r h w. or_left _ _ (subst (λ v. has ((families d (clock_bits a.clocks) (level_order d)).late b) v ≡ true) (sym (write_all_at (flatten (branch r)) (beginning (network_in d (clock_bits a.clocks) order)) (start_value d) b (begun d names a order o b).1)) (late_reset d names a p b r h w));
+    late_asleep = λ p b x h w. or_left _ _ (late_asleep d names a p b x h w);
+    late_input = λ p b v h k l. or_left _ _ (late_input d names a p b v h k l);
+    late_clock = λ p b h k. late_clock d names a p b h k;
+    late_made = λ p h s k. λ b w t. or_left _ _ (late_made d names a p h s (λ c l. late_of_listened d names a p c (s c) l (k c l)) b w t);
   };
-  quiet_or_woken = λ p h n. woken_late d name a p (quiet_or_woken d name a p h n);
+  quiet_or_woken = λ p h n. woken_late d names a p (quiet_or_woken d names a p h n);
 }
 
 -- ---- what follows
 
 -- the solution is the same whatever the order of the initial processes
-same_solution : (d : Design) (clock : ℕ) (order : List Initial) (before : State) (slots : List Slot) (ss : List State) → IsSolution (network_in d clock order) before slots ss → IsSolution (network_of d clock) before slots ss
-same_solution d clock order before [] [] h = tt
-same_solution d clock order before (slot ∷ slots) (s ∷ ss) h = (record { settled = h.0.settled; updated = h.0.updated; kept = h.0.kept }, same_solution d clock order s slots ss h.1)
-same_solution d clock order before [] (s ∷ ss) h = absurd h
-same_solution d clock order before (slot ∷ slots) [] h = absurd h
+same_solution : (d : Design) (clocks : List ℕ) (order : List Initial) (before : State) (slots : List Slot) (ss : List State) → IsSolution (network_in d clocks order) before slots ss → IsSolution (network_of d clocks) before slots ss
+same_solution d clocks order before [] [] h = tt
+same_solution d clocks order before (slot ∷ slots) (s ∷ ss) h = (record { settled = h.0.settled; updated = h.0.updated; kept = h.0.kept }, same_solution d clocks order s slots ss h.1)
+same_solution d clocks order before [] (s ∷ ss) h = absurd h
+same_solution d clocks order before (slot ∷ slots) [] h = absurd h
 
 -- every order of the steps ends in the solution
 pub every_order_of : EveryOrderOfDesign
-every_order_of d name a order o first v vs f k r choices c =
-    subst (λ (before : State). IsSolution (network_of d a.clock.first) before (slots_of (v ∷ vs)) (ends (network_in d a.clock.first order) (start (network_in d a.clock.first order) first v vs) choices)) (begins d name a order o ∙ sym (begins d name a d.initials (same_order d.initials)))
-    (same_solution d a.clock.first order (beginning (network_in d a.clock.first order)) (slots_of (v ∷ vs)) (ends (network_in d a.clock.first order) (start (network_in d a.clock.first order) first v vs) choices)
-    (every_order (network_in d a.clock.first order) (lawful d name a order o) first v vs f k r choices c))
+every_order_of d names a order o first v vs f k r choices c =
+    subst (λ (before : State). IsSolution (network_of d (clock_bits a.clocks)) before (slots_of (v ∷ vs)) (ends (network_in d (clock_bits a.clocks) order) (start (network_in d (clock_bits a.clocks) order) first v vs) choices)) (begins d names a order o ∙ sym (begins d names a d.initials (same_order d.initials)))
+    (same_solution d (clock_bits a.clocks) order (beginning (network_in d (clock_bits a.clocks) order)) (slots_of (v ∷ vs)) (ends (network_in d (clock_bits a.clocks) order) (start (network_in d (clock_bits a.clocks) order) first v vs) choices)
+    (every_order (network_in d (clock_bits a.clocks) order) (lawful d names a order o) first v vs f k r choices c))
 
 -- in the order of the text
-pub lawful_of : (d : Design) (name : Option (List ℕ)) (a : IsAcceptedDesign d name) → IsLawful (network_of d a.clock.first)
-lawful_of d name a = lawful d name a d.initials (same_order d.initials)
+pub lawful_of : (d : Design) (names : List (List ℕ)) (a : IsAcceptedDesign d names) → IsLawful (network_of d (clock_bits a.clocks))
+lawful_of d names a = lawful d names a d.initials (same_order d.initials)
 
 -- no net is a select net
-none_select : (d : Design) (name : Option (List ℕ)) (a : IsAcceptedDesign d name) (before : State) (slots : List Slot) → AreKnownSelects (network_of d a.clock.first) (lawful_of d name a) before slots
+none_select : (d : Design) (names : List (List ℕ)) (a : IsAcceptedDesign d names) (before : State) (slots : List Slot) → AreKnownSelects (network_of d (clock_bits a.clocks)) (lawful_of d names a) before slots
 unfolding lawful lawful_of
-none_select d name a before [] = tt
-none_select d name a before (Fall v ∷ slots) = ((λ p b k w h. cc), none_select d name a v slots)
-none_select d name a before (Rise ∷ slots) = ((λ p b k w h. cc), none_select d name a before slots)
+none_select d names a before [] = tt
+none_select d names a before (Fall v ∷ slots) = ((λ p b k w h. cc), none_select d names a v slots)
+none_select d names a before (Rise ∷ slots) = ((λ p b k w h. cc), none_select d names a before slots)
 
 pub one_solution_of : OneSolutionOfDesign
-one_solution_of d name a before slots xs ys = one_solution (network_of d a.clock.first) (lawful_of d name a) before slots xs ys (none_select d name a before slots)
+one_solution_of d names a before slots xs ys = one_solution (network_of d (clock_bits a.clocks)) (lawful_of d names a) before slots xs ys (none_select d names a before slots)
 
 pub level_run_of : LevelRunOfDesign
-level_run_of d name a order h = level_run_is_one (network_of d a.clock.first) (lawful_of d name a) order (is_ordered d a.clock.first d.initials order [] (λ p. ⊥) h (λ p h. cc))
+level_run_of d names a order h = level_run_is_one (network_of d (clock_bits a.clocks)) (lawful_of d names a) order (is_ordered d (clock_bits a.clocks) d.initials order [] (λ p. ⊥) h (λ p h. cc))
 
 pub one_pass_of : OnePassOfDesign
-one_pass_of d name a order h = one_pass_settles (network_of d a.clock.first) (lawful_of d name a) order (is_ordered d a.clock.first d.initials order [] (λ p. ⊥) h (λ p h. cc))
+one_pass_of d names a order h = one_pass_settles (network_of d (clock_bits a.clocks)) (lawful_of d names a) order (is_ordered d (clock_bits a.clocks) d.initials order [] (λ p. ⊥) h (λ p h. cc))
 
 pub sleepers_of : SleepersOfDesign
-sleepers_of d name a order o = sleepers_wake (network_in d a.clock.first order) (lawful d name a order o)
+sleepers_of d names a order o = sleepers_wake (network_in d (clock_bits a.clocks) order) (lawful d names a order o)

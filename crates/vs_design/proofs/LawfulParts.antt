@@ -1,7 +1,7 @@
 -- An accepted design's processes write their own bits alone, by what they listen to.
 use Rattle.vs_net.proofs.Beginning.{written_or}
 use Rattle.vs_net.proofs.Basics.{flat_cons}
-use Rattle.std.proofs.Common.{◌≡◌, ◌≢◌, ℕ, zero, suc, ◌+◌, ◌*◌, ◌≤◌, Bool, true, false, List, [], ◌++◌, ◌&&◌, ◌==◌, eqb-true, eq-eqb, not, inl, inr, refl, sym, ap, ◌∙◌, subst, length, Option, Some, None, arith, ◌∷◌, ◌⊎◌, ◌<◌}
+use Rattle.std.proofs.Common.{◌≡◌, ◌≢◌, ℕ, zero, suc, ◌+◌, ◌*◌, ◌≤◌, Bool, true, false, List, [], ◌++◌, ◌&&◌, ◌==◌, eqb-true, eq-eqb, not, inl, inr, refl, sym, ap, ◌∙◌, subst, length, Option, Some, None, arith, ◌∷◌, ◌⊎◌, ◌<◌, cond, nat_lt}
 use Rattle.std.specs.Prelude.{slice_get}
 use Rattle.std.specs.List.{list_any, list_all, filter}
 use Rattle.vs_four.specs.declared.Bit4.TheVariants.{X}
@@ -19,7 +19,7 @@ use Rattle.vs_design.specs.Levels.{level_order}
 use Rattle.vs_design.specs.Elaborated.{is_formed_initial}
 use Rattle.vs_design.specs.Rules.{written_bits}
 use Rattle.vs_design.specs.Initials.{initial_bits, sole_bits, idle_value}
-use Rattle.vs_design.specs.Networks.{spare_writers, network_of}
+use Rattle.vs_design.specs.Networks.{spare_clocks, spare_writers, network_of}
 use Rattle.vs_design.specs.Accepted.{IsAcceptedDesign}
 use Rattle.vs_design.proofs.Lists.{by_test, and_both, or_left, contains-left, contains_filter}
 use Rattle.vs_design.proofs.Writes.{either_way, assignment_within, assignment_assigns}
@@ -31,7 +31,9 @@ use Rattle.vs_design.proofs.Formed.{statement_kind}
 use Rattle.vs_design.proofs.Signals.{split, kinds_apart, member_bits, one_signal, filter_high}
 use Rattle.vs_design.proofs.Order.{no_loop}
 use Rattle.vs_design.proofs.Along.{constant_assigns}
-use Rattle.vs_design.proofs.Parts.{by_kind}
+use Rattle.vs_design.proofs.Parts.{by_kind, spare_facts}
+use Rattle.vs_design.proofs.ClockNets.{AreClocks, as_inputs, as_spare, bit_signal, clocks_at}
+use Rattle.vs_design.specs.Clocks.{clock_bits}
 use Rattle.vs_design.proofs.Facts.{assign_facts, block_facts, comb_facts}
 
 -- what a run gives is written at once or by an update
@@ -53,15 +55,15 @@ assign_exact t e s b c f =
     none true p q = absurd (either_way (contains (target_bits t) b) (assignment_within t e s b f p) q)
     none false p q = p ∙ sym q
 
-module _ (d : Design) (name : Option (List ℕ)) (a : IsAcceptedDesign d name) (c : ℕ) where
+module _ (d : Design) (names : List (List ℕ)) (a : IsAcceptedDesign d names) (c : List ℕ) where
   pub exact : (p b : ℕ) (s : State) → Settles (kind ((network_of d c).process p)) → is_written (made ((network_of d c).process p) s) b ≡ writes ((network_of d c).process p) b
   exact p b s = by_kind d c (λ p x. Settles (kind x) → is_written (made x s) b ≡ writes x b) (record {
-    assigns = λ p place port target_place target e h k. let f = assign_facts d name a p place port target_place target e h in assign_exact target e s b f.constant f.fit_target;
-    combs = λ p place star events st h k z. let f = comb_facts d name a p place star events st h k in let g = block_facts d name a p place star events st h in block_writes st g.fit f.unmixed f.no_latch s b;
+    assigns = λ p place port target_place target e h k. let f = assign_facts d names a p place port target_place target e h in assign_exact target e s b f.constant f.fit_target;
+    combs = λ p place star events st h k z. let f = comb_facts d names a p place star events st h k in let g = block_facts d names a p place star events st h in block_writes st g.fit f.unmixed f.no_latch s b;
     clocked = λ p place star events st h k z. absurd z;
     inputs = λ p i r l e f z. absurd z;
     clock = λ p i r l e f z. absurd z;
-    spare = λ p l f z. absurd z;
+    spare = λ p i m l f named past z. absurd z;
     keeper = λ p l m bs e z. absurd z;
     none = λ p z. absurd z;
   }) p
@@ -69,11 +71,11 @@ module _ (d : Design) (name : Option (List ℕ)) (a : IsAcceptedDesign d name) (
   pub local : (p : ℕ) (s t : State) → Settles (kind ((network_of d c).process p)) → ((b : ℕ) → listens ((network_of d c).process p) b ≡ true → s b ≡ t b) → made ((network_of d c).process p) s ≡ made ((network_of d c).process p) t
   local p s t = by_kind d c (λ p x. Settles (kind x) → ((b : ℕ) → listens x b ≡ true → s b ≡ t b) → made x s ≡ made x t) (record {
     assigns = λ p place port target_place target e h k z. assignment_local target e s t z;
-    combs = λ p place star events st h k y z. let f = comb_facts d name a p place star events st h k in ap {B = List Write} (λ (x : Effect). x.writes) (block_reads st f.unmixed f.no_latch s t (λ b q. z b (f.waits b q)));
+    combs = λ p place star events st h k y z. let f = comb_facts d names a p place star events st h k in ap {B = List Write} (λ (x : Effect). x.writes) (block_reads st f.unmixed f.no_latch s t (λ b q. z b (f.waits b q)));
     clocked = λ p place star events st h k z. absurd z;
     inputs = λ p i r l e f z. absurd z;
     clock = λ p i r l e f z. absurd z;
-    spare = λ p l f z. absurd z;
+    spare = λ p i m l f named past z. absurd z;
     keeper = λ p l m bs e z. absurd z;
     none = λ p z. absurd z;
   }) p
@@ -84,11 +86,11 @@ module _ (d : Design) (name : Option (List ℕ)) (a : IsAcceptedDesign d name) (
         by_test (contains (target_reads target ++ read_bits e) b)
         (λ q. absurd (no_loop d (level_order d) [] p (Continuous place port target_place target e) b a.no_cycle refl h refl w (contains-left (target_reads target ++ read_bits e) [] b q)))
         (λ q. q);
-    combs = λ p place star events st h k w. (comb_facts d name a p place star events st h k).apart b w;
+    combs = λ p place star events st h k w. (comb_facts d names a p place star events st h k).apart b w;
     clocked = λ p place star events st h k w. refl;
     inputs = λ p i r l e f w. refl;
     clock = λ p i r l e f w. refl;
-    spare = λ p l f w. refl;
+    spare = λ p i m l f named past w. refl;
     keeper = λ p l m bs e w. refl;
     none = λ p w. refl;
   }) p
@@ -96,11 +98,11 @@ module _ (d : Design) (name : Option (List ℕ)) (a : IsAcceptedDesign d name) (
   pub comb_updates : (p : ℕ) (s : State) → kind ((network_of d c).process p) ≡ AComb → updates ((network_of d c).process p) s ≡ []
   comb_updates p s = by_kind d c (λ p x. kind x ≡ AComb → updates x s ≡ []) (record {
     assigns = λ p place port target_place target e h w. refl;
-    combs = λ p place star events st h k w. body_updates st s (comb_facts d name a p place star events st h k).unmixed;
+    combs = λ p place star events st h k w. body_updates st s (comb_facts d names a p place star events st h k).unmixed;
     clocked = λ p place star events st h k w. cc;
     inputs = λ p i r l e f w. refl;
     clock = λ p i r l e f w. refl;
-    spare = λ p l f w. refl;
+    spare = λ p i m l f named past w. refl;
     keeper = λ p l m bs e w. cc;
     none = λ p w. refl;
   }) p
@@ -109,10 +111,10 @@ module _ (d : Design) (name : Option (List ℕ)) (a : IsAcceptedDesign d name) (
   clocked_own p b s = by_kind d c (λ p x. kind x ≡ AClocked → is_written (flatten (effects x s)) b ≡ true → writes x b ≡ true) (record {
     assigns = λ p place port target_place target e h w. cc;
     combs = λ p place star events st h k w. cc;
-    clocked = λ p place star events st h k w q. body_within st s (block_facts d name a p place star events st h).fit b (given_within (body st s).writes (body st s).updates b q);
+    clocked = λ p place star events st h k w q. body_within st s (block_facts d names a p place star events st h).fit b (given_within (body st s).writes (body st s).updates b q);
     inputs = λ p i r l e f w. cc;
     clock = λ p i r l e f w. cc;
-    spare = λ p l f w. cc;
+    spare = λ p i m l f named past w. cc;
     keeper = λ p l m bs e w z. absurd (nothing_given b z);
     none = λ p w. cc;
   }) p
@@ -120,10 +122,10 @@ module _ (d : Design) (name : Option (List ℕ)) (a : IsAcceptedDesign d name) (
 -- ---- one writer
 
 -- a bit that a process of the network writes, and who that is
-pub data Writer (d : Design) (c p b : ℕ) : Type 0 where
+pub data Writer (d : Design) (c : List ℕ) (p b : ℕ) : Type 0 where
   by_process : (x : Process) → slice_get d.processes p ≡ Some x → contains (writes_of x) b ≡ true → Writer d c p b
   by_input : (i : ℕ) (s : Signal) → p ≡ length d.processes + i → slice_get (top_inputs d) i ≡ Some s → contains (bits_of_signal s) b ≡ true → Writer d c p b
-  by_spare : p ≡ length d.processes + length (top_inputs d) → bit_count d ≤ b → Writer d c p b
+  by_spare : (i : ℕ) → p ≡ length d.processes + (length (top_inputs d) + i) → slice_get (spare_clocks d c) i ≡ Some b → bit_count d ≤ b → Writer d c p b
   by_keeper : p ≡ length d.processes + (length (top_inputs d) + length (spare_writers d c)) → contains (sole_bits d) b ≡ true → Writer d c p b
 
 pub listed : (bs : List ℕ) (b : ℕ) → list_any (λ c. b == c) bs ≡ true → contains bs b ≡ true
@@ -158,19 +160,19 @@ first_bit s = go (signal_length s) (positive s)
     go zero h = absurd (omega arith)
     go (suc n) h = or_left (s.first == s.first) _ (eq-eqb s.first s.first refl)
 
-pub writer : (d : Design) (c p b : ℕ) → writes ((network_of d c).process p) b ≡ true → Writer d c p b
+pub writer : (d : Design) (c : List ℕ) (p b : ℕ) → writes ((network_of d c).process p) b ≡ true → Writer d c p b
 writer d c p b = by_kind d c (λ p x. writes x b ≡ true → Writer d c p b) (record {
   assigns = λ p place port target_place target e h w. by_process (Continuous place port target_place target e) h w;
   combs = λ p place star events st h k w. by_process (Always place star events st) h w;
   clocked = λ p place star events st h k w. by_process (Always place star events st) h w;
   inputs = λ p i s l e f w. by_input i s l e w;
-  clock = λ p i s l e f w. by_input i s l e (subst (λ m. contains (bits_of_signal s) m ≡ true) (f ∙ sym (eqb-true b c w)) (first_bit s));
-  spare = λ p l f w. by_spare l (let k = eqb-true b c w in omega (arith, f, k));
+  clock = λ p i s l e f w. by_input i s l e (subst (λ m. contains (bits_of_signal s) m ≡ true) (sym (eqb-true b s.first w)) (first_bit s));
+  spare = λ p i m l f named past w. let k = eqb-true b m w in by_spare i l (subst (λ n. slice_get (spare_clocks d c) i ≡ Some n) (sym k) f) (omega (arith, past, k));
   keeper = λ p l m bs e w. by_keeper l (subst (λ xs. contains xs b ≡ true) (sym e) w);
   none = λ p w. cc;
 }) p
 
-module _ (d : Design) (name : Option (List ℕ)) (a : IsAcceptedDesign d name) (c : ℕ) where
+module _ (d : Design) (names : List (List ℕ)) (a : IsAcceptedDesign d names) (c : List ℕ) where
   -- inputs, nets and variables share no bits
   pub nets_not_inputs : (b : ℕ) → contains (net_bits d) b ≡ true → contains (input_bits d) b ≡ true → ⊥
   nets_not_inputs b = kinds_apart is_net is_input 0 d.signals b (λ s h. go s.net s.input h) a.lawful.bits_numbered
@@ -226,33 +228,35 @@ module _ (d : Design) (name : Option (List ℕ)) (a : IsAcceptedDesign d name) (
   sole_unwritten b p x h e = by_test (contains (writes_of x) b) (λ w. absurd (either_way (contains (written_bits d.processes) b) (written_some d.processes p x b e w) (sole_facts b h).1)) (λ w. w)
 
   process_below : (p b : ℕ) (x : Process) → slice_get d.processes p ≡ Some x → contains (writes_of x) b ≡ true → b < bit_count d
-  process_below p b (Continuous place port target_place target e) h w = kind_below is_net b ((assign_facts d name a p place port target_place target e h).nets b w)
-  process_below p b (Always place star events st) h w = kind_below is_variable b ((block_facts d name a p place star events st h).variables b w)
+  process_below p b (Continuous place port target_place target e) h w = kind_below is_net b ((assign_facts d names a p place port target_place target e h).nets b w)
+  process_below p b (Always place star events st) h w = kind_below is_variable b ((block_facts d names a p place star events st h).variables b w)
 
   process_not_input : (p b : ℕ) (x : Process) → slice_get d.processes p ≡ Some x → contains (writes_of x) b ≡ true → contains (input_bits d) b ≡ true → ⊥
-  process_not_input p b (Continuous place port target_place target e) h w = nets_not_inputs b ((assign_facts d name a p place port target_place target e h).nets b w)
-  process_not_input p b (Always place star events st) h w = variables_not_inputs b ((block_facts d name a p place star events st h).variables b w)
+  process_not_input p b (Continuous place port target_place target e) h w = nets_not_inputs b ((assign_facts d names a p place port target_place target e h).nets b w)
+  process_not_input p b (Always place star events st) h w = variables_not_inputs b ((block_facts d names a p place star events st h).variables b w)
 
-  pub one_writer : (p q b : ℕ) → writes ((network_of d c).process p) b ≡ true → writes ((network_of d c).process q) b ≡ true → q ≡ p
-  one_writer p q b g h = go (writer d c p b g) (writer d c q b h)
+  -- where no clock beyond the design is there twice, a bit has one writer
+  only_writer : ((i j b : ℕ) → slice_get (spare_clocks d c) i ≡ Some b → slice_get (spare_clocks d c) j ≡ Some b → j ≡ i)
+      → (p q b : ℕ) → writes ((network_of d c).process p) b ≡ true → writes ((network_of d c).process q) b ≡ true → q ≡ p
+  only_writer once p q b g h = go (writer d c p b g) (writer d c q b h)
     where
       go : Writer d c p b → Writer d c q b → q ≡ p
       go (by_process x e w) (by_process y f z) = one_process d p q x y b a.one_driver e f w z
       go (by_process x e w) (by_input i s l f z) = absurd (process_not_input p b x e w (member_bits (top_inputs d) i s b f z))
       go (by_input i s l e w) (by_process y f z) = absurd (process_not_input q b y f z (member_bits (top_inputs d) i s b e w))
       go (by_input i s l e w) (by_input j r m f z) = let k = one_signal (λ s. s.input) 0 d.signals b i j s r a.lawful.bits_numbered e f w z in omega (arith, k)
-      go (by_process x e w) (by_spare m f) = absurd (let k = process_below p b x e w in omega (arith, k, f))
-      go (by_spare l e) (by_process y f z) = absurd (let k = process_below q b y f z in omega (arith, k, e))
-      go (by_input i s l e w) (by_spare m f) = absurd (let k = kind_below is_input b (member_bits (top_inputs d) i s b e w) in omega (arith, k, f))
-      go (by_spare l e) (by_input j r m f z) = absurd (let k = kind_below is_input b (member_bits (top_inputs d) j r b f z) in omega (arith, k, e))
-      go (by_spare l e) (by_spare m f) = m ∙ sym l
+      go (by_process x e w) (by_spare j m y f) = absurd (let k = process_below p b x e w in omega (arith, k, f))
+      go (by_spare i l x e) (by_process y f z) = absurd (let k = process_below q b y f z in omega (arith, k, e))
+      go (by_input i s l e w) (by_spare j m y f) = absurd (let k = kind_below is_input b (member_bits (top_inputs d) i s b e w) in omega (arith, k, f))
+      go (by_spare i l x e) (by_input j r m f z) = absurd (let k = kind_below is_input b (member_bits (top_inputs d) j r b f z) in omega (arith, k, e))
+      go (by_spare i l x e) (by_spare j m y f) = let k = once i j b x y in omega (arith, k, l, m)
       go (by_keeper l e) (by_keeper m f) = m ∙ sym l
       go (by_keeper l e) (by_process y f z) = absurd (either_way (contains (writes_of y) b) z (sole_unwritten b q y e f))
       go (by_process x e w) (by_keeper m f) = absurd (either_way (contains (writes_of x) b) w (sole_unwritten b p x f e))
       go (by_keeper l e) (by_input j r m f z) = absurd (variables_not_inputs b (sole_variable b e) (member_bits (top_inputs d) j r b f z))
       go (by_input i s l e w) (by_keeper m f) = absurd (variables_not_inputs b (sole_variable b f) (member_bits (top_inputs d) i s b e w))
-      go (by_keeper l e) (by_spare m f) = absurd (let k = kind_below is_variable b (sole_variable b e) in omega (arith, k, f))
-      go (by_spare l e) (by_keeper m f) = absurd (let k = kind_below is_variable b (sole_variable b f) in omega (arith, k, e))
+      go (by_keeper l e) (by_spare j m y f) = absurd (let k = kind_below is_variable b (sole_variable b e) in omega (arith, k, f))
+      go (by_spare i l x e) (by_keeper m f) = absurd (let k = kind_below is_variable b (sole_variable b f) in omega (arith, k, e))
 
   idle_of : (b : ℕ) → contains (net_bits d) b ≡ false → idle_value d b ≡ X
   idle_of b h = rw h refl
@@ -263,14 +267,48 @@ module _ (d : Design) (name : Option (List ℕ)) (a : IsAcceptedDesign d name) (
   pub idle_x : (p b : ℕ) → writes ((network_of d c).process p) b ≡ true → kind ((network_of d c).process p) ≢ AnAssign → idle_value d b ≡ X
   idle_x p b = by_kind d c (λ p x. writes x b ≡ true → kind x ≢ AnAssign → idle_value d b ≡ X) (record {
     assigns = λ p place port target_place target e h w k. absurd (k refl);
-    combs = λ p place star events st h k w l. idle_of b (not_net b (variables_not_nets b ((block_facts d name a p place star events st h).variables b w)));
-    clocked = λ p place star events st h k w l. idle_of b (not_net b (variables_not_nets b ((block_facts d name a p place star events st h).variables b w)));
+    combs = λ p place star events st h k w l. idle_of b (not_net b (variables_not_nets b ((block_facts d names a p place star events st h).variables b w)));
+    clocked = λ p place star events st h k w l. idle_of b (not_net b (variables_not_nets b ((block_facts d names a p place star events st h).variables b w)));
     inputs = λ p i s l e f w k. idle_of b (not_net b (λ n. nets_not_inputs b n (member_bits (top_inputs d) i s b e w)));
-    spare = λ p l f w k. idle_of b (not_net b (λ n. let m = kind_below is_net b n in let o = eqb-true b c w in omega (arith, f, m, o)));
+    spare = λ p i m l f named past w k. idle_of b (not_net b (λ n. let q = kind_below is_net b n in let o = eqb-true b m w in omega (arith, past, q, o)));
     keeper = λ p l m bs e w k. idle_of b (not_net b (variables_not_nets b (sole_variable b (subst (λ xs. contains xs b ≡ true) (sym e) w))));
-    clock = λ p i s l e f w k. idle_of b (not_net b (λ n. nets_not_inputs b n (member_bits (top_inputs d) i s b e (subst (λ m. contains (bits_of_signal s) m ≡ true) (f ∙ sym (eqb-true b c w)) (first_bit s)))));
+    clock = λ p i s l e f w k. idle_of b (not_net b (λ n. nets_not_inputs b n (member_bits (top_inputs d) i s b e (subst (λ m. contains (bits_of_signal s) m ≡ true) (sym (eqb-true b s.first w)) (first_bit s)))));
     none = λ p w k. cc;
   }) p
 
   pub idle_xz : (b : ℕ) → IsUnknown (idle_value d b)
   idle_xz b = by_test (contains (net_bits d) b) (λ e. inr (rw e refl)) (λ e. inl (rw e refl))
+
+-- ---- the clocks of an accepted design are its inputs, or there is the spare one alone
+
+module _ (d : Design) (names : List (List ℕ)) (a : IsAcceptedDesign d names) where
+  one_filtered : (t : ℕ → Bool) (x i b : ℕ) → slice_get (filter t (x ∷ [])) i ≡ Some b → i ≡ 0
+  one_filtered t x i b = go (t x) i
+    where
+      go : (g : Bool) (i : ℕ) → slice_get (cond g (x ∷ []) []) i ≡ Some b → i ≡ 0
+      go true zero e = refl
+      go true (suc i) e = cc
+      go false i e = cc
+
+  spare_once : (i j b : ℕ) → slice_get (spare_clocks d (clock_bits a.clocks)) i ≡ Some b → slice_get (spare_clocks d (clock_bits a.clocks)) j ≡ Some b → j ≡ i
+  spare_once i j b e f = by_place (clocks_at d names a)
+    where
+      facts : (contains (clock_bits a.clocks) b ≡ true) × (bit_count d ≤ b)
+      facts = spare_facts d (clock_bits a.clocks) i b e
+
+      by_place : AreClocks d a.clocks → j ≡ i
+      by_place (as_inputs g) =
+          let r = bit_signal a.clocks b facts.0 in
+          let q = g r.0 r.1 r.2 in
+          let low = kind_below d names a (clock_bits a.clocks) is_input b (member_bits (top_inputs d) q.0 r.1 b q.1 (subst (λ n. contains (bits_of_signal r.1) n ≡ true) r.3 (first_bit r.1))) in
+          let high = facts.1 in
+          absurd (omega (arith, low, high))
+      by_place (as_spare q) =
+          one_of j (subst (λ (xs : List Signal). slice_get (spare_clocks d (clock_bits xs)) j ≡ Some b) q f) ∙ sym (one_of i (subst (λ (xs : List Signal). slice_get (spare_clocks d (clock_bits xs)) i ≡ Some b) q e))
+        where
+          one_of : (k : ℕ) → slice_get (spare_clocks d (bit_count d ∷ [])) k ≡ Some b → k ≡ 0
+          one_of k g = one_filtered (λ c. not (nat_lt c (bit_count d))) (bit_count d) k b g
+
+  -- so each bit has one writer
+  pub one_writer : (p q b : ℕ) → writes ((network_of d (clock_bits a.clocks)).process p) b ≡ true → writes ((network_of d (clock_bits a.clocks)).process q) b ≡ true → q ≡ p
+  one_writer p q b g h = only_writer d names a (clock_bits a.clocks) spare_once p q b g h

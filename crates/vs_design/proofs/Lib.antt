@@ -61,6 +61,7 @@ pub mod Decided
 pub mod Weights
 pub mod Bounded
 pub mod ClosedNets
+pub mod EachClock
 pub mod ExampleLaws
 pub mod ExampleBlocking
 pub mod ExampleInitials
@@ -68,3 +69,4 @@ pub mod ExampleMemoryLaws
 pub mod ExampleTogether
 pub mod SpareLaws
 pub mod Within
+pub mod DeadNets

@@ -1,5 +1,5 @@
 -- The words of memories are those that their updates give.
-use Rattle.std.proofs.Common.{◌≡◌, ◌≢◌, ℕ, zero, suc, ◌+◌, ◌*◌, ◌<◌, Bool, true, false, List, [], ◌∷◌, ◌++◌, ◌||◌, ◌&&◌, ◌==◌, if◌then◌else◌, ◌⊎◌, inl, inr, refl, sym, ap, ◌∙◌, subst, eqb-true, arith, map, Option, Some, None}
+use Rattle.std.proofs.Common.{◌≡◌, ◌≢◌, ℕ, zero, suc, ◌+◌, ◌*◌, ◌<◌, Bool, true, false, List, [], ◌∷◌, ◌++◌, ◌||◌, ◌&&◌, ◌==◌, if◌then◌else◌, ◌⊎◌, inl, inr, refl, sym, ap, ◌∙◌, subst, arith, map, Option, Some, None}
 use Rattle.std.specs.Prelude.{slice_get, not}
 use Rattle.std.specs.List.{list_all}
 use Rattle.vs_four.specs.declared.Bit4.TheVariants.{X}
@@ -17,7 +17,7 @@ use Rattle.vs_design.specs.Statements.{Statement}
 use Rattle.vs_design.specs.Bodies.{body}
 use Rattle.vs_design.specs.Designs.{Event, Process, Continuous, Always, is_clocked, Design}
 use Rattle.vs_design.specs.Footprints.{contains, statement_bits, writes_of, variable_bits, input_bits, is_memory, is_variable}
-use Rattle.vs_design.specs.Clocks.{clock_nets, root_of, events_of}
+use Rattle.vs_design.specs.Clocks.{clock_bits, clock_nets, root_of, events_of}
 use Rattle.vs_design.specs.Resets.{reset_of}
 use Rattle.vs_design.specs.Initials.{start_value}
 use Rattle.vs_design.specs.Networks.{network_of}
@@ -29,7 +29,7 @@ use Rattle.vs_design.proofs.Lists.{by_test, and_both, or_right, contains_head}
 use Rattle.vs_design.proofs.Writes.{either_way, written-append}
 use Rattle.vs_design.proofs.Parts.{all_at}
 use Rattle.vs_design.proofs.Signals.{filter_high}
-use Rattle.vs_design.proofs.ClockNets.{clock_at, clock_inside}
+use Rattle.vs_design.proofs.ClockNets.{inside}
 use Rattle.vs_design.proofs.Drivers.{one_process}
 use Rattle.vs_design.proofs.Formed.{filtered_bits}
 use Rattle.vs_design.proofs.Facts.{assign_facts, block_facts}
@@ -129,9 +129,9 @@ find_writer (y ∷ ps) b = by_test (contains (writes_of y) b) (λ e. a_writer ze
         none zero x e = subst (λ z. contains (writes_of z) b ≡ false) (some_is y x e) k
         none (suc p) x e = f p x e
 
-module _ (d : Design) (name : Option (List ℕ)) (a : IsAcceptedDesign d name) where
-  abbrev clock : ℕ
-  clock = a.clock.first
+module _ (d : Design) (names : List (List ℕ)) (a : IsAcceptedDesign d names) where
+  abbrev clocks : List ℕ
+  clocks = clock_bits a.clocks
 
   formed_at : (p place : ℕ) (star : Bool) (events : List Event) (st : Statement) → slice_get d.processes p ≡ Some (Always place star events st) → is_formed_statement d st ≡ true
   formed_at p place star events st h = (and_both (are_formed_events d star events) (is_formed_statement d st) (all_at (is_formed_process d) d.processes p (Always place star events st) a.lawful.formed h)).1
@@ -140,7 +140,7 @@ module _ (d : Design) (name : Option (List ℕ)) (a : IsAcceptedDesign d name) w
 
   module _ (slot : Slot) (before : State) where
     abbrev updates_of : Process → List Update
-    updates_of x = process_effects d clock slot before x
+    updates_of x = process_effects d clocks slot before x
 
     data FromBody (st : Statement) (us : List Update) : Type 0 where
       of_none : us ≡ [] → FromBody st us
@@ -150,14 +150,14 @@ module _ (d : Design) (name : Option (List ℕ)) (a : IsAcceptedDesign d name) w
     from_body p place star events st h = by_kind (is_clocked (Always place star events st))
       where
         reset : Option N.Reset
-        reset = reset_of d clock (Always place star events st)
+        reset = reset_of d clocks (Always place star events st)
 
         resets : (v : State) (o : Option N.Reset) → reset ≡ o → FromBody st (reset_effects o v)
         resets v None e = of_none refl
         resets v (Some r) e = active (same (v r.input) (to_value r.edge))
           where
             active : (t : Bool) → FromBody st (if t then N.branch r else [])
-            active true = of_body (λ b. to_value r.edge) (sym ((reset_is d (root_of d clock) (events_of (clock_nets d clock) (root_of d clock) events) st r e).run (formed_at p place star events st h) (λ b. to_value r.edge) refl))
+            active true = of_body (λ b. to_value r.edge) (sym ((reset_is d (root_of d clocks) (events_of (clock_nets d clocks) (root_of d clocks) events) st r e).run (formed_at p place star events st h) (λ b. to_value r.edge) refl))
             active false = of_none refl
 
         in_slot : (x : Slot) → FromBody st (block_effects reset st x before)
@@ -179,16 +179,16 @@ module _ (d : Design) (name : Option (List ℕ)) (a : IsAcceptedDesign d name) w
           where
             by_part : (s : State) → is_written (flatten (given (body st s))) b ≡ true → contains (statement_bits st) b ≡ true
             by_part s w = by_test (is_written (body st s).writes b)
-                (λ q. body_within_bits st (block_facts d name a p place star events st h).fit s b (inl q))
-                (λ q. body_within_bits st (block_facts d name a p place star events st h).fit s b (inr (subst (λ c. (c || is_written (flatten (body st s).updates) b) ≡ true) q (sym (given_written (body st s) b) ∙ w))))
+                (λ q. body_within_bits st (block_facts d names a p place star events st h).fit s b (inl q))
+                (λ q. body_within_bits st (block_facts d names a p place star events st h).fit s b (inr (subst (λ c. (c || is_written (flatten (body st s).updates) b) ≡ true) q (sym (given_written (body st s) b) ∙ w))))
 
     -- ---- all updates at one bit
 
-    none_written : (b : ℕ) (ps : List Process) → ((q : ℕ) (y : Process) → slice_get ps q ≡ Some y → is_written (flatten (updates_of y)) b ≡ false) → is_written (flatten (slot_effects d clock slot before ps)) b ≡ false
+    none_written : (b : ℕ) (ps : List Process) → ((q : ℕ) (y : Process) → slice_get ps q ≡ Some y → is_written (flatten (updates_of y)) b ≡ false) → is_written (flatten (slot_effects d clocks slot before ps)) b ≡ false
     none_written b [] h = nothing_written b
     none_written b (y ∷ ps) h =
-        ap (λ ws. is_written ws b) (flatten-append (updates_of y) (slot_effects d clock slot before ps))
-        ∙ written-append (flatten (updates_of y)) (flatten (slot_effects d clock slot before ps)) b
+        ap (λ ws. is_written ws b) (flatten-append (updates_of y) (slot_effects d clocks slot before ps))
+        ∙ written-append (flatten (updates_of y)) (flatten (slot_effects d clocks slot before ps)) b
         ∙ neither _ _ (h zero y refl) (none_written b ps (λ q z e. h (suc q) z e))
       where
         neither : (s t : Bool) → s ≡ false → t ≡ false → (s || t) ≡ false
@@ -196,12 +196,12 @@ module _ (d : Design) (name : Option (List ℕ)) (a : IsAcceptedDesign d name) w
         neither false t p q = q
 
     one_writes : (b : ℕ) (ps : List Process) (p : ℕ) (x : Process) → slice_get ps p ≡ Some x → ((q : ℕ) (y : Process) → slice_get ps q ≡ Some y → q ≢ p → is_written (flatten (updates_of y)) b ≡ false)
-        → write_all before (flatten (slot_effects d clock slot before ps)) b ≡ write_all before (flatten (updates_of x)) b
+        → write_all before (flatten (slot_effects d clocks slot before ps)) b ≡ write_all before (flatten (updates_of x)) b
     one_writes b [] p x e h = cc
     one_writes b (y ∷ ps) zero x e h =
-        ap (λ ws. write_all before ws b) (flatten-append (updates_of y) (slot_effects d clock slot before ps))
-        ∙ ap (λ (t : State). t b) (write_all-append (flatten (updates_of y)) (flatten (slot_effects d clock slot before ps)) before)
-        ∙ write_all_other (flatten (slot_effects d clock slot before ps)) (write_all before (flatten (updates_of y))) b (none_written b ps (λ q z f. h (suc q) z f (λ n. apart q n)))
+        ap (λ ws. write_all before ws b) (flatten-append (updates_of y) (slot_effects d clocks slot before ps))
+        ∙ ap (λ (t : State). t b) (write_all-append (flatten (updates_of y)) (flatten (slot_effects d clocks slot before ps)) before)
+        ∙ write_all_other (flatten (slot_effects d clocks slot before ps)) (write_all before (flatten (updates_of y))) b (none_written b ps (λ q z f. h (suc q) z f (λ n. apart q n)))
         ∙ ap (λ z. write_all before (flatten (updates_of z)) b) (some_is y x e)
       where
         some_is : (x y : Process) → Some x ≡ Some y → x ≡ y
@@ -210,9 +210,9 @@ module _ (d : Design) (name : Option (List ℕ)) (a : IsAcceptedDesign d name) w
         apart : (q : ℕ) → suc q ≡ zero → ⊥
         apart q n = cc
     one_writes b (y ∷ ps) (suc p) x e h =
-        ap (λ ws. write_all before ws b) (flatten-append (updates_of y) (slot_effects d clock slot before ps))
-        ∙ ap (λ (t : State). t b) (write_all-append (flatten (updates_of y)) (flatten (slot_effects d clock slot before ps)) before)
-        ∙ write_all_at (flatten (slot_effects d clock slot before ps)) (write_all before (flatten (updates_of y))) before b (write_all_other (flatten (updates_of y)) before b (h zero y refl (λ n. apart n)))
+        ap (λ ws. write_all before ws b) (flatten-append (updates_of y) (slot_effects d clocks slot before ps))
+        ∙ ap (λ (t : State). t b) (write_all-append (flatten (updates_of y)) (flatten (slot_effects d clocks slot before ps)) before)
+        ∙ write_all_at (flatten (slot_effects d clocks slot before ps)) (write_all before (flatten (updates_of y))) before b (write_all_other (flatten (updates_of y)) before b (h zero y refl (λ n. apart n)))
         ∙ one_writes b ps p x e (λ q z f n. h (suc q) z f (λ m. n (before_suc q m)))
       where
         apart : zero ≡ suc p → ⊥
@@ -236,30 +236,30 @@ module _ (d : Design) (name : Option (List ℕ)) (a : IsAcceptedDesign d name) w
 
     -- clocked blocks alone write them
     clocked_writer : (p b : ℕ) (x : Process) → contains (bits_of_signal s) b ≡ true → slice_get d.processes p ≡ Some x → contains (writes_of x) b ≡ true → is_clocked x ≡ true
-    clocked_writer p b (Continuous place port target_place target e) k h w = absurd (variables_not_nets d name a clock b (of_variable b k) ((assign_facts d name a p place port target_place target e h).nets b w))
+    clocked_writer p b (Continuous place port target_place target e) k h w = absurd (variables_not_nets d names a clocks b (of_variable b k) ((assign_facts d names a p place port target_place target e h).nets b w))
     clocked_writer p b (Always place star events st) k h w =
         by_test (is_clocked (Always place star events st))
         (λ e. e)
         (λ e. absurd (unworded_apart d a.lawful.bits_numbered i s at memory st b (formed_at p place star events st h)
         (subst (λ c. (c || writes_no_word st) ≡ true) e (all_at has_clocked_words d.processes p (Always place star events st) a.lawful.clocked_words h)) w k))
 
-    not_clock : (b : ℕ) → contains (bits_of_signal s) b ≡ true → (b == clock) ≡ false
-    not_clock b k = by_test (b == clock) (λ e. absurd (at_clock (eqb-true b clock e))) (λ e. e)
+    not_clock : (b : ℕ) → contains (bits_of_signal s) b ≡ true → contains clocks b ≡ false
+    not_clock b k = by_test (contains clocks b) (λ e. absurd (at_clock e)) (λ e. e)
       where
-        at_clock : b ≡ clock → ⊥
-        at_clock e = elim (clock_inside d a.clock (clock_at d name a)) [
-          | inl q ↦ variables_not_inputs d name a clock b (of_variable b k) (subst (λ c. contains (input_bits d) c ≡ true) (sym e) q)
-          | inr past ↦ let low = filter_high is_variable 0 d.signals b a.lawful.bits_numbered (of_variable b k) in omega (arith, e, past, low)
+        at_clock : contains clocks b ≡ true → ⊥
+        at_clock e = elim (inside d names a b e) [
+          | inl q ↦ variables_not_inputs d names a clocks b (of_variable b k) q
+          | inr past ↦ let low = filter_high is_variable 0 d.signals b a.lawful.bits_numbered (of_variable b k) in omega (arith, past, low)
         ]
 
     -- at the end of a slot they have what all updates give
-    slot_bit : (slot : Slot) (before t : State) → IsSlotEnd (network_of d clock) before slot t → (b : ℕ) → contains (bits_of_signal s) b ≡ true → t b ≡ write_all before (flatten (slot_effects d clock slot before d.processes)) b
+    slot_bit : (slot : Slot) (before t : State) → IsSlotEnd (network_of d clocks) before slot t → (b : ℕ) → contains (bits_of_signal s) b ≡ true → t b ≡ write_all before (flatten (slot_effects d clocks slot before d.processes)) b
     slot_bit slot before t h b k = go (find_writer d.processes b)
       where
-        go : AWriter d.processes b → t b ≡ write_all before (flatten (slot_effects d clock slot before d.processes)) b
+        go : AWriter d.processes b → t b ≡ write_all before (flatten (slot_effects d clocks slot before d.processes)) b
         go (no_writer f) =
-            ((slot_values_are d name a before slot t).0 h).kept b f (by_test (contains (input_bits d) b) (λ e. absurd (variables_not_inputs d name a clock b (of_variable b k) e)) (λ e. e)) (not_clock b k)
-            ∙ sym (write_all_other (flatten (slot_effects d clock slot before d.processes)) before b (none_written slot before b d.processes (λ q y e. silent q y e (f q y e))))
+            ((slot_values_are d names a before slot t).0 h).kept b f (by_test (contains (input_bits d) b) (λ e. absurd (variables_not_inputs d names a clocks b (of_variable b k) e)) (λ e. e)) (not_clock b k)
+            ∙ sym (write_all_other (flatten (slot_effects d clocks slot before d.processes)) before b (none_written slot before b d.processes (λ q y e. silent q y e (f q y e))))
           where
             silent : (q : ℕ) (y : Process) → slice_get d.processes q ≡ Some y → contains (writes_of y) b ≡ false → is_written (flatten (updates_of slot before y)) b ≡ false
             silent q y e n = by_test (is_written (flatten (updates_of slot before y)) b) (λ w. absurd (either_way (contains (writes_of y) b) (within slot before q b y e w) n)) (λ w. w)
@@ -271,9 +271,9 @@ module _ (d : Design) (name : Option (List ℕ)) (a : IsAcceptedDesign d name) w
             written : (x : Process) → slice_get d.processes p ≡ Some x → contains (writes_of x) b ≡ true → is_clocked x ≡ true → t b ≡ write_all before (flatten (updates_of slot before x)) b
             written (Continuous place port target_place target e) f v c = cc
             written (Always place star events st) f v c =
-                ((slot_values_are d name a before slot t).0 h).register p place star events st f c b v
-                ∙ by_slot slot (reset_of d clock (Always place star events st))
-                ∙ ap (λ g. write_all before (flatten (effects_if g (reset_of d clock (Always place star events st)) st slot before)) b) (sym c)
+                ((slot_values_are d names a before slot t).0 h).register p place star events st f c b v
+                ∙ by_slot slot (reset_of d clocks (Always place star events st))
+                ∙ ap (λ g. write_all before (flatten (effects_if g (reset_of d clocks (Always place star events st)) st slot before)) b) (sym c)
               where
                 by_slot : (x : Slot) (o : Option N.Reset) → register_value o st x before b ≡ write_all before (flatten (block_effects o st x before)) b
                 by_slot (Fall v) o = refl
@@ -293,27 +293,27 @@ module _ (d : Design) (name : Option (List ℕ)) (a : IsAcceptedDesign d name) w
           go us (of_none e) = subst (AllHave (AllOrNone bits)) (sym e) tt
           go us (of_body r e) = subst (AllHave (AllOrNone bits)) (sym e) (body_all d a.lawful.bits_numbered i s at memory k low st r (formed_at p place star events st h))
 
-      slot_all : (slot : Slot) (before : State) (ps : List Process) → ((p : ℕ) (x : Process) → slice_get ps p ≡ Some x → AllHave (AllOrNone bits) (updates_of slot before x)) → AllHave (AllOrNone bits) (slot_effects d clock slot before ps)
+      slot_all : (slot : Slot) (before : State) (ps : List Process) → ((p : ℕ) (x : Process) → slice_get ps p ≡ Some x → AllHave (AllOrNone bits) (updates_of slot before x)) → AllHave (AllOrNone bits) (slot_effects d clocks slot before ps)
       slot_all slot before [] h = tt
-      slot_all slot before (x ∷ ps) h = have_append (AllOrNone bits) (updates_of slot before x) (slot_effects d clock slot before ps) (h zero x refl) (slot_all slot before ps (λ p y e. h (suc p) y e))
+      slot_all slot before (x ∷ ps) h = have_append (AllOrNone bits) (updates_of slot before x) (slot_effects d clocks slot before ps) (h zero x refl) (slot_all slot before ps (λ p y e. h (suc p) y e))
 
-      slot_word : (slot : Slot) (before t : State) → IsSlotEnd (network_of d clock) before slot t → read t bits ≡ word_after (slot_effects d clock slot before d.processes) bits (read before bits)
+      slot_word : (slot : Slot) (before t : State) → IsSlotEnd (network_of d clocks) before slot t → read t bits ≡ word_after (slot_effects d clocks slot before d.processes) bits (read before bits)
       slot_word slot before t h =
-          read_same bits t (write_all before (flatten (slot_effects d clock slot before d.processes))) (λ b m. slot_bit slot before t h b (word_in_bits s k b low m))
-          ∙ after_updates bits (slot_effects d clock slot before d.processes) before (slot_all slot before d.processes (λ p x e. updates_all slot before p x e))
+          read_same bits t (write_all before (flatten (slot_effects d clocks slot before d.processes))) (λ b m. slot_bit slot before t h b (word_in_bits s k b low m))
+          ∙ after_updates bits (slot_effects d clocks slot before d.processes) before (slot_all slot before d.processes (λ p x e. updates_all slot before p x e))
 
-      along : (v : BitList) (before : State) (slots : List Slot) (xs : List State) → v ≡ read before bits → IsSolution (network_of d clock) before slots xs → map (λ x. read x bits) xs ≡ word_along d clock bits v before slots xs
+      along : (v : BitList) (before : State) (slots : List Slot) (xs : List State) → v ≡ read before bits → IsSolution (network_of d clocks) before slots xs → map (λ x. read x bits) xs ≡ word_along d clocks bits v before slots xs
       along v before [] [] e h = refl
       along v before [] (x ∷ xs) e h = absurd h
       along v before (slot ∷ slots) [] e h = absurd h
       along v before (slot ∷ slots) (x ∷ xs) e h =
-          let w : BitList = word_after (slot_effects d clock slot before d.processes) bits v in
-          let one : read x bits ≡ word_after (slot_effects d clock slot before d.processes) bits v = slot_word slot before x h.0 ∙ ap {B = BitList} (word_after (slot_effects d clock slot before d.processes) bits) (sym e) in
+          let w : BitList = word_after (slot_effects d clocks slot before d.processes) bits v in
+          let one : read x bits ≡ word_after (slot_effects d clocks slot before d.processes) bits v = slot_word slot before x h.0 ∙ ap {B = BitList} (word_after (slot_effects d clocks slot before d.processes) bits) (sym e) in
           ap {B = List BitList} (λ r. r ∷ map (λ y. read y bits) xs) one
-          ∙ ap {B = List BitList} (λ r. word_after (slot_effects d clock slot before d.processes) bits v ∷ r) (along (word_after (slot_effects d clock slot before d.processes) bits v) x slots xs (sym one) h.1)
+          ∙ ap {B = List BitList} (λ r. word_after (slot_effects d clocks slot before d.processes) bits v ∷ r) (along (word_after (slot_effects d clocks slot before d.processes) bits v) x slots xs (sym one) h.1)
 
-      begins : read (start_value d) bits ≡ read (beginning (network_of d clock)) bits
-      begins = read_same bits (start_value d) (beginning (network_of d clock)) (λ b h. sym (begun d name a d.initials (same_order d.initials) b).1)
+      begins : read (start_value d) bits ≡ read (beginning (network_of d clocks)) bits
+      begins = read_same bits (start_value d) (beginning (network_of d clocks)) (λ b h. sym (begun d names a d.initials (same_order d.initials) b).1)
 
 pub words_are : WordsAre
-words_are d name a slots xs h i s at memory k low = along d name a i s at memory k low (read (start_value d) (word_bits s k)) (beginning (network_of d a.clock.first)) slots xs (begins d name a i s at memory k low) h
+words_are d names a slots xs h i s at memory k low = along d names a i s at memory k low (read (start_value d) (word_bits s k)) (beginning (network_of d (clock_bits a.clocks))) slots xs (begins d names a i s at memory k low) h

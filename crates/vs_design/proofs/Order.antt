@@ -109,19 +109,19 @@ pub record Settler (d : Design) (p : ℕ) (process : N.Process) : Type 0 where
   pub writes_it : (b : ℕ) → writes process b ≡ contains (writes_of x) b
   pub needs_it : (b : ℕ) → listens process b ≡ true → contains (needs x) b ≡ true
 
-pub settler : (d : Design) (c p : ℕ) → Settles (kind ((network_of d c).process p)) → Settler d p ((network_of d c).process p)
+pub settler : (d : Design) (c : List ℕ) (p : ℕ) → Settles (kind ((network_of d c).process p)) → Settler d p ((network_of d c).process p)
 settler d c = by_kind d c (λ p x. Settles (kind x) → Settler d p x) (record {
   assigns = λ p place port target_place target e h s. record { x = Continuous place port target_place target e; is = h; settles = refl; writes_it = λ b. refl; needs_it = λ b k. contains-left _ [] b k };
   combs = λ p place star events st h k s. record { x = Always place star events st; is = h; settles = k; writes_it = λ b. refl; needs_it = λ b l. contains-right (reads_of (Always place star events st)) (waits_of (Always place star events st)) b l };
   clocked = λ p place star events st h k s. absurd s;
   inputs = λ p i s l e f g. absurd g;
   clock = λ p i s l e f g. absurd g;
-  spare = λ p l f g. absurd g;
+  spare = λ p i m l f named past g. absurd g;
   keeper = λ p l m bs e g. absurd g;
   none = λ p s. absurd s;
 })
 
-pub is_ordered : (d : Design) (c : ℕ) (is : List Initial) (order placed : List ℕ) (P : ℕ → Type 0) → is_order_after placed d order ≡ true → ((p : ℕ) → contains placed p ≡ true → P p) → IsOrdered (network_in d c is) P order
+pub is_ordered : (d : Design) (c : List ℕ) (is : List Initial) (order placed : List ℕ) (P : ℕ → Type 0) → is_order_after placed d order ≡ true → ((p : ℕ) → contains placed p ≡ true → P p) → IsOrdered (network_in d c is) P order
 is_ordered d c is [] placed P h f = λ p s. let t = settler d c p s in f p (all_at_end d placed p t.x h t.is t.settles)
 is_ordered d c is (p ∷ order) placed P h f =
     let t = turn_of d placed p order h in (
@@ -143,7 +143,7 @@ is_ordered d c is (p ∷ order) placed P h f =
           clocked = λ p place star events st h k l. absurd (either_way false l refl);
           inputs = λ p i s l e f g. absurd (either_way false g refl);
           clock = λ p i s l e f g. absurd (either_way false g refl);
-          spare = λ p l f g. absurd (either_way false g refl);
+          spare = λ p i m l f named past g. absurd (either_way false g refl);
           keeper = λ p l m bs e g. absurd (either_way false g refl);
           none = λ p l. absurd (either_way false l refl);
         }) p l

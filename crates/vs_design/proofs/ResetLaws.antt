@@ -16,13 +16,13 @@ use Rattle.vs_design.specs.Bodies.{body}
 use Rattle.vs_design.specs.Designs.{Edge, Any, Posedge, Negedge, Event, Port, Process, Continuous, Always, Design, top_inputs}
 use Rattle.vs_design.specs.Footprints.{contains, read_bits, target_reads, target_bits, statement_signals, writes_of, signals_bits}
 use Rattle.vs_design.specs.Elaborated.{is_formed, is_formed_statement, is_formed_process, are_formed_events}
-use Rattle.vs_design.specs.Clocks.{name_of, is_one_of, port_target, clock_nets, is_clock_port, may_reset, first_of, one_bit_inputs, root_of, Events, ByClock, ByBoth}
+use Rattle.vs_design.specs.Clocks.{clock_bits, name_of, is_one_of, port_target, clock_nets, is_clock_port, may_reset, first_of, one_bit_inputs, root_of, Events, ByClock, ByBoth}
 use Rattle.vs_design.specs.Resets.{is_signal, inverted, is_equality, beside_constant, compared, alone, holds_at, is_comparison, is_condition, has_none, is_fixed, reset_branch, branch_writes, branch_updates, net_edge, reset_with, reset_by, are_constant}
 use Rattle.vs_design.specs.Calls.{statement_calls}
 use Rattle.vs_design.specs.Levels.{level_order}
 use Rattle.vs_design.specs.Networks.{network_of, process_of, events_in}
 use Rattle.vs_design.specs.Accepted.{IsAcceptedDesign}
-use Rattle.vs_design.proofs.Lists.{by_test, and_both, or_left, or_right, contains-append, contains-left, contains-right, or_false}
+use Rattle.vs_design.proofs.Lists.{by_test, and_both, or_left, or_right, contains-append, contains-left, contains-right, contains_head, or_false}
 use Rattle.vs_design.proofs.Writes.{either_way}
 use Rattle.vs_design.proofs.ReadValue.{constant_reads, value_reads}
 use Rattle.vs_design.proofs.Blocks.{body_reads}
@@ -257,9 +257,9 @@ reset_is d roots (Some (ByBoth c e)) st reset h = by_parts (roots e.signal.first
 
 -- ---- the reset nets of an accepted design
 
-module _ (d : Design) (name : Option (List ℕ)) (a : IsAcceptedDesign d name) where
-  abbrev c : ℕ
-  c = a.clock.first
+module _ (d : Design) (names : List (List ℕ)) (a : IsAcceptedDesign d names) where
+  abbrev c : List ℕ
+  c = clock_bits a.clocks
 
   abbrev net_work : Network
   net_work = network_of d c
@@ -277,13 +277,13 @@ module _ (d : Design) (name : Option (List ℕ)) (a : IsAcceptedDesign d name) w
     is : slice_get (top_inputs d) place ≡ Some signal
     first : signal.first ≡ i
     one : signal_length signal ≡ 1
-    other : (signal.first == c) ≡ false
+    other : contains c signal.first ≡ false
 
   input_at : (i : ℕ) → contains inputs i ≡ true → InputAt i
   input_at i m =
       let r = listed (top_inputs d) i m in
-      let t = and_both (signal_length r.1 == 1) (not (r.1.first == c)) r.3 in
-      record { place = r.0; signal = r.1; is = r.2; first = r.4; one = eqb-true (signal_length r.1) 1 t.0; other = inverse (r.1.first == c) t.1 }
+      let t = and_both (signal_length r.1 == 1) (not (contains c r.1.first)) r.3 in
+      record { place = r.0; signal = r.1; is = r.2; first = r.4; one = eqb-true (signal_length r.1) 1 t.0; other = inverse (contains c r.1.first) t.1 }
     where
       inverse : (x : Bool) → not x ≡ true → x ≡ false
       inverse false h = refl
@@ -297,7 +297,7 @@ module _ (d : Design) (name : Option (List ℕ)) (a : IsAcceptedDesign d name) w
           (λ e. let r = listed ss i (subst (λ x. (x || contains (map first_of (filter (may_reset c) ss)) i) ≡ true) e (subst (λ (x : Bool). contains (map first_of (cond x (s ∷ filter (may_reset c) ss) (filter (may_reset c) ss))) i ≡ true) t m)) in (suc r.0, r.1, r.2, r.3, r.4)))
           (λ t. let r = listed ss i (subst (λ (x : Bool). contains (map first_of (cond x (s ∷ filter (may_reset c) ss) (filter (may_reset c) ss))) i ≡ true) t m) in (suc r.0, r.1, r.2, r.3, r.4))
 
-  listed_input : (k : ℕ) (s : Signal) → slice_get (top_inputs d) k ≡ Some s → signal_length s ≡ 1 → (s.first == c) ≡ false → contains inputs s.first ≡ true
+  listed_input : (k : ℕ) (s : Signal) → slice_get (top_inputs d) k ≡ Some s → signal_length s ≡ 1 → contains c s.first ≡ false → contains inputs s.first ≡ true
   listed_input k s e l o = go (top_inputs d) k e
     where
       test : may_reset c s ≡ true
@@ -314,7 +314,7 @@ module _ (d : Design) (name : Option (List ℕ)) (a : IsAcceptedDesign d name) w
           (λ t. subst (λ (x : Bool). contains (map first_of (cond x (r ∷ filter (may_reset c) ss) (filter (may_reset c) ss))) s.first ≡ true) (sym t) (go ss k e))
 
   -- its process
-  input_process : (k : ℕ) (s : Signal) → slice_get (top_inputs d) k ≡ Some s → (s.first == c) ≡ false → net_work.process (length d.processes + k) ≡ N.Input (bits_of_signal s)
+  input_process : (k : ℕ) (s : Signal) → slice_get (top_inputs d) k ≡ Some s → contains c s.first ≡ false → net_work.process (length d.processes + k) ≡ N.Input (bits_of_signal s)
   input_process k s e o = writer_there d c k s e ∙ rw o refl
 
   root_process : (i : ℕ) (r : InputAt i) → net_work.process (length d.processes + r.place) ≡ N.Input (i ∷ [])
@@ -337,22 +337,22 @@ module _ (d : Design) (name : Option (List ℕ)) (a : IsAcceptedDesign d name) w
   not_port : (nets : List ℕ) (b p : ℕ) → kind (net_work.process p) ≡ AnInput → writes (net_work.process p) b ≡ true → PortAt nets d.processes b → ⊥
   not_port nets b p k w q =
       let r = port_writes nets b q in
-      let same = one_writer d name a c q.number p b r.1 w in
+      let same = one_writer d names a q.number p b r.1 w in
       two_kinds (kind (net_work.process p)) (subst (λ m. kind (net_work.process m) ≡ AnAssign) (sym same) r.2) k
 
   -- which root a net has
   record RootFacts (b i : ℕ) : Type 0 where
     listed : contains inputs i ≡ true
     input : InputAt i
-    net : (b ≡ i) ⊎ PortAt (clock_nets d i) d.processes b
+    net : (b ≡ i) ⊎ PortAt (clock_nets d (i ∷ [])) d.processes b
 
-  net_cases : (b i : ℕ) → contains (clock_nets d i) b ≡ true → (b ≡ i) ⊎ PortAt (clock_nets d i) d.processes b
-  net_cases b i h = elim (net_is (length d.processes) d.processes i b h) [ inl e ↦ inl e | inr k ↦ inr (port_at (clock_nets d i) d.processes b k) ]
+  net_cases : (b i : ℕ) → contains (clock_nets d (i ∷ [])) b ≡ true → (b ≡ i) ⊎ PortAt (clock_nets d (i ∷ [])) d.processes b
+  net_cases b i h = elim (net_is (length d.processes) d.processes (i ∷ []) b h) [ inl e ↦ inl (one_listed i b e) | inr k ↦ inr (port_at (clock_nets d (i ∷ [])) d.processes b k) ]
 
   root_facts : (b i : ℕ) → roots b ≡ Some i → RootFacts b i
   root_facts b i h =
-      let m = found_in (λ j. contains (clock_nets d j) b) inputs i h in
-      record { listed = m; input = input_at i m; net = net_cases b i (found_true (λ j. contains (clock_nets d j) b) inputs i h) }
+      let m = found_in (λ j. contains (clock_nets d (j ∷ [])) b) inputs i h in
+      record { listed = m; input = input_at i m; net = net_cases b i (found_true (λ j. contains (clock_nets d (j ∷ [])) b) inputs i h) }
 
   root_writes : (i : ℕ) → (r : InputAt i) → (p : ℕ) × (kind (net_work.process p) ≡ AnInput) × (writes (net_work.process p) i ≡ true)
   root_writes i r =
@@ -364,15 +364,15 @@ module _ (d : Design) (name : Option (List ℕ)) (a : IsAcceptedDesign d name) w
       let f = root_facts b i h in
       elim f.net [
         | inl e ↦ (let w = root_writes i f.input in (w.0, subst (λ m. writes (net_work.process w.0) m ≡ true) (sym e) w.2, inl (e, w.1)))
-        | inr q ↦ (let w = port_writes (clock_nets d i) b q in (q.number, w.1, inr w.2))
+        | inr q ↦ (let w = port_writes (clock_nets d (i ∷ [])) b q in (q.number, w.1, inr w.2))
       ]
 
   -- an input of one bit is its own root
-  root_self : (k : ℕ) (s : Signal) → slice_get (top_inputs d) k ≡ Some s → signal_length s ≡ 1 → (s.first == c) ≡ false → roots s.first ≡ Some s.first
-  root_self k s e l o = found_only (λ j. contains (clock_nets d j) s.first) inputs s.first (listed_input k s e l o) (clock_in (length d.processes) d.processes s.first)
+  root_self : (k : ℕ) (s : Signal) → slice_get (top_inputs d) k ≡ Some s → signal_length s ≡ 1 → contains c s.first ≡ false → roots s.first ≡ Some s.first
+  root_self k s e l o = found_only (λ j. contains (clock_nets d (j ∷ [])) s.first) inputs s.first (listed_input k s e l o) (clock_in (length d.processes) d.processes (s.first ∷ []) s.first (contains_head s.first []))
       (λ z m t. elim (net_cases s.first z t) [
         | inl q ↦ sym q
-        | inr q ↦ absurd (let here = input_process k s e o in not_port (clock_nets d z) s.first (length d.processes + k) (subst (λ x. kind x ≡ AnInput) (sym here) refl) (subst (λ x. writes x s.first ≡ true) (sym here) (first_bit s)) q)
+        | inr q ↦ absurd (let here = input_process k s e o in not_port (clock_nets d (z ∷ [])) s.first (length d.processes + k) (subst (λ x. kind x ≡ AnInput) (sym here) refl) (subst (λ x. writes x s.first ≡ true) (sym here) (first_bit s)) q)
       ])
 
   pub input_roots : (p : ℕ) → kind (net_work.process p) ≡ AnInput → ((i : ℕ) × (net_work.process p ≡ N.Input (i ∷ [])) × (roots i ≡ Some i)) ⊎ ((b : ℕ) → writes (net_work.process p) b ≡ true → roots b ≡ None)
@@ -384,12 +384,12 @@ module _ (d : Design) (name : Option (List ℕ)) (a : IsAcceptedDesign d name) w
         (λ q. let one = eqb-true (signal_length s) 1 q in inl (s.first, ap N.Input (one_bit_of s one), root_self k s e one f))
         (λ q. inr (λ b w. rootless k s e f q b w (roots b) refl));
     clock = λ p i s l e f k. cc;
-    spare = λ p l f k. cc;
+    spare = λ p i m l f named past k. cc;
     keeper = λ p l m bs e k. cc;
     none = λ p k. inr (λ b w. cc);
   }) p
     where
-      rootless : (k : ℕ) (s : Signal) → slice_get (top_inputs d) k ≡ Some s → (s.first == c) ≡ false → (signal_length s == 1) ≡ false → (b : ℕ) → contains (bits_of_signal s) b ≡ true → (o : Option ℕ) → roots b ≡ o → roots b ≡ None
+      rootless : (k : ℕ) (s : Signal) → slice_get (top_inputs d) k ≡ Some s → contains c s.first ≡ false → (signal_length s == 1) ≡ false → (b : ℕ) → contains (bits_of_signal s) b ≡ true → (o : Option ℕ) → roots b ≡ o → roots b ≡ None
       rootless k s e f q b w None h = h
       rootless k s e f q b w (Some i) h =
           let here = input_process k s e f in
@@ -398,11 +398,11 @@ module _ (d : Design) (name : Option (List ℕ)) (a : IsAcceptedDesign d name) w
           absurd (elim r.net [
             | inl g ↦ (let y = root_process i r.input in
                 let wi : writes (net_work.process (length d.processes + r.input.place)) b ≡ true = subst (λ x. writes x b ≡ true) (sym y) (or_left (b == i) false (eq-eqb b i g)) in
-                let same = one_writer d name a c (length d.processes + k) (length d.processes + r.input.place) b wr wi in
+                let same = one_writer d names a (length d.processes + k) (length d.processes + r.input.place) b wr wi in
                 let places : r.input.place ≡ k = omega arith in
                 let signals : r.input.signal ≡ s = (let z = subst (λ m. slice_get (top_inputs d) m ≡ Some r.input.signal) places r.input.is in cc) in
                 either_way (signal_length s == 1) (eq-eqb (signal_length s) 1 (subst (λ (x : Signal). signal_length x ≡ 1) signals r.input.one)) q)
-            | inr g ↦ not_port (clock_nets d i) b (length d.processes + k) (subst (λ x. kind x ≡ AnInput) (sym here) refl) wr g
+            | inr g ↦ not_port (clock_nets d (i ∷ [])) b (length d.processes + k) (subst (λ x. kind x ≡ AnInput) (sym here) refl) wr g
           ])
 
   -- ---- assigns
@@ -432,30 +432,30 @@ module _ (d : Design) (name : Option (List ℕ)) (a : IsAcceptedDesign d name) w
     no_input i r w =
         let y = root_writes i r in
         let mine : writes (net_work.process p) i ≡ true = subst (λ z. writes z i ≡ true) (sym at_p) w in
-        let same = one_writer d name a c p y.0 i mine y.2 in
+        let same = one_writer d names a p y.0 i mine y.2 in
         two_kinds (kind (net_work.process p)) (subst (λ z. kind z ≡ AnAssign) (sym at_p) refl) (subst (λ m. kind (net_work.process m) ≡ AnInput) same y.1)
 
-    a_port : (i : ℕ) → is_clock_port (clock_nets d i) x ≡ true → IsClockPort (contains (clock_nets d i)) made
-    a_port i k = clock_port (clock_nets d i) place target_place port target e (port_of (clock_nets d i) x (port_facts (clock_nets d i) x k).0 (port_facts (clock_nets d i) x k).1)
-        (λ b q. closed d.processes i b (port_listed (clock_nets d i) d.processes p x b h q))
+    a_port : (i : ℕ) → is_clock_port (clock_nets d (i ∷ [])) x ≡ true → IsClockPort (contains (clock_nets d (i ∷ []))) made
+    a_port i k = clock_port (clock_nets d (i ∷ [])) place target_place port target e (port_of (clock_nets d (i ∷ [])) x (port_facts (clock_nets d (i ∷ [])) x k).0 (port_facts (clock_nets d (i ∷ [])) x k).1)
+        (λ b q. closed d.processes (i ∷ []) b (port_listed (clock_nets d (i ∷ [])) d.processes p x b h q))
         (λ b q r. no_loop d (level_order d) [] p x b a.no_cycle refl h refl q (contains-left (target_reads target ++ read_bits e) [] b r))
 
     -- a bit that it writes is a net of a root only if it is a port of it
-    port_of_root : (i b : ℕ) → InputAt i → contains (clock_nets d i) b ≡ true → contains (target_bits target) b ≡ true → contains (port_target (clock_nets d i) x) b ≡ true
+    port_of_root : (i b : ℕ) → InputAt i → contains (clock_nets d (i ∷ [])) b ≡ true → contains (target_bits target) b ≡ true → contains (port_target (clock_nets d (i ∷ [])) x) b ≡ true
     port_of_root i b r n w = elim (net_cases b i n) [
       | inl q ↦ absurd (no_input i r (subst (λ m. contains (target_bits target) m ≡ true) q w))
-      | inr q ↦ subst (λ y. contains (port_target (clock_nets d i) y) b ≡ true) (is_this (clock_nets d i) b w q) q.has_it
+      | inr q ↦ subst (λ y. contains (port_target (clock_nets d (i ∷ [])) y) b ≡ true) (is_this (clock_nets d (i ∷ [])) b w q) q.has_it
     ]
 
     -- the net that the port copies has the same roots
-    same_nets : (i : ℕ) (k : is_clock_port (clock_nets d i) x ≡ true) (z : ℕ) → contains inputs z ≡ true → contains (clock_nets d z) (a_port i k).from ≡ contains (clock_nets d z) (a_port i k).to
+    same_nets : (i : ℕ) (k : is_clock_port (clock_nets d (i ∷ [])) x ≡ true) (z : ℕ) → contains inputs z ≡ true → contains (clock_nets d (z ∷ [])) (a_port i k).from ≡ contains (clock_nets d (z ∷ [])) (a_port i k).to
     same_nets i k z m =
-        by_test (contains (clock_nets d z) (a_port i k).from)
+        by_test (contains (clock_nets d (z ∷ [])) (a_port i k).from)
         (λ q. q ∙ sym (forward q))
-        (λ q. q ∙ sym (by_test (contains (clock_nets d z) (a_port i k).to) (λ t. absurd (either_way (contains (clock_nets d z) (a_port i k).from) (backward t) q)) (λ t. t)))
+        (λ q. q ∙ sym (by_test (contains (clock_nets d (z ∷ [])) (a_port i k).to) (λ t. absurd (either_way (contains (clock_nets d (z ∷ [])) (a_port i k).from) (backward t) q)) (λ t. t)))
       where
-        f : PortFacts (clock_nets d i) x
-        f = port_of (clock_nets d i) x (port_facts (clock_nets d i) x k).0 (port_facts (clock_nets d i) x k).1
+        f : PortFacts (clock_nets d (i ∷ [])) x
+        f = port_of (clock_nets d (i ∷ [])) x (port_facts (clock_nets d (i ∷ [])) x k).0 (port_facts (clock_nets d (i ∷ [])) x k).1
 
         same_assign : (place' target_place' : ℕ) (port' : Port) (t' : Target) (e' : Expression) → x ≡ Continuous place' port' target_place' t' e' → (target ≡ t') × (e ≡ e')
         same_assign place' target_place' port' t' e' q = (cc, cc)
@@ -473,27 +473,27 @@ module _ (d : Design) (name : Option (List ℕ)) (a : IsAcceptedDesign d name) w
         to_is : (a_port i k).to ≡ f.signal.first
         to_is = one_listed f.signal.first (a_port i k).to (subst (λ xs. contains xs (a_port i k).to ≡ true) (ap target_bits parts.0 ∙ one_bit_of f.signal (eqb-true (signal_length f.signal) 1 f.one_bit)) (a_port i k).writes_it)
 
-        forward : contains (clock_nets d z) (a_port i k).from ≡ true → contains (clock_nets d z) (a_port i k).to ≡ true
+        forward : contains (clock_nets d (z ∷ [])) (a_port i k).from ≡ true → contains (clock_nets d (z ∷ [])) (a_port i k).to ≡ true
         forward q =
-            let n = named (clock_nets d i) (subst (λ y. is_one_of (clock_nets d i) (name_of y) ≡ true) (sym parts.1) f.from) in
-            let o = one_net (clock_nets d i) (name_of e) (subst (λ y. is_one_of (clock_nets d i) (name_of y) ≡ true) (sym parts.1) f.from) in
-            let from_z : is_one_of (clock_nets d z) (name_of f.e) ≡ true = subst (λ y. is_one_of (clock_nets d z) (name_of y) ≡ true) parts.1 (one_in (name_of e) o.0 o.1 o.2 (subst (λ m. contains (clock_nets d z) m ≡ true) (sym ((a_port i k).reads_one o.0.first (contains-right (target_reads target) (read_bits e) o.0.first (subst (λ xs. contains xs o.0.first ≡ true) (sym (name_facts e o.0 o.1).reads_is) (first_bit o.0))))) q)) in
-            let facts : PortFacts (clock_nets d z) x = record { place = f.place; port = f.port; target_place = f.target_place; signal = f.signal; e = f.e; is = f.is; from = from_z; one_bit = f.one_bit } in
-            closed d.processes z (a_port i k).to (port_listed (clock_nets d z) d.processes p x (a_port i k).to h
-            (subst (λ xs. contains xs (a_port i k).to ≡ true) (sym (port_value (clock_nets d z) x facts)) (or_left ((a_port i k).to == f.signal.first) false (eq-eqb (a_port i k).to f.signal.first to_is))))
+            let n = named (clock_nets d (i ∷ [])) (subst (λ y. is_one_of (clock_nets d (i ∷ [])) (name_of y) ≡ true) (sym parts.1) f.from) in
+            let o = one_net (clock_nets d (i ∷ [])) (name_of e) (subst (λ y. is_one_of (clock_nets d (i ∷ [])) (name_of y) ≡ true) (sym parts.1) f.from) in
+            let from_z : is_one_of (clock_nets d (z ∷ [])) (name_of f.e) ≡ true = subst (λ y. is_one_of (clock_nets d (z ∷ [])) (name_of y) ≡ true) parts.1 (one_in (name_of e) o.0 o.1 o.2 (subst (λ m. contains (clock_nets d (z ∷ [])) m ≡ true) (sym ((a_port i k).reads_one o.0.first (contains-right (target_reads target) (read_bits e) o.0.first (subst (λ xs. contains xs o.0.first ≡ true) (sym (name_facts e o.0 o.1).reads_is) (first_bit o.0))))) q)) in
+            let facts : PortFacts (clock_nets d (z ∷ [])) x = record { place = f.place; port = f.port; target_place = f.target_place; signal = f.signal; e = f.e; is = f.is; from = from_z; one_bit = f.one_bit } in
+            closed d.processes (z ∷ []) (a_port i k).to (port_listed (clock_nets d (z ∷ [])) d.processes p x (a_port i k).to h
+            (subst (λ xs. contains xs (a_port i k).to ≡ true) (sym (port_value (clock_nets d (z ∷ [])) x facts)) (or_left ((a_port i k).to == f.signal.first) false (eq-eqb (a_port i k).to f.signal.first to_is))))
           where
-            one_in : (o : Option Signal) (s : Signal) → o ≡ Some s → signal_length s ≡ 1 → contains (clock_nets d z) s.first ≡ true → is_one_of (clock_nets d z) o ≡ true
-            one_in o s q l n = subst (λ y. is_one_of (clock_nets d z) y ≡ true) (sym q) (rw (l, n) refl)
+            one_in : (o : Option Signal) (s : Signal) → o ≡ Some s → signal_length s ≡ 1 → contains (clock_nets d (z ∷ [])) s.first ≡ true → is_one_of (clock_nets d (z ∷ [])) o ≡ true
+            one_in o s q l n = subst (λ y. is_one_of (clock_nets d (z ∷ [])) y ≡ true) (sym q) (rw (l, n) refl)
 
-        backward : contains (clock_nets d z) (a_port i k).to ≡ true → contains (clock_nets d z) (a_port i k).from ≡ true
+        backward : contains (clock_nets d (z ∷ [])) (a_port i k).to ≡ true → contains (clock_nets d (z ∷ [])) (a_port i k).from ≡ true
         backward t =
-            let g = port_of (clock_nets d z) x (a_port i k).to (port_of_root z (a_port i k).to (input_at z m) t (a_port i k).writes_it) in
+            let g = port_of (clock_nets d (z ∷ [])) x (a_port i k).to (port_of_root z (a_port i k).to (input_at z m) t (a_port i k).writes_it) in
             let other = same_assign g.place g.target_place g.port (Whole g.signal) g.e g.is in
-            let n = named (clock_nets d z) (subst (λ y. is_one_of (clock_nets d z) (name_of y) ≡ true) (sym other.1) g.from) in
-            subst (λ m. contains (clock_nets d z) m ≡ true) n.2 n.3
+            let n = named (clock_nets d (z ∷ [])) (subst (λ y. is_one_of (clock_nets d (z ∷ [])) (name_of y) ≡ true) (sym other.1) g.from) in
+            subst (λ m. contains (clock_nets d (z ∷ [])) m ≡ true) n.2 n.3
 
     abbrev is_port_of : ℕ → Bool
-    is_port_of i = is_clock_port (clock_nets d i) x
+    is_port_of i = is_clock_port (clock_nets d (i ∷ [])) x
 
     assign_cases : IsResetPort roots made ⊎ ((b : ℕ) → writes made b ≡ true → roots b ≡ None)
     assign_cases = by_found (find is_port_of inputs) refl
@@ -504,17 +504,17 @@ module _ (d : Design) (name : Option (List ℕ)) (a : IsAcceptedDesign d name) w
             unrooted : (b : ℕ) → contains (target_bits target) b ≡ true → (o : Option ℕ) → roots b ≡ o → roots b ≡ None
             unrooted b w None r = r
             unrooted b w (Some i) r =
-                let m = found_in (λ j. contains (clock_nets d j) b) inputs i r in
-                let n = found_true (λ j. contains (clock_nets d j) b) inputs i r in
-                absurd (either_way (is_port_of i) (is_port (clock_nets d i) x b (port_of_root i b (input_at i m) n w)) (found_none is_port_of inputs q i m))
+                let m = found_in (λ j. contains (clock_nets d (j ∷ [])) b) inputs i r in
+                let n = found_true (λ j. contains (clock_nets d (j ∷ [])) b) inputs i r in
+                absurd (either_way (is_port_of i) (is_port (clock_nets d (i ∷ [])) x b (port_of_root i b (input_at i m) n w)) (found_none is_port_of inputs q i m))
         by_found (Some i) q =
             let k = found_true is_port_of inputs i q in
             let m = found_in is_port_of inputs i q in
-            let same : roots (a_port i k).from ≡ roots (a_port i k).to = found_same (λ j. contains (clock_nets d j) (a_port i k).from) (λ j. contains (clock_nets d j) (a_port i k).to) inputs (same_nets i k) in
+            let same : roots (a_port i k).from ≡ roots (a_port i k).to = found_same (λ j. contains (clock_nets d (j ∷ [])) (a_port i k).from) (λ j. contains (clock_nets d (j ∷ [])) (a_port i k).to) inputs (same_nets i k) in
             by_root k same (roots (a_port i k).to) refl m
           where
             by_root : (k : is_port_of i ≡ true) → roots (a_port i k).from ≡ roots (a_port i k).to → (o : Option ℕ) → roots (a_port i k).to ≡ o → contains inputs i ≡ true → IsResetPort roots made ⊎ ((b : ℕ) → writes made b ≡ true → roots b ≡ None)
-            by_root k same None r m = absurd (either_way (contains (clock_nets d i) (a_port i k).to) (a_port i k).to_net (found_none (λ j. contains (clock_nets d j) (a_port i k).to) inputs r i m))
+            by_root k same None r m = absurd (either_way (contains (clock_nets d (i ∷ [])) (a_port i k).to) (a_port i k).to_net (found_none (λ j. contains (clock_nets d (j ∷ [])) (a_port i k).to) inputs r i m))
             by_root k same (Some j) r m = let g = a_port i k in inl (record { from = g.from; to = g.to; input = j; from_net = same ∙ r; to_net = r; apart = g.apart; reads_one = g.reads_one; reads_it = g.reads_it; writes_one = g.writes_one; writes_it = g.writes_it; copies = g.copies })
 
   pub assign_roots : (p : ℕ) → kind (net_work.process p) ≡ AnAssign → IsResetPort roots (net_work.process p) ⊎ ((b : ℕ) → writes (net_work.process p) b ≡ true → roots b ≡ None)
@@ -524,7 +524,7 @@ module _ (d : Design) (name : Option (List ℕ)) (a : IsAcceptedDesign d name) w
     clocked = λ p place star events st h k l. cc;
     inputs = λ p i s l e f k. cc;
     clock = λ p i s l e f k. cc;
-    spare = λ p l f k. cc;
+    spare = λ p i m l f named past k. cc;
     keeper = λ p l m bs e k. cc;
     none = λ p k. cc;
   }) p
@@ -541,7 +541,7 @@ module _ (d : Design) (name : Option (List ℕ)) (a : IsAcceptedDesign d name) w
     clocked = λ p place star events st h k l. (reset_is d roots (events_in d c events) st r l).on_net;
     inputs = λ p i s l e f k. cc;
     clock = λ p i s l e f k. cc;
-    spare = λ p l f k. cc;
+    spare = λ p i m l f named past k. cc;
     keeper = λ p l m bs e k. cc;
     none = λ p k. cc;
   }) p
@@ -553,7 +553,7 @@ module _ (d : Design) (name : Option (List ℕ)) (a : IsAcceptedDesign d name) w
     clocked = λ p place star events st h k l g. (reset_is d roots (events_in d c events) st r l).run (formed_at p place star events st h) s g;
     inputs = λ p i s l e f k. cc;
     clock = λ p i s l e f k. cc;
-    spare = λ p l f k. cc;
+    spare = λ p i m l f named past k. cc;
     keeper = λ p l m bs e k. cc;
     none = λ p k. cc;
   }) p

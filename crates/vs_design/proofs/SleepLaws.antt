@@ -18,6 +18,7 @@ use Rattle.vs_design.specs.Initials.{initial_bits, IsOrderOf}
 use Rattle.vs_design.proofs.Begun.{unset}
 use Rattle.vs_design.specs.Footprints.{contains, target_bits, statement_bits, writes_of, waits_of, net_bits, variable_bits, is_variable}
 use Rattle.vs_design.specs.Fits.{fits_target, is_fit, fits_statement, fits_arms, fit_items}
+use Rattle.vs_design.specs.Clocks.{clock_bits}
 use Rattle.vs_design.specs.Networks.{network_in, network_of, block_process}
 use Rattle.vs_design.specs.Accepted.{IsAcceptedDesign}
 use Rattle.vs_design.specs.Sleepers.{most_writes, arms_most, process_most, is_once, comb_bits, is_still, stays_x, is_sleeping, sleeper_if, sleeper_of, sleeper_at}
@@ -186,9 +187,9 @@ comb_listed (y ∷ ps) (suc n) place star events st b e c w = contains-right (if
 
 -- ---- they are sleepers of the network
 
-module _ (d : Design) (name : Option (List ℕ)) (a : IsAcceptedDesign d name) where
+module _ (d : Design) (names : List (List ℕ)) (a : IsAcceptedDesign d names) where
   abbrev net_work : Network
-  net_work = network_of d a.clock.first
+  net_work = network_of d (clock_bits a.clocks)
 
   still_but : (b : ℕ) → is_still d b ≡ true → ((contains (variable_bits d) b && not (contains (comb_bits d.processes) b) && is_once d.processes b) ≡ true) × (not (contains (initial_bits d.initials) b) ≡ true)
   still_but b h = and_both (contains (variable_bits d) b && not (contains (comb_bits d.processes) b) && is_once d.processes b) (not (contains (initial_bits d.initials) b)) h
@@ -215,33 +216,33 @@ module _ (d : Design) (name : Option (List ℕ)) (a : IsAcceptedDesign d name) w
 
   -- such a bit is x before anything writes it
   still_idle : (b : ℕ) → is_still d b ≡ true → net_work.idle b ≡ X
-  still_idle b h = by_test (contains (net_bits d) b) (λ e. absurd (variables_not_nets d name a a.clock.first b (still_variable b h) e)) (λ e. rw e refl)
+  still_idle b h = by_test (contains (net_bits d) b) (λ e. absurd (variables_not_nets d names a (clock_bits a.clocks) b (still_variable b h) e)) (λ e. rw e refl)
 
   -- clocked blocks alone write it
   still_register : (b r : ℕ) → is_still d b ≡ true → writes (net_work.process r) b ≡ true → kind (net_work.process r) ≡ AClocked
-  still_register b r h = by_kind d a.clock.first (λ p x. writes x b ≡ true → kind x ≡ AClocked) (record {
-    assigns = λ p place port target_place target e i w. absurd (variables_not_nets d name a a.clock.first b (still_variable b h) ((assign_facts d name a p place port target_place target e i).nets b w));
+  still_register b r h = by_kind d (clock_bits a.clocks) (λ p x. writes x b ≡ true → kind x ≡ AClocked) (record {
+    assigns = λ p place port target_place target e i w. absurd (variables_not_nets d names a (clock_bits a.clocks) b (still_variable b h) ((assign_facts d names a p place port target_place target e i).nets b w));
     combs = λ p place star events st i k w. absurd (either_way (contains (comb_bits d.processes) b) (comb_listed d.processes p place star events st b i k w) (still_comb b h));
     clocked = λ p place star events st i k w. refl;
-    inputs = λ p i s l e f w. absurd (variables_not_inputs d name a a.clock.first b (still_variable b h) (member_bits (top_inputs d) i s b e w));
-    clock = λ p i s l e f w. absurd (variables_not_inputs d name a a.clock.first b (still_variable b h) (member_bits (top_inputs d) i s b e (subst (λ m. contains (bits_of_signal s) m ≡ true) (f ∙ sym (eqb-true b a.clock.first w)) (first_bit s))));
-    spare = λ p l f w. absurd (let k = kind_below d name a a.clock.first is_variable b (still_variable b h) in let e = eqb-true b a.clock.first w in omega (arith, f, k, e));
+    inputs = λ p i s l e f w. absurd (variables_not_inputs d names a (clock_bits a.clocks) b (still_variable b h) (member_bits (top_inputs d) i s b e w));
+    clock = λ p i s l e f w. absurd (variables_not_inputs d names a (clock_bits a.clocks) b (still_variable b h) (member_bits (top_inputs d) i s b e (subst (λ m. contains (bits_of_signal s) m ≡ true) (sym (eqb-true b s.first w)) (first_bit s))));
+    spare = λ p i m l f named past w. absurd (let k = kind_below d names a (clock_bits a.clocks) is_variable b (still_variable b h) in let e = eqb-true b m w in omega (arith, past, k, e));
     keeper = λ p l m bs e w. refl;
     none = λ p w. cc;
   }) r
 
   -- and each of them at most once in a run
   still_writes : (b r : ℕ) (s : State) → is_still d b ≡ true → kind (net_work.process r) ≡ AClocked → times (flatten (effects (net_work.process r) s)) b ≤ 1
-  still_writes b r s h = by_kind d a.clock.first (λ p x. kind x ≡ AClocked → times (flatten (effects x s)) b ≤ 1) (record {
+  still_writes b r s h = by_kind d (clock_bits a.clocks) (λ p x. kind x ≡ AClocked → times (flatten (effects x s)) b ≤ 1) (record {
     assigns = λ p place port target_place target e i k. cc;
     combs = λ p place star events st i c k. cc;
     clocked = λ p place star events st i c k.
-        let n = once_in d.processes p place star events st s b (still_once b h) i c (block_facts d name a p place star events st i).fit in
+        let n = once_in d.processes p place star events st s b (still_once b h) i c (block_facts d names a p place star events st i).fit in
         let m = ap (λ (ws : List Write). times ws b) (flat_cons (body st s).writes (body st s).updates) in
         let o = times-append (body st s).writes (flatten (body st s).updates) b in omega (arith, m, n, o);
     inputs = λ p i t l e f k. cc;
     clock = λ p i t l e f k. cc;
-    spare = λ p l f k. cc;
+    spare = λ p i m l f named past k. cc;
     keeper = λ p l m bs e k. nothing_twice b;
     none = λ p k. cc;
   }) r
@@ -249,16 +250,16 @@ module _ (d : Design) (name : Option (List ℕ)) (a : IsAcceptedDesign d name) w
   -- what the network has for a sleeper
   pub process_is : (p : ℕ) (x : Sleeper) (f : AsleepFacts d p x) → net_work.process p ≡ N.Comb (contains (waits_of (Always f.place f.star f.events f.statement))) (contains (statement_bits f.statement)) (body f.statement)
   process_is p x f =
-      process_there d a.clock.first p (Always f.place f.star f.events f.statement) f.at
-      ∙ ap {B = N.Process} (λ c. block_process d a.clock.first c (Always f.place f.star f.events f.statement) f.events f.statement) f.settles
+      process_there d (clock_bits a.clocks) p (Always f.place f.star f.events f.statement) f.at
+      ∙ ap {B = N.Process} (λ c. block_process d (clock_bits a.clocks) c (Always f.place f.star f.events f.statement) f.events f.statement) f.settles
 
-  pub is_sleeper : (order : List Initial) → IsOrderOf d.initials order → (p : ℕ) (x : Sleeper) → sleeper_at d p ≡ Some x → IsSleeper (network_in d a.clock.first order) p x
+  pub is_sleeper : (order : List Initial) → IsOrderOf d.initials order → (p : ℕ) (x : Sleeper) → sleeper_at d p ≡ Some x → IsSleeper (network_in d (clock_bits a.clocks) order) p x
   is_sleeper order o p x n = record {
     comb = ap {B = Kind} kind process;
     on_is = λ b. ap {B = Bool} (λ (y : Sleeper). contains y.on b) f.is ∙ sym (ap {B = Bool} (λ y. listens y b) process);
     bits_is = λ b. ap {B = Bool} (λ (y : Sleeper). contains y.bits b) f.is ∙ sym (ap {B = Bool} (λ y. writes y b) process);
-    exact = λ b s w. exact d name a a.clock.first p b s (subst Settles (sym (ap {B = Kind} kind process)) tt) ∙ w;
-    unset = λ b r l. unset d name a order o b r (still_unset b (still b l));
+    exact = λ b s w. exact d names a (clock_bits a.clocks) p b s (subst Settles (sym (ap {B = Kind} kind process)) tt) ∙ w;
+    unset = λ b r l. unset d names a order o b r (still_unset b (still b l));
     idle = λ b w. still_idle b (still b w);
     register = λ b r w v. still_register b r (still b w) v;
     once = λ b r s w k. still_writes b r s (still b w) k;

@@ -1,5 +1,5 @@
 -- Which combinational blocks sleep.
-use Rattle.std.proofs.Common.{◌≡◌, ℕ, Bool, true, false, List, [], ◌∷◌, ◌||◌, ◌&&◌, ◌==◌, not, ◌⊎◌, inl, inr, ◌≤◌, arith, nat_lt, if◌then◌else◌, refl, sym, ap, ◌∙◌, subst, eqb-true, Option, Some, None}
+use Rattle.std.proofs.Common.{◌≡◌, ℕ, Bool, true, false, List, [], ◌∷◌, ◌||◌, ◌&&◌, ◌==◌, not, ◌⊎◌, inl, inr, ◌≤◌, arith, nat_lt, if◌then◌else◌, refl, sym, ap, ◌∙◌, subst, Option, Some, None}
 use Rattle.std.specs.List.{list_any, list_all}
 use Rattle.vs_four.specs.declared.Bit4.TheVariants.{X}
 use Rattle.vs_net.specs.Network.{flatten, is_written}
@@ -13,7 +13,7 @@ use Rattle.vs_design.specs.Levels.{is_level_order}
 use Rattle.vs_design.specs.Sets.{Set4, has, only, is_only_x, is_unknown_set, is_known_set}
 use Rattle.vs_design.specs.LiftedBodies.{lifted_body}
 use Rattle.vs_design.specs.Initials.{initial_bits, idle_value, start_value}
-use Rattle.vs_design.specs.Clocks.{own_clock}
+use Rattle.vs_design.specs.Clocks.{own_clocks}
 use Rattle.vs_design.specs.Resets.{reset_of, with_reset, with_resets}
 use Rattle.vs_design.specs.Sleepers.{at_once, arms_at_once, comb_bits, is_once, is_still, stays_x, is_sleeping}
 use Rattle.vs_design.specs.TimeZero.{Families, families, before_run, block_sets, is_quiet, wakes}
@@ -22,7 +22,7 @@ use Rattle.vs_design.specs.Accepted.{is_empty}
 use Rattle.vs_design.specs.Equations.{IsBlock, IsSource, IsOrderly}
 use Rattle.vs_design.specs.TreeLaws.{SameSets}
 use Rattle.vs_design.specs.Laws.{SleepingIs}
-use Rattle.vs_design.proofs.Lists.{by_test, and_both, contains_head, or_right}
+use Rattle.vs_design.proofs.Lists.{by_test, and_both, contains_head, or_right, contains_filter}
 use Rattle.vs_design.proofs.Writes.{either_way}
 use Rattle.vs_design.proofs.BodyExact.{append_empty, blocking_is}
 use Rattle.vs_design.proofs.Blocks.{no_latch_at, early_in, contains_without}
@@ -64,16 +64,16 @@ reset_keeps (Some r) b s h =
     (λ e. rw e (union_right (only _) s X h))
     (λ e. rw e h)
 
-resets_keep : (d : Design) (clock : ℕ) (ps : List Process) (b : ℕ) (s : Set4) → has s X ≡ true → has (with_resets d clock ps b s) X ≡ true
-resets_keep d clock [] b s h = h
-resets_keep d clock (x ∷ ps) b s h = reset_keeps (reset_of d clock x) b (with_resets d clock ps b s) (resets_keep d clock ps b s h)
+resets_keep : (d : Design) (clocks : List ℕ) (ps : List Process) (b : ℕ) (s : Set4) → has s X ≡ true → has (with_resets d clocks ps b s) X ≡ true
+resets_keep d clocks [] b s h = h
+resets_keep d clocks (x ∷ ps) b s h = reset_keeps (reset_of d clocks x) b (with_resets d clocks ps b s) (resets_keep d clocks ps b s h)
 
 not_known : (s : Set4) → has s X ≡ true → is_known_set s ≡ false
 not_known s h = rw h refl
 
-module _ (d : Design) (o : IsOrderly d) (clock : ℕ) (clock_in : (contains (input_bits d) clock ≡ true) ⊎ (bit_count d ≤ clock)) (order : List ℕ) (h : is_level_order d order ≡ true) where
+module _ (d : Design) (o : IsOrderly d) (clocks : List ℕ) (clocks_in : (c : ℕ) → contains clocks c ≡ true → (contains (input_bits d) c ≡ true) ⊎ (bit_count d ≤ c)) (order : List ℕ) (h : is_level_order d order ≡ true) where
   abbrev f : Families
-  f = families d clock order
+  f = families d clocks order
 
   -- such a bit is a variable's, and no assign, no combinational block and no initial process writes it
   record Still (b : ℕ) : Type 0 where
@@ -120,24 +120,20 @@ module _ (d : Design) (o : IsOrderly d) (clock : ℕ) (clock_in : (contains (inp
   idle_is b k = rw (no_net b k) refl
 
   early_is : (b : ℕ) → Still b → f.early b ≡ only X
-  early_is b k = ((solved d o clock order h).source b (source b k)).0 ∙ ap {B = Set4} only (first_unset d o.lawful.initials b k.unset ∙ idle_is b k)
+  early_is b k = ((solved d o clocks order h).source b (source b k)).0 ∙ ap {B = Set4} only (first_unset d o.lawful.initials b k.unset ∙ idle_is b k)
 
   late_has : (b : ℕ) → Still b → has (f.late b) X ≡ true
-  late_has b k = subst (λ s. has s X ≡ true) (sym late_is) (resets_keep d clock d.processes b (only (start_value d b)) (subst (λ v. has (only v) X ≡ true) (sym (start_unset d o.lawful.initials b k.unset ∙ idle_is b k)) refl))
+  late_has b k = subst (λ s. has s X ≡ true) (sym late_is) (resets_keep d clocks d.processes b (only (start_value d b)) (subst (λ v. has (only v) X ≡ true) (sym (start_unset d o.lawful.initials b k.unset ∙ idle_is b k)) refl))
     where
-      not_clock : contains (own_clock d clock) b ≡ false
-      not_clock = by_test (b == clock) (λ e. absurd (by_place (eqb-true b clock e) clock_in)) (λ e. apart e (nat_lt clock (bit_count d)))
+      not_clock : contains (own_clocks d clocks) b ≡ false
+      not_clock = by_test (contains (own_clocks d clocks) b) (λ e. absurd (by_place (clocks_in b (and_both (contains clocks b) (nat_lt b (bit_count d)) (sym (contains_filter (λ c. nat_lt c (bit_count d)) clocks b) ∙ e)).0))) (λ e. e)
         where
-          apart : (b == clock) ≡ false → (c : Bool) → contains (if c then (clock ∷ []) else []) b ≡ false
-          apart e true = rw e refl
-          apart e false = refl
+          by_place : (contains (input_bits d) b ≡ true) ⊎ (bit_count d ≤ b) → ⊥
+          by_place (inl i) = either_way (contains (input_bits d) b) i (no_input b k)
+          by_place (inr l) = let m = filter_high is_variable 0 d.signals b o.lawful.bits_numbered k.variable in omega (arith, l, m)
 
-          by_place : b ≡ clock → (contains (input_bits d) clock ≡ true) ⊎ (bit_count d ≤ clock) → ⊥
-          by_place e (inl i) = either_way (contains (input_bits d) b) (subst (λ m. contains (input_bits d) m ≡ true) (sym e) i) (no_input b k)
-          by_place e (inr l) = let m = filter_high is_variable 0 d.signals b o.lawful.bits_numbered k.variable in omega (arith, e, l, m)
-
-      late_is : f.late b ≡ with_resets d clock d.processes b (only (start_value d b))
-      late_is = ((solved d o clock order h).source b (source b k)).1 ∙ rw (not_clock, no_input b k) refl
+      late_is : f.late b ≡ with_resets d clocks d.processes b (only (start_value d b))
+      late_is = ((solved d o clocks order h).source b (source b k)).1 ∙ rw (not_clock, no_input b k) refl
 
   -- so it doesn't wake
   never_wakes : (bs : List ℕ) → list_all (is_still d) bs ≡ true → list_any (λ b. is_unknown_set (f.early b) && is_known_set (f.late b)) bs ≡ false
@@ -202,4 +198,4 @@ module _ (d : Design) (o : IsOrderly d) (clock : ℕ) (clock_in : (contains (inp
         awake false l s q w k = rw k refl
 
 pub sleeping_is : SleepingIs
-sleeping_is d o sensitive clock clock_in order h p st i = is d o clock clock_in order h p st i sensitive
+sleeping_is d o sensitive clocks clocks_in order h p st i = is d o clocks clocks_in order h p st i sensitive

@@ -14,7 +14,7 @@ use Rattle.vs_design.specs.Statements.{Target, Statement}
 use Rattle.vs_design.specs.Bodies.{no_effect, body}
 use Rattle.vs_design.specs.Designs.{Event, Port, Process, Continuous, Always, is_clocked, Design, top_inputs, bit_count}
 use Rattle.vs_design.specs.Footprints.{contains, statement_bits, writes_of, input_bits, is_variable}
-use Rattle.vs_design.specs.Clocks.{clock_bit}
+use Rattle.vs_design.specs.Clocks.{clock_bit, clock_bits, first_clock}
 use Rattle.vs_design.specs.Resets.{reset_of}
 use Rattle.vs_design.specs.Sleepers.{sleeper_of, sleeper_at}
 use Rattle.vs_design.specs.Initials.{sole_bits}
@@ -26,7 +26,7 @@ use Rattle.vs_design.proofs.Writes.{either_way}
 use Rattle.vs_design.proofs.Signals.{member_bits}
 use Rattle.vs_design.proofs.Parts.{by_kind, process_there, writer_there, keeper_there}
 use Rattle.vs_design.proofs.LawfulParts.{first_bit, variables_not_inputs, kind_below, sole_variable, sole_unwritten}
-use Rattle.vs_design.proofs.ClockNets.{clock_at, clock_inside, clock_long, clock_number, clock_process, one_listed}
+use Rattle.vs_design.proofs.ClockNets.{inside, clock_process, one_listed}
 use Rattle.vs_design.proofs.TimeBits.{signal_with}
 use Rattle.vs_design.proofs.TimeLaws.{clock_signal}
 
@@ -83,18 +83,18 @@ nothing_made : (s : State) → write_all s [] ≡ s
 unfolding write_all
 nothing_made s = refl
 
-module _ (d : Design) (name : Option (List ℕ)) (a : IsAcceptedDesign d name) (before : State) (slot : Slot) (s : State) where
+module _ (d : Design) (names : List (List ℕ)) (a : IsAcceptedDesign d names) (before : State) (slot : Slot) (s : State) where
   abbrev net_work : Network
-  net_work = network_of d a.clock.first
+  net_work = network_of d (clock_bits a.clocks)
 
-  process_at : (p : ℕ) (x : Process) → slice_get d.processes p ≡ Some x → net_work.process p ≡ process_of d a.clock.first x
-  process_at p x h = process_there d a.clock.first p x h
+  process_at : (p : ℕ) (x : Process) → slice_get d.processes p ≡ Some x → net_work.process p ≡ process_of d (clock_bits a.clocks) x
+  process_at p x h = process_there d (clock_bits a.clocks) p x h
 
-  writer_at : (i : ℕ) (r : Signal) → slice_get (top_inputs d) i ≡ Some r → net_work.process (length d.processes + i) ≡ writer_of a.clock.first r
-  writer_at i r h = writer_there d a.clock.first i r h
+  writer_at : (i : ℕ) (r : Signal) → slice_get (top_inputs d) i ≡ Some r → net_work.process (length d.processes + i) ≡ writer_of (clock_bits a.clocks) r
+  writer_at i r h = writer_there d (clock_bits a.clocks) i r h
 
-  block_is : (place : ℕ) (star : Bool) (events : List Event) (st : Statement) (c : Bool) → is_clocked (Always place star events st) ≡ c → process_of d a.clock.first (Always place star events st) ≡ block_process d a.clock.first c (Always place star events st) events st
-  block_is place star events st c e = ap {B = N.Process} (λ x. block_process d a.clock.first x (Always place star events st) events st) e
+  block_is : (place : ℕ) (star : Bool) (events : List Event) (st : Statement) (c : Bool) → is_clocked (Always place star events st) ≡ c → process_of d (clock_bits a.clocks) (Always place star events st) ≡ block_process d (clock_bits a.clocks) c (Always place star events st) events st
+  block_is place star events st c e = ap {B = N.Process} (λ x. block_process d (clock_bits a.clocks) x (Always place star events st) events st) e
 
   -- what a process gives, where it is the block of this sleeper or none
   abbrev given_by : Option N.Sleeper → N.Process → List Write
@@ -113,27 +113,27 @@ module _ (d : Design) (name : Option (List ℕ)) (a : IsAcceptedDesign d name) (
 
   -- ---- from the network's equations to the design's
 
-  there : IsSlotEnd net_work before slot s → IsSlotValues d a.clock.first before slot s
+  there : IsSlotEnd net_work before slot s → IsSlotValues d (clock_bits a.clocks) before slot s
   there h = record {
-    assign = λ p place port target_place target e i. subst (λ o. write_all s (given_by o (process_of d a.clock.first (Continuous place port target_place target e))) ≡ s) (awake_assign p place port target_place target e i) (subst (λ x. write_all s (given_by (sleeper_at d p) x) ≡ s) (process_at p (Continuous place port target_place target e) i) (h.settled p (subst (λ x. Settles (kind x)) (sym (process_at p (Continuous place port target_place target e) i)) tt)));
+    assign = λ p place port target_place target e i. subst (λ o. write_all s (given_by o (process_of d (clock_bits a.clocks) (Continuous place port target_place target e))) ≡ s) (awake_assign p place port target_place target e i) (subst (λ x. write_all s (given_by (sleeper_at d p) x) ≡ s) (process_at p (Continuous place port target_place target e) i) (h.settled p (subst (λ x. Settles (kind x)) (sym (process_at p (Continuous place port target_place target e) i)) tt)));
     block = λ p st i. subst (λ x. write_all s (given_by (sleeper_at d p) x) ≡ s) (process_at p (Always i.place i.star i.events st) i.is ∙ block_is i.place i.star i.events st false i.combinational) (h.settled p (subst (λ x. Settles (kind x)) (sym (process_at p (Always i.place i.star i.events st) i.is ∙ block_is i.place i.star i.events st false i.combinational)) tt));
     register = λ p place star events st i k b w.
         let e = process_at p (Always place star events st) i ∙ block_is place star events st true k in
-        registered p (clock_bit (events_in d a.clock.first events)) (reset_of d a.clock.first (Always place star events st)) st e b w;
-    clock_input = clocked (clock_number d name a) (clock_process d name a);
+        registered p (clock_bit (events_in d (clock_bits a.clocks) events)) (reset_of d (clock_bits a.clocks) (Always place star events st)) st e b w;
+    clock_inputs = λ c i. clocked c (clock_process d names a c i);
     input = λ i r e f b w. given (length d.processes + i) (bits_of_signal r) (writer_at i r e ∙ input_writer r f) b w;
     kept = λ b n i k. by_test (contains (sole_bits d) b) (λ e. kept_by (sole_bits d) refl b e) (λ e. h.kept b (λ p. unwritten b n i k e p));
   }
     where
-      input_writer : (r : Signal) → (r.first == a.clock.first) ≡ false → writer_of a.clock.first r ≡ N.Input (bits_of_signal r)
+      input_writer : (r : Signal) → contains (clock_bits a.clocks) r.first ≡ false → writer_of (clock_bits a.clocks) r ≡ N.Input (bits_of_signal r)
       input_writer r e = rw e refl
 
       registered : (p c : ℕ) (reset : Option N.Reset) (st : Statement) → net_work.process p ≡ N.Clocked c reset (contains (statement_bits st)) (body st) → (b : ℕ) → contains (statement_bits st) b ≡ true → s b ≡ register_value reset st slot before b
       registered p c reset st e b w =
           subst (λ x. IsWriter (kind x) → writes x b ≡ true → s b ≡ driven x slot before b) e (h.updated p b) tt w ∙ ap {B = Bit4} (λ (t : State). t b) (register_driven c reset (contains (statement_bits st)) st slot before)
 
-      clocked : (p : ℕ) → net_work.process p ≡ N.Clock a.clock.first → s a.clock.first ≡ clock_value slot
-      clocked p e = subst (λ x. IsWriter (kind x) → writes x a.clock.first ≡ true → s a.clock.first ≡ driven x slot before a.clock.first) e (h.updated p a.clock.first) tt (eq-eqb a.clock.first a.clock.first refl) ∙ clock_driven a.clock.first slot before
+      clocked : (c : ℕ) → (p : ℕ) × (net_work.process p ≡ N.Clock c) → s c ≡ clock_value slot
+      clocked c (p, e) = subst (λ x. IsWriter (kind x) → writes x c ≡ true → s c ≡ driven x slot before c) e (h.updated p c) tt (eq-eqb c c refl) ∙ clock_driven c slot before
 
       given : (p : ℕ) (bits : List ℕ) → net_work.process p ≡ N.Input bits → (b : ℕ) → contains bits b ≡ true → s b ≡ input_value slot before b
       given p bits e b w = subst (λ x. IsWriter (kind x) → writes x b ≡ true → s b ≡ driven x slot before b) e (h.updated p b) tt w ∙ input_driven bits slot before b w
@@ -142,98 +142,97 @@ module _ (d : Design) (name : Option (List ℕ)) (a : IsAcceptedDesign d name) (
       kept_by : (bs : List ℕ) → sole_bits d ≡ bs → (b : ℕ) → contains bs b ≡ true → s b ≡ before b
       kept_by [] q b e = cc
       kept_by (m ∷ bs) q b e =
-          let r = keeper_there d a.clock.first m bs q in
-          subst (λ x. IsWriter (kind x) → writes x b ≡ true → s b ≡ driven x slot before b) r.1 (h.updated r.0 b) tt e ∙ ap {B = Bit4} (λ (t : State). t b) (keeper_driven a.clock.first (contains (m ∷ bs)) slot before)
+          let r = keeper_there d (clock_bits a.clocks) m bs q in
+          subst (λ x. IsWriter (kind x) → writes x b ≡ true → s b ≡ driven x slot before b) r.1 (h.updated r.0 b) tt e ∙ ap {B = Bit4} (λ (t : State). t b) (keeper_driven (first_clock (clock_bits a.clocks)) (contains (m ∷ bs)) slot before)
 
-      unwritten : (b : ℕ) → ((p : ℕ) (process : Process) → slice_get d.processes p ≡ Some process → contains (writes_of process) b ≡ false) → contains (input_bits d) b ≡ false → (b == a.clock.first) ≡ false → contains (sole_bits d) b ≡ false
+      unwritten : (b : ℕ) → ((p : ℕ) (process : Process) → slice_get d.processes p ≡ Some process → contains (writes_of process) b ≡ false) → contains (input_bits d) b ≡ false → contains (clock_bits a.clocks) b ≡ false → contains (sole_bits d) b ≡ false
           → (p : ℕ) → writes (net_work.process p) b ≡ false
-      unwritten b n i k o = by_kind d a.clock.first (λ p x. writes x b ≡ false) (record {
+      unwritten b n i k o = by_kind d (clock_bits a.clocks) (λ p x. writes x b ≡ false) (record {
         assigns = λ p place port target_place target e h. n p (Continuous place port target_place target e) h;
         combs = λ p place star events st h c. n p (Always place star events st) h;
         clocked = λ p place star events st h c. n p (Always place star events st) h;
         inputs = λ p j r l e f. outside j r e;
-        clock = λ p j r l e f. k;
-        spare = λ p l f. k;
+        clock = λ p j r l e f. other r.first f;
+        spare = λ p j m l f named past. other m named;
         keeper = λ p l m bs e. subst (λ xs. contains xs b ≡ false) e o;
         none = λ p. refl;
       })
         where
+          other : (c : ℕ) → contains (clock_bits a.clocks) c ≡ true → (b == c) ≡ false
+          other c f = by_test (b == c) (λ q. absurd (either_way (contains (clock_bits a.clocks) b) (subst (λ m. contains (clock_bits a.clocks) m ≡ true) (sym (eqb-true b c q)) f) k)) (λ q. q)
+
           outside : (j : ℕ) (r : Signal) → slice_get (top_inputs d) j ≡ Some r → contains (bits_of_signal r) b ≡ false
           outside j r e = by_test (contains (bits_of_signal r) b) (λ q. absurd (either_way (contains (input_bits d) b) (member_bits (top_inputs d) j r b e q) i)) (λ q. q)
 
   -- ---- and back
 
-  back : IsSlotValues d a.clock.first before slot s → IsSlotEnd net_work before slot s
+  back : IsSlotValues d (clock_bits a.clocks) before slot s → IsSlotEnd net_work before slot s
   back h = record {
-    settled = by_kind d a.clock.first (λ p x. Settles (kind x) → write_all s (given_by (sleeper_at d p) x) ≡ s) (record {
-      assigns = λ p place port target_place target e i z. subst (λ o. write_all s (given_by o (process_of d a.clock.first (Continuous place port target_place target e))) ≡ s) (sym (awake_assign p place port target_place target e i)) (h.assign p place port target_place target e i);
+    settled = by_kind d (clock_bits a.clocks) (λ p x. Settles (kind x) → write_all s (given_by (sleeper_at d p) x) ≡ s) (record {
+      assigns = λ p place port target_place target e i z. subst (λ o. write_all s (given_by o (process_of d (clock_bits a.clocks) (Continuous place port target_place target e))) ≡ s) (sym (awake_assign p place port target_place target e i)) (h.assign p place port target_place target e i);
       combs = λ p place star events st i k z. h.block p st (record { place = place; star = star; events = events; is = i; combinational = k });
       clocked = λ p place star events st i k z. absurd z;
       inputs = λ p j r l e f z. absurd z;
       clock = λ p j r l e f z. absurd z;
-      spare = λ p l f z. absurd z;
+      spare = λ p i m l f named past z. absurd z;
       keeper = λ p l m bs e z. absurd z;
       none = λ p z. absurd z;
     });
-    updated = λ p b. by_kind d a.clock.first (λ p x. IsWriter (kind x) → writes x b ≡ true → s b ≡ driven x slot before b) (record {
+    updated = λ p b. by_kind d (clock_bits a.clocks) (λ p x. IsWriter (kind x) → writes x b ≡ true → s b ≡ driven x slot before b) (record {
       assigns = λ p place port target_place target e i w z. absurd w;
       combs = λ p place star events st i k w z. absurd w;
-      clocked = λ p place star events st i k w z. h.register p place star events st i k b z ∙ sym (ap {B = Bit4} (λ (t : State). t b) (register_driven (clock_bit (events_in d a.clock.first events)) (reset_of d a.clock.first (Always place star events st)) (contains (statement_bits st)) st slot before));
+      clocked = λ p place star events st i k w z. h.register p place star events st i k b z ∙ sym (ap {B = Bit4} (λ (t : State). t b) (register_driven (clock_bit (events_in d (clock_bits a.clocks) events)) (reset_of d (clock_bits a.clocks) (Always place star events st)) (contains (statement_bits st)) st slot before));
       inputs = λ p j r l e f w z. h.input j r e f b z ∙ sym (input_driven (bits_of_signal r) slot before b z);
-      clock = λ p j r l e f w z. subst (λ m. s m ≡ driven (N.Clock a.clock.first) slot before m) (sym (eqb-true b a.clock.first z)) (h.clock_input ∙ sym (clock_driven a.clock.first slot before));
-      spare = λ p l f w z. subst (λ m. s m ≡ driven (N.Clock a.clock.first) slot before m) (sym (eqb-true b a.clock.first z)) (h.clock_input ∙ sym (clock_driven a.clock.first slot before));
+      clock = λ p j r l e f w z. subst (λ m. s m ≡ driven (N.Clock r.first) slot before m) (sym (eqb-true b r.first z)) (h.clock_inputs r.first f ∙ sym (clock_driven r.first slot before));
+      spare = λ p i m l f named past w z. subst (λ n. s n ≡ driven (N.Clock m) slot before n) (sym (eqb-true b m z)) (h.clock_inputs m named ∙ sym (clock_driven m slot before));
       keeper = λ p l m bs e w z.
           let o : contains (sole_bits d) b ≡ true = subst (λ xs. contains xs b ≡ true) (sym e) z in
-          h.kept b (λ q x g. sole_unwritten d name a a.clock.first b q x o g) (sole_no_input b o) (sole_no_clock b o) ∙ sym (ap {B = Bit4} (λ (t : State). t b) (keeper_driven a.clock.first (contains (m ∷ bs)) slot before));
+          h.kept b (λ q x g. sole_unwritten d names a (clock_bits a.clocks) b q x o g) (sole_no_input b o) (sole_no_clock b o) ∙ sym (ap {B = Bit4} (λ (t : State). t b) (keeper_driven (first_clock (clock_bits a.clocks)) (contains (m ∷ bs)) slot before));
       none = λ p w z. cc;
     }) p;
     kept = λ b n. h.kept b (λ p x e. not_written b n p x e) (no_input b n) (not_clock b n);
   }
     where
       sole_no_input : (b : ℕ) → contains (sole_bits d) b ≡ true → contains (input_bits d) b ≡ false
-      sole_no_input b o = by_test (contains (input_bits d) b) (λ i. absurd (variables_not_inputs d name a a.clock.first b (sole_variable d name a a.clock.first b o) i)) (λ i. i)
+      sole_no_input b o = by_test (contains (input_bits d) b) (λ i. absurd (variables_not_inputs d names a (clock_bits a.clocks) b (sole_variable d names a (clock_bits a.clocks) b o) i)) (λ i. i)
 
-      sole_no_clock : (b : ℕ) → contains (sole_bits d) b ≡ true → (b == a.clock.first) ≡ false
-      sole_no_clock b o = by_test (b == a.clock.first) (λ e. absurd (by_place (eqb-true b a.clock.first e) (clock_inside d a.clock (clock_at d name a)))) (λ e. e)
+      sole_no_clock : (b : ℕ) → contains (sole_bits d) b ≡ true → contains (clock_bits a.clocks) b ≡ false
+      sole_no_clock b o = by_test (contains (clock_bits a.clocks) b) (λ e. absurd (by_place (inside d names a b e))) (λ e. e)
         where
-          by_place : b ≡ a.clock.first → (contains (input_bits d) a.clock.first ≡ true) ⊎ (bit_count d ≤ a.clock.first) → ⊥
-          by_place e (inl q) = variables_not_inputs d name a a.clock.first b (sole_variable d name a a.clock.first b o) (subst (λ c. contains (input_bits d) c ≡ true) (sym e) q)
-          by_place e (inr past) = let low = kind_below d name a a.clock.first is_variable b (sole_variable d name a a.clock.first b o) in omega (arith, e, past, low)
+          by_place : (contains (input_bits d) b ≡ true) ⊎ (bit_count d ≤ b) → ⊥
+          by_place (inl q) = variables_not_inputs d names a (clock_bits a.clocks) b (sole_variable d names a (clock_bits a.clocks) b o) q
+          by_place (inr past) = let low = kind_below d names a (clock_bits a.clocks) is_variable b (sole_variable d names a (clock_bits a.clocks) b o) in omega (arith, past, low)
 
-      of_process : (x : Process) (b : ℕ) → contains (writes_of x) b ≡ true → writes (process_of d a.clock.first x) b ≡ true
+      of_process : (x : Process) (b : ℕ) → contains (writes_of x) b ≡ true → writes (process_of d (clock_bits a.clocks) x) b ≡ true
       of_process (Continuous place port target_place target e) b w = w
       of_process (Always place star events st) b w = go (is_clocked (Always place star events st))
         where
-          go : (c : Bool) → writes (block_process d a.clock.first c (Always place star events st) events st) b ≡ true
+          go : (c : Bool) → writes (block_process d (clock_bits a.clocks) c (Always place star events st) events st) b ≡ true
           go true = w
           go false = w
 
       not_written : (b : ℕ) → ((p : ℕ) → writes (net_work.process p) b ≡ false) → (p : ℕ) (x : Process) → slice_get d.processes p ≡ Some x → contains (writes_of x) b ≡ false
       not_written b n p x e = by_test (contains (writes_of x) b) (λ w. absurd (either_way (writes (net_work.process p) b) (subst (λ y. writes y b ≡ true) (sym (process_at p x e)) (of_process x b w)) (n p))) (λ w. w)
 
-      not_clock : (b : ℕ) → ((p : ℕ) → writes (net_work.process p) b ≡ false) → (b == a.clock.first) ≡ false
-      not_clock b n = subst (λ x. writes x b ≡ false) (clock_process d name a) (n (clock_number d name a))
+      not_clock : (b : ℕ) → ((p : ℕ) → writes (net_work.process p) b ≡ false) → contains (clock_bits a.clocks) b ≡ false
+      not_clock b n = by_test (contains (clock_bits a.clocks) b) (λ q. absurd (let r = clock_process d names a b q in either_way (b == b) (eq-eqb b b refl) (subst (λ x. writes x b ≡ false) r.1 (n r.0)))) (λ q. q)
 
       no_input : (b : ℕ) → ((p : ℕ) → writes (net_work.process p) b ≡ false) → contains (input_bits d) b ≡ false
       no_input b n = by_test (contains (input_bits d) b) (λ i. absurd (one (signal_with (top_inputs d) b i))) (λ i. i)
         where
-          long : signal_length a.clock ≡ 1
-          long = clock_long d a.clock (clock_at d name a)
-
           one : (i : ℕ) × (r : Signal) × (slice_get (top_inputs d) i ≡ Some r) × (contains (bits_of_signal r) b ≡ true) → ⊥
           one q =
-              by_test (q.1.first == a.clock.first)
+              by_test (contains (clock_bits a.clocks) q.1.first)
               (λ e.
-              let same : q.1 ≡ a.clock = clock_signal d name a q.0 q.1 a.clock.first q.2 (subst (λ m. contains (bits_of_signal q.1) m ≡ true) (eqb-true q.1.first a.clock.first e) (first_bit q.1)) in
-              let k : b ≡ a.clock.first = one_listed a.clock.first b (subst (λ n. contains (count_from a.clock.first n) b ≡ true) long (subst (λ r. contains (bits_of_signal r) b ≡ true) same q.3)) in
-              either_way (writes (net_work.process (length d.processes + q.0)) b) (subst (λ x. writes x b ≡ true) (sym (writer_at q.0 q.1 q.2 ∙ clock_case e)) (eq-eqb b a.clock.first k)) (n (length d.processes + q.0)))
+              let k : b ≡ q.1.first = one_listed q.1.first b (subst (λ n. contains (count_from q.1.first n) b ≡ true) (clock_signal d names a q.0 q.1 q.1.first e q.2 (first_bit q.1)).1 q.3) in
+              either_way (writes (net_work.process (length d.processes + q.0)) b) (subst (λ x. writes x b ≡ true) (sym (writer_at q.0 q.1 q.2 ∙ clock_case e)) (eq-eqb b q.1.first k)) (n (length d.processes + q.0)))
               (λ e. either_way (writes (net_work.process (length d.processes + q.0)) b) (subst (λ x. writes x b ≡ true) (sym (writer_at q.0 q.1 q.2 ∙ input_case e)) q.3) (n (length d.processes + q.0)))
             where
-              clock_case : (q.1.first == a.clock.first) ≡ true → writer_of a.clock.first q.1 ≡ N.Clock a.clock.first
+              clock_case : contains (clock_bits a.clocks) q.1.first ≡ true → writer_of (clock_bits a.clocks) q.1 ≡ N.Clock q.1.first
               clock_case e = rw e refl
 
-              input_case : (q.1.first == a.clock.first) ≡ false → writer_of a.clock.first q.1 ≡ N.Input (bits_of_signal q.1)
+              input_case : contains (clock_bits a.clocks) q.1.first ≡ false → writer_of (clock_bits a.clocks) q.1 ≡ N.Input (bits_of_signal q.1)
               input_case e = rw e refl
 
 pub slot_values_are : SlotValuesAre
-slot_values_are d name a before slot s = (there d name a before slot s, back d name a before slot s)
+slot_values_are d names a before slot s = (there d names a before slot s, back d names a before slot s)

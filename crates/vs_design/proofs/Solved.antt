@@ -54,8 +54,8 @@ block_needs d p st i b h = contains-left (reads_of (Always i.place i.star i.even
 
 -- ---- the families along an order are a solution
 
-pub solved : (d : Design) → IsOrderly d → (clock : ℕ) (order : List ℕ) → is_level_order d order ≡ true → IsSolved d clock (families d clock order)
-solved d o clock order h = record {
+pub solved : (d : Design) → IsOrderly d → (clocks order : List ℕ) → is_level_order d order ≡ true → IsSolved d clocks (families d clocks order)
+solved d o clocks order h = record {
   source = λ b s. unwritten d order first b h s;
   assign = λ p place port target_place target e i b w.
       let x = Continuous place port target_place target e in
@@ -88,7 +88,7 @@ solved d o clock order h = record {
 }
   where
     first : Families
-    first = record { early = early_source d; late = late_source d clock }
+    first = record { early = early_source d; late = late_source d clocks }
 
     sets : Families
     sets = families_along d order first
@@ -152,7 +152,7 @@ writer_or_none (y ∷ ps) b =
         go zero x e c = subst (λ z. contains (writes_of z) b ≡ false) (some_is x e) (f (subst (λ z. is_clocked z ≡ false) (sym (some_is x e)) c))
         go (suc p) x e c = n p x e c
 
-module _ (d : Design) (o : IsOrderly d) (clock : ℕ) (f g : Families) (i : IsSolved d clock f) (j : IsSolved d clock g) where
+module _ (d : Design) (o : IsOrderly d) (clocks : List ℕ) (f g : Families) (i : IsSolved d clocks f) (j : IsSolved d clocks g) where
   source_same : (b : ℕ) → IsSource d b → SameAt f g b
   source_same b s = let u = i.source b s in let v = j.source b s in (u.0 ∙ sym v.0, u.1 ∙ sym v.1)
 
@@ -224,4 +224,4 @@ module _ (d : Design) (o : IsOrderly d) (clock : ℕ) (f g : Families) (i : IsSo
           (λ m. p r x c e k w (subst (λ y. (y || contains placed r) ≡ true) m z))
 
 pub one_families : OneFamilies
-one_families d o clock order h = (solved d o clock order h, λ f g i j b. along d o clock f g i j order [] h (λ r x b e c w p. absurd (either_way false p refl)) b)
+one_families d o clocks order h = (solved d o clocks order h, λ f g i j b. along d o clocks f g i j order [] h (λ r x b e c w p. absurd (either_way false p refl)) b)

@@ -47,11 +47,11 @@ module _ (d : Design) (l : IsLawfulDesign d) (clock : ℕ) (h : bit_count d ≤ 
   no_targets : port_targets nets d.processes ≡ []
   no_targets = empty (port_targets nets d.processes) (λ b k. let q = port_at nets d.processes b k in no_port q.number q.process b q.is q.port)
 
-  only : (n : ℕ) → nets_within n d.processes clock ≡ nets
+  only : (n : ℕ) → nets_within n d.processes nets ≡ nets
   only zero = refl
   only (suc n) = ap {B = List ℕ} (λ bs. clock ∷ port_targets bs d.processes) (only n) ∙ ap {B = List ℕ} (λ bs. clock ∷ bs) no_targets
 
-  spare_nets : clock_nets d clock ≡ nets
+  spare_nets : clock_nets d nets ≡ nets
   spare_nets = only (length d.processes)
 
   -- ---- nothing reads it
@@ -113,17 +113,17 @@ module _ (d : Design) (l : IsLawfulDesign d) (clock : ℕ) (h : bit_count d ≤ 
       neither a b r s i j = rw (i, j) refl
   no_events roots (e ∷ g ∷ i ∷ es) f = refl
 
-  other : (p : ℕ) (x : Process) → slice_get d.processes p ≡ Some x → is_clocked x ≡ true → has_other_clock nets (root_of d clock) x ≡ true
+  other : (p : ℕ) (x : Process) → slice_get d.processes p ≡ Some x → is_clocked x ≡ true → has_other_clock nets (root_of d nets) x ≡ true
   other p (Continuous place port target_place target e) i k = cc
-  other p (Always place star events st) i k = other_by (events_of nets (root_of d clock) events) (none_of star (and_both (are_formed_events d star events) (is_formed_statement d st) (all_at (is_formed_process d) d.processes p (Always place star events st) l.formed i)).0)
+  other p (Always place star events st) i k = other_by (events_of nets (root_of d nets) events) (none_of star (and_both (are_formed_events d star events) (is_formed_statement d st) (all_at (is_formed_process d) d.processes p (Always place star events st) l.formed i)).0)
     where
-      none_of : (star : Bool) → are_formed_events d star events ≡ true → events_of nets (root_of d clock) events ≡ None
+      none_of : (star : Bool) → are_formed_events d star events ≡ true → events_of nets (root_of d nets) events ≡ None
       none_of true f = nil events f
         where
-          nil : (es : List Event) → is_nil es ≡ true → events_of nets (root_of d clock) es ≡ None
+          nil : (es : List Event) → is_nil es ≡ true → events_of nets (root_of d nets) es ≡ None
           nil [] f = refl
           nil (e ∷ es) f = cc
-      none_of false f = no_events (root_of d clock) events (and_both (not (is_nil events)) (list_all (is_formed_event d) events) f).1
+      none_of false f = no_events (root_of d nets) events (and_both (not (is_nil events)) (list_all (is_formed_event d) events) f).1
 
       other_by : (o : Option Events) → o ≡ None → (is_clocked (Always place star events st) && not (is_some o)) ≡ true
       other_by o e = rw (e, k) refl
@@ -132,5 +132,5 @@ pub spare_clock_is : SpareClockIs
 spare_clock_is d l clock h = (
   spare_nets d l clock h,
   subst (λ (bs : List ℕ). list_any (reads_clock bs) d.processes ≡ false) (sym (spare_nets d l clock h)) (none_reads d l clock h d.processes (unread d l clock h)),
-  (λ p x e k. subst (λ (bs : List ℕ). has_other_clock bs (root_of d clock) x ≡ true) (sym (spare_nets d l clock h)) (other d l clock h p x e k)),
+  (λ p x e k. subst (λ (bs : List ℕ). has_other_clock bs (root_of d (clock ∷ [])) x ≡ true) (sym (spare_nets d l clock h)) (other d l clock h p x e k)),
 )

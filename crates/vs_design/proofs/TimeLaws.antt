@@ -16,7 +16,7 @@ use Rattle.vs_design.specs.Footprints.{contains, read_bits, target_reads, statem
 use Rattle.vs_design.specs.Levels.{level_order}
 use Rattle.vs_design.specs.Sets.{Set4, has, only, known_set, union, is_only_x, is_unknown_set, is_known_set}
 use Rattle.vs_design.specs.Lifted.{Family}
-use Rattle.vs_design.specs.Clocks.{own_clock}
+use Rattle.vs_design.specs.Clocks.{clock_bits, own_clocks}
 use Rattle.vs_design.specs.Resets.{reset_of, with_reset, with_resets}
 use Rattle.vs_net.proofs.Basics.{write_all_covered, write_all_other}
 use Rattle.vs_net.proofs.Nets.{reset_clocked}
@@ -25,41 +25,41 @@ use Rattle.vs_design.specs.TimeZero.{Families, families, early_source, late_sour
 use Rattle.vs_design.specs.Initials.{first_value, start_value}
 use Rattle.vs_design.specs.Networks.{network_of, process_of, block_process}
 use Rattle.vs_design.specs.Accepted.{IsAcceptedDesign}
-use Rattle.vs_design.proofs.Lists.{by_test, and_both, or_left, or_right, contains-left, contains-right}
+use Rattle.vs_design.proofs.Lists.{by_test, and_both, or_left, or_right, contains-left, contains-right, contains_filter}
 use Rattle.vs_design.proofs.Writes.{either_way}
 use Rattle.vs_design.proofs.SetBits.{union_left, union_right}
 use Rattle.vs_design.proofs.Signals.{one_signal, member_bits}
 use Rattle.vs_design.proofs.Parts.{by_kind, process_there, writer_there, none_at}
 use Rattle.vs_design.proofs.LawfulParts.{one_writer, first_bit, kind_below}
 use Rattle.vs_design.proofs.Facts.{assign_facts, block_facts, comb_facts}
-use Rattle.vs_design.proofs.ClockNets.{ClockAt, among, beyond, clock_at, clock_long, clock_inside, clock_number, clock_process, one_listed}
+use Rattle.vs_design.proofs.ClockNets.{ClockAt, of_input, of_spare, clocks_at, clock_at, inside, clock_process, one_listed}
 use Rattle.vs_design.proofs.ClockLaws.{clock_is}
 use Rattle.vs_design.proofs.SleepLaws.{awake_at, AsleepFacts, asleep_facts, process_is}
 use Rattle.vs_design.proofs.Named.{bits_of_design}
 use Rattle.vs_design.proofs.Along.{SameAt, Found, found, unwritten, assign_made, block_made}
 use Rattle.vs_design.proofs.TimeBits.{only_x_is, only_x_has, unknown_set, known_set_is, all_of_bits, any_bit, signal_with, some_is}
 
-module _ (d : Design) (name : Option (List ℕ)) (a : IsAcceptedDesign d name) where
+module _ (d : Design) (names : List (List ℕ)) (a : IsAcceptedDesign d names) where
   abbrev pub sets : Families
-  sets = families d a.clock.first (level_order d)
+  sets = families d (clock_bits a.clocks) (level_order d)
 
   abbrev net_work : Network
-  net_work = network_of d a.clock.first
+  net_work = network_of d (clock_bits a.clocks)
 
   found_at : (p : ℕ) (x : Process) → slice_get d.processes p ≡ Some x → is_clocked x ≡ false → Found d sets x
-  found_at p x h k = found d (level_order d) [] (record { early = early_source d; late = late_source d a.clock.first }) p x a.one_driver a.no_cycle h k refl
+  found_at p x h k = found d (level_order d) [] (record { early = early_source d; late = late_source d (clock_bits a.clocks) }) p x a.one_driver a.no_cycle h k refl
 
   -- the network's process of a number
   settling : (r : ℕ) (x : Process) (b : ℕ) → slice_get d.processes r ≡ Some x → is_clocked x ≡ false → contains (writes_of x) b ≡ true → (writes (net_work.process r) b ≡ true) × Settles (kind (net_work.process r))
-  settling r x b h k w = subst (λ y. (writes y b ≡ true) × Settles (kind y)) (sym (process_there d a.clock.first r x h)) (go x k w)
+  settling r x b h k w = subst (λ y. (writes y b ≡ true) × Settles (kind y)) (sym (process_there d (clock_bits a.clocks) r x h)) (go x k w)
     where
-      go : (x : Process) → is_clocked x ≡ false → contains (writes_of x) b ≡ true → (writes (process_of d a.clock.first x) b ≡ true) × Settles (kind (process_of d a.clock.first x))
+      go : (x : Process) → is_clocked x ≡ false → contains (writes_of x) b ≡ true → (writes (process_of d (clock_bits a.clocks) x) b ≡ true) × Settles (kind (process_of d (clock_bits a.clocks) x))
       go (Continuous place port target_place target e) k w = (w, tt)
-      go (Always place star events st) k w = subst (λ c. (writes (block_process d a.clock.first c (Always place star events st) events st) b ≡ true) × Settles (kind (block_process d a.clock.first c (Always place star events st) events st))) (sym k) (w, tt)
+      go (Always place star events st) k w = subst (λ c. (writes (block_process d (clock_bits a.clocks) c (Always place star events st) events st) b ≡ true) × Settles (kind (block_process d (clock_bits a.clocks) c (Always place star events st) events st))) (sym k) (w, tt)
 
   -- a bit that no settling process writes has its first sets
-  first_sets : (b : ℕ) → ((p : ℕ) → writes (net_work.process p) b ≡ true → Settles (kind (net_work.process p)) → ⊥) → SameAt sets (record { early = early_source d; late = late_source d a.clock.first }) b
-  first_sets b h = unwritten d (level_order d) (record { early = early_source d; late = late_source d a.clock.first }) b a.no_cycle (λ r x e k. by_test (contains (writes_of x) b) (λ w. let q = settling r x b e k w in absurd (h r q.0 q.1)) (λ w. w))
+  first_sets : (b : ℕ) → ((p : ℕ) → writes (net_work.process p) b ≡ true → Settles (kind (net_work.process p)) → ⊥) → SameAt sets (record { early = early_source d; late = late_source d (clock_bits a.clocks) }) b
+  first_sets b h = unwritten d (level_order d) (record { early = early_source d; late = late_source d (clock_bits a.clocks) }) b a.no_cycle (λ r x e k. by_test (contains (writes_of x) b) (λ w. let q = settling r x b e k w in absurd (h r q.0 q.1)) (λ w. w))
 
   -- a value is in the set of it alone
   only_has : (v : Bit4) → has (only v) v ≡ true
@@ -72,13 +72,13 @@ module _ (d : Design) (name : Option (List ℕ)) (a : IsAcceptedDesign d name) w
   early_idle b h = subst (λ s. has s (first_value d b) ≡ true) (sym (first_sets b h).0) (only_has (first_value d b))
 
   pub early_comb : (p b : ℕ) → kind (net_work.process p) ≡ AComb → writes (net_work.process p) b ≡ true → has (sets.early b) X ≡ true
-  early_comb p b = by_kind d a.clock.first (λ p x. kind x ≡ AComb → writes x b ≡ true → has (sets.early b) X ≡ true) (record {
+  early_comb p b = by_kind d (clock_bits a.clocks) (λ p x. kind x ≡ AComb → writes x b ≡ true → has (sets.early b) X ≡ true) (record {
     assigns = λ p place port target_place target e h w z. cc;
     combs = λ p place star events st h k w z. let g = found_at p (Always place star events st) h k in subst (λ s. has s X ≡ true) (sym (g.own b z).0) (end (is_sleeping d (Always place star events st)) st g.then_.early b z);
     clocked = λ p place star events st h k w z. cc;
     inputs = λ p i r l e f w z. cc;
     clock = λ p i r l e f w z. cc;
-    spare = λ p l f w z. cc;
+    spare = λ p i m l f named past w z. cc;
     keeper = λ p l m bs e w z. cc;
     none = λ p w z. cc;
   }) p
@@ -91,23 +91,23 @@ module _ (d : Design) (name : Option (List ℕ)) (a : IsAcceptedDesign d name) w
           (λ q. rw (w, q) (union_left (only X) (block_sets st f b) X refl))
 
   pub early_made : (p : ℕ) → Settles (kind (net_work.process p)) → sleeper_at d p ≡ None → (s : State) → ReadsIn (λ b. has (sets.early b)) (net_work.process p) s → WritesIn (λ b. has (sets.early b)) (net_work.process p) s
-  early_made p z n s = by_kind d a.clock.first (λ p x. Settles (kind x) → sleeper_at d p ≡ None → ReadsIn (λ b. has (sets.early b)) x s → WritesIn (λ b. has (sets.early b)) x s) (record {
+  early_made p z n s = by_kind d (clock_bits a.clocks) (λ p x. Settles (kind x) → sleeper_at d p ≡ None → ReadsIn (λ b. has (sets.early b)) x s → WritesIn (λ b. has (sets.early b)) x s) (record {
     assigns = λ p place port target_place target e h z n r b w t.
         let g = found_at p (Continuous place port target_place target e) h refl in
-        let f = assign_facts d name a p place port target_place target e h in
+        let f = assign_facts d names a p place port target_place target e h in
         subst (λ x. has x (write_all t (assignment_writes target e s) b) ≡ true) (sym (g.own b w).0)
         (assign_made target e g.then_.early s t b f.constant f.fit_target f.fit_value
         (λ c k. subst (λ x. has x (s c) ≡ true) (g.same c (contains-left (target_reads target ++ read_bits e) [] c (contains-right (target_reads target) (read_bits e) c k))).0 (r c (contains-right (target_reads target) (read_bits e) c k))) w);
     combs = λ p place star events st h k z n r b w t.
         let g = found_at p (Always place star events st) h k in
-        let f = comb_facts d name a p place star events st h k in
-        let in_block : has (block_sets st g.then_.early b) (write_all t (body st s).writes b) ≡ true = block_made st g.then_.early s t b (block_facts d name a p place star events st h).fit f.unmixed f.no_latch
+        let f = comb_facts d names a p place star events st h k in
+        let in_block : has (block_sets st g.then_.early b) (write_all t (body st s).writes b) ≡ true = block_made st g.then_.early s t b (block_facts d names a p place star events st h).fit f.unmixed f.no_latch
         (λ c q. subst (λ x. has x (s c) ≡ true) (g.same c (contains-right (reads_of (Always place star events st)) (waits_of (Always place star events st)) c (f.waits c q))).0 (r c (f.waits c q))) w in
         subst (λ x. has x (write_all t (body st s).writes b) ≡ true) (sym (g.own b w).0) (own (is_sleeping d (Always place star events st)) st g.then_.early b (write_all t (body st s).writes b) (awake_at d p (Always place star events st) h n) w (wider (is_quiet st g.then_.early) (block_sets st g.then_.early b) (write_all t (body st s).writes b) in_block));
     clocked = λ p place star events st h k z n. absurd z;
     inputs = λ p i r l e f z n. absurd z;
     clock = λ p i r l e f z n. absurd z;
-    spare = λ p l f z n. absurd z;
+    spare = λ p i m l f named past z n. absurd z;
     keeper = λ p l m bs e z n. absurd z;
     none = λ p z n. absurd z;
   }) p z n
@@ -121,23 +121,23 @@ module _ (d : Design) (name : Option (List ℕ)) (a : IsAcceptedDesign d name) w
       wider false x v h = union_right (only X) x v h
 
   pub late_made : (p : ℕ) → Settles (kind (net_work.process p)) → (s : State) → ReadsIn (λ b. has (sets.late b)) (net_work.process p) s → WritesIn (λ b. has (sets.late b)) (net_work.process p) s
-  late_made p z s = by_kind d a.clock.first (λ p x. Settles (kind x) → ReadsIn (λ b. has (sets.late b)) x s → WritesIn (λ b. has (sets.late b)) x s) (record {
+  late_made p z s = by_kind d (clock_bits a.clocks) (λ p x. Settles (kind x) → ReadsIn (λ b. has (sets.late b)) x s → WritesIn (λ b. has (sets.late b)) x s) (record {
     assigns = λ p place port target_place target e h z r b w t.
         let g = found_at p (Continuous place port target_place target e) h refl in
-        let f = assign_facts d name a p place port target_place target e h in
+        let f = assign_facts d names a p place port target_place target e h in
         subst (λ x. has x (write_all t (assignment_writes target e s) b) ≡ true) (sym (g.own b w).1)
         (assign_made target e g.then_.late s t b f.constant f.fit_target f.fit_value
         (λ c k. subst (λ x. has x (s c) ≡ true) (g.same c (contains-left (target_reads target ++ read_bits e) [] c (contains-right (target_reads target) (read_bits e) c k))).1 (r c (contains-right (target_reads target) (read_bits e) c k))) w);
     combs = λ p place star events st h k z r b w t.
         let g = found_at p (Always place star events st) h k in
-        let f = comb_facts d name a p place star events st h k in
-        let in_block : has (block_sets st g.then_.late b) (write_all t (body st s).writes b) ≡ true = block_made st g.then_.late s t b (block_facts d name a p place star events st h).fit f.unmixed f.no_latch
+        let f = comb_facts d names a p place star events st h k in
+        let in_block : has (block_sets st g.then_.late b) (write_all t (body st s).writes b) ≡ true = block_made st g.then_.late s t b (block_facts d names a p place star events st h).fit f.unmixed f.no_latch
         (λ c q. subst (λ x. has x (s c) ≡ true) (g.same c (contains-right (reads_of (Always place star events st)) (waits_of (Always place star events st)) c (f.waits c q))).1 (r c (f.waits c q))) w in
         subst (λ x. has x (write_all t (body st s).writes b) ≡ true) (sym (g.own b w).1) (end (is_sleeping d (Always place star events st)) st g.then_.late b (write_all t (body st s).writes b) w in_block);
     clocked = λ p place star events st h k z. absurd z;
     inputs = λ p i r l e f z. absurd z;
     clock = λ p i r l e f z. absurd z;
-    spare = λ p l f z. absurd z;
+    spare = λ p i m l f named past z. absurd z;
     keeper = λ p l m bs e z. absurd z;
     none = λ p z. absurd z;
   }) p z
@@ -156,25 +156,25 @@ module _ (d : Design) (name : Option (List ℕ)) (a : IsAcceptedDesign d name) w
       f = asleep_facts d p x n
 
       own : contains (statement_bits f.statement) b ≡ true
-      own = subst (λ y. writes y b ≡ true) (process_is d name a p x f) w
+      own = subst (λ y. writes y b ≡ true) (process_is d names a p x f) w
 
       end : (asleep : Bool) (st : Statement) (f : Family) (b : ℕ) → asleep ≡ true → contains (statement_bits st) b ≡ true → has (late_end (contains (statement_bits st) b) asleep (block_sets st f b) (f b)) X ≡ true
       end asleep st f b n w = rw (n, w) (union_left (only X) (block_sets st f b) X refl)
 
-  -- the signal of the clock's bit is the clock, of one bit
-  pub clock_signal : (i : ℕ) (s : Signal) (b : ℕ) → slice_get (top_inputs d) i ≡ Some s → contains (bits_of_signal s) a.clock.first ≡ true → s ≡ a.clock
-  clock_signal i s b e h = by_place (clock_at d name a)
+  -- an input that has a clock's bit is that clock, of one bit
+  pub clock_signal : (i : ℕ) (s : Signal) (b : ℕ) → contains (clock_bits a.clocks) b ≡ true → slice_get (top_inputs d) i ≡ Some s → contains (bits_of_signal s) b ≡ true → (s.first ≡ b) × (signal_length s ≡ 1)
+  clock_signal i s b c e h = by_place (clock_at d a.clocks (clocks_at d names a) b c)
     where
-      by_place : ClockAt d a.clock → s ≡ a.clock
-      by_place (among j at long) =
-          let k = one_signal (λ s. s.input) 0 d.signals a.clock.first i j s a.clock a.lawful.bits_numbered e at h (first_bit a.clock) in
-          some_is s a.clock (sym e ∙ subst (λ m. slice_get (top_inputs d) m ≡ Some a.clock) (sym k) at)
-      by_place (beyond q) =
-          let k = kind_below d name a a.clock.first is_input a.clock.first (member_bits (top_inputs d) i s a.clock.first e h) in
-          let first = ap (λ (x : Signal). x.first) q in absurd (omega (arith, k, first))
+      by_place : ClockAt d b → (s.first ≡ b) × (signal_length s ≡ 1)
+      by_place (of_input j t at long is) =
+          let k = one_signal (λ s. s.input) 0 d.signals b i j s t a.lawful.bits_numbered e at h (subst (λ m. contains (bits_of_signal t) m ≡ true) is (first_bit t)) in
+          let same : s ≡ t = some_is s t (sym e ∙ subst (λ m. slice_get (top_inputs d) m ≡ Some t) (sym k) at) in
+          (ap (λ (x : Signal). x.first) same ∙ is, ap signal_length same ∙ long)
+      by_place (of_spare q) =
+          let k = kind_below d names a (clock_bits a.clocks) is_input b (member_bits (top_inputs d) i s b e h) in absurd (omega (arith, k, q))
 
   unsettled : (p b : ℕ) → writes (net_work.process p) b ≡ true → (Settles (kind (net_work.process p)) → ⊥) → (q : ℕ) → writes (net_work.process q) b ≡ true → Settles (kind (net_work.process q)) → ⊥
-  unsettled p b w n q v s = n (subst (λ m. Settles (kind (net_work.process m))) (one_writer d name a a.clock.first p q b w v) s)
+  unsettled p b w n q v s = n (subst (λ m. Settles (kind (net_work.process m))) (one_writer d names a p q b w v) s)
 
   -- an input's bit has what its set says, and a bit beyond the design, as a clock may be that the design doesn't have, may be 0
   abbrev pub late_or_spare : ℕ → Bit4 → Bool
@@ -182,13 +182,13 @@ module _ (d : Design) (name : Option (List ℕ)) (a : IsAcceptedDesign d name) w
 
   -- what a process listens to is a bit of the design
   pub listened_below : (p b : ℕ) → listens (net_work.process p) b ≡ true → b < bit_count d
-  listened_below p b = by_kind d a.clock.first (λ p x. listens x b ≡ true → b < bit_count d) (record {
+  listened_below p b = by_kind d (clock_bits a.clocks) (λ p x. listens x b ≡ true → b < bit_count d) (record {
     assigns = λ p place port target_place target e h l. bits_of_design d a.lawful p (Continuous place port target_place target e) h b (contains-left (target_reads target ++ read_bits e) _ b l);
     combs = λ p place star events st h k l. bits_of_design d a.lawful p (Always place star events st) h b (contains-right (statement_reads st) (statement_bits st ++ waits_of (Always place star events st)) b (contains-right (statement_bits st) (waits_of (Always place star events st)) b l));
     clocked = λ p place star events st h k l. absurd (either_way false l refl);
     inputs = λ p i s l e f g. absurd (either_way false g refl);
     clock = λ p i s l e f g. absurd (either_way false g refl);
-    spare = λ p l f g. absurd (either_way false g refl);
+    spare = λ p i m l f named past g. absurd (either_way false g refl);
     keeper = λ p l m bs e g. absurd (either_way false g refl);
     none = λ p l. absurd (either_way false l refl);
   }) p
@@ -206,11 +206,10 @@ module _ (d : Design) (name : Option (List ℕ)) (a : IsAcceptedDesign d name) w
 
   pub late_clock : (p b : ℕ) → kind (net_work.process p) ≡ TheClock → writes (net_work.process p) b ≡ true → late_or_spare b Zero ≡ true
   late_clock p b h w =
-      let same : b ≡ a.clock.first = is_clock p h w in
-      elim (clock_inside d a.clock (clock_at d name a)) [
+      elim (inside d names a b (is_clock p h w)) [
         | inl i ↦ or_left (has (sets.late b) Zero) (nat_le (bit_count d) b && true)
-            (subst (λ s. has s Zero ≡ true) (sym (first_sets b (unsettled p b w (λ s. settles_not (kind (net_work.process p)) h s))).1) (rw same (rw (own_is (is_below a.clock.first (bit_count d) (kind_below d name a a.clock.first is_input a.clock.first i))) refl)))
-        | inr l ↦ or_right (has (sets.late b) Zero) (nat_le (bit_count d) b && true) (rw (is_most (bit_count d) b (omega (arith, l, same))) refl)
+            (subst (λ s. has s Zero ≡ true) (sym (first_sets b (unsettled p b w (λ s. settles_not (kind (net_work.process p)) h s))).1) (rw (own_is (is_clock p h w) (is_below b (bit_count d) (kind_below d names a (clock_bits a.clocks) is_input b i))) refl))
+        | inr l ↦ or_right (has (sets.late b) Zero) (nat_le (bit_count d) b && true) (rw (is_most (bit_count d) b l) refl)
       ]
     where
       is_below : (m n : ℕ) → m < n → nat_lt m n ≡ true
@@ -219,8 +218,8 @@ module _ (d : Design) (name : Option (List ℕ)) (a : IsAcceptedDesign d name) w
       is_most : (m n : ℕ) → m ≤ n → nat_le m n ≡ true
       is_most m n h = grind arith
 
-      own_is : nat_lt a.clock.first (bit_count d) ≡ true → contains (own_clock d a.clock.first) a.clock.first ≡ true
-      own_is e = rw e (or_left (a.clock.first == a.clock.first) false (eq-eqb a.clock.first a.clock.first refl))
+      own_is : contains (clock_bits a.clocks) b ≡ true → nat_lt b (bit_count d) ≡ true → contains (own_clocks d (clock_bits a.clocks)) b ≡ true
+      own_is c e = contains_filter (λ c. nat_lt c (bit_count d)) (clock_bits a.clocks) b ∙ rw (c, e) refl
 
       settles_not : (k : Kind) → k ≡ TheClock → Settles k → ⊥
       settles_not TheClock h s = s
@@ -229,27 +228,23 @@ module _ (d : Design) (name : Option (List ℕ)) (a : IsAcceptedDesign d name) w
       settles_not AComb h s = cc
       settles_not AClocked h s = s
 
-      is_clock : (p : ℕ) → kind (net_work.process p) ≡ TheClock → writes (net_work.process p) b ≡ true → b ≡ a.clock.first
-      is_clock = by_kind d a.clock.first (λ p x. kind x ≡ TheClock → writes x b ≡ true → b ≡ a.clock.first) (record {
+      is_clock : (p : ℕ) → kind (net_work.process p) ≡ TheClock → writes (net_work.process p) b ≡ true → contains (clock_bits a.clocks) b ≡ true
+      is_clock = by_kind d (clock_bits a.clocks) (λ p x. kind x ≡ TheClock → writes x b ≡ true → contains (clock_bits a.clocks) b ≡ true) (record {
         assigns = λ p place port target_place target e h w z. cc;
         combs = λ p place star events st h k w z. cc;
         clocked = λ p place star events st h k w z. cc;
         inputs = λ p i r l e f w z. cc;
-        clock = λ p i r l e f w z. eqb-true b a.clock.first z;
-        spare = λ p l f w z. eqb-true b a.clock.first z;
+        clock = λ p i r l e f w z. subst (λ n. contains (clock_bits a.clocks) n ≡ true) (sym (eqb-true b r.first z)) f;
+        spare = λ p i m l f named past w z. subst (λ n. contains (clock_bits a.clocks) n ≡ true) (sym (eqb-true b m z)) named;
         keeper = λ p l m bs e w z. cc;
         none = λ p w z. cc;
       })
 
-  not_own : (b : ℕ) → (b == a.clock.first) ≡ false → contains (own_clock d a.clock.first) b ≡ false
-  not_own b e = go (nat_lt a.clock.first (bit_count d))
-    where
-      go : (c : Bool) → contains (if c then (a.clock.first ∷ []) else []) b ≡ false
-      go true = rw e refl
-      go false = refl
+  not_own : (b : ℕ) → contains (clock_bits a.clocks) b ≡ false → contains (own_clocks d (clock_bits a.clocks)) b ≡ false
+  not_own b e = contains_filter (λ c. nat_lt c (bit_count d)) (clock_bits a.clocks) b ∙ rw e refl
 
-  -- the late sets of a bit that no settling process writes: the clock's, an input's, another's
-  source_input : (b : ℕ) (v : Bit4) → (b == a.clock.first) ≡ false → contains (input_bits d) b ≡ true → IsKnown v → has (late_source d a.clock.first b) v ≡ true
+  -- the late sets of a bit that no settling process writes: a clock's, an input's, another's
+  source_input : (b : ℕ) (v : Bit4) → contains (clock_bits a.clocks) b ≡ false → contains (input_bits d) b ≡ true → IsKnown v → has (late_source d (clock_bits a.clocks) b) v ≡ true
   source_input b v e h k = rw (not_own b e) (rw h (known v k))
     where
       known : (v : Bit4) → IsKnown v → has known_set v ≡ true
@@ -267,20 +262,20 @@ module _ (d : Design) (name : Option (List ℕ)) (a : IsAcceptedDesign d name) w
       (λ e. rw e (union_right (only (write_all (λ m. X) (flatten (N.branch r)) b)) s v h))
       (λ e. rw e h)
 
-  resets_keep : (ps : List Process) (b : ℕ) (s : Set4) (v : Bit4) → has s v ≡ true → has (with_resets d a.clock.first ps b s) v ≡ true
+  resets_keep : (ps : List Process) (b : ℕ) (s : Set4) (v : Bit4) → has s v ≡ true → has (with_resets d (clock_bits a.clocks) ps b s) v ≡ true
   resets_keep [] b s v h = h
-  resets_keep (x ∷ ps) b s v h = reset_keeps (reset_of d a.clock.first x) b (with_resets d a.clock.first ps b s) v (resets_keep ps b s v h)
+  resets_keep (x ∷ ps) b s v h = reset_keeps (reset_of d (clock_bits a.clocks) x) b (with_resets d (clock_bits a.clocks) ps b s) v (resets_keep ps b s v h)
 
-  resets_have : (ps : List Process) (p : ℕ) (x : Process) (r : N.Reset) (b : ℕ) (s : Set4) → slice_get ps p ≡ Some x → reset_of d a.clock.first x ≡ Some r → is_written (flatten (N.branch r)) b ≡ true → has (with_resets d a.clock.first ps b s) (write_all (λ m. X) (flatten (N.branch r)) b) ≡ true
+  resets_have : (ps : List Process) (p : ℕ) (x : Process) (r : N.Reset) (b : ℕ) (s : Set4) → slice_get ps p ≡ Some x → reset_of d (clock_bits a.clocks) x ≡ Some r → is_written (flatten (N.branch r)) b ≡ true → has (with_resets d (clock_bits a.clocks) ps b s) (write_all (λ m. X) (flatten (N.branch r)) b) ≡ true
   resets_have [] p x r b s h e w = cc
   resets_have (y ∷ ps) zero x r b s h e w =
       let same : y ≡ x = cc in
-      ap (λ z. has (with_reset (reset_of d a.clock.first z) b (with_resets d a.clock.first ps b s)) (write_all (λ m. X) (flatten (N.branch r)) b)) same
-      ∙ ap (λ o. has (with_reset o b (with_resets d a.clock.first ps b s)) (write_all (λ m. X) (flatten (N.branch r)) b)) e
-      ∙ rw w (union_left (only (write_all (λ m. X) (flatten (N.branch r)) b)) (with_resets d a.clock.first ps b s) (write_all (λ m. X) (flatten (N.branch r)) b) (only_has (write_all (λ m. X) (flatten (N.branch r)) b)))
-  resets_have (y ∷ ps) (suc p) x r b s h e w = reset_keeps (reset_of d a.clock.first y) b (with_resets d a.clock.first ps b s) (write_all (λ m. X) (flatten (N.branch r)) b) (resets_have ps p x r b s h e w)
+      ap (λ z. has (with_reset (reset_of d (clock_bits a.clocks) z) b (with_resets d (clock_bits a.clocks) ps b s)) (write_all (λ m. X) (flatten (N.branch r)) b)) same
+      ∙ ap (λ o. has (with_reset o b (with_resets d (clock_bits a.clocks) ps b s)) (write_all (λ m. X) (flatten (N.branch r)) b)) e
+      ∙ rw w (union_left (only (write_all (λ m. X) (flatten (N.branch r)) b)) (with_resets d (clock_bits a.clocks) ps b s) (write_all (λ m. X) (flatten (N.branch r)) b) (only_has (write_all (λ m. X) (flatten (N.branch r)) b)))
+  resets_have (y ∷ ps) (suc p) x r b s h e w = reset_keeps (reset_of d (clock_bits a.clocks) y) b (with_resets d (clock_bits a.clocks) ps b s) (write_all (λ m. X) (flatten (N.branch r)) b) (resets_have ps p x r b s h e w)
 
-  source_other : (b : ℕ) → (b == a.clock.first) ≡ false → contains (input_bits d) b ≡ false → has (late_source d a.clock.first b) (start_value d b) ≡ true
+  source_other : (b : ℕ) → contains (clock_bits a.clocks) b ≡ false → contains (input_bits d) b ≡ false → has (late_source d (clock_bits a.clocks) b) (start_value d b) ≡ true
   source_other b e h = rw (not_own b e) (rw h (resets_keep d.processes b (only (start_value d b)) (start_value d b) (only_has (start_value d b))))
 
   pub late_input : (p b : ℕ) (v : Bit4) → kind (net_work.process p) ≡ AnInput → writes (net_work.process p) b ≡ true → IsKnown v → has (sets.late b) v ≡ true
@@ -293,28 +288,26 @@ module _ (d : Design) (name : Option (List ℕ)) (a : IsAcceptedDesign d name) w
       settles_not AComb h s = cc
       settles_not AClocked h s = s
 
-      is_input : (p : ℕ) → kind (net_work.process p) ≡ AnInput → writes (net_work.process p) b ≡ true → has (late_source d a.clock.first b) v ≡ true
-      is_input = by_kind d a.clock.first (λ p x. kind x ≡ AnInput → writes x b ≡ true → has (late_source d a.clock.first b) v ≡ true) (record {
+      is_input : (p : ℕ) → kind (net_work.process p) ≡ AnInput → writes (net_work.process p) b ≡ true → has (late_source d (clock_bits a.clocks) b) v ≡ true
+      is_input = by_kind d (clock_bits a.clocks) (λ p x. kind x ≡ AnInput → writes x b ≡ true → has (late_source d (clock_bits a.clocks) b) v ≡ true) (record {
         assigns = λ p place port target_place target e h w z. cc;
         combs = λ p place star events st h k w z. cc;
         clocked = λ p place star events st h k w z. cc;
         inputs = λ p i s l e f w z.
-            by_test (b == a.clock.first)
-            (λ q.
-            let same : s ≡ a.clock = clock_signal i s b e (subst (λ m. contains (bits_of_signal s) m ≡ true) (eqb-true b a.clock.first q) z) in
-            absurd (either_way (s.first == a.clock.first) (subst (λ x. (x.first == a.clock.first) ≡ true) (sym same) (eq-eqb a.clock.first a.clock.first refl)) f))
+            by_test (contains (clock_bits a.clocks) b)
+            (λ q. absurd (either_way (contains (clock_bits a.clocks) s.first) (subst (λ n. contains (clock_bits a.clocks) n ≡ true) (sym (clock_signal i s b q e z).0) q) f))
             (λ q. source_input b v q (member_bits (top_inputs d) i s b e z) k);
         clock = λ p i r l e f w z. cc;
-        spare = λ p l f w z. cc;
+        spare = λ p i m l f named past w z. cc;
         keeper = λ p l m bs e w z. cc;
         none = λ p w z. cc;
       })
 
   -- the late sets of a bit that clocked blocks alone write
-  late_register : (b : ℕ) → ((p : ℕ) → writes (net_work.process p) b ≡ true → kind (net_work.process p) ≡ AClocked) → ((b == a.clock.first) ≡ false) × (contains (input_bits d) b ≡ false) × (sets.late b ≡ late_source d a.clock.first b)
+  late_register : (b : ℕ) → ((p : ℕ) → writes (net_work.process p) b ≡ true → kind (net_work.process p) ≡ AClocked) → (contains (clock_bits a.clocks) b ≡ false) × (contains (input_bits d) b ≡ false) × (sets.late b ≡ late_source d (clock_bits a.clocks) b)
   late_register b h =
-      let not_clock : (b == a.clock.first) ≡ false = by_test (b == a.clock.first)
-      (λ q. absurd (two_kinds (kind (net_work.process (clock_number d name a))) (clock_is d name a) (h (clock_number d name a) (clock_writes_it (eqb-true b a.clock.first q)))))
+      let not_clock : contains (clock_bits a.clocks) b ≡ false = by_test (contains (clock_bits a.clocks) b)
+      (λ q. absurd (two_kinds (kind (net_work.process (clock_process d names a b q).0)) (clock_is d names a b q) (h (clock_process d names a b q).0 (clock_writes_it q))))
       (λ q. q) in (
         not_clock,
         by_test (contains (input_bits d) b) (λ i. absurd (an_input not_clock (signal_with (top_inputs d) b i))) (λ i. i),
@@ -334,25 +327,19 @@ module _ (d : Design) (name : Option (List ℕ)) (a : IsAcceptedDesign d name) w
       input_kinds : (k : Kind) → k ≡ AnInput → k ≡ AClocked → ⊥
       input_kinds k e f = cc
 
-      clock_writes_it : b ≡ a.clock.first → writes (net_work.process (clock_number d name a)) b ≡ true
-      clock_writes_it e = rw (clock_process d name a) (eq-eqb b a.clock.first e)
+      clock_writes_it : (q : contains (clock_bits a.clocks) b ≡ true) → writes (net_work.process (clock_process d names a b q).0) b ≡ true
+      clock_writes_it q = subst (λ x. writes x b ≡ true) (sym (clock_process d names a b q).1) (eq-eqb b b refl)
 
-      an_input : (b == a.clock.first) ≡ false → (i : ℕ) × (s : Signal) × (slice_get (top_inputs d) i ≡ Some s) × (contains (bits_of_signal s) b ≡ true) → ⊥
+      an_input : contains (clock_bits a.clocks) b ≡ false → (i : ℕ) × (s : Signal) × (slice_get (top_inputs d) i ≡ Some s) × (contains (bits_of_signal s) b ≡ true) → ⊥
       an_input q r =
-          let at = writer_there d a.clock.first r.0 r.1 r.2 in
-          by_test (r.1.first == a.clock.first)
+          let at = writer_there d (clock_bits a.clocks) r.0 r.1 r.2 in
+          by_test (contains (clock_bits a.clocks) r.1.first)
           (λ e.
-          let same : r.1 ≡ a.clock = clock_signal r.0 r.1 b r.2 (subst (λ m. contains (bits_of_signal r.1) m ≡ true) (eqb-true r.1.first a.clock.first e) (first_bit r.1)) in
-          either_way (b == a.clock.first) (eq-eqb b a.clock.first (clock_bit b (subst (λ s. contains (bits_of_signal s) b ≡ true) same r.3))) q)
+          let k : b ≡ r.1.first = one_listed r.1.first b (subst (λ n. contains (count_from r.1.first n) b ≡ true) (clock_signal r.0 r.1 r.1.first e r.2 (first_bit r.1)).1 r.3) in
+          either_way (contains (clock_bits a.clocks) b) (subst (λ n. contains (clock_bits a.clocks) n ≡ true) (sym k) e) q)
           (λ e.
           let here : net_work.process (length d.processes + r.0) ≡ N.Input (bits_of_signal r.1) = at ∙ rw e refl in
           input_kinds (kind (net_work.process (length d.processes + r.0))) (rw here refl) (h (length d.processes + r.0) (rw here r.3)))
-        where
-          one_long : signal_length a.clock ≡ 1
-          one_long = clock_long d a.clock (clock_at d name a)
-
-          clock_bit : (b : ℕ) → contains (bits_of_signal a.clock) b ≡ true → b ≡ a.clock.first
-          clock_bit b k = one_listed a.clock.first b (subst (λ n. contains (count_from a.clock.first n) b ≡ true) one_long k)
 
   pub late_idle : (b : ℕ) → ((p : ℕ) → writes (net_work.process p) b ≡ true → kind (net_work.process p) ≡ AClocked) → has (sets.late b) (start_value d b) ≡ true
   late_idle b h = let r = late_register b h in subst (λ s. has s (start_value d b) ≡ true) (sym r.2) (source_other b r.0 r.1)
@@ -361,41 +348,41 @@ module _ (d : Design) (name : Option (List ℕ)) (a : IsAcceptedDesign d name) w
   pub late_reset : (p b : ℕ) (r : N.Reset) → N.reset_of (net_work.process p) ≡ Some r → writes (net_work.process p) b ≡ true → has (sets.late b) (write_all (start_value d) (flatten (N.branch r)) b) ≡ true
   late_reset p b r e w =
       let clocked = reset_clocked (net_work.process p) r e in
-      let only_clocked : (q : ℕ) → writes (net_work.process q) b ≡ true → kind (net_work.process q) ≡ AClocked = λ q v. subst (λ m. kind (net_work.process m) ≡ AClocked) (sym (one_writer d name a a.clock.first p q b w v)) clocked in
+      let only_clocked : (q : ℕ) → writes (net_work.process q) b ≡ true → kind (net_work.process q) ≡ AClocked = λ q v. subst (λ m. kind (net_work.process m) ≡ AClocked) (sym (one_writer d names a p q b w v)) clocked in
       let g = late_register b only_clocked in
       by_test (is_written (flatten (N.branch r)) b)
       (λ z. let m = has_reset p e in
       subst (λ s. has s (write_all (start_value d) (flatten (N.branch r)) b) ≡ true) (sym (g.2 ∙ (rw (not_own b g.0) (rw g.1 refl))))
-      (subst (λ v. has (with_resets d a.clock.first d.processes b (only (start_value d b))) v ≡ true) (write_all_covered (flatten (N.branch r)) (λ m. X) (start_value d) b z)
+      (subst (λ v. has (with_resets d (clock_bits a.clocks) d.processes b (only (start_value d b))) v ≡ true) (write_all_covered (flatten (N.branch r)) (λ m. X) (start_value d) b z)
       (resets_have d.processes p m.0 r b (only (start_value d b)) m.1 m.2 z)))
       (λ z. subst (λ v. has (sets.late b) v ≡ true) (sym (write_all_other (flatten (N.branch r)) (start_value d) b z)) (late_idle b only_clocked))
     where
-      has_reset : (p : ℕ) → N.reset_of (net_work.process p) ≡ Some r → (x : Process) × (slice_get d.processes p ≡ Some x) × (reset_of d a.clock.first x ≡ Some r)
-      has_reset = by_kind d a.clock.first (λ p y. N.reset_of y ≡ Some r → (x : Process) × (slice_get d.processes p ≡ Some x) × (reset_of d a.clock.first x ≡ Some r)) (record {
+      has_reset : (p : ℕ) → N.reset_of (net_work.process p) ≡ Some r → (x : Process) × (slice_get d.processes p ≡ Some x) × (reset_of d (clock_bits a.clocks) x ≡ Some r)
+      has_reset = by_kind d (clock_bits a.clocks) (λ p y. N.reset_of y ≡ Some r → (x : Process) × (slice_get d.processes p ≡ Some x) × (reset_of d (clock_bits a.clocks) x ≡ Some r)) (record {
         assigns = λ p place port target_place target e h k. cc;
         combs = λ p place star events st h k l. cc;
         clocked = λ p place star events st h k l. (Always place star events st, h, l);
         inputs = λ p i s l e f k. cc;
         clock = λ p i s l e f k. cc;
-        spare = λ p l f k. cc;
+        spare = λ p i m l f named past k. cc;
         keeper = λ p l m bs e k. cc;
         none = λ p k. cc;
       })
 
   pub quiet_or_woken : (p : ℕ) → kind (net_work.process p) ≡ AComb → sleeper_at d p ≡ None → IsQuietBlock (λ b. has (sets.early b)) (net_work.process p) ⊎ IsWokenBlock (λ b. has (sets.early b)) (λ b. has (sets.late b)) (net_work.process p)
-  quiet_or_woken p = by_kind d a.clock.first (λ p x. kind x ≡ AComb → sleeper_at d p ≡ None → IsQuietBlock (λ b. has (sets.early b)) x ⊎ IsWokenBlock (λ b. has (sets.early b)) (λ b. has (sets.late b)) x) (record {
+  quiet_or_woken p = by_kind d (clock_bits a.clocks) (λ p x. kind x ≡ AComb → sleeper_at d p ≡ None → IsQuietBlock (λ b. has (sets.early b)) x ⊎ IsWokenBlock (λ b. has (sets.early b)) (λ b. has (sets.late b)) x) (record {
     assigns = λ p place port target_place target e h w n. cc;
     combs = λ p place star events st h k w n.
         by_test (is_quiet st sets.early)
         (λ q. inl (λ s t r b z.
-        let f = comb_facts d name a p place star events st h k in
+        let f = comb_facts d names a p place star events st h k in
         only_x_is (block_sets st sets.early b) (write_all t (body st s).writes b) (all_of_bits (λ b. is_only_x (block_sets st sets.early b)) (statement_bits st) b q z)
-        (block_made st sets.early s t b (block_facts d name a p place star events st h).fit f.unmixed f.no_latch (λ c u. r c (f.waits c u)) z)))
+        (block_made st sets.early s t b (block_facts d names a p place star events st h).fit f.unmixed f.no_latch (λ c u. r c (f.waits c u)) z)))
         (λ q. inr (woken p place star events st h k (awake_at d p (Always place star events st) h n) q));
     clocked = λ p place star events st h k w n. cc;
     inputs = λ p i r l e f w n. cc;
     clock = λ p i r l e f w n. cc;
-    spare = λ p l f w n. cc;
+    spare = λ p i m l f named past w n. cc;
     keeper = λ p l m bs e w n. cc;
     none = λ p w n. cc;
   }) p

@@ -1,5 +1,5 @@
 -- An accepted design, as far as it is a matter of the elaborated one: it breaks no rule.
-use Rattle.std.specs.Prelude.{◌≡◌, ℕ, ◌≤◌, Bool, true, false, List, [], ◌∷◌, Option, Some}
+use Rattle.std.specs.Prelude.{◌≡◌, ℕ, ◌≤◌, Bool, true, false, List, [], ◌∷◌, Some}
 use Rattle.std.specs.List.{list_any, list_all}
 use Rattle.vs_design.specs.Expressions.{Signal}
 use Rattle.vs_design.specs.Designs.{Design}
@@ -8,7 +8,7 @@ use Rattle.vs_design.specs.Elaborated.{IsLawfulDesign}
 use Rattle.vs_design.specs.Sizes.{size}
 use Rattle.vs_design.specs.Rules.{function_latches, mixed_assigns, missing_bits, latches, shared_bits}
 use Rattle.vs_design.specs.Initials.{has_other_start, clashed_bits}
-use Rattle.vs_design.specs.Clocks.{clock_input, clock_nets, root_of, reads_clock, has_other_clock}
+use Rattle.vs_design.specs.Clocks.{clock_inputs, clock_bits, clock_nets, root_of, reads_clock, has_other_clock}
 use Rattle.vs_design.specs.Resets.{has_other_form}
 use Rattle.vs_design.specs.Levels.{level_order, has_no_cycle}
 use Rattle.vs_design.specs.Races.{has_no_race}
@@ -18,8 +18,8 @@ abbrev pub is_empty : List ℕ → Bool
 is_empty [] = true
 is_empty (b ∷ bs) = false
 
--- with a clock input of this name, or without a clock
-pub record IsAcceptedDesign (d : Design) (name : Option (List ℕ)) : Type 0 where
+-- with clock inputs of these names, or without a clock
+pub record IsAcceptedDesign (d : Design) (names : List (List ℕ)) : Type 0 where
   pub lawful : IsLawfulDesign d
   -- TooWide, Division
   pub fit : list_all fits_process d.processes ≡ true
@@ -40,17 +40,17 @@ pub record IsAcceptedDesign (d : Design) (name : Option (List ℕ)) : Type 0 whe
   pub one_driver : is_empty (shared_bits d) ≡ true
   pub no_clash : is_empty (clashed_bits d) ≡ true
   -- NoClock
-  pub clock : Signal
-  pub clock_found : clock_input d name ≡ Some clock
+  pub clocks : List Signal
+  pub clocks_found : clock_inputs d names ≡ Some clocks
   -- ClockRead
-  pub clock_unread : list_any (reads_clock (clock_nets d clock.first)) d.processes ≡ false
+  pub clock_unread : list_any (reads_clock (clock_nets d (clock_bits clocks))) d.processes ≡ false
   -- NotTheClock
-  pub one_clock : list_any (has_other_clock (clock_nets d clock.first) (root_of d clock.first)) d.processes ≡ false
+  pub one_clock : list_any (has_other_clock (clock_nets d (clock_bits clocks)) (root_of d (clock_bits clocks))) d.processes ≡ false
   -- ResetForm
-  pub reset_forms : list_any (has_other_form (clock_nets d clock.first) (root_of d clock.first)) d.processes ≡ false
+  pub reset_forms : list_any (has_other_form (clock_nets d (clock_bits clocks)) (root_of d (clock_bits clocks))) d.processes ≡ false
   -- Cycle
   pub no_cycle : has_no_cycle d ≡ true
   -- Race
   pub no_race : has_no_race d ≡ true
   -- TimeZero
-  pub awake : list_any (is_uncertain d (families d clock.first (level_order d))) d.processes ≡ false
+  pub awake : list_any (is_uncertain d (families d (clock_bits clocks) (level_order d))) d.processes ≡ false

@@ -34,5 +34,5 @@ abbrev pub size_of : Design → ℕ → ℕ
 size_of d p = process_size (slice_get d.processes p)
 
 -- q writes a bit that wakes p
-abbrev pub feeds_of : Design → ℕ → ℕ → ℕ → Bool
-feeds_of d clock q p = list_any (writes ((network_of d clock).process q)) (wakers (slice_get d.processes p))
+abbrev pub feeds_of : Design → List ℕ → ℕ → ℕ → Bool
+feeds_of d clocks q p = list_any (writes ((network_of d clocks).process q)) (wakers (slice_get d.processes p))

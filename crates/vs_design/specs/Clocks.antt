@@ -1,4 +1,4 @@
--- The clock nets and the reset nets, and the rules NoClock, ClockRead and NotTheClock.
+-- The clocks, the clock nets and the reset nets, and the rules NoClock, ClockRead and NotTheClock.
 use Rattle.std.specs.Prelude.{ℕ, zero, suc, Bool, true, false, not, ◌&&◌, List, [], ◌∷◌, ◌++◌, find, filter, map, is_some, length, if◌then◌else◌, ◌==◌, nat_lt, Option, Some, None}
 use Rattle.std.specs.List.{list_any}
 use Rattle.vs_design.specs.Expressions.{Signal, signal_length, Expression, Name, At}
@@ -15,14 +15,36 @@ same_name _ _ = false
 abbrev pub named_input : Design → List ℕ → Option Signal
 named_input d name = find (λ s. s.input && same_name s.name name && (signal_length s == 1)) d.signals
 
--- where no clock is named a signal takes its place whose bit isn't one of the design's, and which none of the design's signals is: no process reads it or waits on it
+-- where no clock is named a signal takes the place of one whose bit isn't one of the design's, and which none of the design's signals is: no process reads it or waits on it
 abbrev pub spare_clock : Design → Signal
-spare_clock d = record { name = []; scope = 0; number = length d.signals; net = true; input = true; range = None; signed = false; first = bit_count d; words = None }
+spare_clock d = record { name = []; scope = 0; number = length d.signals; net = true; input = true; range = None; signed = false; first = bit_count d; words = None; integer = false }
 
--- the clock by its name; the rule NoClock where a name is given that is none of a one-bit input's
-abbrev pub clock_input : Design → Option (List ℕ) → Option Signal
-clock_input d (Some name) = named_input d name
-clock_input d None = Some (spare_clock d)
+-- a first signal and others, where all are there
+abbrev pub and_inputs : Option Signal → Option (List Signal) → Option (List Signal)
+and_inputs (Some s) (Some ss) = Some (s ∷ ss)
+and_inputs _ _ = None
+
+-- the one-bit inputs of the top that have these names, where each has one and no name is there twice
+abbrev pub named_inputs : Design → List (List ℕ) → Option (List Signal)
+named_inputs d [] = Some []
+named_inputs d (name ∷ names) = if list_any (same_name name) names then None else and_inputs (named_input d name) (named_inputs d names)
+
+-- the clocks by their names, one at least; the rule NoClock where a name is given that is none of a one-bit input's, or is given twice
+abbrev pub clock_inputs : Design → List (List ℕ) → Option (List Signal)
+clock_inputs d [] = Some (spare_clock d ∷ [])
+clock_inputs d (name ∷ names) = named_inputs d (name ∷ names)
+
+abbrev pub first_of : Signal → ℕ
+first_of s = s.first
+
+-- these clocks, each by its bit
+abbrev pub clock_bits : List Signal → List ℕ
+clock_bits clocks = map first_of clocks
+
+-- the first of them
+abbrev pub first_clock : List ℕ → ℕ
+first_clock [] = 0
+first_clock (clock ∷ clocks) = clock
 
 -- the signal that the expression is the name of; round brackets are no matter
 abbrev pub name_of : Expression → Option Signal
@@ -43,22 +65,22 @@ abbrev pub port_targets : List ℕ → List Process → List ℕ
 port_targets nets [] = []
 port_targets nets (p ∷ ps) = port_target nets p ++ port_targets nets ps
 
--- the clock nets that are at most so many assigns away from the input
-abbrev pub nets_within : ℕ → List Process → ℕ → List ℕ
-nets_within zero ps clock = clock ∷ []
-nets_within (suc n) ps clock = clock ∷ port_targets (nets_within n ps clock) ps
+-- the clock nets that are at most so many assigns away from the inputs
+abbrev pub nets_within : ℕ → List Process → List ℕ → List ℕ
+nets_within zero ps clocks = clocks
+nets_within (suc n) ps clocks = clocks ++ port_targets (nets_within n ps clocks) ps
 
 -- the clock nets, each by its one bit
-abbrev pub clock_nets : Design → ℕ → List ℕ
-clock_nets d clock = nets_within (length d.processes) d.processes clock
+abbrev pub clock_nets : Design → List ℕ → List ℕ
+clock_nets d clocks = nets_within (length d.processes) d.processes clocks
 
--- the clock, where it is a bit of the design
-abbrev pub own_clock : Design → ℕ → List ℕ
-own_clock d clock = if nat_lt clock (bit_count d) then (clock ∷ []) else []
+-- the clocks that are bits of the design
+abbrev pub own_clocks : Design → List ℕ → List ℕ
+own_clocks d clocks = filter (λ c. nat_lt c (bit_count d)) clocks
 
--- and the clock nets, where it is: without a clock there are none
-abbrev pub own_nets : Design → ℕ → List ℕ
-own_nets d clock = if nat_lt clock (bit_count d) then clock_nets d clock else []
+-- and their clock nets: without a clock there are none
+abbrev pub own_nets : Design → List ℕ → List ℕ
+own_nets d clocks = clock_nets d (own_clocks d clocks)
 
 abbrev pub is_clock_port : List ℕ → Process → Bool
 is_clock_port nets p = not (length (port_target nets p) == 0)
@@ -78,21 +100,18 @@ is_clock_net nets None = false
 -- ---- resets
 
 -- a data input of the top that has one bit may be a reset
-abbrev pub may_reset : ℕ → Signal → Bool
-may_reset clock s = (signal_length s == 1) && not (s.first == clock)
-
-abbrev pub first_of : Signal → ℕ
-first_of s = s.first
+abbrev pub may_reset : List ℕ → Signal → Bool
+may_reset clocks s = (signal_length s == 1) && not (contains clocks s.first)
 
 -- these inputs, each by its bit
-abbrev pub one_bit_inputs : Design → ℕ → List ℕ
-one_bit_inputs d clock = map first_of (filter (may_reset clock) (top_inputs d))
+abbrev pub one_bit_inputs : Design → List ℕ → List ℕ
+one_bit_inputs d clocks = map first_of (filter (may_reset clocks) (top_inputs d))
 
 -- The reset input that a bit copies. Reset nets are found as clock nets are: the input, and each one-bit net that is the whole target of an assign whose expression is the name of a reset net alone.
-abbrev pub root_of : Design → ℕ → ℕ → Option ℕ
-root_of d clock b = find (λ i. contains (clock_nets d i) b) (one_bit_inputs d clock)
+abbrev pub root_of : Design → List ℕ → ℕ → Option ℕ
+root_of d clocks b = find (λ i. contains (clock_nets d (i ∷ [])) b) (one_bit_inputs d clocks)
 
--- a posedge of a clock net
+-- a posedge of a clock net, whichever clock it copies
 abbrev pub is_clock_event : List ℕ → Event → Bool
 is_clock_event nets e = is_clock_net nets (edge_bit e.edge e.signal)
 

@@ -75,7 +75,7 @@ same_flag false b = not b
 
 abbrev pub same_signal : Signal → Signal → Bool
 same_signal s t =
-    same_name s.name t.name && (s.scope == t.scope) && (s.number == t.number) && same_flag s.net t.net && same_flag s.input t.input && same_range s.range t.range && same_flag s.signed t.signed && (s.first == t.first) && same_range s.words t.words
+    same_name s.name t.name && (s.scope == t.scope) && (s.number == t.number) && same_flag s.net t.net && same_flag s.input t.input && same_range s.range t.range && same_flag s.signed t.signed && (s.first == t.first) && same_range s.words t.words && same_flag s.integer t.integer
 
 abbrev pub is_this : Signal → Option Signal → Bool
 is_this s (Some t) = same_signal s t

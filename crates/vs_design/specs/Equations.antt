@@ -37,9 +37,9 @@ pub record IsOrderly (d : Design) : Type 0 where
   pub no_latch : list_all (λ p. is_empty (latches p)) d.processes ≡ true
   pub one_driver : is_empty (shared_bits d) ≡ true
 
-pub record IsSolved (d : Design) (clock : ℕ) (f : Families) : Type 0 where
+pub record IsSolved (d : Design) (clocks : List ℕ) (f : Families) : Type 0 where
   -- sources have their own sets
-  pub source : (b : ℕ) → IsSource d b → (f.early b ≡ early_source d b) × (f.late b ≡ late_source d clock b)
+  pub source : (b : ℕ) → IsSource d b → (f.early b ≡ early_source d b) × (f.late b ≡ late_source d clocks b)
   -- an assign's bits have the lifted value in both
   pub assign : (p place : ℕ) (port : Port) (target_place : ℕ) (target : Target) (e : Expression) → slice_get d.processes p ≡ Some (Continuous place port target_place target e)
       → (b : ℕ) → contains (target_bits target) b ≡ true → (f.early b ≡ assign_sets target e f.early b) × (f.late b ≡ assign_sets target e f.late b)

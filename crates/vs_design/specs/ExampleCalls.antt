@@ -20,7 +20,7 @@ use Rattle.vs_design.specs.ExampleValues.{all_unknown}
 -- ---- local signals by number and first bit; a function's result and its own variables are as variables of the top
 
 abbrev pub local_input : List ℕ → ℕ → Option Range → ℕ → Signal
-local_input name number range first = record { name = name; scope = 0; number = number; net = false; input = true; range = range; signed = false; first = first; words = None }
+local_input name number range first = record { name = name; scope = 0; number = number; net = false; input = true; range = range; signed = false; first = first; words = None; integer = false }
 
 abbrev pub function_of : ℕ → List Signal → Signal → List Signal → Statement → Function
 function_of place inputs result own statement = record { header = record { place = place; inputs = inputs; result = result; own = own }; statement = statement }
@@ -92,10 +92,10 @@ coded = function_of 0 (s4 ∷ e1 ∷ []) coded4 (t2 ∷ [])
 -- ---- `function signed [3:0] same(input signed [3:0] n); same = n;`: its input and its result extend by their sign
 
 abbrev pub n4_signed : Signal
-n4_signed = record { name = codes "n"; scope = 0; number = 0; net = false; input = true; range = to_zero 3; signed = true; first = 0; words = None }
+n4_signed = record { name = codes "n"; scope = 0; number = 0; net = false; input = true; range = to_zero 3; signed = true; first = 0; words = None; integer = false }
 
 abbrev pub same4 : Signal
-same4 = record { name = codes "same"; scope = 0; number = 1; net = false; input = false; range = to_zero 3; signed = true; first = 4; words = None }
+same4 = record { name = codes "same"; scope = 0; number = 1; net = false; input = false; range = to_zero 3; signed = true; first = 4; words = None; integer = false }
 
 abbrev pub same : Function
 same = function_of 0 (n4_signed ∷ []) same4 [] (blocking 0 same4 (Name n4_signed))

@@ -1,6 +1,6 @@
 -- Worked designs: their sizes, that they are accepted, and the values at the end of each slot.
-use Rattle.std.specs.Prelude.{◌≡◌, ℕ, true, false, [], ◌∷◌, None, Some, codes, map, drop, replicate}
-use Rattle.vs_four.specs.declared.Bit4.TheVariants.{Zero, One, X}
+use Rattle.std.specs.Prelude.{◌≡◌, ℕ, true, false, List, [], ◌∷◌, None, Some, codes, map, drop, replicate}
+use Rattle.vs_four.specs.declared.Bit4.TheVariants.{Zero, One, X, Z}
 use Rattle.vs_four.specs.Selects.{one_bit}
 use Rattle.vs_design.specs.Expressions.{Signal, BitNot, LogicalNot, Add, Multiply, BitAnd, BitOr, BitXor, Name, Unary, Binary, Choice, At}
 use Rattle.vs_design.specs.Statements.{Whole, PartOf, Empty, If}
@@ -9,10 +9,11 @@ use Rattle.vs_design.specs.Footprints.{reads_of, writes_of}
 use Rattle.vs_design.specs.Sizes.{size}
 use Rattle.vs_design.specs.Levels.{level_order}
 use Rattle.vs_design.specs.Clocks.{clock_nets, root_of}
+use Rattle.vs_design.specs.Dead.{dead_nets, is_dead, without_dead}
 use Rattle.vs_design.specs.Sets.{only, union, known_set}
 use Rattle.vs_design.specs.TimeZero.{families}
 use Rattle.vs_design.specs.Accepted.{IsAcceptedDesign}
-use Rattle.vs_design.specs.ExampleParts.{input_of, wire_of, reg_of, range_of, to_zero, clk, clk_signal, dec, plain, bit, blocking, nonblocking, assign, on_posedge, on_star, top_scope, design_of, slot_ends, free_ends}
+use Rattle.vs_design.specs.ExampleParts.{input_of, wire_of, reg_of, range_of, to_zero, clk, clk_signal, dec, plain, bit, blocking, nonblocking, assign, on_posedge, on_star, top_scope, design_of, slot_ends_by, slot_ends, free_ends}
 
 -- inputs and registers of one bit that several examples have
 abbrev pub a1 : Signal
@@ -117,10 +118,10 @@ quiet = design_of (clk_signal ∷ d1 ∷ q2 ∷ y3 ∷ []) (on_posedge 60 clk_si
 
 -- `inv g(a, y);` of `module inv(input p, output q); assign q = ~p; endmodule`
 abbrev pub p3_inner : Signal
-p3_inner = record { name = codes "p"; scope = 1; number = 3; net = true; input = false; range = None; signed = false; first = 3; words = None }
+p3_inner = record { name = codes "p"; scope = 1; number = 3; net = true; input = false; range = None; signed = false; first = 3; words = None; integer = false }
 
 abbrev pub q4_inner : Signal
-q4_inner = record { name = codes "q"; scope = 1; number = 4; net = true; input = false; range = None; signed = false; first = 4; words = None }
+q4_inner = record { name = codes "q"; scope = 1; number = 4; net = true; input = false; range = None; signed = false; first = 4; words = None; integer = false }
 
 abbrev pub port : Design
 port = record {
@@ -133,13 +134,13 @@ port = record {
 
 -- `reg1 r((clk), d, y);` of `module reg1(input c, input d, output reg q); always @(posedge c) q <= d; endmodule`: its net c is a clock net
 abbrev pub c3_inner : Signal
-c3_inner = record { name = codes "c"; scope = 1; number = 3; net = true; input = false; range = None; signed = false; first = 3; words = None }
+c3_inner = record { name = codes "c"; scope = 1; number = 3; net = true; input = false; range = None; signed = false; first = 3; words = None; integer = false }
 
 abbrev pub d4_inner : Signal
-d4_inner = record { name = codes "d"; scope = 1; number = 4; net = true; input = false; range = None; signed = false; first = 4; words = None }
+d4_inner = record { name = codes "d"; scope = 1; number = 4; net = true; input = false; range = None; signed = false; first = 4; words = None; integer = false }
 
 abbrev pub q5_inner : Signal
-q5_inner = record { name = codes "q"; scope = 1; number = 5; net = false; input = false; range = None; signed = false; first = 5; words = None }
+q5_inner = record { name = codes "q"; scope = 1; number = 5; net = false; input = false; range = None; signed = false; first = 5; words = None; integer = false }
 
 abbrev pub clocked_instance : Design
 clocked_instance = record {
@@ -224,16 +225,16 @@ abbrev pub y3_output : Signal
 y3_output = wire_of (codes "y") 3 None 3
 
 abbrev pub c4_leaf : Signal
-c4_leaf = record { name = codes "clk"; scope = 1; number = 4; net = true; input = false; range = None; signed = false; first = 4; words = None }
+c4_leaf = record { name = codes "clk"; scope = 1; number = 4; net = true; input = false; range = None; signed = false; first = 4; words = None; integer = false }
 
 abbrev pub r5_leaf : Signal
-r5_leaf = record { name = codes "r"; scope = 1; number = 5; net = true; input = false; range = None; signed = false; first = 5; words = None }
+r5_leaf = record { name = codes "r"; scope = 1; number = 5; net = true; input = false; range = None; signed = false; first = 5; words = None; integer = false }
 
 abbrev pub d6_leaf : Signal
-d6_leaf = record { name = codes "d"; scope = 1; number = 6; net = true; input = false; range = None; signed = false; first = 6; words = None }
+d6_leaf = record { name = codes "d"; scope = 1; number = 6; net = true; input = false; range = None; signed = false; first = 6; words = None; integer = false }
 
 abbrev pub q7_leaf : Signal
-q7_leaf = record { name = codes "q"; scope = 1; number = 7; net = false; input = false; range = None; signed = false; first = 7; words = None }
+q7_leaf = record { name = codes "q"; scope = 1; number = 7; net = false; input = false; range = None; signed = false; first = 7; words = None; integer = false }
 
 abbrev pub reset_through_port : Design
 reset_through_port = record {
@@ -268,10 +269,95 @@ reset_alias = design_of (clk_signal ∷ r1 ∷ d2_input ∷ q3_register ∷ c4_n
     (assign 69 (Whole e5_net) (Name c4_net) ∷ assign 83 (Whole c4_net) (Name clk_signal) ∷ assign 99 (Whole s6_net) (Name r1)
     ∷ Always 113 false (record { signal = e5_net; edge = Posedge } ∷ record { signal = s6_net; edge = Posedge } ∷ []) (If (Name s6_net) (nonblocking 153 q3_register (dec 1 0)) (nonblocking 169 q3_register (Name d2_input))) ∷ [])
 
+-- `module top(input c, input e, input d, output reg p, output reg q); always @(posedge c) p <= d; always @(posedge e) q <= p; endmodule`, whose clocks are c and e
+abbrev pub c0 : Signal
+c0 = input_of (codes "c") 0 None 0
+
+abbrev pub p3 : Signal
+p3 = reg_of (codes "p") 3 None 3
+
+abbrev pub q4 : Signal
+q4 = reg_of (codes "q") 4 None 4
+
+abbrev pub two_clocks : Design
+two_clocks = design_of (c0 ∷ e1 ∷ d2_input ∷ p3 ∷ q4 ∷ []) (on_posedge 67 c0 (nonblocking 87 p3 (Name d2_input)) ∷ on_posedge 95 e1 (nonblocking 115 q4 (Name p3)) ∷ [])
+
+-- the names of both
+abbrev pub c_and_e : List (List ℕ)
+c_and_e = codes "c" ∷ codes "e" ∷ []
+
+-- `module top(input a, output reg q); wire c; always @(posedge c) q <= a; endmodule`: nothing drives c, so its block never runs
+abbrev pub c2_net : Signal
+c2_net = wire_of (codes "c") 2 None 2
+
+abbrev pub dead_clock : Design
+dead_clock = design_of (a0 ∷ q1 ∷ c2_net ∷ []) (on_posedge 43 c2_net (nonblocking 63 q1 (Name a0)) ∷ [])
+
+-- without it
+abbrev pub dead_clock_left : Design
+dead_clock_left = design_of (a0 ∷ q1 ∷ c2_net ∷ []) (on_star 43 Empty ∷ [])
+
+-- `wire n; reg1 r(n, d, y);` of the module `reg1` of above: its net c copies n, which nothing drives
+abbrev pub n3_net : Signal
+n3_net = wire_of (codes "n") 3 None 3
+
+abbrev pub c4_instance : Signal
+c4_instance = record { name = codes "c"; scope = 1; number = 4; net = true; input = false; range = None; signed = false; first = 4; words = None; integer = false }
+
+abbrev pub d5_instance : Signal
+d5_instance = record { name = codes "d"; scope = 1; number = 5; net = true; input = false; range = None; signed = false; first = 5; words = None; integer = false }
+
+abbrev pub q6_instance : Signal
+q6_instance = record { name = codes "q"; scope = 1; number = 6; net = false; input = false; range = None; signed = false; first = 6; words = None; integer = false }
+
+abbrev pub dead_instance : Design
+dead_instance = record {
+  scopes = top_scope ∷ record { name = codes "r"; parent = Some 0; instance = true } ∷ [];
+  signals = clk_signal ∷ d1 ∷ y2_net ∷ n3_net ∷ c4_instance ∷ d5_instance ∷ q6_instance ∷ [];
+  processes = Continuous 130 InputPort 130 (Whole c4_instance) (Name n3_net) ∷ Continuous 130 InputPort 130 (Whole d5_instance) (Name d1) ∷ Continuous 130 OutputPort 145 (Whole y2_net) (Name q6_instance) ∷ on_posedge 47 c4_instance (nonblocking 67 q6_instance (Name d5_instance)) ∷ [];
+  initials = [];
+  functions = [];
+}
+
+-- `wire c, d; assign d = c; always @(posedge c or negedge e) q <= a; always @(posedge d) p <= a; always @(posedge r) s <= a;`: of the nets c, d and e, and of the variable r, c and e are dead
+abbrev pub d3_net : Signal
+d3_net = wire_of (codes "d") 3 None 3
+
+abbrev pub e4_net : Signal
+e4_net = wire_of (codes "e") 4 None 4
+
+abbrev pub p5 : Signal
+p5 = reg_of (codes "p") 5 None 5
+
+abbrev pub r6 : Signal
+r6 = reg_of (codes "r") 6 None 6
+
+abbrev pub s7 : Signal
+s7 = reg_of (codes "s") 7 None 7
+
+abbrev pub half_dead : Design
+half_dead = design_of (a0 ∷ q1 ∷ c2_net ∷ d3_net ∷ e4_net ∷ p5 ∷ r6 ∷ s7 ∷ [])
+    (assign 60 (Whole d3_net) (Name c2_net)
+    ∷ Always 70 false (record { signal = c2_net; edge = Posedge } ∷ record { signal = e4_net; edge = Negedge } ∷ []) (nonblocking 100 q1 (Name a0))
+    ∷ on_posedge 110 d3_net (nonblocking 130 p5 (Name a0)) ∷ on_posedge 140 r6 (nonblocking 160 s7 (Name a0)) ∷ [])
+
 pub record DesignsComputed : Type 0 where
+  -- nothing drives the clock of the block: bits a, q, c. It is left out, and its register stays x
+  pub dead_clock_size : size dead_clock ≡ 4
+  pub dead_clock_nets : dead_nets dead_clock ≡ 2 ∷ []
+  pub dead_clock_without : without_dead dead_clock ≡ dead_clock_left
+  pub dead_clock_accepted : IsAcceptedDesign dead_clock_left []
+  pub dead_clock_ends : free_ends dead_clock_left (One ∷ []) ((Zero ∷ []) ∷ []) ≡
+      ((One ∷ X ∷ Z ∷ []) ∷ (One ∷ X ∷ Z ∷ []) ∷ (Zero ∷ X ∷ Z ∷ []) ∷ (Zero ∷ X ∷ Z ∷ []) ∷ [])
+  -- through a port
+  pub dead_instance_nets : dead_nets dead_instance ≡ 3 ∷ 4 ∷ []
+  pub dead_instance_blocks : map (is_dead (dead_nets dead_instance)) dead_instance.processes ≡ false ∷ false ∷ false ∷ true ∷ []
+  -- all events are edges of dead nets, and a dead net is no variable and no copy by a written assign
+  pub half_dead_nets : dead_nets half_dead ≡ 2 ∷ 4 ∷ []
+  pub half_dead_blocks : map (is_dead (dead_nets half_dead)) half_dead.processes ≡ false ∷ true ∷ false ∷ false ∷ []
   -- a reset by a falling edge, through a port: bits clk, r, d, y of the top, clk, r, d and q within it
   pub reset_through_port_accepted : IsAcceptedDesign reset_through_port clk
-  pub reset_through_port_late : (families reset_through_port 0 (level_order reset_through_port)).late 7 ≡ union (only One) (only X)
+  pub reset_through_port_late : (families reset_through_port (0 ∷ []) (level_order reset_through_port)).late 7 ≡ union (only One) (only X)
   pub reset_through_port_ends : map (drop 3) (slot_ends reset_through_port (Zero ∷ One ∷ Zero ∷ []) ((Zero ∷ Zero ∷ Zero ∷ []) ∷ [])) ≡
       ((X ∷ Zero ∷ One ∷ Zero ∷ X ∷ []) ∷ (Zero ∷ One ∷ One ∷ Zero ∷ Zero ∷ []) ∷ (One ∷ Zero ∷ Zero ∷ Zero ∷ One ∷ []) ∷ (One ∷ One ∷ Zero ∷ Zero ∷ One ∷ []) ∷ [])
   -- a block that sleeps until the register is known: bits clk, e, d, q, y
@@ -297,11 +383,11 @@ pub record DesignsComputed : Type 0 where
       ((Zero ∷ One ∷ Zero ∷ Zero ∷ []) ∷ (One ∷ One ∷ Zero ∷ Zero ∷ []) ∷ (Zero ∷ One ∷ One ∷ One ∷ []) ∷ (One ∷ One ∷ One ∷ One ∷ []) ∷ [])
   -- the same without a clock: bits a, b, y. No clock is named, and both inputs are data
   pub free_gate_size : size free_gate ≡ 4
-  pub free_gate_accepted : IsAcceptedDesign free_gate None
+  pub free_gate_accepted : IsAcceptedDesign free_gate []
   pub free_gate_ends : free_ends free_gate (One ∷ Zero ∷ []) ((One ∷ One ∷ []) ∷ []) ≡
       ((One ∷ Zero ∷ Zero ∷ []) ∷ (One ∷ Zero ∷ Zero ∷ []) ∷ (One ∷ One ∷ One ∷ []) ∷ (One ∷ One ∷ One ∷ []) ∷ [])
   -- an input `clk` that nothing reads may stand there and be data
-  pub and_gate_free : IsAcceptedDesign and_gate None
+  pub and_gate_free : IsAcceptedDesign and_gate []
   -- a counter that `rst` clears: bits clk, rst and the four of q
   pub counter_size : size counter ≡ 39
   pub counter_accepted : IsAcceptedDesign counter clk
@@ -354,20 +440,26 @@ pub record DesignsComputed : Type 0 where
   -- a register in an instance, on a clock net of its own: bits clk, d, y of the top, c, d and q within it
   pub clocked_instance_size : size clocked_instance ≡ 8
   pub clocked_instance_accepted : IsAcceptedDesign clocked_instance clk
-  pub clocked_instance_nets : clock_nets clocked_instance 0 ≡ 0 ∷ 3 ∷ []
+  pub clocked_instance_nets : clock_nets clocked_instance (0 ∷ []) ≡ 0 ∷ 3 ∷ []
   pub clocked_instance_ends : slot_ends clocked_instance (Zero ∷ One ∷ []) ((Zero ∷ Zero ∷ []) ∷ []) ≡
       ((Zero ∷ One ∷ X ∷ Zero ∷ One ∷ X ∷ []) ∷ (One ∷ One ∷ One ∷ One ∷ One ∷ One ∷ []) ∷ (Zero ∷ Zero ∷ One ∷ Zero ∷ Zero ∷ One ∷ []) ∷ (One ∷ Zero ∷ Zero ∷ One ∷ Zero ∷ Zero ∷ []) ∷ [])
   -- a register on an assign's copy of the clock: bits clk, d, q, c
   pub clock_alias_size : size clock_alias ≡ 6
   pub clock_alias_accepted : IsAcceptedDesign clock_alias clk
-  pub clock_alias_nets : clock_nets clock_alias 0 ≡ 0 ∷ 3 ∷ []
+  pub clock_alias_nets : clock_nets clock_alias (0 ∷ []) ≡ 0 ∷ 3 ∷ []
   pub clock_alias_ends : slot_ends clock_alias (Zero ∷ One ∷ []) ((Zero ∷ Zero ∷ []) ∷ []) ≡
       ((Zero ∷ One ∷ X ∷ Zero ∷ []) ∷ (One ∷ One ∷ One ∷ One ∷ []) ∷ (Zero ∷ Zero ∷ One ∷ Zero ∷ []) ∷ (One ∷ Zero ∷ Zero ∷ One ∷ []) ∷ [])
+  -- two clocks in step, where q takes what p was: bits c, e, d, p, q
+  pub two_clocks_size : size two_clocks ≡ 9
+  pub two_clocks_accepted : IsAcceptedDesign two_clocks c_and_e
+  pub two_clocks_nets : clock_nets two_clocks (0 ∷ 1 ∷ []) ≡ 0 ∷ 1 ∷ []
+  pub two_clocks_ends : slot_ends_by two_clocks (0 ∷ 1 ∷ []) (Zero ∷ Zero ∷ One ∷ []) ((Zero ∷ Zero ∷ Zero ∷ []) ∷ []) ≡
+      ((Zero ∷ Zero ∷ One ∷ X ∷ X ∷ []) ∷ (One ∷ One ∷ One ∷ One ∷ X ∷ []) ∷ (Zero ∷ Zero ∷ Zero ∷ One ∷ X ∷ []) ∷ (One ∷ One ∷ Zero ∷ Zero ∷ One ∷ []) ∷ [])
   -- copies of a copy, and of a reset: bits clk, r, d, q, c, e, s
   pub reset_alias_size : size reset_alias ≡ 12
   pub reset_alias_accepted : IsAcceptedDesign reset_alias clk
-  pub reset_alias_nets : clock_nets reset_alias 0 ≡ 0 ∷ 5 ∷ 4 ∷ []
-  pub reset_alias_root : root_of reset_alias 0 6 ≡ Some 1
+  pub reset_alias_nets : clock_nets reset_alias (0 ∷ []) ≡ 0 ∷ 5 ∷ 4 ∷ []
+  pub reset_alias_root : root_of reset_alias (0 ∷ []) 6 ≡ Some 1
   pub reset_alias_ends : slot_ends reset_alias (Zero ∷ Zero ∷ One ∷ []) ((Zero ∷ One ∷ One ∷ []) ∷ (Zero ∷ Zero ∷ One ∷ []) ∷ []) ≡
       ((Zero ∷ Zero ∷ One ∷ X ∷ Zero ∷ Zero ∷ Zero ∷ []) ∷ (One ∷ Zero ∷ One ∷ One ∷ One ∷ One ∷ Zero ∷ []) ∷ (Zero ∷ One ∷ One ∷ Zero ∷ Zero ∷ Zero ∷ One ∷ []) ∷ (One ∷ One ∷ One ∷ Zero ∷ One ∷ One ∷ One ∷ []) ∷ (Zero ∷ Zero ∷ One ∷ Zero ∷ Zero ∷ Zero ∷ Zero ∷ []) ∷ (One ∷ Zero ∷ One ∷ One ∷ One ∷ One ∷ Zero ∷ []) ∷ [])
   -- an x bit of one operand makes the whole sum x, and a known vector gives the sum: bits clk, a, b, y
@@ -376,8 +468,8 @@ pub record DesignsComputed : Type 0 where
   pub sum_ends : slot_ends sum (Zero ∷ Zero ∷ Zero ∷ Zero ∷ Zero ∷ One ∷ Zero ∷ Zero ∷ Zero ∷ []) ((Zero ∷ One ∷ Zero ∷ X ∷ Zero ∷ One ∷ Zero ∷ Zero ∷ Zero ∷ []) ∷ (Zero ∷ One ∷ Zero ∷ One ∷ Zero ∷ One ∷ Zero ∷ Zero ∷ Zero ∷ []) ∷ []) ≡
       ((Zero ∷ Zero ∷ Zero ∷ Zero ∷ Zero ∷ One ∷ Zero ∷ Zero ∷ Zero ∷ One ∷ Zero ∷ Zero ∷ Zero ∷ []) ∷ (One ∷ Zero ∷ Zero ∷ Zero ∷ Zero ∷ One ∷ Zero ∷ Zero ∷ Zero ∷ One ∷ Zero ∷ Zero ∷ Zero ∷ []) ∷ (Zero ∷ One ∷ Zero ∷ X ∷ Zero ∷ One ∷ Zero ∷ Zero ∷ Zero ∷ X ∷ X ∷ X ∷ X ∷ []) ∷ (One ∷ One ∷ Zero ∷ X ∷ Zero ∷ One ∷ Zero ∷ Zero ∷ Zero ∷ X ∷ X ∷ X ∷ X ∷ []) ∷ (Zero ∷ One ∷ Zero ∷ One ∷ Zero ∷ One ∷ Zero ∷ Zero ∷ Zero ∷ Zero ∷ One ∷ One ∷ Zero ∷ []) ∷ (One ∷ One ∷ Zero ∷ One ∷ Zero ∷ One ∷ Zero ∷ Zero ∷ Zero ∷ Zero ∷ One ∷ One ∷ Zero ∷ []) ∷ [])
   -- sets at time zero: a register that a quiet block reads, and what the block writes; a net that is 0
-  pub quiet_register : (families quiet 0 (level_order quiet)).early 2 ≡ only X
-  pub quiet_block : (families quiet 0 (level_order quiet)).early 3 ≡ only X
-  pub woken_input : (families woken 0 (level_order woken)).late 1 ≡ known_set
-  pub woken_net : (families woken 0 (level_order woken)).early 3 ≡ only Zero
+  pub quiet_register : (families quiet (0 ∷ []) (level_order quiet)).early 2 ≡ only X
+  pub quiet_block : (families quiet (0 ∷ []) (level_order quiet)).early 3 ≡ only X
+  pub woken_input : (families woken (0 ∷ []) (level_order woken)).late 1 ≡ known_set
+  pub woken_net : (families woken (0 ∷ []) (level_order woken)).early 3 ≡ only Zero
   pub product_ends : map (drop 129) (slot_ends product (Zero ∷ replicate 128 One) []) ≡ (One ∷ replicate 63 Zero) ∷ (One ∷ replicate 63 Zero) ∷ []

@@ -28,7 +28,7 @@ with_initials d is = record d { initials = is }
 -- all bits at the end of each slot, where the initial processes run in this order
 abbrev pub slot_ends_in : Design → List Initial → BitList → List BitList → List BitList
 slot_ends_in d order v vs =
-    let n = network_in d 0 order in
+    let n = network_in d (0 ∷ []) order in
     let q = start n n.idle (vector v) (map vector vs) in
     map (λ s. read s (count_from 0 (bit_count d))) (ends n q (level_run n (level_order d) q))
 
@@ -132,7 +132,7 @@ pub record InitialsComputed : Type 0 where
   pub set_late_ends : slot_ends set_late (Zero ∷ []) ((Zero ∷ []) ∷ []) ≡ ((Zero ∷ One ∷ []) ∷ (One ∷ Zero ∷ []) ∷ (Zero ∷ Zero ∷ []) ∷ (One ∷ One ∷ []) ∷ [])
   -- a variable that nothing else writes keeps its value: bits clk, a, k, y
   pub constant_bits : sole_bits constant ≡ 2 ∷ []
-  pub constant_early : (families constant 0 (level_order constant)).early 2 ≡ only One
+  pub constant_early : (families constant (0 ∷ []) (level_order constant)).early 2 ≡ only One
   pub constant_accepted : IsAcceptedDesign constant clk
   pub constant_ends : slot_ends constant (Zero ∷ One ∷ []) ((Zero ∷ Zero ∷ []) ∷ []) ≡
       ((Zero ∷ One ∷ One ∷ One ∷ []) ∷ (One ∷ One ∷ One ∷ One ∷ []) ∷ (Zero ∷ Zero ∷ One ∷ Zero ∷ []) ∷ (One ∷ Zero ∷ One ∷ Zero ∷ []) ∷ [])

@@ -70,9 +70,9 @@ after_clock ends = map (drop 6) ends
 -- one word at the end of each slot, by `word`
 abbrev pub word_ends : Design → Signal → ℕ → BitList → List BitList → List BitList
 word_ends d s k v vs =
-    let n = network_of d 0 in
+    let n = network_of d (0 ∷ []) in
     let q = start n n.idle (vector v) (map vector vs) in
-    word d 0 s k n.idle (slots_of (vector v ∷ map vector vs)) (ends n q (level_run n (level_order d) q))
+    word d (0 ∷ []) s k n.idle (slots_of (vector v ∷ map vector vs)) (ends n q (level_run n (level_order d) q))
 
 -- ---- addresses from 2 to 5, of signed words; and the index of three bits
 

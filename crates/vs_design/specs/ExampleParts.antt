@@ -18,13 +18,13 @@ use Rattle.vs_design.specs.Networks.{network_of}
 -- ---- signals of the top, by number and first bit
 
 abbrev pub input_of : List ℕ → ℕ → Option Range → ℕ → Signal
-input_of name number range first = record { name = name; scope = 0; number = number; net = true; input = true; range = range; signed = false; first = first; words = None }
+input_of name number range first = record { name = name; scope = 0; number = number; net = true; input = true; range = range; signed = false; first = first; words = None; integer = false }
 
 abbrev pub wire_of : List ℕ → ℕ → Option Range → ℕ → Signal
-wire_of name number range first = record { name = name; scope = 0; number = number; net = true; input = false; range = range; signed = false; first = first; words = None }
+wire_of name number range first = record { name = name; scope = 0; number = number; net = true; input = false; range = range; signed = false; first = first; words = None; integer = false }
 
 abbrev pub reg_of : List ℕ → ℕ → Option Range → ℕ → Signal
-reg_of name number range first = record { name = name; scope = 0; number = number; net = false; input = false; range = range; signed = false; first = first; words = None }
+reg_of name number range first = record { name = name; scope = 0; number = number; net = false; input = false; range = range; signed = false; first = first; words = None; integer = false }
 
 -- `[left:right]`
 abbrev pub range_of : ℕ → ℕ → Range
@@ -34,8 +34,8 @@ abbrev pub to_zero : ℕ → Option Range
 to_zero left = Some (range_of left 0)
 
 -- the clock is the first input, of bit 0, where the design has one
-abbrev pub clk : Option (List ℕ)
-clk = Some (codes "clk")
+abbrev pub clk : List (List ℕ)
+clk = codes "clk" ∷ []
 
 abbrev pub clk_signal : Signal
 clk_signal = input_of (codes "clk") 0 None 0
@@ -97,16 +97,16 @@ design_of signals processes = record { scopes = top_scope ∷ []; signals = sign
 abbrev pub vector : BitList → State
 vector bits b = get_or bits b X
 
--- all bits by number at the end of each slot, from an event queue's run in level order, with the clock of this bit
-abbrev pub slot_ends_by : Design → ℕ → BitList → List BitList → List BitList
-slot_ends_by d clock v vs =
-    let n = network_of d clock in
+-- all bits by number at the end of each slot, from an event queue's run in level order, with the clocks of these bits
+abbrev pub slot_ends_by : Design → List ℕ → BitList → List BitList → List BitList
+slot_ends_by d clocks v vs =
+    let n = network_of d clocks in
     let q = start n n.idle (vector v) (map vector vs) in
     map (λ s. read s (count_from 0 (bit_count d))) (ends n q (level_run n (level_order d) q))
 
 abbrev pub slot_ends : Design → BitList → List BitList → List BitList
-slot_ends d v vs = slot_ends_by d 0 v vs
+slot_ends d v vs = slot_ends_by d (0 ∷ []) v vs
 
 -- without a clock
 abbrev pub free_ends : Design → BitList → List BitList → List BitList
-free_ends d v vs = slot_ends_by d (bit_count d) v vs
+free_ends d v vs = slot_ends_by d (bit_count d ∷ []) v vs

@@ -8,7 +8,7 @@ use Rattle.vs_design.specs.Levels.{has_no_cycle}
 use Rattle.vs_design.specs.Cycles.{IsCycle}
 use Rattle.vs_design.specs.Refusals.{TooWide, Division, TooLarge, width_refusal, MixedAssign, Sensitivity, Latch, block_refusal, TwoDrivers, driver_refusal, NoClock, ClockRead, NotTheClock, ResetForm, clock_refusal, TimeZero, zero_refusal, IsUnrefused}
 use Rattle.vs_design.specs.ExampleParts.{input_of, wire_of, reg_of, clk, clk_signal, dec, blocking, nonblocking, assign, on_posedge, on_star, design_of}
-use Rattle.vs_design.specs.ExampleDesigns.{a1, d1, b2, y2, y2_net, y3, q2, and_gate, counter, a64, b64, y64}
+use Rattle.vs_design.specs.ExampleDesigns.{a1, d1, b2, y2, y2_net, y3, q2, and_gate, counter, c0, e1, p3, q4, d2_input, two_clocks, c_and_e, a64, b64, y64}
 
 abbrev pub y1 : Signal
 y1 = reg_of (codes "y") 1 None 1
@@ -65,6 +65,10 @@ gated = design_of (clk_signal ∷ en1 ∷ d2 ∷ q3 ∷ c4_net ∷ []) (assign 6
 
 abbrev pub other_clock : Design
 other_clock = design_of (clk_signal ∷ en1 ∷ d2 ∷ q3 ∷ c4_net ∷ []) (assign 65 (Whole c4_net) (Name en1) ∷ on_posedge 87 c4_net (nonblocking 108 q3 (Name d2)) ∷ [])
+
+-- `always @(posedge c) p <= d; always @(posedge c) q <= e;`
+abbrev pub clock_value_read : Design
+clock_value_read = design_of (c0 ∷ e1 ∷ d2_input ∷ p3 ∷ q4 ∷ []) (on_posedge 67 c0 (nonblocking 87 p3 (Name d2_input)) ∷ on_posedge 95 c0 (nonblocking 115 q4 (Name e1)) ∷ [])
 
 -- a register that reads a copy of the clock
 abbrev pub alias_read : Design
@@ -145,9 +149,17 @@ pub record RefusalsComputed : Type 0 where
   pub joined_alias_refused : clock_refusal joined_alias clk ≡ Some (ClockRead 0 65)
   -- a clocked block on another net
   pub other_clock_refused : clock_refusal other_clock clk ≡ Some (NotTheClock 1 87)
-  pub no_clock_refused : clock_refusal gated (Some (codes "clock")) ≡ Some NoClock
+  pub no_clock_refused : clock_refusal gated (codes "clock" ∷ []) ≡ Some NoClock
+  -- of two clocks neither is a value; where one of them isn't named it is one
+  pub clock_value_refused : clock_refusal clock_value_read c_and_e ≡ Some (ClockRead 1 95)
+  pub clock_value_passes : clock_refusal clock_value_read (codes "c" ∷ []) ≡ None
+  -- and a clocked block on it is on another net
+  pub unnamed_clock_refused : clock_refusal two_clocks (codes "c" ∷ []) ≡ Some (NotTheClock 1 95)
+  -- each name is a one-bit input's, and none is there twice
+  pub no_second_clock_refused : clock_refusal two_clocks (codes "c" ∷ codes "p" ∷ []) ≡ Some NoClock
+  pub clock_twice_refused : clock_refusal two_clocks (codes "c" ∷ codes "e" ∷ codes "c" ∷ []) ≡ Some NoClock
   -- without a clock a clocked block is on none
-  pub free_counter_refused : clock_refusal counter None ≡ Some (NotTheClock 0 54)
+  pub free_counter_refused : clock_refusal counter [] ≡ Some (NotTheClock 0 54)
   -- `assign y = {a, 1'b0};` with an a of 64 bits
   pub too_wide_refused : width_refusal too_wide ≡ Some (TooWide 60)
   -- a division stands within the brackets round it: in `((a / b))` at 60 it is at 62

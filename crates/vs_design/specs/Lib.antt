@@ -11,6 +11,7 @@ pub mod Latches
 pub mod Paths
 pub mod Rules
 pub mod Clocks
+pub mod Dead
 pub mod Levels
 pub mod Races
 pub mod Sets
@@ -33,6 +34,7 @@ pub mod Sleepers
 pub mod Bounds
 pub mod Answers
 pub mod SlotValues
+pub mod DeadLaws
 pub mod Memories
 pub mod TreeLaws
 pub mod Laws

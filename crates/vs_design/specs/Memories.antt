@@ -16,6 +16,7 @@ use Rattle.vs_design.specs.Designs.{Process, Continuous, Always, is_clocked, Des
 use Rattle.vs_design.specs.Footprints.{is_memory}
 use Rattle.vs_design.specs.Resets.{reset_of}
 use Rattle.vs_design.specs.Initials.{start_value}
+use Rattle.vs_design.specs.Clocks.{clock_bits}
 use Rattle.vs_design.specs.Networks.{network_of}
 use Rattle.vs_design.specs.Accepted.{IsAcceptedDesign}
 
@@ -32,14 +33,14 @@ abbrev pub effects_if : Bool → Option N.Reset → Statement → Slot → State
 effects_if true reset st slot before = block_effects reset st slot before
 effects_if false reset st slot before = []
 
-abbrev pub process_effects : Design → ℕ → Slot → State → Process → List Update
-process_effects d clock slot before (Continuous place port target_place target e) = []
-process_effects d clock slot before (Always place star events st) = effects_if (is_clocked (Always place star events st)) (reset_of d clock (Always place star events st)) st slot before
+abbrev pub process_effects : Design → List ℕ → Slot → State → Process → List Update
+process_effects d clocks slot before (Continuous place port target_place target e) = []
+process_effects d clocks slot before (Always place star events st) = effects_if (is_clocked (Always place star events st)) (reset_of d clocks (Always place star events st)) st slot before
 
 -- that of all clocked blocks, by number
-abbrev pub slot_effects : Design → ℕ → Slot → State → List Process → List Update
-slot_effects d clock slot before [] = []
-slot_effects d clock slot before (p ∷ ps) = process_effects d clock slot before p ++ slot_effects d clock slot before ps
+abbrev pub slot_effects : Design → List ℕ → Slot → State → List Process → List Update
+slot_effects d clocks slot before [] = []
+slot_effects d clocks slot before (p ∷ ps) = process_effects d clocks slot before p ++ slot_effects d clocks slot before ps
 
 -- the last value that one of these, each what a run writes at once or an update, gives the word of these bits, else the value that it had
 abbrev pub word_after : List Update → List ℕ → BitList → BitList
@@ -47,16 +48,16 @@ word_after [] bits v = v
 word_after (u ∷ us) bits v = word_after us bits (if list_all (is_written u) bits then read (write_all (λ b. X) u) bits else v)
 
 -- slot by slot the last value that one has given the word of these bits, from this value on; the values at the end of each slot are those of xs
-abbrev pub word_along : Design → ℕ → List ℕ → BitList → State → List Slot → List State → List BitList
-word_along d clock bits v before [] xs = []
-word_along d clock bits v before (slot ∷ slots) [] = []
-word_along d clock bits v before (slot ∷ slots) (x ∷ xs) = let w = word_after (slot_effects d clock slot before d.processes) bits v in w ∷ word_along d clock bits w x slots xs
+abbrev pub word_along : Design → List ℕ → List ℕ → BitList → State → List Slot → List State → List BitList
+word_along d clocks bits v before [] xs = []
+word_along d clocks bits v before (slot ∷ slots) [] = []
+word_along d clocks bits v before (slot ∷ slots) (x ∷ xs) = let w = word_after (slot_effects d clocks slot before d.processes) bits v in w ∷ word_along d clocks bits w x slots xs
 
 -- a word has what initial processes leave in it, x where none does, until it is given a value, and then has the last one
-abbrev pub word : Design → ℕ → Signal → ℕ → State → List Slot → List State → List BitList
-word d clock s n before slots xs = word_along d clock (word_bits s n) (read (start_value d) (word_bits s n)) before slots xs
+abbrev pub word : Design → List ℕ → Signal → ℕ → State → List Slot → List State → List BitList
+word d clocks s n before slots xs = word_along d clocks (word_bits s n) (read (start_value d) (word_bits s n)) before slots xs
 
 -- in the solution of an accepted design each word of a memory is that at the end of each slot
 abbrev pub WordsAre : Type 0
-WordsAre = (d : Design) (name : Option (List ℕ)) (a : IsAcceptedDesign d name) → let n = network_of d a.clock.first in (slots : List Slot) (xs : List State) → IsSolution n (beginning n) slots xs
-    → (i : ℕ) (s : Signal) → slice_get d.signals i ≡ Some s → is_memory s ≡ true → (k : ℕ) → k < range_length (addresses s) → map (λ x. read x (word_bits s k)) xs ≡ word d a.clock.first s k (beginning n) slots xs
+WordsAre = (d : Design) (names : List (List ℕ)) (a : IsAcceptedDesign d names) → let n = network_of d (clock_bits a.clocks) in (slots : List Slot) (xs : List State) → IsSolution n (beginning n) slots xs
+    → (i : ℕ) (s : Signal) → slice_get d.signals i ≡ Some s → is_memory s ≡ true → (k : ℕ) → k < range_length (addresses s) → map (λ x. read x (word_bits s k)) xs ≡ word d (clock_bits a.clocks) s k (beginning n) slots xs

@@ -1,5 +1,5 @@
 -- What each refusal says of the design.
-use Rattle.std.specs.Prelude.{◌≡◌, ℕ, ◌≤◌, ◌<◌, Bool, true, false, not, ◌||◌, List, [], ◌∷◌, ◌++◌, ◌⊎◌, ◌↔◌, Option, Some, None, slice_get}
+use Rattle.std.specs.Prelude.{◌≡◌, ℕ, ◌≤◌, ◌<◌, Bool, true, false, not, ◌||◌, List, [], ◌∷◌, ◌++◌, ◌⊎◌, ◌↔◌, Some, None, slice_get}
 use Rattle.std.specs.List.{list_any, list_all}
 use Rattle.vs_design.specs.Expressions.{Signal}
 use Rattle.vs_design.specs.Values.{bits_of_signal}
@@ -10,7 +10,7 @@ use Rattle.vs_design.specs.Elaborated.{IsLawfulDesign}
 use Rattle.vs_design.specs.Sizes.{size}
 use Rattle.vs_design.specs.Rules.{function_latches, mixed_assigns, missing_bits, latches, shared_bits, drivers}
 use Rattle.vs_design.specs.Initials.{has_other_start, initial_bits, clashed_bits}
-use Rattle.vs_design.specs.Clocks.{clock_input, clock_nets, root_of, reads_clock, has_other_clock}
+use Rattle.vs_design.specs.Clocks.{clock_inputs, clock_bits, clock_nets, root_of, reads_clock, has_other_clock}
 use Rattle.vs_design.specs.Resets.{has_other_form}
 use Rattle.vs_design.specs.Levels.{level_order}
 use Rattle.vs_design.specs.Races.{race_bits}
@@ -91,21 +91,21 @@ IsDriverRefusal d (TwoWriters bit first second) = IsLeastOf (shared_bits d ++ cl
 abbrev pub DriverRefusalIs : Type 0
 DriverRefusalIs = (d : Design) (r : DriverRefusal) → driver_refusal d ≡ Some r → IsDriverRefusal d r
 
--- ---- the clock, and time zero
+-- ---- the clocks, and time zero
 
-abbrev pub IsClockRefusal : Design → Option (List ℕ) → ClockRefusal → Type 0
-IsClockRefusal d name NoClock = clock_input d name ≡ None
-IsClockRefusal d name (ClockRead p at) = (clock : Signal) × (clock_input d name ≡ Some clock) × ((process : Process) × IsFirstOf d (reads_clock (clock_nets d clock.first)) p process × (at ≡ process_place process))
-IsClockRefusal d name (NotTheClock p at) =
-    (clock : Signal) × (clock_input d name ≡ Some clock) × (list_any (reads_clock (clock_nets d clock.first)) d.processes ≡ false)
-    × ((process : Process) × IsFirstOf d (has_other_clock (clock_nets d clock.first) (root_of d clock.first)) p process × (at ≡ process_place process))
-IsClockRefusal d name (ResetForm p at) =
-    (clock : Signal) × (clock_input d name ≡ Some clock) × (list_any (reads_clock (clock_nets d clock.first)) d.processes ≡ false)
-    × (list_any (has_other_clock (clock_nets d clock.first) (root_of d clock.first)) d.processes ≡ false)
-    × ((process : Process) × IsFirstOf d (has_other_form (clock_nets d clock.first) (root_of d clock.first)) p process × (at ≡ process_place process))
+abbrev pub IsClockRefusal : Design → List (List ℕ) → ClockRefusal → Type 0
+IsClockRefusal d names NoClock = clock_inputs d names ≡ None
+IsClockRefusal d names (ClockRead p at) = (clocks : List Signal) × (clock_inputs d names ≡ Some clocks) × ((process : Process) × IsFirstOf d (reads_clock (clock_nets d (clock_bits clocks))) p process × (at ≡ process_place process))
+IsClockRefusal d names (NotTheClock p at) =
+    (clocks : List Signal) × (clock_inputs d names ≡ Some clocks) × (list_any (reads_clock (clock_nets d (clock_bits clocks))) d.processes ≡ false)
+    × ((process : Process) × IsFirstOf d (has_other_clock (clock_nets d (clock_bits clocks)) (root_of d (clock_bits clocks))) p process × (at ≡ process_place process))
+IsClockRefusal d names (ResetForm p at) =
+    (clocks : List Signal) × (clock_inputs d names ≡ Some clocks) × (list_any (reads_clock (clock_nets d (clock_bits clocks))) d.processes ≡ false)
+    × (list_any (has_other_clock (clock_nets d (clock_bits clocks)) (root_of d (clock_bits clocks))) d.processes ≡ false)
+    × ((process : Process) × IsFirstOf d (has_other_form (clock_nets d (clock_bits clocks)) (root_of d (clock_bits clocks))) p process × (at ≡ process_place process))
 
 abbrev pub ClockRefusalIs : Type 0
-ClockRefusalIs = (d : Design) (name : Option (List ℕ)) (r : ClockRefusal) → clock_refusal d name ≡ Some r → IsClockRefusal d name r
+ClockRefusalIs = (d : Design) (names : List (List ℕ)) (r : ClockRefusal) → clock_refusal d names ≡ Some r → IsClockRefusal d names r
 
 -- p is the process, b the least bit that it reads and another clocked block stirs, and no process before it reads such a bit
 abbrev pub IsRaceRefusal : Design → RaceRefusal → Type 0
@@ -116,8 +116,8 @@ IsRaceRefusal d (Race p bit at) =
 abbrev pub RaceRefusalIs : Type 0
 RaceRefusalIs = (d : Design) (r : RaceRefusal) → race_refusal d ≡ Some r → IsRaceRefusal d r
 
-abbrev pub IsZeroRefusal : Design → Option (List ℕ) → ZeroRefusal → Type 0
-IsZeroRefusal d name (TimeZero p at) = (clock : Signal) × (clock_input d name ≡ Some clock) × ((process : Process) × IsFirstOf d (is_uncertain d (families d clock.first (level_order d))) p process × (at ≡ process_place process))
+abbrev pub IsZeroRefusal : Design → List (List ℕ) → ZeroRefusal → Type 0
+IsZeroRefusal d names (TimeZero p at) = (clocks : List Signal) × (clock_inputs d names ≡ Some clocks) × ((process : Process) × IsFirstOf d (is_uncertain d (families d (clock_bits clocks) (level_order d))) p process × (at ≡ process_place process))
 
 abbrev pub ZeroRefusalIs : Type 0
-ZeroRefusalIs = (d : Design) (name : Option (List ℕ)) (r : ZeroRefusal) → zero_refusal d name ≡ Some r → IsZeroRefusal d name r
+ZeroRefusalIs = (d : Design) (names : List (List ℕ)) (r : ZeroRefusal) → zero_refusal d names ≡ Some r → IsZeroRefusal d names r

@@ -10,7 +10,7 @@ use Rattle.vs_design.specs.Fits.{is_division}
 use Rattle.vs_design.specs.Sizes.{awake_size, size}
 use Rattle.vs_design.specs.Rules.{function_latches, mixed_assigns, missing_bits, latches, driver, drivers, shared_bits}
 use Rattle.vs_design.specs.Initials.{has_other_start, initial_bits, clashed_bits}
-use Rattle.vs_design.specs.Clocks.{clock_input, clock_nets, root_of, reads_clock, has_other_clock}
+use Rattle.vs_design.specs.Clocks.{clock_inputs, clock_bits, clock_nets, root_of, reads_clock, has_other_clock}
 use Rattle.vs_design.specs.Resets.{has_other_form}
 use Rattle.vs_design.specs.Levels.{level_order, has_no_cycle}
 use Rattle.vs_design.specs.Races.{race_bits}
@@ -269,22 +269,22 @@ driver_refusal_at d b =
 abbrev pub driver_refusal : Design → Option DriverRefusal
 driver_refusal d = option_and_then (driver_refusal_at d) (least (shared_bits d ++ clashed_bits d))
 
--- ---- the clock, and time zero
+-- ---- the clocks, and time zero
 
 pub data ClockRefusal : Type 0 where
   NoClock : ClockRefusal
   ClockRead NotTheClock ResetForm : (process at : ℕ) → ClockRefusal
 
-abbrev pub clock_refusal_by : Design → Option Signal → Option ClockRefusal
+abbrev pub clock_refusal_by : Design → Option (List Signal) → Option ClockRefusal
 clock_refusal_by d None = Some NoClock
-clock_refusal_by d (Some clock) =
-    otherwise (first_found (λ p process. where_true (reads_clock (clock_nets d clock.first) process) (ClockRead p (process_place process))) 0 d.processes)
-    (otherwise (first_found (λ p process. where_true (has_other_clock (clock_nets d clock.first) (root_of d clock.first) process) (NotTheClock p (process_place process))) 0 d.processes)
-    (first_found (λ p process. where_true (has_other_form (clock_nets d clock.first) (root_of d clock.first) process) (ResetForm p (process_place process))) 0 d.processes))
+clock_refusal_by d (Some clocks) =
+    otherwise (first_found (λ p process. where_true (reads_clock (clock_nets d (clock_bits clocks)) process) (ClockRead p (process_place process))) 0 d.processes)
+    (otherwise (first_found (λ p process. where_true (has_other_clock (clock_nets d (clock_bits clocks)) (root_of d (clock_bits clocks)) process) (NotTheClock p (process_place process))) 0 d.processes)
+    (first_found (λ p process. where_true (has_other_form (clock_nets d (clock_bits clocks)) (root_of d (clock_bits clocks)) process) (ResetForm p (process_place process))) 0 d.processes))
 
 -- NoClock, then ClockRead, then NotTheClock, then ResetForm, each of the least process
-abbrev pub clock_refusal : Design → Option (List ℕ) → Option ClockRefusal
-clock_refusal d name = clock_refusal_by d (clock_input d name)
+abbrev pub clock_refusal : Design → List (List ℕ) → Option ClockRefusal
+clock_refusal d names = clock_refusal_by d (clock_inputs d names)
 
 pub data RaceRefusal : Type 0 where
   Race : (process bit at : ℕ) → RaceRefusal
@@ -299,22 +299,22 @@ race_refusal d = first_found (race_refusal_of d (level_order d)) 0 d.processes
 pub data ZeroRefusal : Type 0 where
   TimeZero : (process at : ℕ) → ZeroRefusal
 
-abbrev pub zero_refusal_by : Design → Option Signal → Option ZeroRefusal
+abbrev pub zero_refusal_by : Design → Option (List Signal) → Option ZeroRefusal
 zero_refusal_by d None = None
-zero_refusal_by d (Some clock) = first_found (λ p process. where_true (is_uncertain d (families d clock.first (level_order d)) process) (TimeZero p (process_place process))) 0 d.processes
+zero_refusal_by d (Some clocks) = first_found (λ p process. where_true (is_uncertain d (families d (clock_bits clocks) (level_order d)) process) (TimeZero p (process_place process))) 0 d.processes
 
 -- the least block that breaks TimeZero
-abbrev pub zero_refusal : Design → Option (List ℕ) → Option ZeroRefusal
-zero_refusal d name = zero_refusal_by d (clock_input d name)
+abbrev pub zero_refusal : Design → List (List ℕ) → Option ZeroRefusal
+zero_refusal d names = zero_refusal_by d (clock_inputs d names)
 
 -- ---- none
 
 -- nothing refuses the design
-pub record IsUnrefused (d : Design) (name : Option (List ℕ)) : Type 0 where
+pub record IsUnrefused (d : Design) (names : List (List ℕ)) : Type 0 where
   pub widths : width_refusal d ≡ None
   pub blocks : block_refusal d ≡ None
   pub drivers : driver_refusal d ≡ None
-  pub clocks : clock_refusal d name ≡ None
+  pub clocks : clock_refusal d names ≡ None
   pub no_cycle : has_no_cycle d ≡ true
   pub races : race_refusal d ≡ None
-  pub zero : zero_refusal d name ≡ None
+  pub zero : zero_refusal d names ≡ None

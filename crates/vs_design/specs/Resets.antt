@@ -119,9 +119,9 @@ abbrev pub reset_by : (ℕ → Option ℕ) → Option Events → Statement → O
 reset_by roots (Some (ByBoth clock reset)) s = reset_with reset (roots reset.signal.first) (reset_branch reset.edge reset.signal.first s)
 reset_by roots _ s = None
 
-abbrev pub reset_of : Design → ℕ → Process → Option N.Reset
-reset_of d clock (Always place star events s) = reset_by (root_of d clock) (events_of (clock_nets d clock) (root_of d clock) events) s
-reset_of d clock _ = None
+abbrev pub reset_of : Design → List ℕ → Process → Option N.Reset
+reset_of d clocks (Always place star events s) = reset_by (root_of d clocks) (events_of (clock_nets d clocks) (root_of d clocks) events) s
+reset_of d clocks _ = None
 
 -- the reset copies this input
 abbrev pub has_root : ℕ → Option N.Reset → Bool
@@ -129,14 +129,14 @@ has_root i None = false
 has_root i (Some r) = i == r.input
 
 -- the reset inputs, those at the root of the resets of blocks, each by its bit, in order of declaration
-abbrev pub reset_inputs : Design → ℕ → List ℕ
-reset_inputs d clock = filter (λ i. list_any (λ p. has_root i (reset_of d clock p)) d.processes) (one_bit_inputs d clock)
+abbrev pub reset_inputs : Design → List ℕ → List ℕ
+reset_inputs d clocks = filter (λ i. list_any (λ p. has_root i (reset_of d clocks p)) d.processes) (one_bit_inputs d clocks)
 
 -- the sets of a bit with the value that a reset gives it last
 abbrev pub with_reset : Option N.Reset → ℕ → Set4 → Set4
 with_reset None b sets = sets
 with_reset (Some r) b sets = if is_written (flatten (branch r)) b then union (only (write_all (λ c. X) (flatten (branch r)) b)) sets else sets
 
-abbrev pub with_resets : Design → ℕ → List Process → ℕ → Set4 → Set4
-with_resets d clock [] b sets = sets
-with_resets d clock (p ∷ ps) b sets = with_reset (reset_of d clock p) b (with_resets d clock ps b sets)
+abbrev pub with_resets : Design → List ℕ → List Process → ℕ → Set4 → Set4
+with_resets d clocks [] b sets = sets
+with_resets d clocks (p ∷ ps) b sets = with_reset (reset_of d clocks p) b (with_resets d clocks ps b sets)

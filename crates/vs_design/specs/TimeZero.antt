@@ -6,7 +6,7 @@ use Rattle.vs_design.specs.Statements.{Statement}
 use Rattle.vs_design.specs.Designs.{Process, Continuous, Always, is_combinational, Design}
 use Rattle.vs_design.specs.Footprints.{contains, waits_of, statement_bits, input_bits}
 use Rattle.vs_design.specs.Initials.{first_value, start_value}
-use Rattle.vs_design.specs.Clocks.{own_clock}
+use Rattle.vs_design.specs.Clocks.{own_clocks}
 use Rattle.vs_design.specs.Resets.{with_resets}
 use Rattle.vs_design.specs.Sleepers.{is_sleeping}
 use Rattle.vs_design.specs.Sets.{Set4, only, known_set, any_value, union, is_only_x, is_unknown_set, is_known_set}
@@ -22,9 +22,9 @@ pub record Families : Type 0 where
 abbrev pub early_source : Design → Family
 early_source d b = only (first_value d b)
 
--- its late set: 0 in the clock, 0 or 1 in any other input, else what initial processes leave in it, with the value that a reset gives it last
-abbrev pub late_source : Design → ℕ → Family
-late_source d clock b = if contains (own_clock d clock) b then only Zero else (if contains (input_bits d) b then known_set else with_resets d clock d.processes b (only (start_value d b)))
+-- its late set: 0 in a clock, 0 or 1 in any other input, else what initial processes leave in it, with the value that a reset gives it last
+abbrev pub late_source : Design → List ℕ → Family
+late_source d clocks b = if contains (own_clocks d clocks) b then only Zero else (if contains (input_bits d) b then known_set else with_resets d clocks d.processes b (only (start_value d b)))
 
 -- a block's own bits may have any value when it begins: without latches each is assigned before it is read
 abbrev pub before_run : List ℕ → Family → Family
@@ -67,8 +67,8 @@ families_along d [] f = f
 families_along d (p ∷ order) f = families_along d order (settle_some d (slice_get d.processes p) f)
 
 -- the families after all turns of a level order
-abbrev pub families : Design → ℕ → List ℕ → Families
-families d clock order = families_along d order (record { early = early_source d; late = late_source d clock })
+abbrev pub families : Design → List ℕ → List ℕ → Families
+families d clocks order = families_along d order (record { early = early_source d; late = late_source d clocks })
 
 -- a block wakes where some bit of its waits has an early set within {x, z} and a late one within {0, 1}
 abbrev pub wakes : Families → Process → Bool

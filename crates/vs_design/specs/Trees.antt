@@ -7,7 +7,7 @@ use Rattle.vs_base.specs.declared.operators.UnaryOp.{UnaryOp}
 use Rattle.vs_base.specs.declared.operators.BinaryOp.{BinaryOp}
 use Rattle.vs_base.specs.declared.events.CaseKind.{CaseKind}
 
--- a declared signal (4.2), a net or a variable; `input` is an input of the top. Its bits have the numbers from `first` on, least significant first. A memory (4.9) has in `words` its addresses, from `right` to `left`, and `range` is that of each word; its words follow one another by ascending address
+-- a declared signal (4.2), a net or a variable; `input` is an input of the top. Its bits have the numbers from `first` on, least significant first. A memory (4.9) has in `words` its addresses, from `right` to `left`, and `range` is that of each word; its words follow one another by ascending address. `integer` says that it is declared as an integer (4.8), which waveforms tell
 pub record Signal : Type 0 where
   pub name : List ℕ
   pub scope : ℕ
@@ -18,6 +18,7 @@ pub record Signal : Type 0 where
   pub signed : Bool
   pub first : ℕ
   pub words : Option Range
+  pub integer : Bool
 
 abbrev pub range_or_one : Option Range → ℕ
 range_or_one None = 1

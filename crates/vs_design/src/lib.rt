@@ -4,6 +4,7 @@
 #![tactic(auto)]
 
 ghost use Rattle.vs_design.specs.Answers.{AcceptedOrRefused, NotBoth};
+ghost use Rattle.vs_design.specs.DeadLaws.{DeadNetsAreNets, DeadNetsStay};
 ghost use Rattle.vs_design.specs.ExampleBodies.{BodiesComputed};
 ghost use Rattle.vs_design.specs.ExampleBlocking.{BlockingComputed};
 ghost use Rattle.vs_design.specs.ExampleCalls.{CallsComputed};
@@ -16,7 +17,7 @@ ghost use Rattle.vs_design.specs.ExampleSets.{SetsComputed};
 ghost use Rattle.vs_design.specs.ExampleSizes.{SizesComputed};
 ghost use Rattle.vs_design.specs.ExampleTogether.{TogetherComputed};
 ghost use Rattle.vs_design.specs.ExampleValues.{ValuesComputed};
-ghost use Rattle.vs_design.specs.Laws.{AcceptedExactly, AcceptedIsLawful, AscendingHas, AscendingRises, BeginningIs, BitsOfDesign, BoundOfDesign, ClockNetsAre, EveryOrderOfDesign, LevelOrderIs, LevelRunOfDesign, OneFamilies, OnePassOfDesign, OneSolutionOfDesign, OrderOrCycle, RaceByAnyOrder, RunsEndOfDesign, SleepersOfDesign, SleepingIs, SpareClockIs, StarMissesNone, StirredBitsAre};
+ghost use Rattle.vs_design.specs.Laws.{AcceptedExactly, AcceptedIsLawful, AscendingHas, AscendingRises, BeginningIs, BitsOfDesign, BoundOfDesign, ClockNetsAre, EveryOrderOfDesign, LevelOrderIs, LevelRunOfDesign, NetsOfEach, OneFamilies, OnePassOfDesign, OneSolutionOfDesign, OrderOrCycle, RaceByAnyOrder, RunsEndOfDesign, SleepersOfDesign, SleepingIs, SpareClockIs, StarMissesNone, StirredBitsAre};
 ghost use Rattle.vs_design.specs.Memories.{WordsAre};
 ghost use Rattle.vs_design.specs.Paths.{LatchBitsAre};
 ghost use Rattle.vs_design.specs.PlaceLaws.{ItemPlacesAgree, StatementFits, StatementPlacesAgree};
@@ -61,14 +62,25 @@ pub fn sets_law()
     ensures body_reads { BodySetsRead }
 {}
 
-/// The clock nets are the clock input and each net that assigns of a name alone lead to from it.
+/// The clock nets are the clock inputs and each net that assigns of a name alone lead to from them.
 pub fn clock_law()
     ensures { ClockNetsAre }
+{}
+
+/// The nets of several clocks are those of each of them.
+pub fn clocks_law()
+    ensures { NetsOfEach }
 {}
 
 /// Without a clock the design has no clock net, and each clocked block breaks the rule NotTheClock.
 pub fn spare_law()
     ensures { SpareClockIs }
+{}
+
+/// Dead nets are nets' bits, which are z at first, and in an accepted design they are z at the end of each slot: so no edge of one ever comes.
+pub fn dead_law()
+    ensures nets { DeadNetsAreNets }
+    ensures stay { DeadNetsStay }
 {}
 
 /// A level order has each assign and combinational block once, after all that feed it; and it is found exactly where there is no cycle of them.
@@ -113,7 +125,7 @@ pub fn latch_law()
     ensures { LatchBitsAre }
 {}
 
-/// A design that elaboration gives is accepted exactly where nothing refuses it: no refusal of a length, a block, a driver or the clock, no cycle, no race, and none at time zero. Any other is refused, by the first rule that it breaks.
+/// A design that elaboration gives is accepted exactly where nothing refuses it: no refusal of a length, a block, a driver or a clock, no cycle, no race, and none at time zero. Any other is refused, by the first rule that it breaks.
 pub fn accepted_law()
     ensures exactly { AcceptedExactly }
     ensures either { AcceptedOrRefused }

@@ -20,13 +20,13 @@ use Rattle.vs_flat.specs.DesignOf.{header_of}
 use Rattle.vs_flat.specs.Lawful.{local_bits_from, has_locals}
 use Rattle.vs_flat.specs.Trees.{no_signal, signal_of, signals_from}
 use Rattle.vs_const.specs.Meanings.{SignalMeaning, Meaning, ASignal, Barred}
-use Rattle.vs_const.specs.declared.rules.Rule.TheVariants.{WrongKind}
+use Rattle.vs_const.specs.declared.rules.Rule.TheVariants.{LoopVariable}
 use Rattle.vs_elaborated.specs.Statements as statements
 use Rattle.vs_elaborated.specs.Functions as spec
 use Rattle.vs_elaborated.specs.Functions.{all_locals, meaning_or, signal_at}
 use Rattle.vs_scope.specs.declared.inside.Locals.{Locals}
 use Rattle.vs_scope.specs.declared.names.LocalSignal.{LocalSignal}
-use Rattle.vs_scope.specs.Locals.{AreLocals, block_meaning, local_at, local_meaning, placed_local, placed_local_of}
+use Rattle.vs_scope.specs.Locals.{AreLocals, own_meaning, local_at, local_meaning, placed_local, placed_local_of}
 use Rattle.vs_scope.specs.Signalled.{Placed}
 use Rattle.vs_elab.specs.Functions.{IsHeader, signals_of}
 use Rattle.vs_elab.proofs.Sequences.{one_more}
@@ -163,10 +163,10 @@ module _ (h : Function) (f : tree.Function) (c : Locals) (l : spec.Locals) (vs :
 -- ---- what variables of named blocks mean
 
 abbrev meaning_of : Option SignalMeaning → Meaning
-meaning_of None = Barred WrongKind
+meaning_of None = Barred LoopVariable
 meaning_of (Some m) = ASignal m
 
-block_is : (o : Option LocalSignal) → block_meaning o ≡ meaning_of (option local_meaning o)
+block_is : (o : Option LocalSignal) → own_meaning o ≡ meaning_of (option local_meaning o)
 block_is None = refl
 block_is (Some s) = refl
 
@@ -175,7 +175,7 @@ said_is None = refl
 said_is (Some s) = refl
 
 pub declared_is : (c : Locals) (l : spec.Locals) (vs : List statements.Local) → AreLocals c l vs
-    → (let a : ℕ → Meaning = λ place. block_meaning (local_at c place) in a) ≡ (λ (place : ℕ). meaning_or (signal_at (all_locals l) place))
+    → (let a : ℕ → Meaning = λ place. own_meaning (local_at c place) in a) ≡ (λ (place : ℕ). meaning_or (signal_at (all_locals l) place))
 declared_is c l vs h = fun_ext (λ (place : ℕ). block_is (local_at c place) ∙ ap meaning_of (h.at_place place) ∙ sym (said_is (signal_at (all_locals l) place)))
 
 -- ---- what a header that can be built has

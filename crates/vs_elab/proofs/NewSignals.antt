@@ -31,14 +31,14 @@ flag_itself : (b : Bool) → same_flag b b ≡ true
 flag_itself true = refl
 flag_itself false = refl
 
-all_nine : (a b c d e f g h i : Bool) → a ≡ true → b ≡ true → c ≡ true → d ≡ true → e ≡ true → f ≡ true → g ≡ true → h ≡ true → i ≡ true → (a && b && c && d && e && f && g && h && i) ≡ true
-all_nine a b c d e f g h i p q r s t u v w x =
-    both (a && b && c && d && e && f && g && h) i (both (a && b && c && d && e && f && g) h (both (a && b && c && d && e && f) g (both (a && b && c && d && e) f (both (a && b && c && d) e (both (a && b && c) d (both (a && b) c (both a b p q) r) s) t) u) v) w) x
+all_ten : (a b c d e f g h i j : Bool) → a ≡ true → b ≡ true → c ≡ true → d ≡ true → e ≡ true → f ≡ true → g ≡ true → h ≡ true → i ≡ true → j ≡ true → (a && b && c && d && e && f && g && h && i && j) ≡ true
+all_ten a b c d e f g h i j p q r s t u v w x y =
+    both (a && b && c && d && e && f && g && h && i) j (both (a && b && c && d && e && f && g && h) i (both (a && b && c && d && e && f && g) h (both (a && b && c && d && e && f) g (both (a && b && c && d && e) f (both (a && b && c && d) e (both (a && b && c) d (both (a && b) c (both a b p q) r) s) t) u) v) w) x) y
 
 signal_itself : (s : Signal) → same_signal s s ≡ true
 signal_itself s =
-    all_nine (same_name s.name s.name) (s.scope == s.scope) (s.number == s.number) (same_flag s.net s.net) (same_flag s.input s.input) (same_range s.range s.range) (same_flag s.signed s.signed) (s.first == s.first) (same_range s.words s.words) (same_self s.name)
-    (eq-eqb s.scope s.scope refl) (eq-eqb s.number s.number refl) (flag_itself s.net) (flag_itself s.input) (range_itself s.range) (flag_itself s.signed) (eq-eqb s.first s.first refl) (range_itself s.words)
+    all_ten (same_name s.name s.name) (s.scope == s.scope) (s.number == s.number) (same_flag s.net s.net) (same_flag s.input s.input) (same_range s.range s.range) (same_flag s.signed s.signed) (s.first == s.first) (same_range s.words s.words) (same_flag s.integer s.integer) (same_self s.name)
+    (eq-eqb s.scope s.scope refl) (eq-eqb s.number s.number refl) (flag_itself s.net) (flag_itself s.input) (range_itself s.range) (flag_itself s.signed) (eq-eqb s.first s.first refl) (range_itself s.words) (flag_itself s.integer)
 
 get_behind : (xs ys : List Signal) (i : ℕ) → slice_get (xs ++ ys) (length xs + i) ≡ slice_get ys i
 get_behind [] ys i = ap (slice_get ys) (omega arith)

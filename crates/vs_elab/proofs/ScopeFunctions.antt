@@ -1,7 +1,6 @@
 -- The functions of a scope without a fault: its names say which they are, they can be built, and what is built is what its survey says (IEEE 1364-2005, 10.4).
-use Rattle.std.proofs.Common.{◌≡◌, ◌<◌, ◌≤◌, ℕ, zero, suc, ◌+◌, true, false, List, [], ◌∷◌, ◌++◌, length, map, flat_map, take, Option, Some, None, refl, sym, ap, ◌∙◌, subst, arith}
+use Rattle.std.proofs.Common.{◌≡◌, ◌<◌, ◌≤◌, ℕ, zero, suc, ◌+◌, Bool, true, false, List, [], ◌∷◌, ◌++◌, length, map, flat_map, take, Option, Some, None, refl, sym, ap, ◌∙◌, subst, arith}
 use Rattle.std.specs.Borrow.{Bor}
-use Rattle.vs_design.specs.Statements.{Function}
 use Rattle.vs_design.specs.Designs.{Design}
 use Rattle.vs_grammar.specs.Trees as tree
 use Rattle.vs_grammar.specs.Trees.{items_list}
@@ -14,8 +13,9 @@ use Rattle.vs_const.specs.declared.faults.Fault.{Fault}
 use Rattle.vs_const.specs.Faults.{least, better}
 use Rattle.vs_const.proofs.Formed.{both_nil}
 use Rattle.vs_elaborated.specs.Limits.{the_limits}
-use Rattle.vs_elaborated.specs.Environments.{Declared, Later, Entry}
-use Rattle.vs_elaborated.specs.Declarations.{Sort, SignalOf, ParameterOf, FunctionOf, GenvarSort, IntegerSort, InstanceSort, Declaration, signals_declared, parameters_declared, item_declared, header_declared}
+use Rattle.vs_elaborated.specs.Environments.{Entry}
+use Rattle.vs_elaborated.specs.Declarations.{Sort, SignalOf, ParameterOf, FunctionOf, GenvarSort, IntegerSort, InstanceSort, Declaration, signals_declared, parameters_declared, integer_sort, item_declared, items_declared, header_declared}
+use Rattle.vs_elaborated.specs.Uses.{is_variable_of}
 use Rattle.vs_elaborated.specs.Functions.{Counts, SaidFunctions, said_functions}
 use Rattle.vs_elaborated.specs.Numbers.{IsNumberedDeclared, AreNumberedEntries, AreNumberedFrames, FunctionNamesAreNumbered}
 use Rattle.vs_elaborated.specs.Pieces.{Task}
@@ -63,23 +63,27 @@ each_low : {A : Type 0} (f : A → List Declaration) → ((a : A) → Each IsLow
 each_low f h [] = tt
 each_low f h (x ∷ xs) = each_append IsLow (f x) (flat_map f xs) (h x) (each_low f h xs)
 
-item_low : (i : tree.Item) → IsItem i → item_depth i ≤ depth_limit → Each IsLow (item_declared i)
-item_low (tree.SignalsItem t) x d = none_low _ (λ a. tt) t.names
-item_low (tree.ParametersItem t) x d = none_low _ (λ a. tt) t.settings
-item_low (tree.AssignsItem place assigns) x d = tt
-item_low (tree.AlwaysItem b) x d = tt
-item_low (tree.InitialItem b) x d = tt
-item_low (tree.GenvarsItem place names) x d = none_low _ (λ a. tt) names
-item_low (tree.IntegersItem place names) x d = none_low _ (λ a. tt) names
-item_low (tree.InstancesItem t) x d = none_low _ (λ a. tt) t.instances
-item_low (tree.FunctionItem f) x d = ((x, omega (arith, d)), tt)
-item_low (tree.GenerateFor head block) x d = tt
-item_low (tree.GenerateIf place c taken other) x d = tt
-item_low (tree.GenerateCase place subject arms other) x d = tt
+integer_low : (n : tree.Name) (b : Bool) → IsLow (record { name = n; sort = integer_sort b })
+integer_low n true = tt
+integer_low n false = tt
 
-items_low : (is : List tree.Item) → Each IsItem is → deepest item_depth is ≤ depth_limit → Each IsLow (flat_map item_declared is)
-items_low [] x d = tt
-items_low (i ∷ is) x d = each_append IsLow (item_declared i) (flat_map item_declared is) (item_low i x.0 (omega (arith, d))) (items_low is x.1 (omega (arith, d)))
+item_low : (v : List ℕ → Bool) (i : tree.Item) → IsItem i → item_depth i ≤ depth_limit → Each IsLow (item_declared v i)
+item_low v (tree.SignalsItem t) x d = none_low _ (λ a. tt) t.names
+item_low v (tree.ParametersItem t) x d = none_low _ (λ a. tt) t.settings
+item_low v (tree.AssignsItem place assigns) x d = tt
+item_low v (tree.AlwaysItem b) x d = tt
+item_low v (tree.InitialItem b) x d = tt
+item_low v (tree.GenvarsItem place names) x d = none_low _ (λ a. tt) names
+item_low v (tree.IntegersItem place names) x d = none_low _ (λ a. integer_low a (v a.bytes)) names
+item_low v (tree.InstancesItem t) x d = none_low _ (λ a. tt) t.instances
+item_low v (tree.FunctionItem f) x d = ((x, omega (arith, d)), tt)
+item_low v (tree.GenerateFor head block) x d = tt
+item_low v (tree.GenerateIf place c taken other) x d = tt
+item_low v (tree.GenerateCase place subject arms other) x d = tt
+
+items_low : (v : List ℕ → Bool) (is : List tree.Item) → Each IsItem is → deepest item_depth is ≤ depth_limit → Each IsLow (flat_map (item_declared v) is)
+items_low v [] x d = tt
+items_low v (i ∷ is) x d = each_append IsLow (item_declared v i) (flat_map (item_declared v) is) (item_low v i x.0 (omega (arith, d))) (items_low v is x.1 (omega (arith, d)))
 
 each_item : (is : tree.Items) → AreItems is → Each IsItem (items_list is)
 each_item tree.NoItem x = tt
@@ -112,9 +116,9 @@ header_low (tree.DeclaredPorts ports) = each_low (signals_declared true) (λ t. 
 pub contents_low : (frames : List Frame) (overrides : NameMap Override) (c : Contents) → IsShapedScope c → deepest item_depth (contents_items c) ≤ depth_limit → Each IsLow (declarations_of (contents_of frames overrides c))
 contents_low frames overrides (Module m) x d =
     let t = view.module_tree m.now in
-    each_append IsLow (flat_map parameters_declared t.parameters) (header_declared t.header ++ flat_map item_declared (items_list t.items)) (each_low parameters_declared (λ p. none_low _ (λ a. tt) p.settings) t.parameters)
-    (each_append IsLow (header_declared t.header) (flat_map item_declared (items_list t.items)) (header_low t.header) (items_low (items_list t.items) (each_item t.items x.items) d))
-contents_low frames overrides (Block b) x d = items_low (block_items b) (generate_items (block_items b) x) d
+    each_append IsLow (flat_map parameters_declared t.parameters) (header_declared t.header ++ items_declared (items_list t.items)) (each_low parameters_declared (λ p. none_low _ (λ a. tt) p.settings) t.parameters)
+    (each_append IsLow (header_declared t.header) (items_declared (items_list t.items)) (header_low t.header) (items_low (is_variable_of (items_list t.items)) (items_list t.items) (each_item t.items x.items) d))
+contents_low frames overrides (Block b) x d = items_low (is_variable_of (block_items b)) (block_items b) (generate_items (block_items b) x) d
 
 functions_low : (ds : List Declaration) → Each IsLow ds → Each IsLow (functions_in ds)
 functions_low [] h = tt

@@ -38,6 +38,7 @@ fn local_signal(alloc: Global, s: &LocalSignal<'_>) -> Result<vs_flat::Signal, A
             signed: s.signed,
             first_bit,
             words: None,
+            integer: false,
         }),
     }
 }

@@ -52,6 +52,7 @@ fn add_signal(builder: &mut Builder, alloc: Global, s: &Signal<'_>) -> Result<()
         signed: s.signed,
         first_bit: s.first as u32,
         words: s.words,
+        integer: s.integer,
     })?;
     Ok(())
 }

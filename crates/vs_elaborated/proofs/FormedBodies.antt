@@ -22,9 +22,9 @@ use Rattle.vs_const.specs.Sound.{IsSound, AreSound, IsFine}
 use Rattle.vs_const.proofs.Steady.{sound_needed, first_sound, steady_sound}
 use Rattle.vs_const.proofs.Formed.{both_nil, no_fault, both, IsFineTaken, taken_faults, bit_fine, slice_fine, typed_fine, same_itself}
 use Rattle.vs_elaborated.specs.Targets.{meant_signal, TypedTarget, is_wrong_target, target_rule, target_base, part_target, bit_target, selected_target, typed_target, typed_targets, targeted, and_target, as_target, as_targets}
-use Rattle.vs_elaborated.specs.Statements.{Body, TypedStatement, typed_list, delayed_faults, word_faults, Local, scope_locals, find_local, is_integer, local_or, scoped, local_faults, typed_statement, typed_fallback, typed_sequence, typed_arms, event_faults, typed_events, typed_control}
+use Rattle.vs_elaborated.specs.Statements.{Body, TypedStatement, typed_list, delayed_faults, word_faults, Local, scope_locals, find_local, local_or, scoped, local_faults, typed_statement, typed_fallback, typed_sequence, typed_arms, event_faults, typed_events, typed_control}
 use Rattle.vs_elaborated.proofs.TurnsLaw.{loop_law}
-use Rattle.vs_const.specs.declared.rules.Rule.TheVariants.{WrongKind, LoopVariable}
+use Rattle.vs_const.specs.declared.rules.Rule.TheVariants.{WrongKind}
 
 -- what a target may write
 abbrev pub allowed : Bool → Signal → Bool
@@ -228,13 +228,9 @@ turning_sound d find name bits e s other = of (same_name name other)
 scoped_sound : (d : Design) (body : Body) → IsSoundBody d body → (locals : List Local) (find : Find) → AreSound d false find → AreSound d false (scoped body.declared locals find)
 scoped_sound d body b locals find s name = of (find_local locals name)
   where
-    local : (v : Local) (c : Bool) → IsSound d false (if c then Barred LoopVariable else body.declared v.name.place)
-    local v true = tt
-    local v false = b v.name.place
-
     of : (o : Option Local) → IsSound d false (local_or body.declared o (find name))
     of None = s name
-    of (Some v) = local v (is_integer v)
+    of (Some v) = b v.name.place
 
 module _ (d : Design) (body : Body) (b : IsSoundBody d body) where
   mutual

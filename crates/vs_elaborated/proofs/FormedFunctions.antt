@@ -24,6 +24,7 @@ use Rattle.vs_elaborated.specs.Limits.{Limits}
 use Rattle.vs_elaborated.specs.Environments.{Declared, Later, OfSignal, OfParameter, OfGenvar, OfInteger, OfFunction, OfScope, Entry, Env, within, inside_function, is_late, turn_of, parameter_meaning, with_words, signal_means, unless_outside, declared_meaning, named}
 use Rattle.vs_elaborated.specs.Targets.{no_signal}
 use Rattle.vs_elaborated.specs.Declarations.{Sort, SignalOf, ParameterOf, FunctionOf, GenvarSort, IntegerSort, InstanceSort, Declaration}
+use Rattle.vs_elaborated.specs.Uses.{is_variable_in, is_variable_among}
 use Rattle.vs_elaborated.specs.Statements.{Body, TypedStatement, Local, locals_of, scope_locals, repeated_locals, is_integer, unrolled_within}
 use Rattle.vs_const.specs.CallDepths.{calls_in}
 use Rattle.vs_elaborated.specs.Functions.{result_local, declared_locals, block_locals, fallback_locals, sequence_locals, arms_locals, variables_of, own_locals, Start, LocalSignal, local_signal, behind, signals_of, behind_all, Locals, function_locals, all_locals, header_of, signal_at, declared_or, meaning_or, local_entries, function_names, function_body, most_calls, most_bits, are_known, size_faults, Counts, said_function, next_function, and_function, completed, put_function, said_functions}
@@ -52,13 +53,22 @@ scope_shaped : (scope : Option tree.BlockScope) → Given IsScope scope → Each
 scope_shaped None x = tt
 scope_shaped (Some scope) x = locals_shaped scope.variables x.variables
 
+variables_shaped : (used : List ℕ → Bool) (vs : List Local) → Each IsShapedLocal vs → Each IsShapedLocal (variables_of used vs)
+variables_shaped used [] x = tt
+variables_shaped used (v ∷ vs) x = of (is_integer v && not (used v.name.bytes)) (variables_shaped used vs x.1)
+  where
+    of : (b : Bool) → Each IsShapedLocal (variables_of used vs) → Each IsShapedLocal (if b then variables_of used vs else v ∷ variables_of used vs)
+    of true k = k
+    of false k = (x.0, k)
+
 mutual
   block_shaped : (s : tree.Statement) → IsStatement s → Each IsShapedLocal (block_locals s)
   block_shaped (tree.Empty place) x = tt
   block_shaped (tree.Assignment target e blocking) x = tt
   block_shaped (tree.If place c taken other) x = each_append IsShapedLocal (block_locals taken) (fallback_locals other) (block_shaped taken x.1) (fallback_shaped other x.2)
   block_shaped (tree.Case place kind subject arms other) x = each_append IsShapedLocal (arms_locals arms) (fallback_locals other) (arms_shaped arms x.1) (fallback_shaped other x.2)
-  block_shaped (tree.Sequence place scope parts) x = each_append IsShapedLocal (scope_locals scope) (sequence_locals parts) (scope_shaped scope x.0) (sequence_shaped parts x.1)
+  block_shaped (tree.Sequence place scope parts) x =
+      each_append IsShapedLocal (variables_of (is_variable_among parts) (scope_locals scope)) (sequence_locals parts) (variables_shaped (is_variable_among parts) (scope_locals scope) (scope_shaped scope x.0)) (sequence_shaped parts x.1)
   block_shaped (tree.For head statement) x = block_shaped statement x.1
 
   fallback_shaped : (other : tree.Fallback) → IsFallback other → Each IsShapedLocal (fallback_locals other)
@@ -73,16 +83,9 @@ mutual
   arms_shaped tree.NoArm x = tt
   arms_shaped (tree.AndArm labels s rest) x = each_append IsShapedLocal (block_locals s) (arms_locals rest) (block_shaped s x.1) (arms_shaped rest x.2)
 
-variables_shaped : (vs : List Local) → Each IsShapedLocal vs → Each IsShapedLocal (variables_of vs)
-variables_shaped [] x = tt
-variables_shaped (v ∷ vs) x = of (is_integer v) (variables_shaped vs x.1)
-  where
-    of : (b : Bool) → Each IsShapedLocal (variables_of vs) → Each IsShapedLocal (if b then variables_of vs else v ∷ variables_of vs)
-    of true k = k
-    of false k = (x.0, k)
-
 own_shaped : (f : tree.Function) → IsFunction f → Each IsShapedLocal (own_locals f)
-own_shaped f x = variables_shaped (flat_map locals_of f.variables ++ block_locals f.statement) (each_append IsShapedLocal (flat_map locals_of f.variables) (block_locals f.statement) (locals_shaped f.variables x.variables) (block_shaped f.statement x.statement))
+own_shaped f x =
+    each_append IsShapedLocal (variables_of (is_variable_in f.statement) (flat_map locals_of f.variables)) (block_locals f.statement) (variables_shaped (is_variable_in f.statement) (flat_map locals_of f.variables) (locals_shaped f.variables x.variables)) (block_shaped f.statement x.statement)
 
 -- ---- local signals are numbered, and so are their bits
 

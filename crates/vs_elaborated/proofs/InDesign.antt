@@ -22,21 +22,22 @@ flag_itself : (b : Bool) → same_flag b b ≡ true
 flag_itself true = refl
 flag_itself false = refl
 
-nine : (a b c d e f g h i : Bool) → a ≡ true → b ≡ true → c ≡ true → d ≡ true → e ≡ true → f ≡ true → g ≡ true → h ≡ true → i ≡ true → (a && b && c && d && e && f && g && h && i) ≡ true
-nine true true true true true true true true i p q r s t u v w x = x
-nine true true true true true true true false i p q r s t u v w x = cc
-nine true true true true true true false h i p q r s t u v w x = cc
-nine true true true true true false g h i p q r s t u v w x = cc
-nine true true true true false f g h i p q r s t u v w x = cc
-nine true true true false e f g h i p q r s t u v w x = cc
-nine true true false d e f g h i p q r s t u v w x = cc
-nine true false c d e f g h i p q r s t u v w x = cc
-nine false b c d e f g h i p q r s t u v w x = cc
+ten : (a b c d e f g h i j : Bool) → a ≡ true → b ≡ true → c ≡ true → d ≡ true → e ≡ true → f ≡ true → g ≡ true → h ≡ true → i ≡ true → j ≡ true → (a && b && c && d && e && f && g && h && i && j) ≡ true
+ten true true true true true true true true true j p q r s t u v w x y = y
+ten true true true true true true true true false j p q r s t u v w x y = cc
+ten true true true true true true true false i j p q r s t u v w x y = cc
+ten true true true true true true false h i j p q r s t u v w x y = cc
+ten true true true true true false g h i j p q r s t u v w x y = cc
+ten true true true true false f g h i j p q r s t u v w x y = cc
+ten true true true false e f g h i j p q r s t u v w x y = cc
+ten true true false d e f g h i j p q r s t u v w x y = cc
+ten true false c d e f g h i j p q r s t u v w x y = cc
+ten false b c d e f g h i j p q r s t u v w x y = cc
 
 signal_itself : (s : Signal) → same_signal s s ≡ true
 signal_itself s =
-    nine (same_name s.name s.name) (s.scope == s.scope) (s.number == s.number) (same_flag s.net s.net) (same_flag s.input s.input) (same_range s.range s.range) (same_flag s.signed s.signed) (s.first == s.first) (same_range s.words s.words) (same_itself s.name)
-    (eq-eqb s.scope s.scope refl) (eq-eqb s.number s.number refl) (flag_itself s.net) (flag_itself s.input) (range_itself s.range) (flag_itself s.signed) (eq-eqb s.first s.first refl) (range_itself s.words)
+    ten (same_name s.name s.name) (s.scope == s.scope) (s.number == s.number) (same_flag s.net s.net) (same_flag s.input s.input) (same_range s.range s.range) (same_flag s.signed s.signed) (s.first == s.first) (same_range s.words s.words) (same_flag s.integer s.integer) (same_itself s.name)
+    (eq-eqb s.scope s.scope refl) (eq-eqb s.number s.number refl) (flag_itself s.net) (flag_itself s.input) (range_itself s.range) (flag_itself s.signed) (eq-eqb s.first s.first refl) (range_itself s.words) (flag_itself s.integer)
 
 found_at : (d : Design) (n b c : ℕ) (ss : List Signal) → ((i : ℕ) → slice_get d.signals (n + i) ≡ slice_get ss i) → Numbered n b c ss → AreIn d ss
 found_at d n b c [] f p = tt

@@ -9,6 +9,7 @@ use Rattle.vs_elaborated.specs.Limits.{Limits}
 use Rattle.vs_elaborated.specs.Environments.{Env}
 use Rattle.vs_elaborated.specs.Targets.{as_target}
 use Rattle.vs_elaborated.specs.Declarations.{SignalOf, Declaration, signals_declared, parameters_declared, item_declared, header_declared, module_declared}
+use Rattle.vs_elaborated.specs.Uses.{is_variable_of}
 use Rattle.vs_elaborated.specs.Parameters.{Override}
 use Rattle.vs_elaborated.specs.Signals.{is_input}
 use Rattle.vs_elaborated.specs.Generate.{Nested, Made}
@@ -52,7 +53,7 @@ abbrev directions : tree.SignalKind → List tree.Declarator → List Direction
 directions kind names = map (λ (d : tree.Declarator). record { name = d.name; input = is_input kind }) names
 
 abbrev declarations : Bool → tree.Signals → List tree.Declarator → List Declaration
-declarations header t names = map (λ (d : tree.Declarator). record { name = d.name; sort = SignalOf (record { kind = t.kind; signed = t.signed; range = t.range; addresses = d.addresses; header = header }) }) names
+declarations header t names = map (λ (d : tree.Declarator). record { name = d.name; sort = SignalOf (record { kind = t.kind; value_type = tree.RangeType t.signed t.range; addresses = d.addresses; header = header }) }) names
 
 signals_port : (header : Bool) (t : tree.Signals) (w : List ℕ) (b : Bool) → (header || is_port_kind t.kind) ≡ true → (names : List tree.Declarator) → direction_of (directions t.kind names) w ≡ Some b → Has (IsPort w b) (declarations header t names)
 signals_port header t w b p [] h = cc
@@ -65,23 +66,23 @@ signals_port header t w b p (x ∷ xs) h = of (same_name x.name.bytes w) refl h 
     of true e k r = inl (record { name_is = same_is x.name.bytes w e; sort = (same k, p) })
     of false e k r = inr (r k)
 
-item_port : (item : tree.Item) (w : List ℕ) (b : Bool) → direction_of (item_directions item) w ≡ Some b → Has (IsPort w b) (item_declared item)
-item_port (tree.SignalsItem t) w b h = of (is_port_kind t.kind) refl h
+item_port : (v : List ℕ → Bool) (item : tree.Item) (w : List ℕ) (b : Bool) → direction_of (item_directions item) w ≡ Some b → Has (IsPort w b) (item_declared v item)
+item_port v (tree.SignalsItem t) w b h = of (is_port_kind t.kind) refl h
   where
     of : (c : Bool) → is_port_kind t.kind ≡ c → direction_of (if c then directions_in t else []) w ≡ Some b → Has (IsPort w b) (signals_declared false t)
     of true e k = signals_port false t w b e t.names k
     of false e k = cc
-item_port (tree.ParametersItem t) w b h = cc
-item_port (tree.AssignsItem place assigns) w b h = cc
-item_port (tree.AlwaysItem block) w b h = cc
-item_port (tree.InitialItem block) w b h = cc
-item_port (tree.GenvarsItem place names) w b h = cc
-item_port (tree.IntegersItem place names) w b h = cc
-item_port (tree.FunctionItem function) w b h = cc
-item_port (tree.InstancesItem t) w b h = cc
-item_port (tree.GenerateFor head block) w b h = cc
-item_port (tree.GenerateIf place c taken other) w b h = cc
-item_port (tree.GenerateCase place subject arms other) w b h = cc
+item_port v (tree.ParametersItem t) w b h = cc
+item_port v (tree.AssignsItem place assigns) w b h = cc
+item_port v (tree.AlwaysItem block) w b h = cc
+item_port v (tree.InitialItem block) w b h = cc
+item_port v (tree.GenvarsItem place names) w b h = cc
+item_port v (tree.IntegersItem place names) w b h = cc
+item_port v (tree.FunctionItem function) w b h = cc
+item_port v (tree.InstancesItem t) w b h = cc
+item_port v (tree.GenerateFor head block) w b h = cc
+item_port v (tree.GenerateIf place c taken other) w b h = cc
+item_port v (tree.GenerateCase place subject arms other) w b h = cc
 
 direction_in : (xs ys : List Direction) (w : List ℕ) (b : Bool) → direction_of (xs ++ ys) w ≡ Some b → (direction_of xs w ≡ Some b) ⊎ (direction_of ys w ≡ Some b)
 direction_in [] ys w b h = inr h
@@ -92,13 +93,13 @@ direction_in (x ∷ xs) ys w b h = of (same_name x.name.bytes w) h (λ k. direct
     of true k r = inl k
     of false k r = r k
 
-items_port : (items : List tree.Item) (w : List ℕ) (b : Bool) → direction_of (flat_map item_directions items) w ≡ Some b → Has (IsPort w b) (flat_map item_declared items)
-items_port [] w b h = cc
-items_port (i ∷ is) w b h = of (direction_in (item_directions i) (flat_map item_directions is) w b h) (λ k. items_port is w b k)
+items_port : (v : List ℕ → Bool) (items : List tree.Item) (w : List ℕ) (b : Bool) → direction_of (flat_map item_directions items) w ≡ Some b → Has (IsPort w b) (flat_map (item_declared v) items)
+items_port v [] w b h = cc
+items_port v (i ∷ is) w b h = of (direction_in (item_directions i) (flat_map item_directions is) w b h) (λ k. items_port v is w b k)
   where
-    of : (direction_of (item_directions i) w ≡ Some b) ⊎ (direction_of (flat_map item_directions is) w ≡ Some b) → (direction_of (flat_map item_directions is) w ≡ Some b → Has (IsPort w b) (flat_map item_declared is)) → Has (IsPort w b) (item_declared i ++ flat_map item_declared is)
-    of (inl k) r = has_left (IsPort w b) (item_declared i) (flat_map item_declared is) (item_port i w b k)
-    of (inr k) r = has_right (IsPort w b) (item_declared i) (flat_map item_declared is) (r k)
+    of : (direction_of (item_directions i) w ≡ Some b) ⊎ (direction_of (flat_map item_directions is) w ≡ Some b) → (direction_of (flat_map item_directions is) w ≡ Some b → Has (IsPort w b) (flat_map (item_declared v) is)) → Has (IsPort w b) (item_declared v i ++ flat_map (item_declared v) is)
+    of (inl k) r = has_left (IsPort w b) (item_declared v i) (flat_map (item_declared v) is) (item_port v i w b k)
+    of (inr k) r = has_right (IsPort w b) (item_declared v i) (flat_map (item_declared v) is) (r k)
 
 abbrev IsThere : List Declaration → Direction → Type 0
 IsThere ds d = Has (IsPort d.name.bytes d.input) ds
@@ -115,27 +116,27 @@ all_there (t ∷ ts) =
     (weaker (IsThere (signals_declared true t)) (IsThere all) (λ d h. has_left (IsPort d.name.bytes d.input) (signals_declared true t) (flat_map (signals_declared true) ts) h) (directions_in t) (one_there t t.names))
     (weaker (IsThere (flat_map (signals_declared true) ts)) (IsThere all) (λ d h. has_right (IsPort d.name.bytes d.input) (signals_declared true t) (flat_map (signals_declared true) ts) h) (flat_map directions_in ts) (all_there ts))
 
-header_good : (h : tree.Header) (params : List Declaration) (items : List tree.Item) → Each (IsGoodPort (params ++ (header_declared h ++ flat_map item_declared items))) (header_ports h (flat_map item_directions items))
-header_good tree.NoPorts params items = tt
-header_good (tree.PlainPorts names) params items = of names
+header_good : (v : List ℕ → Bool) (h : tree.Header) (params : List Declaration) (items : List tree.Item) → Each (IsGoodPort (params ++ (header_declared h ++ flat_map (item_declared v) items))) (header_ports h (flat_map item_directions items))
+header_good v tree.NoPorts params items = tt
+header_good v (tree.PlainPorts names) params items = of names
   where
-    of : (ns : List tree.Name) → Each (IsGoodPort (params ++ flat_map item_declared items)) (map (λ (n : tree.Name). record { name = n.bytes; input = direction_of (flat_map item_directions items) n.bytes }) ns)
+    of : (ns : List tree.Name) → Each (IsGoodPort (params ++ flat_map (item_declared v) items)) (map (λ (n : tree.Name). record { name = n.bytes; input = direction_of (flat_map item_directions items) n.bytes }) ns)
     of [] = tt
-    of (n ∷ ns) = ((λ b e. has_right (IsPort n.bytes b) params (flat_map item_declared items) (items_port items n.bytes b e)), of ns)
-header_good (tree.DeclaredPorts ports) params items = of (flat_map directions_in ports) (all_there ports)
+    of (n ∷ ns) = ((λ b e. has_right (IsPort n.bytes b) params (flat_map (item_declared v) items) (items_port v items n.bytes b e)), of ns)
+header_good v (tree.DeclaredPorts ports) params items = of (flat_map directions_in ports) (all_there ports)
   where
     all : List Declaration
     all = flat_map (signals_declared true) ports
 
-    of : (ds : List Direction) → Each (IsThere all) ds → Each (IsGoodPort (params ++ (all ++ flat_map item_declared items))) (map (λ (d : Direction). record { name = d.name.bytes; input = Some d.input }) ds)
+    of : (ds : List Direction) → Each (IsThere all) ds → Each (IsGoodPort (params ++ (all ++ flat_map (item_declared v) items))) (map (λ (d : Direction). record { name = d.name.bytes; input = Some d.input }) ds)
     of [] h = tt
-    of (d ∷ ds) h = ((λ b e. has_right (IsPort d.name.bytes b) params (all ++ flat_map item_declared items) (has_left (IsPort d.name.bytes b) all (flat_map item_declared items) (subst (λ c. Has (IsPort d.name.bytes c) all) (same b e) h.0))), of ds h.1)
+    of (d ∷ ds) h = ((λ b e. has_right (IsPort d.name.bytes b) params (all ++ flat_map (item_declared v) items) (has_left (IsPort d.name.bytes b) all (flat_map (item_declared v) items) (subst (λ c. Has (IsPort d.name.bytes c) all) (same b e) h.0))), of ds h.1)
       where
         same : (b : Bool) → Some d.input ≡ Some b → d.input ≡ b
         same b e = cc
 
 ports_good : (m : Module) → Each (IsGoodPort (module_declared m)) (ports_of m)
-ports_good m = header_good m.header (flat_map parameters_declared m.parameters) (items_list m.items)
+ports_good m = header_good (is_variable_of (items_list m.items)) m.header (flat_map parameters_declared m.parameters) (items_list m.items)
 
 -- ---- connections are to ports
 

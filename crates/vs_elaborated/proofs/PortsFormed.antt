@@ -21,7 +21,7 @@ use Rattle.vs_elaborated.specs.Limits.{Limits}
 use Rattle.vs_elaborated.specs.Environments.{Declared, Later, OfSignal, OfParameter, OfGenvar, OfInteger, OfFunction, OfScope, Entry, Env, with_words, find_entry}
 use Rattle.vs_elaborated.specs.Targets.{no_signal}
 use Rattle.vs_elaborated.specs.Declarations.{SignalSort, has_addresses, Sort, SignalOf, ParameterOf, FunctionOf, GenvarSort, IntegerSort, InstanceSort, Declaration, Named, are_sorts_of_one, names_of, first_named}
-use Rattle.vs_elaborated.specs.Parameters.{said_range, said_addresses}
+use Rattle.vs_elaborated.specs.Parameters.{said_type, said_addresses}
 use Rattle.vs_elaborated.specs.Signals.{is_reg, is_input, second_sort, Start, SaidSignal, said_signal, said_signals, after, range_faults, array_fault, array_faults}
 use Rattle.vs_elaborated.specs.Pieces.{Task, Connection, IntoInput, FromOutput}
 use Rattle.vs_elaborated.specs.Surveys.{declarations_of, overrides_of, block_entries, bits_over, Totals, counts_of, survey}
@@ -29,7 +29,7 @@ use Rattle.vs_elaborated.specs.Elaborated.{entry_signal, port_assign}
 use Rattle.vs_elaborated.specs.Sound.{IsSoundDeclared, AreSoundEntries, AreSoundFrames, IsShapedContents, IsFineConnection, IsSoundTask}
 use Rattle.vs_elaborated.proofs.NumberedSignals.{bits_of_all, signals_of}
 use Rattle.vs_elaborated.proofs.SurveyParts.{names_in, first_in, parameters_in, ranged_in, start_in, signals_in, entries_in, functions_in, blocks_in, faultless}
-use Rattle.vs_elaborated.proofs.SoundNames.{frames_needed, IsShapedSignal, IsShapedSort, AreShapedDeclarations, range_fine, addresses_fine}
+use Rattle.vs_elaborated.proofs.SoundNames.{frames_needed, IsShapedSignal, IsShapedSort, AreShapedDeclarations, type_fine, addresses_fine}
 use Rattle.vs_elaborated.proofs.SurveyNames.{contents_shaped, names_shaped, names_ranges, names_arrays, parameters_sound}
 use Rattle.vs_elaborated.proofs.FirstNames.{same_is, IsFirst, names_first, entry_first, Has, IsFirstOf, first_of, IsDeclaredWith, IsSignalWith, signals_put, parameters_put, functions_put, entry_within, MayBeInput, sort_may, IsNetNamed, net_of, any_signal, first_with, input_net, said_nets, IsPlainSort, plain_of, said_plain, memory_variable}
 use Rattle.vs_elaborated.proofs.PortNames.{IsPort, IsDirected}
@@ -223,12 +223,12 @@ said_declared d env s ds (n ∷ ns) start f x h l =
     of w (SignalOf t) second g x y h rest =
         let m : Named = record { first = record { name = w; sort = SignalOf t }; second = second } in
         let one = said_signal env start m t in
-        let k = both_nil ((said_range t.range env).faults ++ (said_addresses t.addresses env).faults) (range_faults env (map (λ (n : Named). n.first) ns)) h in
-        let l = both_nil (said_range t.range env).faults (said_addresses t.addresses env).faults k.0 in
-        let r = range_fine d t.range env s x.range l.0 in
+        let k = both_nil ((said_type t.value_type env).faults ++ (said_addresses t.addresses env).faults) (range_faults env (map (λ (n : Named). n.first) ns)) h in
+        let l = both_nil (said_type t.value_type env).faults (said_addresses t.addresses env).faults k.0 in
+        let r = type_fine d t.value_type env s x.value_type l.0 in
         let a = addresses_fine d t.addresses env s x.addresses l.1 in (
           record {
-            known = both (said_range t.range env).known (said_addresses t.addresses env).known r.known a.known;
+            known = both (said_type t.value_type env).known (said_addresses t.addresses env).known r.known a.known;
             range = r.lawful;
             input = λ e. let i = split (is_input t.kind || is_input (second_sort t second).kind) start.top e in (input_net t second g i.0, i.1);
             scope_is = refl;

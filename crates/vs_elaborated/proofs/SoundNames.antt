@@ -398,7 +398,7 @@ put_sound d needed name value (e ∷ es) k s = (of (same_name e.name name), put_
 
 -- only a `reg` and a `wire` have addresses, and none of a header's ports has
 pub record IsShapedSignal (s : SignalSort) : Type 0 where
-  pub range : Given IsRangeTree s.range
+  pub value_type : IsValueType s.value_type
   pub addresses : Given IsRangeTree s.addresses
   pub inner : has_addresses s ≡ true → is_port_kind s.kind ≡ false
   pub body : has_addresses s ≡ true → s.header ≡ false
@@ -554,10 +554,10 @@ signals_sound d env s (n ∷ ns) start h x k = of n.first.name n.first.sort n.se
         → Each (IsSoundSaid d) (said_signals env start (record { first = record { name = w; sort = q }; second = second } ∷ ns))
     of w (SignalOf t) second h x k rest =
         let m : Named = record { first = record { name = w; sort = SignalOf t }; second = second } in
-        let f = both_nil ((said_range t.range env).faults ++ (said_addresses t.addresses env).faults) (range_faults env (map (λ (n : Named). n.first) ns)) k in
-        let g = both_nil (said_range t.range env).faults (said_addresses t.addresses env).faults f.0 in
+        let f = both_nil ((said_type t.value_type env).faults ++ (said_addresses t.addresses env).faults) (range_faults env (map (λ (n : Named). n.first) ns)) k in
+        let g = both_nil (said_type t.value_type env).faults (said_addresses t.addresses env).faults f.0 in
         let one = (said_signal env start m t).meaning in
-        let known = both (said_range t.range env).known (said_addresses t.addresses env).known (range_fine d t.range env s x.range g.0).known (addresses_fine d t.addresses env s x.addresses g.1).known in
+        let known = both (said_type t.value_type env).known (said_addresses t.addresses env).known (type_fine d t.value_type env s x.value_type g.0).known (addresses_fine d t.addresses env s x.addresses g.1).known in
         ((signal_sound d one one.signal.words refl h.0 known (λ i. (split one.input start.top i).0), refl), rest (after start one) h.1 f.1)
     of w (ParameterOf p) second h x k rest = rest start h k
     of w (FunctionOf f) second h x k rest = rest start h k

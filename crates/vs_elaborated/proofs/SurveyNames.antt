@@ -11,7 +11,8 @@ use Rattle.vs_grammar.specs.Shapes.{Each, OneOrMore, Given, IsRange, IsStored, I
 use Rattle.vs_const.proofs.Formed.{both_nil}
 use Rattle.vs_elaborated.specs.Limits.{Limits}
 use Rattle.vs_elaborated.specs.Environments.{OfScope, Env}
-use Rattle.vs_elaborated.specs.Declarations.{SignalOf, ParameterOf, GenvarSort, IntegerSort, InstanceSort, Declaration, Named, signals_declared, parameters_declared, item_declared, header_declared, second_of, names_after}
+use Rattle.vs_elaborated.specs.Declarations.{SignalOf, ParameterOf, GenvarSort, InstanceSort, Declaration, Named, signals_declared, parameters_declared, integer_sort, item_declared, header_declared, second_of, names_after}
+use Rattle.vs_elaborated.specs.Uses.{is_variable_of}
 use Rattle.vs_elaborated.specs.Signals.{SaidSignal, sort_faults, range_faults, array_fault, array_faults}
 use Rattle.vs_elaborated.specs.Generate.{BlockName}
 use Rattle.vs_elaborated.specs.Pieces.{Contents, OfModule, OfBlock, Task}
@@ -75,9 +76,9 @@ signals_shaped header t x h = of t.names (names_of_kind t.kind t.names x.names)
         no k = cc
 
     of : (names : List tree.Declarator) → Each (IsShapedName t.kind) names
-        → AreShapedDeclarations (map (λ (d : tree.Declarator). record { name = d.name; sort = SignalOf (record { kind = t.kind; signed = t.signed; range = t.range; addresses = d.addresses; header = header }) }) names)
+        → AreShapedDeclarations (map (λ (d : tree.Declarator). record { name = d.name; sort = SignalOf (record { kind = t.kind; value_type = tree.RangeType t.signed t.range; addresses = d.addresses; header = header }) }) names)
     of [] k = tt
-    of (d ∷ ds) k = (record { range = x.range; addresses = k.0.addresses; inner = k.0.inner; body = λ e. in_body header t.kind h (k.0.inner e) }, of ds k.1)
+    of (d ∷ ds) k = (record { value_type = x.range; addresses = k.0.addresses; inner = k.0.inner; body = λ e. in_body header t.kind h (k.0.inner e) }, of ds k.1)
 
 in_no_header : (kind : SignalKind) → false ≡ true → is_port_kind kind ≡ true
 in_no_header kind h = cc
@@ -97,45 +98,49 @@ genvars_shaped : (ns : List tree.Name) → AreShapedDeclarations (map (λ (n : t
 genvars_shaped [] = tt
 genvars_shaped (n ∷ ns) = (tt, genvars_shaped ns)
 
-integers_shaped : (ns : List tree.Name) → AreShapedDeclarations (map (λ (n : tree.Name). record { name = n; sort = IntegerSort }) ns)
-integers_shaped [] = tt
-integers_shaped (n ∷ ns) = (tt, integers_shaped ns)
+integer_shaped : (b : Bool) → IsShapedSort (integer_sort b)
+integer_shaped true = record { value_type = tt; addresses = tt; inner = λ e. refl; body = λ e. refl }
+integer_shaped false = tt
+
+integers_shaped : (v : List ℕ → Bool) (ns : List tree.Name) → AreShapedDeclarations (map (λ (n : tree.Name). record { name = n; sort = integer_sort (v n.bytes) }) ns)
+integers_shaped v [] = tt
+integers_shaped v (n ∷ ns) = (integer_shaped (v n.bytes), integers_shaped v ns)
 
 instances_shaped : (is : List tree.Instance) → AreShapedDeclarations (map (λ (i : tree.Instance). record { name = i.name; sort = InstanceSort }) is)
 instances_shaped [] = tt
 instances_shaped (i ∷ is) = (tt, instances_shaped is)
 
-generate_item_shaped : (item : tree.Item) → IsGenerateItem item → AreShapedDeclarations (item_declared item)
-generate_item_shaped (tree.SignalsItem t) x = signals_shaped false t x.0 (in_no_header t.kind)
-generate_item_shaped (tree.ParametersItem t) x = parameters_shaped t x.0
-generate_item_shaped (tree.AssignsItem place assigns) x = tt
-generate_item_shaped (tree.AlwaysItem block) x = tt
-generate_item_shaped (tree.InitialItem block) x = tt
-generate_item_shaped (tree.GenvarsItem place names) x = genvars_shaped names
-generate_item_shaped (tree.IntegersItem place names) x = integers_shaped names
-generate_item_shaped (tree.FunctionItem function) x = absurd x
-generate_item_shaped (tree.InstancesItem t) x = instances_shaped t.instances
-generate_item_shaped (tree.GenerateFor head block) x = tt
-generate_item_shaped (tree.GenerateIf place c taken other) x = tt
-generate_item_shaped (tree.GenerateCase place subject arms other) x = tt
+generate_item_shaped : (v : List ℕ → Bool) (item : tree.Item) → IsGenerateItem item → AreShapedDeclarations (item_declared v item)
+generate_item_shaped v (tree.SignalsItem t) x = signals_shaped false t x.0 (in_no_header t.kind)
+generate_item_shaped v (tree.ParametersItem t) x = parameters_shaped t x.0
+generate_item_shaped v (tree.AssignsItem place assigns) x = tt
+generate_item_shaped v (tree.AlwaysItem block) x = tt
+generate_item_shaped v (tree.InitialItem block) x = tt
+generate_item_shaped v (tree.GenvarsItem place names) x = genvars_shaped names
+generate_item_shaped v (tree.IntegersItem place names) x = integers_shaped v names
+generate_item_shaped v (tree.FunctionItem function) x = absurd x
+generate_item_shaped v (tree.InstancesItem t) x = instances_shaped t.instances
+generate_item_shaped v (tree.GenerateFor head block) x = tt
+generate_item_shaped v (tree.GenerateIf place c taken other) x = tt
+generate_item_shaped v (tree.GenerateCase place subject arms other) x = tt
 
-item_shaped : (item : tree.Item) → IsItem item → AreShapedDeclarations (item_declared item)
-item_shaped (tree.SignalsItem t) x = signals_shaped false t x (in_no_header t.kind)
-item_shaped (tree.ParametersItem t) x = parameters_shaped t x
-item_shaped (tree.AssignsItem place assigns) x = tt
-item_shaped (tree.AlwaysItem block) x = tt
-item_shaped (tree.InitialItem block) x = tt
-item_shaped (tree.GenvarsItem place names) x = genvars_shaped names
-item_shaped (tree.IntegersItem place names) x = integers_shaped names
-item_shaped (tree.FunctionItem function) x = (x, tt)
-item_shaped (tree.InstancesItem t) x = instances_shaped t.instances
-item_shaped (tree.GenerateFor head block) x = tt
-item_shaped (tree.GenerateIf place c taken other) x = tt
-item_shaped (tree.GenerateCase place subject arms other) x = tt
+item_shaped : (v : List ℕ → Bool) (item : tree.Item) → IsItem item → AreShapedDeclarations (item_declared v item)
+item_shaped v (tree.SignalsItem t) x = signals_shaped false t x (in_no_header t.kind)
+item_shaped v (tree.ParametersItem t) x = parameters_shaped t x
+item_shaped v (tree.AssignsItem place assigns) x = tt
+item_shaped v (tree.AlwaysItem block) x = tt
+item_shaped v (tree.InitialItem block) x = tt
+item_shaped v (tree.GenvarsItem place names) x = genvars_shaped names
+item_shaped v (tree.IntegersItem place names) x = integers_shaped v names
+item_shaped v (tree.FunctionItem function) x = (x, tt)
+item_shaped v (tree.InstancesItem t) x = instances_shaped t.instances
+item_shaped v (tree.GenerateFor head block) x = tt
+item_shaped v (tree.GenerateIf place c taken other) x = tt
+item_shaped v (tree.GenerateCase place subject arms other) x = tt
 
-items_shaped : (items : tree.Items) → AreItems items → AreShapedDeclarations (flat_map item_declared (items_list items))
-items_shaped tree.NoItem x = tt
-items_shaped (tree.AndItem item rest) x = each_append _ (item_declared item) (flat_map item_declared (items_list rest)) (item_shaped item x.0) (items_shaped rest x.1)
+items_shaped : (v : List ℕ → Bool) (items : tree.Items) → AreItems items → AreShapedDeclarations (flat_map (item_declared v) (items_list items))
+items_shaped v tree.NoItem x = tt
+items_shaped v (tree.AndItem item rest) x = each_append _ (item_declared v item) (flat_map (item_declared v) (items_list rest)) (item_shaped v item x.0) (items_shaped v rest x.1)
 
 header_shaped : (h : tree.Header) → IsHeader h → AreShapedDeclarations (header_declared h)
 header_shaped tree.NoPorts x = tt
@@ -145,9 +150,9 @@ header_shaped (tree.DeclaredPorts (p ∷ ps)) x = each_flat ArePorts _ (signals_
 
 pub contents_shaped : (c : Contents) → IsShapedContents c → AreShapedDeclarations (declarations_of c)
 contents_shaped (OfModule m overrides) x =
-    each_append _ (flat_map parameters_declared m.parameters) (header_declared m.header ++ flat_map item_declared (items_list m.items)) (each_flat AreHeaderParameters _ parameters_declared (λ t k. parameters_shaped t k.0) m.parameters x.parameters)
-    (each_append _ (header_declared m.header) (flat_map item_declared (items_list m.items)) (header_shaped m.header x.header) (items_shaped m.items x.items))
-contents_shaped (OfBlock items) x = each_flat IsGenerateItem _ item_declared generate_item_shaped items x
+    each_append _ (flat_map parameters_declared m.parameters) (header_declared m.header ++ flat_map (item_declared (is_variable_of (items_list m.items))) (items_list m.items)) (each_flat AreHeaderParameters _ parameters_declared (λ t k. parameters_shaped t k.0) m.parameters x.parameters)
+    (each_append _ (header_declared m.header) (flat_map (item_declared (is_variable_of (items_list m.items))) (items_list m.items)) (header_shaped m.header x.header) (items_shaped (is_variable_of (items_list m.items)) m.items x.items))
+contents_shaped (OfBlock items) x = each_flat IsGenerateItem _ (item_declared (is_variable_of items)) (generate_item_shaped (is_variable_of items)) items x
 
 -- ---- names are declarations
 

@@ -7,12 +7,12 @@ use Rattle.vs_grammar.specs.Trees.{items_list, Input, Output, Reg, Wire}
 use Rattle.vs_const.specs.declared.faults.Fault.{Fault}
 use Rattle.vs_const.specs.Faults.{fault_if}
 use Rattle.vs_const.specs.declared.rules.Rule.TheVariants.{DuplicateName}
+use Rattle.vs_elaborated.specs.Uses.{is_variable_of}
 
--- a declaration of a signal, with the addresses of a memory (4.9); `header` says whether it is one of a header's ports
+-- a declaration of a signal, with the addresses of a memory (4.9); an integer that is a variable has the type of integers (4.8). `header` says whether it is one of a header's ports
 pub record SignalSort : Type 0 where
   pub kind : tree.SignalKind
-  pub signed : Bool
-  pub range : Option tree.RangeTree
+  pub value_type : tree.ValueType
   pub addresses : Option tree.RangeTree
   pub header : Bool
 
@@ -27,6 +27,7 @@ pub data Sort : Type 0 where
   SignalOf : (sort : SignalSort) → Sort
   ParameterOf : (sort : ParameterSort) → Sort
   FunctionOf : (function : tree.Function) → Sort
+  -- an integer that is no variable
   GenvarSort IntegerSort InstanceSort : Sort
 
 -- a name and what it is declared as
@@ -36,21 +37,30 @@ pub record Declaration : Type 0 where
 
 -- all names of one declaration
 abbrev pub signals_declared : Bool → tree.Signals → List Declaration
-signals_declared header t = map (λ (d : tree.Declarator). record { name = d.name; sort = SignalOf (record { kind = t.kind; signed = t.signed; range = t.range; addresses = d.addresses; header = header }) }) t.names
+signals_declared header t = map (λ (d : tree.Declarator). record { name = d.name; sort = SignalOf (record { kind = t.kind; value_type = tree.RangeType t.signed t.range; addresses = d.addresses; header = header }) }) t.names
 
 -- all names of one declaration
 abbrev pub parameters_declared : tree.Parameters → List Declaration
 parameters_declared t = map (λ (s : tree.Setting). record { name = s.name; sort = ParameterOf (record { is_local = t.is_local; value_type = t.value_type; value = s.value }) }) t.settings
 
--- the names that an item declares in its scope
-abbrev pub item_declared : tree.Item → List Declaration
-item_declared (tree.SignalsItem t) = signals_declared false t
-item_declared (tree.ParametersItem t) = parameters_declared t
-item_declared (tree.GenvarsItem place names) = map (λ (n : tree.Name). record { name = n; sort = GenvarSort }) names
-item_declared (tree.IntegersItem place names) = map (λ (n : tree.Name). record { name = n; sort = IntegerSort }) names
-item_declared (tree.FunctionItem f) = record { name = f.name; sort = FunctionOf f } ∷ []
-item_declared (tree.InstancesItem t) = map (λ (i : tree.Instance). record { name = i.name; sort = InstanceSort }) t.instances
-item_declared _ = []
+-- an integer: a variable, or one whose value is that of a loop's turn (4.8, 9.6)
+abbrev pub integer_sort : (is_variable : Bool) → Sort
+integer_sort true = SignalOf (record { kind = Reg; value_type = tree.IntegerType; addresses = None; header = false })
+integer_sort false = IntegerSort
+
+-- the names that an item declares in its scope, by which integers are variables
+abbrev pub item_declared : (is_variable : List ℕ → Bool) → tree.Item → List Declaration
+item_declared is_variable (tree.SignalsItem t) = signals_declared false t
+item_declared is_variable (tree.ParametersItem t) = parameters_declared t
+item_declared is_variable (tree.GenvarsItem place names) = map (λ (n : tree.Name). record { name = n; sort = GenvarSort }) names
+item_declared is_variable (tree.IntegersItem place names) = map (λ (n : tree.Name). record { name = n; sort = integer_sort (is_variable n.bytes) }) names
+item_declared is_variable (tree.FunctionItem f) = record { name = f.name; sort = FunctionOf f } ∷ []
+item_declared is_variable (tree.InstancesItem t) = map (λ (i : tree.Instance). record { name = i.name; sort = InstanceSort }) t.instances
+item_declared is_variable _ = []
+
+-- the names that the items of a scope declare
+abbrev pub items_declared : List tree.Item → List Declaration
+items_declared items = flat_map (item_declared (is_variable_of items)) items
 
 -- the names that a header declares with directions (12.3.4)
 abbrev pub header_declared : tree.Header → List Declaration
@@ -59,7 +69,7 @@ header_declared _ = []
 
 -- a module's declarations in text order
 abbrev pub module_declared : tree.Module → List Declaration
-module_declared m = flat_map parameters_declared m.parameters ++ (header_declared m.header ++ flat_map item_declared (items_list m.items))
+module_declared m = flat_map parameters_declared m.parameters ++ (header_declared m.header ++ items_declared (items_list m.items))
 
 -- a port's direction and its net or variable may be declared apart, in the body (12.3.3)
 abbrev pub are_kinds_of_one : tree.SignalKind → tree.SignalKind → Bool

@@ -54,7 +54,7 @@ abbrev pub q4 : Signal
 q4 = wire_of (codes "q") 4 (to_zero 1) 6
 
 abbrev pub m5 : Signal
-m5 = record { name = codes "m"; scope = 0; number = 5; net = false; input = false; range = to_zero 1; signed = false; first = 8; words = to_zero 3 }
+m5 = record { name = codes "m"; scope = 0; number = 5; net = false; input = false; range = to_zero 1; signed = false; first = 8; words = to_zero 3; integer = false }
 
 -- its design
 abbrev pub memory_design : Design
@@ -144,7 +144,7 @@ connected connections = codes "module m(input [1:0] p, output q); endmodule modu
 
 -- a net of a scope
 abbrev pub net_in : (scope : ℕ) → List ℕ → (number : ℕ) → Option Range → (first : ℕ) → Signal
-net_in scope name number range first = record { name = name; scope = scope; number = number; net = true; input = false; range = range; signed = false; first = first; words = None }
+net_in scope name number range first = record { name = name; scope = scope; number = number; net = true; input = false; range = range; signed = false; first = first; words = None; integer = false }
 
 -- the signals of this design
 abbrev pub y_outside : Signal
@@ -327,6 +327,32 @@ pub record LoopsAndFunctions : Type 0 where
   -- integers and variables of a function are its own
   pub own : Elaborates the_limits (codes "module top(input a, output y); function f; input [1:0] u; integer i; reg r; begin r = 1'b0; for (i = 0; i < 2; i = i + 1) r = r ^ u[i]; f = r; end endfunction assign y = f({a, a}); endmodule")
   pub calls_another : Elaborates the_limits (codes "module top(input a, output y); function f(input u); f = ~u; endfunction function g(input u); g = f(u); endfunction assign y = g(f(a)); endmodule")
+
+-- ---- integers that are variables (4.8)
+
+-- `module top(input a); integer i, n; ..`: a and n, which is declared behind an integer of loops
+abbrev pub counting : List ℕ → List ℕ
+counting blocks = codes "module top(input a); integer i, n; " ++ (blocks ++ codes " endmodule")
+
+abbrev pub a_and_n : List Signal
+a_and_n = a0 ∷ record { name = codes "n"; scope = 0; number = 1; net = false; input = false; range = to_zero 31; signed = true; first = 1; words = None; integer = true } ∷ []
+
+abbrev pub signals_in : Design → List Signal
+signals_in d = d.signals
+
+-- one that is assigned and heads no loop is a variable of 32 bits, signed
+pub record IntegerVariables : Type 0 where
+  pub assigned : Shows signals_in a_and_n (counting (codes "always @* n = a;"))
+  pub beside_a_loop : Shows signals_in a_and_n (counting (codes "always @* begin n = 0; for (i = 0; i < 2; i = i + 1) n = n + i; end"))
+  pub initially : Shows signals_in a_and_n (counting (codes "initial n = 1;"))
+  pub in_a_part : Shows signals_in a_and_n (counting (codes "always @* if (a) n[0] = a; else case (a) 1'b0: n = 1; default: {n[1], n[0]} = 2; endcase"))
+  -- a named block's own integer of that name is another
+  pub own : Shows signals_in a_and_n (counting (codes "always @* n = a; initial begin : b integer n; for (n = 0; n < 2; n = n + 1) ; end"))
+  -- in a generate block, of its own and of the scope around
+  pub outer : Shows signals_in a_and_n (counting (codes "genvar g; for (g = 0; g < 1; g = g + 1) always @* n = a;"))
+  pub inner : Elaborates the_limits (codes "module top(input a); genvar g; for (g = 0; g < 2; g = g + 1) begin : b integer n; always @* n = a; wire w = n[31]; end endmodule")
+  -- its type may stand apart from a port's direction, as a variable's may
+  pub port : Elaborates the_limits (codes "module top(n); output [31:0] n; integer n; always @* n = 1; endmodule")
 
 -- ---- initial processes (9.9.1)
 

@@ -1,5 +1,5 @@
 -- Functions of a scope, in text order, each by those before it (IEEE 1364-2005, 10.4).
-use Rattle.std.specs.Prelude.{ℕ, suc, ◌+◌, ◌-◌, Bool, true, false, ◌&&◌, ◌||◌, List, [], ◌∷◌, ◌++◌, map, flat_map, sum_by, if◌then◌else◌, ◌==◌, nat_lt, Option, Some, None}
+use Rattle.std.specs.Prelude.{ℕ, suc, ◌+◌, ◌-◌, Bool, true, false, not, ◌&&◌, ◌||◌, List, [], ◌∷◌, ◌++◌, map, flat_map, sum_by, if◌then◌else◌, ◌==◌, nat_lt, Option, Some, None}
 use Rattle.std.specs.List.{list_all}
 use Rattle.vs_design.specs.Clocks.{same_name}
 use Rattle.vs_design.specs.Expressions.{signal_length, Header, local_signals}
@@ -9,7 +9,7 @@ use Rattle.vs_grammar.specs.Trees as tree
 use Rattle.vs_const.specs.declared.faults.Fault.{Fault}
 use Rattle.vs_const.specs.Faults.{fault_if}
 use Rattle.vs_const.specs.Expressions.{is_clean}
-use Rattle.vs_const.specs.declared.rules.Rule.TheVariants.{FunctionRule, WrongKind}
+use Rattle.vs_const.specs.declared.rules.Rule.TheVariants.{FunctionRule, LoopVariable}
 use Rattle.vs_const.specs.declared.names.Role.{Role}
 use Rattle.vs_const.specs.declared.names.Role.TheVariants.{InFunction, AsResult}
 use Rattle.vs_const.specs.Meanings.{SignalMeaning, FunctionMeaning, Meaning, ASignal, Barred, Find}
@@ -18,6 +18,7 @@ use Rattle.vs_elaborated.specs.Environments.{Declared, OfSignal, OfInteger, OfFu
 use Rattle.vs_elaborated.specs.Declarations.{FunctionOf, Declaration}
 use Rattle.vs_elaborated.specs.Parameters.{said_type, is_signed}
 use Rattle.vs_const.specs.CallDepths.{calls_in}
+use Rattle.vs_elaborated.specs.Uses.{is_variable_in, is_variable_among}
 use Rattle.vs_elaborated.specs.Statements.{Body, Local, locals_of, scope_locals, repeated_locals, is_integer, unrolled_within}
 
 -- ---- what a function declares
@@ -30,14 +31,19 @@ result_local f = record { name = f.name; value_type = f.value_type }
 abbrev pub declared_locals : tree.Function → List Local
 declared_locals f = result_local f ∷ (flat_map locals_of f.inputs ++ flat_map locals_of f.variables)
 
--- what the named blocks of a statement declare, in the order of the text
+-- those that are variables: an integer is one where it heads no loop and is assigned (4.8, 9.6)
+abbrev pub variables_of : (is_variable : List ℕ → Bool) → List Local → List Local
+variables_of is_variable [] = []
+variables_of is_variable (v ∷ vs) = if is_integer v && not (is_variable v.name.bytes) then variables_of is_variable vs else v ∷ variables_of is_variable vs
+
+-- the variables that the named blocks of a statement declare, in the order of the text
 abbrev mutual
   pub block_locals : tree.Statement → List Local
   block_locals (tree.Empty place) = []
   block_locals (tree.Assignment target e blocking) = []
   block_locals (tree.If place c taken other) = block_locals taken ++ fallback_locals other
   block_locals (tree.Case place kind subject arms other) = arms_locals arms ++ fallback_locals other
-  block_locals (tree.Sequence place scope parts) = scope_locals scope ++ sequence_locals parts
+  block_locals (tree.Sequence place scope parts) = variables_of (is_variable_among parts) (scope_locals scope) ++ sequence_locals parts
   block_locals (tree.For head statement) = block_locals statement
 
   pub fallback_locals : tree.Fallback → List Local
@@ -52,13 +58,9 @@ abbrev mutual
   arms_locals tree.NoArm = []
   arms_locals (tree.AndArm labels statement rest) = block_locals statement ++ arms_locals rest
 
--- its own variables: an integer heads loops, and is none
-abbrev pub variables_of : List Local → List Local
-variables_of [] = []
-variables_of (v ∷ vs) = if is_integer v then variables_of vs else v ∷ variables_of vs
-
+-- its own variables
 abbrev pub own_locals : tree.Function → List Local
-own_locals f = variables_of (flat_map locals_of f.variables ++ block_locals f.statement)
+own_locals f = variables_of (is_variable_in f.statement) (flat_map locals_of f.variables) ++ block_locals f.statement
 
 -- ---- local signals, numbered from 0 on: the inputs, the result, its own variables
 
@@ -80,7 +82,7 @@ local_signal env start role input v =
     record {
       place = v.name.place;
       meaning = record {
-        signal = record { name = v.name.bytes; scope = start.scope; number = start.signal; net = false; input = input; range = r.range; signed = is_signed v.value_type; first = start.bit; words = None };
+        signal = record { name = v.name.bytes; scope = start.scope; number = start.signal; net = false; input = input; range = r.range; signed = is_signed v.value_type; first = start.bit; words = None; integer = false };
         input = input;
         role = role;
         known = r.known;
@@ -136,7 +138,7 @@ declared_or None = OfInteger None
 declared_or (Some s) = OfSignal s.meaning
 
 abbrev pub meaning_or : Option LocalSignal → Meaning
-meaning_or None = Barred WrongKind
+meaning_or None = Barred LoopVariable
 meaning_or (Some s) = ASignal s.meaning
 
 -- its own name space

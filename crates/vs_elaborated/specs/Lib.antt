@@ -1,6 +1,7 @@
 pub mod Limits
 pub mod Environments
 pub mod Targets
+pub mod Uses
 pub mod Statements
 pub mod Declarations
 pub mod Parameters

@@ -66,6 +66,10 @@ abbrev pub is_signed : ValueType → Bool
 is_signed IntegerType = true
 is_signed (RangeType signed range) = signed
 
+abbrev pub is_integer_type : ValueType → Bool
+is_integer_type IntegerType = true
+is_integer_type (RangeType signed range) = false
+
 -- ---- one parameter
 
 -- an override, by what it says where its instance stands

@@ -11,7 +11,7 @@ use Rattle.vs_const.specs.declared.names.Role.TheVariants.{InModule}
 use Rattle.vs_const.specs.Meanings.{SignalMeaning}
 use Rattle.vs_elaborated.specs.Environments.{OfSignal, Entry, Env}
 use Rattle.vs_elaborated.specs.Declarations.{SignalSort, Sort, SignalOf, Declaration, Named, has_addresses}
-use Rattle.vs_elaborated.specs.Parameters.{SaidRange, said_range, said_addresses}
+use Rattle.vs_elaborated.specs.Parameters.{SaidRange, said_type, is_signed, is_integer_type, said_addresses}
 
 -- whether it declares a variable
 abbrev pub is_reg : SignalKind → Bool
@@ -40,11 +40,11 @@ pub record Start : Type 0 where
 -- a signal of its first declaration, and perhaps of a second one: a variable, an input, signed where one of them says so; a memory has one alone
 abbrev pub signal_meaning : Env → Start → Name → SignalSort → SignalSort → SignalMeaning
 signal_meaning env start name s t =
-    let r = said_range s.range env in
+    let r = said_type s.value_type env in
     let w = said_addresses s.addresses env in
     let input = is_input s.kind || is_input t.kind in
     record {
-      signal = record { name = name.bytes; scope = start.scope; number = start.signal; net = not (is_reg s.kind || is_reg t.kind); input = input && start.top; range = r.range; signed = s.signed || t.signed; first = start.bit; words = w.range };
+      signal = record { name = name.bytes; scope = start.scope; number = start.signal; net = not (is_reg s.kind || is_reg t.kind); input = input && start.top; range = r.range; signed = is_signed s.value_type || is_signed t.value_type; first = start.bit; words = w.range; integer = is_integer_type s.value_type || is_integer_type t.value_type };
       input = input;
       role = InModule;
       known = r.known && w.known;
@@ -57,7 +57,7 @@ are_unequal r q = r.known && (q.known && not (same_range r.range q.range))
 -- the second name is at fault
 abbrev pub second_faults : Env → SignalSort → Option Declaration → List Fault
 second_faults env s None = []
-second_faults env s (Some d) = fault_if (are_unequal (said_range s.range env) (said_range (second_sort s (Some d)).range env)) BadRange d.name.place
+second_faults env s (Some d) = fault_if (are_unequal (said_type s.value_type env) (said_type (second_sort s (Some d)).value_type env)) BadRange d.name.place
 
 -- a signal, where it is first declared, and its faults
 pub record SaidSignal : Type 0 where
@@ -80,7 +80,7 @@ said_signals env start (n ∷ ns) = elim n.first.sort [ SignalOf s ↦ let one =
 
 -- of a signal's ranges
 abbrev pub sort_faults : Env → Sort → List Fault
-sort_faults env (SignalOf s) = (said_range s.range env).faults ++ (said_addresses s.addresses env).faults
+sort_faults env (SignalOf s) = (said_type s.value_type env).faults ++ (said_addresses s.addresses env).faults
 sort_faults env _ = []
 
 -- of all declarations of signals

@@ -20,7 +20,7 @@ use Rattle.vs_const.specs.Typed.{Typed}
 use Rattle.vs_const.specs.Expressions.{typed, constant, is_clean}
 use Rattle.vs_elaborated.specs.Targets.{meant_signal, typed_target}
 
--- What a statement stands in, a block or a function: what a variable of a named block means that is declared at this place (9.8.2), whether it is a function (10.4), whether it is a
+-- What a statement stands in, a block or a function: what a variable or an integer of a named block means that is declared at this place (9.8.2), whether it is a function (10.4), whether it is a
 -- clocked block or an initial process, which alone write words of memories (4.9), and whether its loops are unrolled.
 pub record Body : Type 0 where
   pub declared : ℕ → Meaning
@@ -140,13 +140,9 @@ find_local (v ∷ vs) name = if same_name v.name.bytes name then Some v else fin
 abbrev pub is_integer : Local → Bool
 is_integer v = elim v.value_type [ tree.IntegerType ↦ true | tree.RangeType signed range ↦ false ]
 
--- an integer of a named block is named within its loop alone
-abbrev pub local_meaning : (declared : ℕ → Meaning) → Local → Meaning
-local_meaning declared v = if is_integer v then Barred LoopVariable else declared v.name.place
-
 abbrev pub local_or : (declared : ℕ → Meaning) → Option Local → Meaning → Meaning
 local_or declared None m = m
-local_or declared (Some v) m = local_meaning declared v
+local_or declared (Some v) m = declared v.name.place
 
 -- what each name means within a block
 abbrev pub scoped : (declared : ℕ → Meaning) → List Local → Find → Find

@@ -9,7 +9,7 @@ use Rattle.vs_grammar.specs.Trees as tree
 use Rattle.vs_grammar.specs.Trees.{Source, items_list, target_place}
 use Rattle.vs_const.specs.declared.faults.Fault.{Fault}
 use Rattle.vs_const.specs.Faults.{fault, fault_if}
-use Rattle.vs_const.specs.declared.rules.Rule.TheVariants.{DuplicateName, WrongKind, TooManyBits, TooManyProcesses}
+use Rattle.vs_const.specs.declared.rules.Rule.TheVariants.{DuplicateName, TooManyBits, TooManyProcesses, LoopVariable}
 use Rattle.vs_const.specs.Meanings.{Barred}
 use Rattle.vs_const.specs.Expressions.{typed}
 use Rattle.vs_elaborated.specs.Limits.{Limits}
@@ -18,7 +18,7 @@ use Rattle.vs_elaborated.specs.Targets.{typed_target}
 use Rattle.vs_elaborated.specs.Statements.{Body, TypedStatement, typed_control, assignment, is_clocked_by, unrolled_within}
 use Rattle.vs_elaborated.specs.Heads.{Integer, Head, headed, shared_heads}
 use Rattle.vs_elaborated.specs.Functions.{Counts, said_functions}
-use Rattle.vs_elaborated.specs.Declarations.{Declaration, item_declared, module_declared, names_of, repeated_names}
+use Rattle.vs_elaborated.specs.Declarations.{Declaration, items_declared, module_declared, names_of, repeated_names}
 use Rattle.vs_elaborated.specs.Parameters.{Override, first_entries, said_parameters}
 use Rattle.vs_elaborated.specs.Signals.{is_reg, SaidSignal, said_signals, range_faults, array_faults, put_signals}
 use Rattle.vs_elaborated.specs.Generate.{Nested, BlockName, Made}
@@ -47,9 +47,9 @@ assign_said env place a =
     let e = typed a.e (named env) false in
     one_said (Own (Continuous place Written (target_place a.target) t.target e.expression)) (t.faults ++ e.faults)
 
--- An initial process stands by itself, and writes words of memories (9.9.1).
+-- An initial process stands by itself, and writes words of memories (9.9.1); an integer of a named block is named within its loop alone.
 abbrev pub initial_body : Body
-initial_body = record { declared = λ place. Barred WrongKind; in_function = false; clocked = true; unrolls = true }
+initial_body = record { declared = λ place. Barred LoopVariable; in_function = false; clocked = true; unrolls = true }
 
 -- `reg q = e` is `initial q = e` in its place (6.2.1)
 abbrev pub value_said : Env → tree.Name → tree.Expr → Said
@@ -78,9 +78,9 @@ abbrev pub ports_said : Env → tree.Header → Said
 ports_said env (tree.DeclaredPorts ports) = all_said (signals_said env) ports
 ports_said env _ = nothing_said []
 
--- An always block stands by itself: no variable of a named block in it is taken.
+-- An always block stands by itself: an integer of a named block is named within its loop alone, and no variable is taken.
 abbrev pub block_body : tree.AlwaysBlock → Body
-block_body b = record { declared = λ place. Barred WrongKind; in_function = false; clocked = is_clocked_by b.control; unrolls = true }
+block_body b = record { declared = λ place. Barred LoopVariable; in_function = false; clocked = is_clocked_by b.control; unrolls = true }
 
 -- the statement of an always block, behind so many copies
 abbrev pub block_statement : Limits → Env → Loops → tree.AlwaysBlock → TypedStatement
@@ -239,7 +239,7 @@ items_of (OfBlock items) = items
 -- a module declares in its header too
 abbrev pub declarations_of : Contents → List Declaration
 declarations_of (OfModule m overrides) = module_declared m
-declarations_of (OfBlock items) = flat_map item_declared items
+declarations_of (OfBlock items) = items_declared items
 
 -- a block has no parameters to override
 abbrev pub overrides_of : Contents → List Override

@@ -15,7 +15,7 @@ use Rattle.vs_const.specs.Expressions.{typed}
 
 -- what stands where no signal is named
 abbrev pub no_signal : Signal
-no_signal = record { name = []; scope = 0; number = 0; net = true; input = false; range = None; signed = false; first = 0; words = None }
+no_signal = record { name = []; scope = 0; number = 0; net = true; input = false; range = None; signed = false; first = 0; words = None; integer = false }
 
 -- the signal that a name means, if it does
 abbrev pub meant_signal : Meaning → Signal

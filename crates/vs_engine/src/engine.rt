@@ -1,6 +1,6 @@
 //! The engine.
 
-ghost use Rattle.std.specs.Prelude.{◌≡◌, ℕ, ◌+◌, ◌*◌, ◌/◌, ◌≢◌, ◌<◌, ◌≤◌, ◌^◌, length, slice_get, IfOk, Some, true, false, not, if◌then◌else◌};
+ghost use Rattle.std.specs.Prelude.{List, ◌≡◌, ℕ, ◌+◌, ◌*◌, ◌/◌, ◌≢◌, ◌<◌, ◌≤◌, ◌^◌, length, slice_get, IfOk, Some, true, false, not, if◌then◌else◌};
 ghost use Rattle.vs_four.specs.declared.Bit4.{Bit4};
 ghost use Rattle.vs_net.specs.Network.{write_all};
 ghost use Rattle.vs_net.specs.Queue.{Fall, Rise};
@@ -33,11 +33,11 @@ pub struct Engine<W: Word> {
     compiled: Compiled,
     file: PlaneFile<W>,
     begun: bool,
-    // What the clock has. It has a plane only where it is one of the design's bits.
+    // What the clocks have. They have planes only where they are some of the design's bits.
     level: Bit4,
 }
 
-// Clauses see the program, the pairs by slot number, whether a slot was run, and what the clock has.
+// Clauses see the program, the pairs by slot number, whether a slot was run, and what the clocks have.
 impl<W: Word> Model for Engine<W> {
     ghost use Rattle.vs_engine.specs.Lanes.{Running, IsWhole};
 
@@ -54,8 +54,8 @@ impl<W: Word> Engine<W> {
     pub fn new(alloc: Global, compiled: Compiled) -> Result<Engine<W>, AllocError>
         ensures program { IfOk result (λ e. e.program ≡ compiled) }
         ensures begun { IfOk result (λ e. e.begun ≡ false) }
-        ensures begins { IfOk result (λ e. (d : Design) (clock i : ℕ) → IsProgramOf d clock compiled → i < W.LANES
-            → state W.lane e i ≡ beginning (network_of d clock)) }
+        ensures begins { IfOk result (λ e. (d : Design) (clocks : List ℕ) (i : ℕ) → IsProgramOf d clocks compiled → i < W.LANES
+            → state W.lane e i ≡ beginning (network_of d clocks)) }
     {
         let file = PlaneFile::new(alloc, compiled.initial())?;
         Ok(Engine {
@@ -111,10 +111,10 @@ impl<W: Word> Engine<W> {
         ensures rise { result.1 ≡ rise_stores self.now.program }
         ensures few { (result.0 < 2 ^ 32) × (result.1 < 2 ^ 32) }
     {
-        let clocks = self.compiled.clocks().len() as u64;
+        let nets = self.compiled.nets().len() as u64;
         let next = self.compiled.length(Phase::Next);
         let rise = self.compiled.length(Phase::Rise);
-        (self.fall_stores(self.begun), clocks + next + rise)
+        (self.fall_stores(self.begun), nets + next + rise)
     }
 
     /// How many steps each fall takes but the first.
@@ -131,42 +131,42 @@ impl<W: Word> Engine<W> {
         ensures few { result < 2 ^ 32 }
     {
         let inputs = self.compiled.inputs().len() as u64;
-        let clocks = self.compiled.clocks().len() as u64;
-        inputs + clocks + self.compiled.length(settling(begun))
+        let nets = self.compiled.nets().len() as u64;
+        inputs + nets + self.compiled.length(settling(begun))
     }
 }
 
 impl<W: Word> Engine<W> {
-    /// A slot in which the clock falls: each lane gets its vector, one pair for each bit of the data inputs in bit order, and has then the
+    /// A slot in which the clocks fall: each lane gets its vector, one pair for each bit of the data inputs in bit order, and has then the
     /// values at the end of that slot.
     pub fn fall<L: Ledger>(&mut self, inputs: &[Pair<W>], steps: &mut Steps<L>)
         requires { length inputs.now ≡ length self.old.program.inputs }
         ensures program { self.new.program ≡ self.old.program }
         ensures begun { self.new.begun ≡ true }
-        ensures ends { (d : Design) (clock i : ℕ) → IsProgramOf d clock self.old.program → i < W.LANES
-            → IsSlotEnd (network_of d clock) (state W.lane self.old i) (Fall (vector W.lane self.old.program.inputs inputs.now i)) (state W.lane self.new i) }
+        ensures ends { (d : Design) (clocks : List ℕ) (i : ℕ) → IsProgramOf d clocks self.old.program → i < W.LANES
+            → IsSlotEnd (network_of d clocks) (state W.lane self.old i) (Fall (vector W.lane self.old.program.inputs inputs.now i)) (state W.lane self.new i) }
         ensures ticked { steps.new ≡ steps.old + (if self.old.begun then fall_stores self.old.program else first_stores self.old.program) }
     {
         write_law();
         feed(self.compiled.inputs(), inputs, &mut self.file, steps);
-        store_all(self.compiled.clocks(), Bit4::Zero, &mut self.file, steps);
+        store_all(self.compiled.nets(), Bit4::Zero, &mut self.file, steps);
         self.compiled
             .execute(settling(self.begun), &mut self.file, steps);
         self.begun = true;
         self.level = Bit4::Zero;
     }
 
-    /// A slot in which the clock rises, after one in which it fell. Each lane has then the values at the end of that slot.
+    /// A slot in which the clocks rise, after one in which they fell. Each lane has then the values at the end of that slot.
     pub fn rise<L: Ledger>(&mut self, steps: &mut Steps<L>)
         requires { self.old.begun ≡ true }
         ensures program { self.new.program ≡ self.old.program }
         ensures begun { self.new.begun ≡ true }
-        ensures ends { (d : Design) (clock i : ℕ) → IsProgramOf d clock self.old.program → i < W.LANES
-            → IsSlotEnd (network_of d clock) (state W.lane self.old i) Rise (state W.lane self.new i) }
+        ensures ends { (d : Design) (clocks : List ℕ) (i : ℕ) → IsProgramOf d clocks self.old.program → i < W.LANES
+            → IsSlotEnd (network_of d clocks) (state W.lane self.old i) Rise (state W.lane self.new i) }
         ensures ticked { steps.new ≡ steps.old + rise_stores self.old.program }
     {
         self.compiled.execute(Phase::Next, &mut self.file, steps);
-        store_all(self.compiled.clocks(), Bit4::One, &mut self.file, steps);
+        store_all(self.compiled.nets(), Bit4::One, &mut self.file, steps);
         self.compiled.execute(Phase::Rise, &mut self.file, steps);
         self.level = Bit4::One;
     }
@@ -246,7 +246,7 @@ fn differ<W: Word>(a: Pair<W>, b: Pair<W>) -> W
     a.value.xor(b.value).or(a.unknown.xor(b.unknown))
 }
 
-/// What settles a slot in which the clock falls: a first one, or a later one.
+/// What settles a slot in which the clocks fall: a first one, or a later one.
 fn settling(begun: bool) -> Phase
     ensures { result ≡ (if begun then Phase.Fall else Phase.First) }
 {

@@ -46,4 +46,4 @@ ending_text job Memory = memory_text
 -- the forms of all words
 abbrev pub usage_text : List ℕ
 usage_text = codes
-    "error: Usage: the words aren't those of the program, or a value of --define is no macro\nnote: cyclesim run [OPTIONS] <DESIGN> <STIM>...\nnote: cyclesim check [OPTIONS] <DESIGN> <STIM>...\nnote: cyclesim queue --order <N> [OPTIONS] <DESIGN> <STIM>\nnote: cyclesim bench <N> [L]\nnote: cyclesim --explain <WORDS>...\nnote: --top <T>: the name of the top module, by default the one that no instance names\nnote: --clock <C>: the name of the top's clock input, if it has one\nnote: --half <H>: half a clock period, from 1 to 1000000 [default: 5]\nnote: --define <NAME[=TEXT]>: a macro that is defined before the design's text, up to 64 of them\nnote: --with <PATH>: a further file of the design, read behind it, up to 64 of them\nnote: --share: one identifier code in the waveform for all signals that ports join, with run alone\nnote: --order <N>: what the order of the event queue's steps is drawn from, from 0 to 18446744073709551615, with queue alone\nnote: docs/running.md says what each word is (docs/refusals.md)\n"
+    "error: Usage: the words aren't those of the program, or a value of --define is no macro\nnote: cyclesim run [OPTIONS] <DESIGN> <STIM>...\nnote: cyclesim check [OPTIONS] <DESIGN> <STIM>...\nnote: cyclesim queue --order <N> [OPTIONS] <DESIGN> <STIM>\nnote: cyclesim bench <N> [L]\nnote: cyclesim --explain <WORDS>...\nnote: --top <T>: the name of the top module, by default the one that no instance names\nnote: --clock <C[,C]..>: the names of the top's clock inputs, if it has any\nnote: --half <H>: half a clock period, from 1 to 1000000 [default: 5]\nnote: --define <NAME[=TEXT]>: a macro that is defined before the design's text, up to 64 of them\nnote: --with <PATH>: a further file of the design, read behind it, up to 64 of them\nnote: --share: one identifier code in the waveform for all signals that ports join, with run alone\nnote: --order <N>: what the order of the event queue's steps is drawn from, from 0 to 18446744073709551615, with queue alone\nnote: docs/running.md says what each word is (docs/refusals.md)\n"

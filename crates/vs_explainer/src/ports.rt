@@ -19,16 +19,12 @@ use vs_setup::read_ports;
 fn ported_view(alloc: Global, job: &Job, joined: Joined) -> Result<View, AllocError>
     requires { length joined.text.items ≤ most_bytes }
     ensures head { IfOk result (λ view. view.head ≡ length job.now.head) }
-    ensures view { IfOk result (λ view. (ports : Option PortLists) × TellsPorts false joined.text.items job.now.top job.now.clock ports
+    ensures view { IfOk result (λ view. (ports : Option PortLists) × TellsPorts false joined.text.items job.now.top job.now.clocks ports
         × (seen_of view ≡ record { file = Some (drop (length job.now.head) joined.text.items); starts = joined.starts.items; head = length job.now.head; drawn = None; heavy = None; ports = ports })) }
 {
-    let ports = read_ports(
-        alloc,
-        joined.text.as_slice(),
-        job.top_bytes(),
-        job.clock_bytes(),
-        false,
-    )?;
+    let clocks = job.clock_names(alloc)?;
+    let names = clocks.as_slice();
+    let ports = read_ports(alloc, joined.text.as_slice(), job.top_bytes(), names, false)?;
     Ok(View {
         text: Some(joined.text),
         starts: joined.starts,

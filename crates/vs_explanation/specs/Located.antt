@@ -64,14 +64,14 @@ abbrev pub head_text : ℕ → ℕ → List ℕ
 head_text head at = if at == 0 && not (head == 0) then codes "note: or in a line that --define gives\n" else []
 
 -- a clocked block is refused where no clock is named
-abbrev pub clockless_text : Option (List ℕ) → Refusal → List ℕ
-clockless_text None (Process NotTheClock process at) = codes "note: no clock is named: --clock <C> says which input it is\n"
-clockless_text clock r = []
+abbrev pub clockless_text : List (List ℕ) → Refusal → List ℕ
+clockless_text [] (Process NotTheClock process at) = codes "note: no clock is named: --clock <C> says which input it is\n"
+clockless_text clocks r = []
 
 -- the notes of a refusal at byte `at` of the text, which lies there
 abbrev pub notes_text : Job → Seen → Refusal → ℕ → FilePlace → List ℕ
 notes_text job seen r at p =
-    head_text seen.head at ++ (further_text job seen (further r) ++ (change_text p.file p.at ++ (unnamed_text seen r ++ (clockless_text job.clock r ++ remedy_text r))))
+    head_text seen.head at ++ (further_text job seen (further r) ++ (change_text p.file p.at ++ (unnamed_text seen r ++ (clockless_text job.clocks r ++ remedy_text r))))
 
 -- all its lines
 abbrev pub located_in : Job → Seen → Refusal → List ℕ → ℕ → FilePlace → List ℕ

@@ -1,5 +1,6 @@
 -- The name or the number in the sentence of a refusal.
-use Rattle.std.specs.Prelude.{ℕ, ◌-◌, nat_lt, List, [], ◌++◌, slice_get, Option, Some, None, codes, decimal, if◌then◌else◌}
+use Rattle.std.specs.Prelude.{ℕ, ◌-◌, nat_lt, List, [], ◌∷◌, ◌++◌, ◌==◌, length, slice_get, Option, Some, None, codes, decimal, if◌then◌else◌}
+use Rattle.std.specs.List.{flat_map}
 use Rattle.std.specs.Option.{option_map_or}
 use Rattle.vs_desk.specs.Places.{stimulus_place, waveform_place, other_place}
 use Rattle.vs_flat.specs.DesignOf.{design_of}
@@ -66,15 +67,27 @@ abbrev pub top_text : Option (List ℕ) → List ℕ
 top_text None = codes "that is the only one without an instance"
 top_text (Some top) = escaped top
 
--- a refusal of the clock is of the name that is given
-abbrev pub clock_text : Option (List ℕ) → List ℕ
-clock_text None = []
-clock_text (Some clock) = escaped clock
+-- a name behind a comma
+abbrev pub behind_text : List ℕ → List ℕ
+behind_text name = codes "," ++ escaped name
+
+-- names, each so
+abbrev pub more_text : List (List ℕ) → List ℕ
+more_text names = flat_map behind_text names
+
+-- several names, parted by commas: it isn't told which of them is none of an input's, or is given twice
+abbrev pub several_text : List ℕ → List (List ℕ) → List ℕ
+several_text name more = codes "for one of " ++ (escaped name ++ (more_text more ++ codes ", or a name is there twice"))
+
+-- a refusal of the clocks is of the names that are given
+abbrev pub names_text : List (List ℕ) → List ℕ
+names_text [] = []
+names_text (name ∷ more) = if length more == 0 then escaped name else several_text name more
 
 -- nothing where the sentence has neither
 abbrev pub subject : Job → Option Drawn → Refusal → List ℕ
 subject job drawn (Bare NoTop) = top_text job.top
-subject job drawn (Bare NoClock) = clock_text job.clock
+subject job drawn (Bare NoClock) = names_text job.clocks
 subject job drawn (SamePath first second) = roles_text first second
 subject job drawn (TooLarge size) = size_text size
 subject job drawn (Latch process bit at) = bit_subject drawn bit

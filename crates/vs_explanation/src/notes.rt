@@ -126,9 +126,9 @@ pub(crate) fn push_clockless(
     job: &Job,
     refusal: &Refusal,
 ) -> Result<(), AllocError>
-    ensures { OnOk result (page.new ≡ page.old ++ spec.clockless_text job.now.clock refusal.now) }
+    ensures { OnOk result (page.new ≡ page.old ++ spec.clockless_text job.now.clocks refusal.now) }
 {
-    match &job.clock {
+    match job.clocks.as_slice().split_first() {
         Some(_) => Ok(()),
         None => match refusal {
             Refusal::Process(ProcessName::NotTheClock, _, _) => {

@@ -6,7 +6,7 @@ ghost use Rattle.vs_explanation.specs.Subjects as spec;
 use crate::roles::push_role;
 use std::alloc::AllocError;
 use vs_excerpt::Page;
-use vs_job::Job;
+use vs_job::{Job, Text};
 use vs_names::Drawing;
 use vs_refusal::{BareName, Refusal};
 
@@ -63,13 +63,45 @@ fn push_top(page: &mut Page, job: &Job) -> Result<(), AllocError>
     }
 }
 
-/// Adds the name of the clock, if one is given.
-fn push_clock(page: &mut Page, job: &Job) -> Result<(), AllocError>
-    ensures { OnOk result (page.new ≡ page.old ++ spec.clock_text job.now.clock) }
+/// Adds a name behind a comma.
+fn push_behind(page: &mut Page, name: &Text) -> Result<(), AllocError>
+    ensures { OnOk result (page.new ≡ page.old ++ spec.behind_text name.now) }
 {
-    match job.clock_bytes() {
-        Some(clock) => page.escaped(clock),
-        None => Ok(()),
+    page.text(",")?;
+    page.escaped(name.as_bytes())
+}
+
+/// Adds names, each behind a comma.
+fn push_more(page: &mut Page, names: &[Text]) -> Result<(), AllocError>
+    ensures { OnOk result (page.new ≡ page.old ++ spec.more_text names.now) }
+{
+    for name in names {
+        push_behind(page, name)?;
+    }
+    Ok(())
+}
+
+/// Adds several names, parted by commas: one of them is none of an input's, or is given twice.
+fn push_several(page: &mut Page, name: &Text, more: &[Text]) -> Result<(), AllocError>
+    ensures { OnOk result (page.new ≡ page.old ++ spec.several_text name.now more.now) }
+{
+    page.text("for one of ")?;
+    page.escaped(name.as_bytes())?;
+    push_more(page, more)?;
+    page.text(", or a name is there twice")
+}
+
+/// Adds the names of the clocks, if any is given.
+fn push_names(page: &mut Page, names: &[Text]) -> Result<(), AllocError>
+    ensures { OnOk result (page.new ≡ page.old ++ spec.names_text names.now) }
+{
+    let Some((name, more)) = names.split_first() else {
+        return Ok(());
+    };
+    if more.is_empty() {
+        page.escaped(name.as_bytes())
+    } else {
+        push_several(page, name, more)
     }
 }
 
@@ -84,7 +116,7 @@ pub(crate) fn push_subject(
 {
     match refusal {
         Refusal::Bare(BareName::NoTop) => push_top(page, job),
-        Refusal::Bare(BareName::NoClock) => push_clock(page, job),
+        Refusal::Bare(BareName::NoClock) => push_names(page, job.clocks.as_slice()),
         Refusal::SamePath { first, second } => push_roles(page, *first, *second),
         Refusal::TooLarge { size } => push_size(page, *size),
         Refusal::Latch { bit, .. } => push_bit(page, drawing, *bit),

@@ -8,3 +8,4 @@ pub mod Given
 pub mod TextOrder
 pub mod Different
 pub mod BitCounts
+pub mod Leaving

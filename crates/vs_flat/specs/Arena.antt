@@ -1,13 +1,16 @@
 -- What contracts see of a flat design: the lists of what was added, each kind numbered from 0.
-use Rattle.std.specs.Prelude.{ℕ, suc, ◌<◌, ◌≤◌, ◌^◌, List, [], ◌∷◌, ◌++◌, length, if◌then◌else◌, sum_by, Option, option_map, slice_get}
+use Rattle.std.specs.Prelude.{ℕ, suc, ◌<◌, ◌≤◌, ◌^◌, Bool, true, false, List, [], ◌∷◌, ◌++◌, length, if◌then◌else◌, set, sum_by, Option, None, Some, option_map, slice_get}
 use Rattle.vs_design.specs.Expressions.{range_or_one, words_length}
 use Rattle.vs_flat.specs.declared.placed.Placed.{Placed}
 use Rattle.vs_flat.specs.declared.expressions.Node.{Node}
 use Rattle.vs_flat.specs.declared.processes.Scope.{Scope}
 use Rattle.vs_flat.specs.declared.processes.Signal.{Signal}
 use Rattle.vs_flat.specs.declared.processes.Process.{Process}
+use Rattle.vs_flat.specs.declared.processes.Kind.{Kind}
+use Rattle.vs_flat.specs.declared.processes.Kind.TheVariants.{Assign, Block}
 use Rattle.vs_flat.specs.declared.processes.Initial.{Initial}
 use Rattle.vs_flat.specs.declared.statements.Statement.{Statement}
+use Rattle.vs_flat.specs.declared.statements.Statement.TheVariants.{Empty}
 use Rattle.vs_flat.specs.declared.functions.Function.{Function}
 use Rattle.vs_flat.specs.declared.functions.Declared.{Declared}
 use Rattle.vs_flat.specs.declared.functions.Body.{Body}
@@ -55,6 +58,26 @@ with_function a f = record a { functions = a.functions ++ record { function = f;
 
 abbrev pub with_body : Arena → ℕ → Arena
 with_body a s = record a { bodies = a.bodies ++ record { statement = s; nodes = length a.nodes; statements = length a.statements } ∷ [] }
+
+-- whether it is a block
+abbrev pub is_block : Kind → Bool
+is_block (Assign target e port) = false
+is_block (Block star events statement) = true
+
+-- where a process begins in the text
+abbrev pub place_of : Option Process → ℕ
+place_of None = 0
+place_of (Some p) = p.at
+
+-- an `always @* ;`
+abbrev pub empty_block : (at statement : ℕ) → Process
+empty_block at statement = record { at = at; kind = Block true [] statement }
+
+-- with such a block in the place of process p
+abbrev pub with_empty : Arena → ℕ → Arena
+with_empty a p =
+    let at = place_of (slice_get a.processes p) in
+    record a { statements = a.statements ++ placed Empty at ∷ []; processes = set a.processes p (empty_block at (length a.statements)) }
 
 abbrev pub declared_at : Arena → ℕ → Option Declared
 declared_at a f = slice_get a.functions f

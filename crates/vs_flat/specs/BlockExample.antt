@@ -26,9 +26,9 @@ abbrev pub block_arena : Arena
 block_arena = record empty_arena {
   scopes = record { name = 116 ∷ 111 ∷ 112 ∷ []; parent = None; instance = true } ∷ [];
   signals =
-      record { name = 99 ∷ 108 ∷ 107 ∷ []; scope = 0; net = true; input = true; range = None; signed = false; first_bit = 0; words = None }
-      ∷ record { name = 97 ∷ []; scope = 0; net = true; input = true; range = Some four_bits; signed = false; first_bit = 1; words = None }
-      ∷ record { name = 113 ∷ []; scope = 0; net = false; input = false; range = Some four_bits; signed = false; first_bit = 5; words = None }
+      record { name = 99 ∷ 108 ∷ 107 ∷ []; scope = 0; net = true; input = true; range = None; signed = false; first_bit = 0; words = None; integer = false }
+      ∷ record { name = 97 ∷ []; scope = 0; net = true; input = true; range = Some four_bits; signed = false; first_bit = 1; words = None; integer = false }
+      ∷ record { name = 113 ∷ []; scope = 0; net = false; input = false; range = Some four_bits; signed = false; first_bit = 5; words = None; integer = false }
       ∷ [];
   processes = record { at = 58; kind = K.Block false (record { signal = 0; edge = G.Posedge } ∷ []) 5 } ∷ [];
   initials = record { at = 183; behind = 1; statement = 6 } ∷ [];
@@ -50,13 +50,13 @@ block_arena = record empty_arena {
 }
 
 abbrev pub plain_clk : E.Signal
-plain_clk = record { name = 99 ∷ 108 ∷ 107 ∷ []; scope = 0; number = 0; net = true; input = true; range = None; signed = false; first = 0; words = None }
+plain_clk = record { name = 99 ∷ 108 ∷ 107 ∷ []; scope = 0; number = 0; net = true; input = true; range = None; signed = false; first = 0; words = None; integer = false }
 
 abbrev pub vector_a : E.Signal
-vector_a = record { name = 97 ∷ []; scope = 0; number = 1; net = true; input = true; range = Some four_bits; signed = false; first = 1; words = None }
+vector_a = record { name = 97 ∷ []; scope = 0; number = 1; net = true; input = true; range = Some four_bits; signed = false; first = 1; words = None; integer = false }
 
 abbrev pub register_q : E.Signal
-register_q = record { name = 113 ∷ []; scope = 0; number = 2; net = false; input = false; range = Some four_bits; signed = false; first = 5; words = None }
+register_q = record { name = 113 ∷ []; scope = 0; number = 2; net = false; input = false; range = Some four_bits; signed = false; first = 5; words = None; integer = false }
 
 abbrev pub plain_index : ℕ → ℕ → E.Expression
 plain_index place n = E.At place (E.Literal (bits_of 32 n) true false)

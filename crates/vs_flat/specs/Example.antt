@@ -12,7 +12,7 @@ use Rattle.vs_flat.specs.Arena.{Arena, placed, empty_arena}
 
 -- a scalar net of the top
 abbrev pub net : List ℕ → Bool → ℕ → Signal
-net name input first = record { name = name; scope = 0; net = true; input = input; range = None; signed = false; first_bit = first; words = None }
+net name input first = record { name = name; scope = 0; net = true; input = input; range = None; signed = false; first_bit = first; words = None; integer = false }
 
 -- the top and its ports
 abbrev pub example_ports : Arena
@@ -28,7 +28,7 @@ example_arena = record example_ports {
 }
 
 abbrev pub plain_net : List ℕ → ℕ → Bool → E.Signal
-plain_net name number input = record { name = name; scope = 0; number = number; net = true; input = input; range = None; signed = false; first = number; words = None }
+plain_net name number input = record { name = name; scope = 0; number = number; net = true; input = input; range = None; signed = false; first = number; words = None; integer = false }
 
 abbrev pub plain_a : E.Signal
 plain_a = plain_net (97 ∷ []) 1 true

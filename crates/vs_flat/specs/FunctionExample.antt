@@ -16,12 +16,12 @@ abbrev pub nibble : Option Range
 nibble = Some (record { left = 3; right = 0 })
 
 abbrev pub vector : List ℕ → Bool → Bool → ℕ → Signal
-vector name net input first = record { name = name; scope = 0; net = net; input = input; range = nibble; signed = false; first_bit = first; words = None }
+vector name net input first = record { name = name; scope = 0; net = net; input = input; range = nibble; signed = false; first_bit = first; words = None; integer = false }
 
 abbrev pub function_arena : Arena
 function_arena = record empty_arena {
   scopes = record { name = codes "top"; parent = None; instance = true } ∷ [];
-  signals = record { name = codes "clk"; scope = 0; net = true; input = true; range = None; signed = false; first_bit = 0; words = None } ∷ vector (codes "a") true true 1 ∷ vector (codes "b") true true 5 ∷ vector (codes "y") true false 9 ∷ [];
+  signals = record { name = codes "clk"; scope = 0; net = true; input = true; range = None; signed = false; first_bit = 0; words = None; integer = false } ∷ vector (codes "a") true true 1 ∷ vector (codes "b") true true 5 ∷ vector (codes "y") true false 9 ∷ [];
   functions =
       record { function = record { at = 69; signals = vector (codes "u") false true 0 ∷ vector (codes "v") false true 4 ∷ vector (codes "max") false false 8 ∷ []; inputs = 2 }; nodes = 0; statements = 0 } ∷ [];
   bodies = record { statement = 2; nodes = 7; statements = 3 } ∷ [];
@@ -36,7 +36,7 @@ function_arena = record empty_arena {
 }
 
 abbrev pub plain_vector : List ℕ → ℕ → Bool → Bool → ℕ → E.Signal
-plain_vector name number net input first = record { name = name; scope = 0; number = number; net = net; input = input; range = nibble; signed = false; first = first; words = None }
+plain_vector name number net input first = record { name = name; scope = 0; number = number; net = net; input = input; range = nibble; signed = false; first = first; words = None; integer = false }
 
 abbrev pub plain_max : T.Function
 plain_max = record {
@@ -51,7 +51,7 @@ abbrev pub function_design : D.Design
 function_design = record {
   scopes = record { name = codes "top"; parent = None; instance = true } ∷ [];
   signals =
-      record { name = codes "clk"; scope = 0; number = 0; net = true; input = true; range = None; signed = false; first = 0; words = None } ∷ plain_vector (codes "a") 1 true true 1 ∷ plain_vector (codes "b") 2 true true 5 ∷ plain_vector (codes "y") 3 true false 9 ∷ [];
+      record { name = codes "clk"; scope = 0; number = 0; net = true; input = true; range = None; signed = false; first = 0; words = None; integer = false } ∷ plain_vector (codes "a") 1 true true 1 ∷ plain_vector (codes "b") 2 true true 5 ∷ plain_vector (codes "y") 3 true false 9 ∷ [];
   processes =
       D.Continuous 165 D.Written 172 (T.Whole (plain_vector (codes "y") 3 true false 9))
       (E.At 176 (E.Call plain_max.header plain_max.statement (E.items_of (E.At 180 (E.Name (plain_vector (codes "a") 1 true true 1)) ∷ E.At 183 (E.Name (plain_vector (codes "b") 2 true true 5)) ∷ []))))

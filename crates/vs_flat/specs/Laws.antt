@@ -1,7 +1,8 @@
 -- What holds of every flat design.
-use Rattle.std.specs.Prelude.{◌≡◌, ◌↔◌, ◌≤◌, ◌<◌, ◌+◌, ◌==◌, ℕ, Bool, true, Some, List, [], ◌∷◌, ◌++◌, map, length, count_by, slice_get}
+use Rattle.std.specs.Prelude.{◌≡◌, ◌↔◌, ◌≤◌, ◌<◌, ◌+◌, ◌-◌, ◌^◌, ◌==◌, ℕ, Bool, true, Some, List, [], ◌∷◌, ◌++◌, map, set, length, count_by, slice_get}
 use Rattle.vs_design.specs.Expressions.{local_signals}
 use Rattle.vs_design.specs.Designs as D
+use Rattle.vs_design.specs.Statements as T
 use Rattle.vs_design.specs.Elaborated.{is_formed, is_formed_statement, IsLawfulDesign}
 use Rattle.vs_flat.specs.declared.placed.Placed.{Placed}
 use Rattle.vs_flat.specs.declared.expressions.Node.{Node}
@@ -17,7 +18,7 @@ use Rattle.vs_flat.specs.declared.statements.Statement.TheVariants as S
 use Rattle.vs_flat.specs.declared.functions.Function.{Function}
 use Rattle.vs_flat.specs.declared.functions.Declared.{Declared}
 use Rattle.vs_flat.specs.declared.functions.Body.{Body}
-use Rattle.vs_flat.specs.Arena.{Arena, declared_at, with_function, with_body, placed, signal_length, bit_count, top_inputs, empty_arena, with_scope, with_signal, with_process, with_initial, with_node, with_statement, IsWithinLimits}
+use Rattle.vs_flat.specs.Arena.{Arena, declared_at, with_function, with_body, placed, signal_length, bit_count, top_inputs, empty_arena, is_block, with_empty, with_scope, with_signal, with_process, with_initial, with_node, with_statement, IsWithinLimits}
 use Rattle.vs_flat.specs.Named.{covers_calls, node_names_below, statement_names_below, covers_process, covers_initial, covers_node, covers_statement}
 use Rattle.vs_flat.specs.Trees.{signals_from, signal_of, signal_at, tree_at, statement_at, placed_tree, statement_tree, target_tree}
 use Rattle.vs_flat.specs.Targets.{target_of}
@@ -165,6 +166,19 @@ TreesKept = ((a : Arena) (s : Signal) → NamesEarlier a → arena_trees (with_s
     × ((a : Arena) (s : ℕ) → NamesEarlier a → arena_trees (with_body a s) ≡ arena_trees a)
     × ((a : Arena) (s : ℕ) → NamesEarlier a → arena_statements (with_body a s) ≡ arena_statements a)
     × ((a : Arena) (s : Statement) (at : ℕ) → NamesEarlier a → arena_statements (with_statement a s at) ≡ arena_statements a ++ statement_tree (tree_at (arena_trees a)) (statement_at (arena_statements a)) at s ∷ [])
+
+-- ---- a block that is left out
+
+-- an empty block stands in its place
+abbrev pub LeftIsDesign : Type 0
+LeftIsDesign = (a : Arena) (p : ℕ) (q : Process) → NamesEarlier a → slice_get a.processes p ≡ Some q
+    → design_of (with_empty a p) ≡ record (design_of a) { processes = set (design_of a).processes p (D.Always q.at true [] T.Empty) }
+
+-- and a lawful design stays one
+abbrev pub LeftIsLawful : Type 0
+LeftIsLawful = (a : Arena) (p : ℕ) (q : Process) → IsLawful a → slice_get a.processes p ≡ Some q → is_block q.kind ≡ true → length a.statements < 2 ^ 32 - 1 → IsLawful (with_empty a p)
+
+-- ---- lawful designs
 
 -- the plain design of a lawful one is what elaboration gives
 abbrev pub LawfulIsDesign : Type 0

@@ -14,13 +14,13 @@ use Rattle.vs_flat.specs.Targets.{source_of, target_of}
 
 -- what a number stands for that nothing has
 abbrev pub no_signal : E.Signal
-no_signal = record { name = []; scope = 0; number = 0; net = true; input = false; range = None; signed = false; first = 0; words = None }
+no_signal = record { name = []; scope = 0; number = 0; net = true; input = false; range = None; signed = false; first = 0; words = None; integer = false }
 
 abbrev pub no_expression : E.Expression
 no_expression = E.Literal [] false true
 
 abbrev pub signal_of : ℕ → Signal → E.Signal
-signal_of number s = record { name = s.name; scope = s.scope; number = number; net = s.net; input = s.input; range = s.range; signed = s.signed; first = s.first_bit; words = s.words }
+signal_of number s = record { name = s.name; scope = s.scope; number = number; net = s.net; input = s.input; range = s.range; signed = s.signed; first = s.first_bit; words = s.words; integer = s.integer }
 
 -- the signals, of which the first has this number
 abbrev pub signals_from : ℕ → List Signal → List E.Signal

@@ -20,13 +20,13 @@ abbrev pub four_words : Option Range
 four_words = Some (record { left = 3; right = 0 })
 
 abbrev pub two_bits : List ℕ → Bool → Bool → ℕ → Option Range → Signal
-two_bits name net input first words = record { name = name; scope = 0; net = net; input = input; range = pair; signed = false; first_bit = first; words = words }
+two_bits name net input first words = record { name = name; scope = 0; net = net; input = input; range = pair; signed = false; first_bit = first; words = words; integer = false }
 
 abbrev pub word_arena : Arena
 word_arena = record empty_arena {
   scopes = record { name = codes "top"; parent = None; instance = true } ∷ [];
   signals =
-      record { name = codes "clk"; scope = 0; net = true; input = true; range = None; signed = false; first_bit = 0; words = None }
+      record { name = codes "clk"; scope = 0; net = true; input = true; range = None; signed = false; first_bit = 0; words = None; integer = false }
       ∷ two_bits (codes "a") true true 1 None ∷ two_bits (codes "d") true true 3 None ∷ two_bits (codes "q") true false 5 None ∷ two_bits (codes "m") false false 7 four_words ∷ [];
   functions = record { function = record { at = 84; signals = two_bits (codes "n") false true 0 None ∷ two_bits (codes "next") false false 2 None ∷ []; inputs = 1 }; nodes = 0; statements = 0 } ∷ [];
   bodies = record { statement = 0; nodes = 3; statements = 1 } ∷ [];
@@ -40,7 +40,7 @@ word_arena = record empty_arena {
 }
 
 abbrev pub plain_two_bits : List ℕ → ℕ → Bool → Bool → ℕ → Option Range → E.Signal
-plain_two_bits name number net input first words = record { name = name; scope = 0; number = number; net = net; input = input; range = pair; signed = false; first = first; words = words }
+plain_two_bits name number net input first words = record { name = name; scope = 0; number = number; net = net; input = input; range = pair; signed = false; first = first; words = words; integer = false }
 
 abbrev pub plain_n : E.Signal
 plain_n = plain_two_bits (codes "n") 0 false true 0 None
@@ -58,7 +58,7 @@ abbrev pub plain_call : ℕ → E.Expression → E.Expression
 plain_call place e = E.At place (E.Call plain_next.header plain_next.statement (E.items_of (e ∷ [])))
 
 abbrev pub word_clk : E.Signal
-word_clk = record { name = codes "clk"; scope = 0; number = 0; net = true; input = true; range = None; signed = false; first = 0; words = None }
+word_clk = record { name = codes "clk"; scope = 0; number = 0; net = true; input = true; range = None; signed = false; first = 0; words = None; integer = false }
 
 abbrev pub plain_a : E.Signal
 plain_a = plain_two_bits (codes "a") 1 true true 1 None

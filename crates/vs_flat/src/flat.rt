@@ -2,9 +2,12 @@
 
 ghost use Rattle.std.specs.Prelude.{◌≡◌, ◌+◌, ◌<◌, ◌≤◌, ◌^◌, ◌-◌, [], ◌∷◌, ◌++◌, length, slice_get, option_map, IsTrue, IfOk, OnOk, OnErr, vec_len, vec_capacity};
 
-use crate::{Body, Declared, Function, Initial, Node, Placed, Process, Scope, Signal, Statement};
+use crate::{
+    Body, Declared, Function, Initial, Kind, Node, Placed, Process, Scope, Signal, Statement,
+};
 use std::alloc::{AllocError, Global};
 use std::marker::Model;
+use vs_base::List;
 
 /// An elaborated design: its scopes, signals, processes, initial processes, functions, expressions and statements, each kind numbered from 0 in the order in which they were added.
 #[derive(Drop)]
@@ -33,7 +36,7 @@ impl Model for Flat {
 }
 
 impl Flat {
-    ghost use Rattle.vs_flat.specs.Arena.{empty_arena, with_scope, with_signal, with_process, with_initial, with_node, with_statement, with_function, with_body, declared_at, body_at, signal_length, bit_count, top_inputs, node_at, statement_at, node_place, statement_place};
+    ghost use Rattle.vs_flat.specs.Arena.{empty_arena, with_empty, with_scope, with_signal, with_process, with_initial, with_node, with_statement, with_function, with_body, declared_at, body_at, signal_length, bit_count, top_inputs, node_at, statement_at, node_place, statement_place};
     ghost use Rattle.vs_flat.specs.Named.{covers_scope, covers_signal, covers_process, covers_initial, covers_node, covers_statement};
 
     /// A design with nothing in it. It takes no memory.
@@ -149,6 +152,30 @@ impl Flat {
         ensures { slice_get self.now.processes p ≡ Some result.now }
     {
         &self.processes[p as usize]
+    }
+
+    /// Leaves out a process: an empty block, `always @* ;`, stands in its place from then on, so all others keep their numbers. No memory is also answered where 2^32 - 1 statements were added already.
+    pub fn leave_out(&mut self, alloc: Global, p: u32) -> Result<(), AllocError>
+        requires { p < length self.old.processes }
+        ensures ok { OnOk result (self.new ≡ with_empty self.old p) }
+        ensures room { OnOk result (length self.old.statements < 2 ^ 32 - 1) }
+        ensures err { OnErr result (self.new ≡ self.old) }
+    {
+        let statement = next_number(self.statements.len())?;
+        let at = self.processes[p as usize].at;
+        self.statements.push(Placed {
+            item: Statement::Empty,
+            at,
+        })?;
+        self.processes[p as usize] = Process {
+            at,
+            kind: Kind::Block {
+                star: true,
+                events: List::of(Vec::new(alloc)),
+                statement,
+            },
+        };
+        Ok(())
     }
 
     /// Adds an initial process and answers its number. There are at most 2^16.

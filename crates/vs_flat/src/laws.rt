@@ -1,6 +1,6 @@
 //! What holds of every flat design.
 
-ghost use Rattle.vs_flat.specs.Laws.{NodeNames, NodeCalls, CallsEarlier, CallsBefore, BodiesThere, BodyNames, StatementNames, EachLocal, HeaderLocals, FunctionResults, LocalBits, ProcessNames, InitialNames, CountsStay, InputsStay, EachSignal, EachTree, EachStatement, EachProcess, EachInitial, EachFunction, NamesStay, TreesKept, ScopeAdded, SignalAdded, ProcessAdded, InitialAdded, NodeAdded, StatementAdded, FunctionAdded, BodyAdded, LawfulIsDesign, LawfulIsWithinLimits, EachIsFormed, EachStatementIsFormed, AssignTargets, StatementTargets, DifferentIsOnce, ExamplesAreDesigns, ExamplesAreLawful};
+ghost use Rattle.vs_flat.specs.Laws.{NodeNames, NodeCalls, CallsEarlier, CallsBefore, BodiesThere, BodyNames, StatementNames, EachLocal, HeaderLocals, FunctionResults, LocalBits, ProcessNames, InitialNames, CountsStay, InputsStay, EachSignal, EachTree, EachStatement, EachProcess, EachInitial, EachFunction, NamesStay, TreesKept, ScopeAdded, SignalAdded, ProcessAdded, InitialAdded, NodeAdded, StatementAdded, FunctionAdded, BodyAdded, LeftIsDesign, LeftIsLawful, LawfulIsDesign, LawfulIsWithinLimits, EachIsFormed, EachStatementIsFormed, AssignTargets, StatementTargets, DifferentIsOnce, ExamplesAreDesigns, ExamplesAreLawful};
 ghost use Rattle.vs_flat.specs.TextOrder.{ProcessesInText, InitialsInText};
 ghost use Rattle.vs_flat.specs.Rows.{CopyRows, TargetRows, NameRows, ChainRows};
 
@@ -47,6 +47,12 @@ pub fn adding_law()
     ensures statement { StatementAdded }
     ensures function { FunctionAdded }
     ensures body { BodyAdded }
+{}
+
+/// A block that is left out of a flat design is an empty one in the plain design, and a lawful design stays one.
+pub fn leaving_law()
+    ensures design { LeftIsDesign }
+    ensures lawful { LeftIsLawful }
 {}
 
 /// What a lawful flat design gives: a plain design as elaboration gives it (IEEE 1364-2005, clause 12), each of its expressions and statements formed, and targets that are ones (table 6-1).

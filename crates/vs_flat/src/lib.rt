@@ -16,8 +16,8 @@ pub use expressions::Node;
 pub use flat::Flat;
 pub use functions::{Body, Declared, Function};
 pub use laws::{
-    adding_law, calls_law, different_law, example_law, lawful_law, names_law, rows_law, text_law,
-    trees_law,
+    adding_law, calls_law, different_law, example_law, lawful_law, leaving_law, names_law,
+    rows_law, text_law, trees_law,
 };
 pub use order::text_order;
 pub use placed::Placed;

@@ -34,6 +34,8 @@ pub struct Signal {
     pub first_bit: u32,
     /// Of a memory (IEEE 1364-2005, 4.9) its addresses, from `right`, the least, to `left`; `range` is then that of each word.
     pub words: Option<Range>,
+    /// Whether it is declared as an integer (IEEE 1364-2005, 4.8), which waveforms tell.
+    pub integer: bool,
 }
 
 /// An assign or a block.

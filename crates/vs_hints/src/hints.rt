@@ -69,7 +69,7 @@ fn at_sentence(name: AtName) -> &'static str
         AtName::LoopTurns =>
             "a loop of a block or a function takes more than 4,096 turns, or all of them copy more than 1,048,576 statements",
         AtName::LoopVariable =>
-            "an integer is named outside its loops, assigned in its loop, heads a loop within it, or heads loops of two blocks",
+            "an integer that is no variable is named outside its loops, or an integer is assigned in its loop, heads a loop within it, or heads loops of two blocks",
         AtName::FunctionRule =>
             "a function names a signal or an integer of its module, writes an input, has a <=, no input, too many bits or calls that nest too deep, or a call has another number of arguments",
         AtName::Recursion => "a function calls itself, or one that isn't declared before it",
@@ -120,7 +120,7 @@ fn at_remedy(name: AtName) -> &'static str
         AtName::TooManyProcesses => "split the design",
         AtName::LoopTurns => "check the loop's condition",
         AtName::LoopVariable =>
-            "give each block integers of its own, and a reg signed [31:0] what is kept",
+            "give each block integers of its own, and what is kept another that heads no loop",
         AtName::FunctionRule => "pass signals as inputs, and give each input its argument",
         AtName::Recursion => "declare it before its calls, or write a loop",
         AtName::TooWide => "split it",

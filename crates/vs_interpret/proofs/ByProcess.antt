@@ -87,10 +87,10 @@ module _ (trees : EachProcess) (lawful : LawfulIsDesign) (a : Arena) (L : IsLawf
 
   -- ---- in the network
 
-  pub assign_made : (clock : ℕ) (x : D.Process) (s : State) (target e : ℕ) (port : Port) → q.kind ≡ K.Assign target e port → slice_get d.processes p ≡ Some x → B.assignment_writes (target_tree (tree_of a target)) (tree_of a e) s ≡ N.made (process_of d clock x) s
-  assign_made clock x s target e port is h =
+  pub assign_made : (clocks : List ℕ) (x : D.Process) (s : State) (target e : ℕ) (port : Port) → q.kind ≡ K.Assign target e port → slice_get d.processes p ≡ Some x → B.assignment_writes (target_tree (tree_of a target)) (tree_of a e) s ≡ N.made (process_of d clocks x) s
+  assign_made clocks x s target e port is h =
       let same = some_is (D.Continuous q.at (port_of port) (place_of (tree_of a target)) (target_tree (tree_of a target)) (tree_of a e)) x (sym (plain (K.Assign target e port) is) ∙ h) in
-      ap (λ (y : D.Process). N.made (process_of d clock y) s) same
+      ap (λ (y : D.Process). N.made (process_of d clocks y) s) same
 
   pub not_assign : (x : D.Process) (target e : ℕ) (port : Port) → q.kind ≡ K.Assign target e port → slice_get d.processes p ≡ Some x → D.is_assign x ≡ false → ⊥
   not_assign x target e port is h f =
@@ -104,22 +104,22 @@ module _ (trees : EachProcess) (lawful : LawfulIsDesign) (a : Arena) (L : IsLawf
   pub not_block : (x : D.Process) (star : Bool) (events : List Event) (s : ℕ) → q.kind ≡ K.Block star events s → slice_get d.processes p ≡ Some x → D.is_assign x ≡ true → ⊥
   not_block x star events s is h f = let k : false ≡ true = ap D.is_assign (block_x x star events s is h) ∙ f in cc
 
-  both_made : (clock : ℕ) (c : Bool) (x : D.Process) (events : List D.Event) (st : T.Statement) (s : State) → N.made (block_process d clock c x events st) s ≡ (B.body st s).writes
-  both_made clock true x events st s = refl
-  both_made clock false x events st s = refl
+  both_made : (clocks : List ℕ) (c : Bool) (x : D.Process) (events : List D.Event) (st : T.Statement) (s : State) → N.made (block_process d clocks c x events st) s ≡ (B.body st s).writes
+  both_made clocks true x events st s = refl
+  both_made clocks false x events st s = refl
 
-  both_updates : (clock : ℕ) (c : Bool) (x : D.Process) (events : List D.Event) (st : T.Statement) (s : State) → N.updates (block_process d clock c x events st) s ≡ (B.body st s).updates
-  both_updates clock true x events st s = refl
-  both_updates clock false x events st s = refl
+  both_updates : (clocks : List ℕ) (c : Bool) (x : D.Process) (events : List D.Event) (st : T.Statement) (s : State) → N.updates (block_process d clocks c x events st) s ≡ (B.body st s).updates
+  both_updates clocks true x events st s = refl
+  both_updates clocks false x events st s = refl
 
-  pub block_made : (clock : ℕ) (x : D.Process) (s : State) (star : Bool) (events : List Event) (st : ℕ) → q.kind ≡ K.Block star events st → slice_get d.processes p ≡ Some x → (B.body (statement_of a st) s).writes ≡ N.made (process_of d clock x) s
-  block_made clock x s star events st is h =
+  pub block_made : (clocks : List ℕ) (x : D.Process) (s : State) (star : Bool) (events : List Event) (st : ℕ) → q.kind ≡ K.Block star events st → slice_get d.processes p ≡ Some x → (B.body (statement_of a st) s).writes ≡ N.made (process_of d clocks x) s
+  block_made clocks x s star events st is h =
       let es = map (event_of (signal_at (arena_signals a))) events in
       let y = D.Always q.at star es (statement_of a st) in
-      sym (both_made clock (D.is_clocked y) y es (statement_of a st) s) ∙ ap (λ (y : D.Process). N.made (process_of d clock y) s) (block_x x star events st is h)
+      sym (both_made clocks (D.is_clocked y) y es (statement_of a st) s) ∙ ap (λ (y : D.Process). N.made (process_of d clocks y) s) (block_x x star events st is h)
 
-  pub block_updates : (clock : ℕ) (x : D.Process) (s : State) (star : Bool) (events : List Event) (st : ℕ) → q.kind ≡ K.Block star events st → slice_get d.processes p ≡ Some x → (B.body (statement_of a st) s).updates ≡ N.updates (process_of d clock x) s
-  block_updates clock x s star events st is h =
+  pub block_updates : (clocks : List ℕ) (x : D.Process) (s : State) (star : Bool) (events : List Event) (st : ℕ) → q.kind ≡ K.Block star events st → slice_get d.processes p ≡ Some x → (B.body (statement_of a st) s).updates ≡ N.updates (process_of d clocks x) s
+  block_updates clocks x s star events st is h =
       let es = map (event_of (signal_at (arena_signals a))) events in
       let y = D.Always q.at star es (statement_of a st) in
-      sym (both_updates clock (D.is_clocked y) y es (statement_of a st) s) ∙ ap (λ (y : D.Process). N.updates (process_of d clock y) s) (block_x x star events st is h)
+      sym (both_updates clocks (D.is_clocked y) y es (statement_of a st) s) ∙ ap (λ (y : D.Process). N.updates (process_of d clocks y) s) (block_x x star events st is h)

@@ -1,6 +1,6 @@
 //! What the processes of a design do, on the values of its bits.
 
-ghost use Rattle.std.specs.Prelude.{◌≡◌, ◌<◌, ◌≤◌, ℕ, length, true, false, slice_get, Some, IfOk, OnOk};
+ghost use Rattle.std.specs.Prelude.{List, ◌≡◌, ◌<◌, ◌≤◌, ℕ, length, true, false, slice_get, Some, IfOk, OnOk};
 ghost use Rattle.std.specs.List.{list_all};
 ghost use Rattle.vs_net.specs.Network as N;
 ghost use Rattle.vs_design.specs.Designs as D;
@@ -29,7 +29,7 @@ pub fn assigned(
     requires there { p < length shapes.now.processes }
     requires fits { list_all fits_process (design_of shapes.now).processes ≡ true }
     requires values { D.bit_count (design_of shapes.now) ≤ length values.now }
-    ensures { IfOk result (λ u. (clock : ℕ) (x : D.Process) → slice_get (design_of shapes.now).processes p ≡ Some x → D.is_assign x ≡ true → u ≡ N.made (process_of (design_of shapes.now) clock x) (state_of values.now)) }
+    ensures { IfOk result (λ u. (clocks : List ℕ) (x : D.Process) → slice_get (design_of shapes.now).processes p ≡ Some x → D.is_assign x ≡ true → u ≡ N.made (process_of (design_of shapes.now) clocks x) (state_of values.now)) }
 {
     lawful_law();
     trees_law();
@@ -53,9 +53,9 @@ pub fn run_block(
     requires there { p < length shapes.now.processes }
     requires fits { list_all fits_process (design_of shapes.now).processes ≡ true }
     requires values { D.bit_count (design_of shapes.now) ≤ length values.old }
-    ensures effect { IfOk result (λ f. (clock : ℕ) (x : D.Process) → slice_get (design_of shapes.now).processes p ≡ Some x → D.is_assign x ≡ false
-        → (f.writes ≡ N.made (process_of (design_of shapes.now) clock x) (state_of values.old)) × (f.updates ≡ N.updates (process_of (design_of shapes.now) clock x) (state_of values.old))) }
-    ensures state { (clock : ℕ) (x : D.Process) → slice_get (design_of shapes.now).processes p ≡ Some x → D.is_assign x ≡ false → OnOk result (state_of values.new ≡ N.write_all (state_of values.old) (N.made (process_of (design_of shapes.now) clock x) (state_of values.old))) }
+    ensures effect { IfOk result (λ f. (clocks : List ℕ) (x : D.Process) → slice_get (design_of shapes.now).processes p ≡ Some x → D.is_assign x ≡ false
+        → (f.writes ≡ N.made (process_of (design_of shapes.now) clocks x) (state_of values.old)) × (f.updates ≡ N.updates (process_of (design_of shapes.now) clocks x) (state_of values.old))) }
+    ensures state { (clocks : List ℕ) (x : D.Process) → slice_get (design_of shapes.now).processes p ≡ Some x → D.is_assign x ≡ false → OnOk result (state_of values.new ≡ N.write_all (state_of values.old) (N.made (process_of (design_of shapes.now) clocks x) (state_of values.old))) }
 {
     lawful_law();
     trees_law();

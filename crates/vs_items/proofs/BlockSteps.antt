@@ -2,7 +2,7 @@
 use Rattle.std.proofs.Common.{◌≡◌, ℕ, Bool, true, false, ◌-◌, List, ◌++◌, Option, ap, sym, ◌∙◌, subst}
 use Rattle.vs_grammar.specs.Trees as tree
 use Rattle.vs_const.specs.declared.faults.Fault.{Fault}
-use Rattle.vs_const.specs.declared.rules.Rule.TheVariants.{WrongKind}
+use Rattle.vs_const.specs.declared.rules.Rule.TheVariants.{LoopVariable}
 use Rattle.vs_const.specs.Faults.{least, better}
 use Rattle.vs_const.specs.Meanings.{Barred}
 use Rattle.vs_const.proofs.Least.{least_append}
@@ -15,7 +15,7 @@ use Rattle.vs_bodies.specs.Said.{IsSaid}
 
 -- an always block, which is clocked or not
 abbrev pub alone_body : (clocked : Bool) → Body
-alone_body clocked = record { declared = λ place. Barred WrongKind; in_function = false; clocked = clocked; unrolls = true }
+alone_body clocked = record { declared = λ place. Barred LoopVariable; in_function = false; clocked = clocked; unrolls = true }
 
 -- its statement, with so many copies left
 pub statement_said : (limits : Limits) (env : Env) (loops : Loops) (b : tree.AlwaysBlock) (said : StatementSaid) (left : ℕ) (clocked : Bool) → left ≡ limits.copies - loops.copies → clocked ≡ is_clocked_by b.control

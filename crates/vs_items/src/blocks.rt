@@ -5,7 +5,7 @@ ghost use Rattle.vs_grammar.specs.Shapes.{IsStatement};
 ghost use Rattle.vs_ast.specs.Views as view;
 ghost use Rattle.vs_const.specs.Faults.{least};
 ghost use Rattle.vs_const.specs.Meanings.{Barred};
-ghost use Rattle.vs_const.specs.declared.rules.Rule.TheVariants.{WrongKind};
+ghost use Rattle.vs_const.specs.declared.rules.Rule.TheVariants.{LoopVariable};
 ghost use Rattle.vs_elaborated.specs.Limits.{the_limits};
 ghost use Rattle.vs_elaborated.specs.Surveys as survey;
 ghost use Rattle.vs_scope.specs.Frames.{view_env};
@@ -37,10 +37,10 @@ impl<E: Env> Env for Alone<'_, E> {
 }
 
 impl<E: Env> Surroundings for Alone<'_, E> {
-    ghost declared = { λ a place. Barred WrongKind };
+    ghost declared = { λ a place. Barred LoopVariable };
 
     fn declared(&self, _place: u32) -> Named {
-        Named::Barred(Rule::WrongKind)
+        Named::Barred(Rule::LoopVariable)
     }
 }
 

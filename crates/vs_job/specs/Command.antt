@@ -4,7 +4,7 @@ use Rattle.std.specs.Borrow.{Bor}
 use Rattle.vs_job.specs.declared.job.Job.{Job}
 use Rattle.vs_job.specs.declared.words.Command.{Command}
 use Rattle.vs_job.specs.declared.words.Line.{Line as Lent}
-use Rattle.vs_job.specs.Job.{Paths, head_of}
+use Rattle.vs_job.specs.Job.{Paths, head_of, names_given}
 use Rattle.vs_job.specs.Lines.{Line}
 
 abbrev pub line_of : Lent → Line
@@ -25,7 +25,7 @@ abbrev pub job_of : Command → Job
 job_of c = record {
   mode = c.mode;
   top = option_map (λ s. s.now) c.top;
-  clock = option_map (λ s. s.now) c.clock;
+  clocks = names_given (option_map (λ s. s.now) c.clock);
   half = c.half;
   share = c.share;
   head = head_of (map (λ s. s.now) c.defines.now);

@@ -1,6 +1,6 @@
 -- The words of the command line, and the job that they call for.
 use Rattle.std.specs.Prelude.{◌≡◌, ℕ, zero, suc, ◌≤◌, Bool, true, false, not, ◌&&◌, ◌||◌, ◌==◌, nat_le, List, [], ◌∷◌, ◌++◌, length, slice_index, Option, Some, None, option_map, option_and_then, codes, bytes_eq, if◌then◌else◌}
-use Rattle.std.specs.List.{list_all, list_any, before_first, after_first, flat_map}
+use Rattle.std.specs.List.{list_all, list_any, before_first, after_first, flat_map, slice_split}
 use Rattle.std.specs.Str.{all_ascii_digits}
 use Rattle.std.specs.Str.Parse.{digits_value}
 use Rattle.vs_desk.specs.Places.{most_lanes, most_others}
@@ -139,6 +139,19 @@ at_most_once [] = Some None
 at_most_once (value ∷ []) = Some (Some value)
 at_most_once _ = None
 
+-- `,`
+abbrev pub is_comma : ℕ → Bool
+is_comma b = b == 44
+
+-- the names that commas part, one at least
+abbrev pub parted : Text → List Text
+parted value = slice_split is_comma value
+
+-- the names of the clocks, none where none is given
+abbrev pub names_given : Option Text → List Text
+names_given None = []
+names_given (Some value) = parted value
+
 -- the half-period, which is 5 where none is given
 abbrev pub half_given : List Text → Option ℕ
 half_given [] = Some 5
@@ -248,7 +261,7 @@ called verb s = do
   others ← others_given s.withs
   paths ← design_and_stimuli (most_stimuli mode) s.paths
   share ← share_given mode s.shares
-  Some (record { mode = mode; top = top; clock = clock; half = half; share = share; head = head; design = paths.design; others = others; stimuli = paths.stimuli })
+  Some (record { mode = mode; top = top; clocks = names_given clock; half = half; share = share; head = head; design = paths.design; others = others; stimuli = paths.stimuli })
 
 -- the job that the words call for, the program's own name first; none where they call for none
 unfoldable pub job : List Text → Option Job

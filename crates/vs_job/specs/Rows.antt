@@ -26,7 +26,7 @@ of_none line = record { line = line; job = None; bench = None }
 
 -- the job of top t, clock c and design d
 abbrev a_job : ℕ → List Text → Job
-a_job half stimuli = record { mode = Run; top = Some (codes "t"); clock = Some (codes "c"); half = half; share = false; head = []; design = codes "d"; others = []; stimuli = stimuli }
+a_job half stimuli = record { mode = Run; top = Some (codes "t"); clocks = codes "c" ∷ []; half = half; share = false; head = []; design = codes "d"; others = []; stimuli = stimuli }
 
 -- the same with macros, and one stimulus
 abbrev defined : Text → Job
@@ -38,7 +38,11 @@ joined others = record (a_job 5 (codes "s" ∷ [])) { others = others }
 
 -- the same job without a clock, and one stimulus
 abbrev clockless : Job
-clockless = record (a_job 5 (codes "s" ∷ [])) { clock = None }
+clockless = record (a_job 5 (codes "s" ∷ [])) { clocks = [] }
+
+-- the same job with clocks of these names, and one stimulus
+abbrev clocked : List Text → Job
+clocked clocks = record (a_job 5 (codes "s" ∷ [])) { clocks = clocks }
 
 -- the same job, whose top isn't named
 abbrev topless : Job → Job
@@ -62,8 +66,8 @@ jobs =
     of_job (codes "x run --top t --clock c d s") (a_job 5 (codes "s" ∷ []))
     ∷ of_job (codes "x run d --clock=c s --half 9 --top=t u") (a_job 9 (codes "s" ∷ codes "u" ∷ []))
     ∷ of_job (codes "x run --top=t --half=1000000 --clock c -- d -s -- --top=u") (a_job 1000000 (codes "-s" ∷ codes "--" ∷ codes "--top=u" ∷ []))
-    ∷ of_job (codes "x run --top t=u= --clock= d s") (record { mode = Run; top = Some (codes "t=u="); clock = Some []; half = 5; share = false; head = []; design = codes "d"; others = []; stimuli = codes "s" ∷ [] })
-    ∷ of_job (codes "x run --top=t=u --clock  d ") (record { mode = Run; top = Some (codes "t=u"); clock = Some []; half = 5; share = false; head = []; design = codes "d"; others = []; stimuli = [] ∷ [] })
+    ∷ of_job (codes "x run --top t=u= --clock= d s") (record { mode = Run; top = Some (codes "t=u="); clocks = [] ∷ []; half = 5; share = false; head = []; design = codes "d"; others = []; stimuli = codes "s" ∷ [] })
+    ∷ of_job (codes "x run --top=t=u --clock  d ") (record { mode = Run; top = Some (codes "t=u"); clocks = [] ∷ []; half = 5; share = false; head = []; design = codes "d"; others = []; stimuli = [] ∷ [] })
     ∷ of_job (codes "x run --define A --top t --clock c d s") (defined (codes "`define A\n"))
     ∷ of_job (codes "x run --top t --clock c d s --define=W=4 --define _w$2=a=b//`A") (defined (codes "`define W 4\n`define _w$2 a=b//`A\n"))
     ∷ of_job (codes "x run --define=W=1 --top t --define Z9= d --clock c --define W s") (defined (codes "`define W 1\n`define Z9 \n`define W\n"))
@@ -77,6 +81,9 @@ jobs =
     ∷ of_job (codes "x check --top t --clock c d s") (checked (a_job 5 (codes "s" ∷ [])))
     ∷ of_job (codes "x run --top t d s") clockless
     ∷ of_job (codes "x check d s --half 5 --top=t") (checked clockless)
+    ∷ of_job (codes "x run --top t --clock c,e d s") (clocked (codes "c" ∷ codes "e" ∷ []))
+    ∷ of_job (codes "x check --top t d --clock=e,c,e s") (checked (clocked (codes "e" ∷ codes "c" ∷ codes "e" ∷ [])))
+    ∷ of_job (codes "x run --top t --clock ,c=e, d s") (clocked ([] ∷ codes "c=e" ∷ [] ∷ []))
     ∷ of_job (codes "x run --clock c d s") (topless (a_job 5 (codes "s" ∷ [])))
     ∷ of_job (codes "x run d s") (topless clockless)
     ∷ of_job (codes "x check d s") (topless (checked clockless))
@@ -117,6 +124,8 @@ broken =
     ∷ codes "x run --top t --clock c --clock c d s"
     ∷ codes "x run --top t --clock c --clock= d s"
     ∷ codes "x run --top t --clock c d"
+    ∷ codes "x run --top t --clock c --clock e d s"
+    ∷ codes "x run --top t --clock -c,e d s"
     ∷ codes "x run --top t --clock c --top t d s"
     ∷ codes "x run --top t --clock c --half 9 --half=9 d s"
     ∷ codes "x run --top t d s --clock"

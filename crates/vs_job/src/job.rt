@@ -32,8 +32,8 @@ pub struct Job {
     pub mode: Mode,
     /// The name of the top module. None: the top is the one module of the text that no instance of any module names.
     pub top: Option<Text>,
-    /// The name of the top's clock input. None: no clock is named, and every input of the top is a data input.
-    pub clock: Option<Text>,
+    /// The names of the top's clock inputs, which rise and fall together. No name: every input of the top is a data input.
+    pub clocks: Texts,
     /// Half a clock period in units of time, from 1 to 1,000,000.
     pub half: u32,
     /// Whether all signals that ports join have one identifier code in a waveform, or each signal one
@@ -62,14 +62,11 @@ impl Job {
         }
     }
 
-    /// The name of the top's clock input, if one is given, as bytes.
-    pub fn clock_bytes(&self) -> Option<&[u8]>
-        ensures { option_map (λ c. c.now) result ≡ self.now.clock }
+    /// The names of the top's clock inputs, as bytes, in the order of the words.
+    pub fn clock_names(&self, alloc: Global) -> Result<Vec<&[u8]>, AllocError>
+        ensures { IfOk result (λ names. map (λ c. c.now) names.items ≡ self.now.clocks) }
     {
-        match &self.clock {
-            Some(clock) => Some(clock.as_bytes()),
-            None => None,
-        }
+        self.clocks.bytes(alloc)
     }
 }
 
@@ -93,16 +90,16 @@ impl From<AllocError> for JobError {
 }
 
 /// Reads the words of the command line, the program's own name first:
-/// `cyclesim run [--top T] [--clock C] [--half H] [--define NAME[=TEXT]].. [--with PATH].. [--share] DESIGN STIM..`, the
+/// `cyclesim run [--top T] [--clock C[,C]..] [--half H] [--define NAME[=TEXT]].. [--with PATH].. [--share] DESIGN STIM..`, the
 /// same with `check` in the place of `run` and without `--share`, or
-/// `cyclesim queue --order N [--top T] [--clock C] [--half H] [--define NAME[=TEXT]].. [--with PATH].. DESIGN STIM`.
+/// `cyclesim queue --order N [--top T] [--clock C[,C]..] [--half H] [--define NAME[=TEXT]].. [--with PATH].. DESIGN STIM`.
 ///
 /// The options stand anywhere behind the command, each once but for `--define` and `--with`, all but `--share` with
 /// the value in the next word or, as in `--top=T`, behind the first `=`. `--` ends them: each word behind it is a path.
 /// Before it no value and no path begins with `-`. H is a decimal number from 1 to 1,000,000 without a
 /// sign or a leading zero, and 5 where it isn't given. N is a decimal number from 0 to
 /// 18,446,744,073,709,551,615 without a sign or a leading zero. Without `--top` the text has one module that no instance of any
-/// module names, and that is the top. Without `--clock` the design has no clock.
+/// module names, and that is the top. The value of `--clock` is one name or more, parted by commas; without it the design has no clock.
 /// The first path is the design, and 1 to 256 stimuli follow, with `queue` one alone. A value of `--with` is the path of a
 /// further file of the design, of which there are 64 at most.
 ///

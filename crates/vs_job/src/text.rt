@@ -94,6 +94,17 @@ impl Texts {
         &self.items[n]
     }
 
+    /// The bytes of all texts, in order.
+    pub fn bytes(&self, alloc: Global) -> Result<Vec<&[u8]>, AllocError>
+        ensures { IfOk result (λ bytes. map (λ b. b.now) bytes.items ≡ self.now) }
+    {
+        let mut bytes = Vec::new(alloc);
+        for text in self.as_slice() {
+            bytes.push(text.as_bytes())?;
+        }
+        Ok(bytes)
+    }
+
     /// All texts, in order.
     pub fn as_slice(&self) -> &[Text]
         ensures { result.now ≡ self.now }

@@ -450,6 +450,31 @@ fn copies(alloc: Global, words: &[&str]) -> Result<Texts, AllocError>
     Ok(Texts::of(texts))
 }
 
+/// The names that commas part.
+fn pieces<'a>(alloc: Global, value: &'a str) -> Result<Vec<&'a str>, AllocError>
+    ensures { IfOk result (λ names. map (λ s. s.now) names.items ≡ spec.parted value.now) }
+{
+    value.split(',').collect(alloc)
+}
+
+/// Copies the names that commas part.
+fn parted(alloc: Global, value: &str) -> Result<Texts, AllocError>
+    ensures { IfOk result (λ names. names ≡ spec.parted value.now) }
+{
+    let names = pieces(alloc, value)?;
+    copies(alloc, names.as_slice())
+}
+
+/// Copies the names that the value of `--clock` has, where one is given.
+fn names_given(alloc: Global, value: Option<&str>) -> Result<Texts, AllocError>
+    ensures { IfOk result (λ names. names ≡ spec.names_given (option_map (λ s. s.now) value.entry)) }
+{
+    match value {
+        Some(value) => parted(alloc, value),
+        None => Ok(Texts::of(Vec::new(alloc))),
+    }
+}
+
 impl Command<'_, '_> {
     /// The job, with copies of the words.
     pub(crate) fn to_job(self, alloc: Global) -> Result<Job, AllocError>
@@ -458,7 +483,7 @@ impl Command<'_, '_> {
         Ok(Job {
             mode: self.mode,
             top: copy_given(alloc, self.top)?,
-            clock: copy_given(alloc, self.clock)?,
+            clocks: names_given(alloc, self.clock)?,
             half: self.half,
             share: self.share,
             head: head_of(alloc, self.defines)?,

@@ -17,7 +17,7 @@ use Rattle.vs_lower.specs.Stated.{AreApart, AreInside}
 
 -- a signal of the one bit of the reset's input
 abbrev pub reset_signal : ℕ → Signal
-reset_signal input = record { name = []; scope = 0; number = 0; net = true; input = true; range = None; signed = false; first = input; words = None }
+reset_signal input = record { name = []; scope = 0; number = 0; net = true; input = true; range = None; signed = false; first = input; words = None; integer = false }
 
 -- its name, and with `!` before it where the reset is active at 0
 abbrev pub reset_condition : Bool → ℕ → Expression

@@ -1,15 +1,16 @@
 -- Vectors of the inputs' lengths, as values of all bits: the data inputs have the values of the vector.
-use Rattle.std.proofs.Common.{◌≡◌, ◌<◌, ◌≤◌, ◌+◌, ◌∙◌, ◌==◌, ◌&&◌, ℕ, zero, suc, Bool, true, false, not, if◌then◌else◌, List, [], ◌∷◌, ◌++◌, length, map, filter, sym, ap, ap₂, refl, subst, arith, Option, inl, inr}
+use Rattle.std.proofs.Common.{◌≡◌, ◌<◌, ◌≤◌, ◌+◌, ◌∙◌, ◌==◌, ◌&&◌, ℕ, zero, suc, Bool, true, false, not, if◌then◌else◌, List, [], ◌∷◌, ◌++◌, length, map, filter, sym, ap, ap₂, refl, subst, arith, inl, inr}
 use Rattle.std.proofs.lemmas.Bool.{eq-eqb}
 use Rattle.std.proofs.lemmas.Bool.Decides.{nat_tests}
 use Rattle.vs_four.specs.declared.Bit4.{Bit4}
 use Rattle.vs_four.specs.declared.Bit4.TheVariants.{X}
 use Rattle.vs_four.specs.Logic.{BitList, map2}
 use Rattle.vs_net.specs.Network.{State, put, write_all}
+use Rattle.vs_design.specs.Clocks.{clock_bits}
 use Rattle.vs_design.specs.Expressions.{Signal, signal_length}
 use Rattle.vs_design.specs.Designs.{Design, top_inputs}
 use Rattle.vs_design.specs.Values.{count_from, bits_of_signal, read}
-use Rattle.vs_design.specs.Footprints.{signals_bits}
+use Rattle.vs_design.specs.Footprints.{contains, signals_bits}
 use Rattle.vs_design.specs.Elaborated.{have_bits_from}
 use Rattle.vs_design.specs.Resets.{reset_inputs}
 use Rattle.vs_design.specs.Accepted.{IsAcceptedDesign}
@@ -127,29 +128,29 @@ given base (s ∷ ss) (x ∷ xs) v up fits =
 -- ---- data inputs
 
 -- the inputs but the clock
-twice : (clock : ℕ) (ss : List Signal) → filter (λ (s : Signal). not (s.first == clock)) (filter (λ (s : Signal). s.input) ss) ≡ filter (is_data_input clock) ss
-twice clock [] = refl
-twice clock (s ∷ ss) = by s.input (twice clock ss)
+twice : (clocks : List ℕ) (ss : List Signal) → filter (λ (s : Signal). not (contains clocks s.first)) (filter (λ (s : Signal). s.input) ss) ≡ filter (is_data_input clocks) ss
+twice clocks [] = refl
+twice clocks (s ∷ ss) = by s.input (twice clocks ss)
   where
-    by : (i : Bool) → filter (λ (x : Signal). not (x.first == clock)) (filter (λ (x : Signal). x.input) ss) ≡ filter (is_data_input clock) ss
-        → filter (λ (x : Signal). not (x.first == clock)) (if i then (s ∷ filter (λ (x : Signal). x.input) ss) else filter (λ (x : Signal). x.input) ss)
-        ≡ (if i && not (s.first == clock) then (s ∷ filter (is_data_input clock) ss) else filter (is_data_input clock) ss)
-    by true e = ap (λ (xs : List Signal). if not (s.first == clock) then (s ∷ xs) else xs) e
+    by : (i : Bool) → filter (λ (x : Signal). not (contains clocks x.first)) (filter (λ (x : Signal). x.input) ss) ≡ filter (is_data_input clocks) ss
+        → filter (λ (x : Signal). not (contains clocks x.first)) (if i then (s ∷ filter (λ (x : Signal). x.input) ss) else filter (λ (x : Signal). x.input) ss)
+        ≡ (if i && not (contains clocks s.first) then (s ∷ filter (is_data_input clocks) ss) else filter (is_data_input clocks) ss)
+    by true e = ap (λ (xs : List Signal). if not (contains clocks s.first) then (s ∷ xs) else xs) e
     by false e = e
 
 lengths_are : (resets : List ℕ) (ss : List Signal) → lengths (map (input_of resets) ss) ≡ map signal_length ss
 lengths_are resets [] = refl
 lengths_are resets (s ∷ ss) = ap (λ (ns : List ℕ). signal_length s ∷ ns) (lengths_are resets ss)
 
-vector_given : (d : Design) (name : Option (List ℕ)) (a : IsAcceptedDesign d name) (x : Vector) → sizes x ≡ lengths (data_inputs d a.clock.first) → AreGiven (Q.data_inputs a.clock.first (top_inputs d)) x (vector_state d a.clock.first x)
-vector_given d name a x fits =
-    let clock = a.clock.first in
-    let those : List Signal = filter (is_data_input clock) d.signals in
-    let up = ascending (is_data_input clock) 0 d.signals a.lawful.bits_numbered in
-    let here = given 0 those x (λ b. X) up (fits ∙ lengths_are (reset_inputs d clock) those) in
-    subst (λ (ss : List Signal). AreGiven ss x (vector_state d clock x)) (sym (twice clock d.signals))
-    (subst (λ (bs : List ℕ). AreGiven those x (write_all (λ b. X) (map2 write_to bs (bits_of x)))) (sym (data_bits_are d name a)) here)
+vector_given : (d : Design) (names : List (List ℕ)) (a : IsAcceptedDesign d names) (x : Vector) → sizes x ≡ lengths (data_inputs d (clock_bits a.clocks)) → AreGiven (Q.data_inputs (clock_bits a.clocks) (top_inputs d)) x (vector_state d (clock_bits a.clocks) x)
+vector_given d names a x fits =
+    let clocks = (clock_bits a.clocks) in
+    let those : List Signal = filter (is_data_input clocks) d.signals in
+    let up = ascending (is_data_input clocks) 0 d.signals a.lawful.bits_numbered in
+    let here = given 0 those x (λ b. X) up (fits ∙ lengths_are (reset_inputs d clocks) those) in
+    subst (λ (ss : List Signal). AreGiven ss x (vector_state d clocks x)) (sym (twice clocks d.signals))
+    (subst (λ (bs : List ℕ). AreGiven those x (write_all (λ b. X) (map2 write_to bs (bits_of x)))) (sym (data_bits_are d names a)) here)
 
-pub vectors_given : (d : Design) (name : Option (List ℕ)) (a : IsAcceptedDesign d name) (xs : List Vector) → AreSized d a.clock.first xs → AreVectors d a.clock.first xs (map (vector_state d a.clock.first) xs)
-vectors_given d name a [] fits = tt
-vectors_given d name a (x ∷ xs) fits = (vector_given d name a x (fits 0 x (omega arith)), vectors_given d name a xs (λ k y h. fits (suc k) y (omega (arith, h))))
+pub vectors_given : (d : Design) (names : List (List ℕ)) (a : IsAcceptedDesign d names) (xs : List Vector) → AreSized d (clock_bits a.clocks) xs → AreVectors d (clock_bits a.clocks) xs (map (vector_state d (clock_bits a.clocks)) xs)
+vectors_given d names a [] fits = tt
+vectors_given d names a (x ∷ xs) fits = (vector_given d names a x (fits 0 x (omega arith)), vectors_given d names a xs (λ k y h. fits (suc k) y (omega (arith, h))))

@@ -8,10 +8,11 @@ use Rattle.std.proofs.lemmas.List.Elements.{All-cons, All-nil}
 use Rattle.vs_four.specs.declared.Range.{Range}
 use Rattle.vs_four.specs.Selects.{range_length, is_descending}
 use Rattle.vs_net.specs.Laws.{IsKnownVector, AreKnownResets}
+use Rattle.vs_design.specs.Clocks.{clock_bits}
 use Rattle.vs_design.specs.Expressions.{Signal, range_or_one, words_length, signal_length}
 use Rattle.vs_design.specs.Designs.{Design}
 use Rattle.vs_design.specs.Elaborated.{is_lawful_range, is_declared, are_lawful_words, is_lawful_memory}
-use Rattle.vs_design.specs.Footprints.{is_memory, is_variable}
+use Rattle.vs_design.specs.Footprints.{contains, is_memory, is_variable}
 use Rattle.vs_design.specs.Networks.{network_of}
 use Rattle.vs_design.specs.Resets.{reset_inputs}
 use Rattle.vs_design.specs.Accepted.{IsAcceptedDesign}
@@ -62,58 +63,58 @@ plain_input s h e = long s.words (none (is_some s.words) s.net s.input (and_part
     long None e = refl
     long (Some r) e = cc
 
-an_input : (d : Design) (resets : List ℕ) (clock : ℕ) (s : Signal) → is_declared d s ≡ true → is_lawful_memory s ≡ true → is_data_input clock s ≡ true → IsInput (input_of resets s)
-an_input d resets clock s declared memory input =
-    let long = plain_input s memory (and_parts s.input (not (s.first == clock)) input).0 in
+an_input : (d : Design) (resets : List ℕ) (clocks : List ℕ) (s : Signal) → is_declared d s ≡ true → is_lawful_memory s ≡ true → is_data_input clocks s ≡ true → IsInput (input_of resets s)
+an_input d resets clocks s declared memory input =
+    let long = plain_input s memory (and_parts s.input (not (contains clocks s.first)) input).0 in
     record { some = omega (arith, long, one_or_more s.range); at_most_64 = omega (arith, long, few_bits d s declared) }
 
-inputs_of : (d : Design) (resets : List ℕ) (clock : ℕ) (ss : List Signal) → list_all (is_declared d) ss ≡ true → list_all is_lawful_memory ss ≡ true → All IsInput (inputs_among resets clock ss)
-inputs_of d resets clock [] h m = All-nil IsInput
-inputs_of d resets clock (s ∷ ss) h m =
+inputs_of : (d : Design) (resets : List ℕ) (clocks : List ℕ) (ss : List Signal) → list_all (is_declared d) ss ≡ true → list_all is_lawful_memory ss ≡ true → All IsInput (inputs_among resets clocks ss)
+inputs_of d resets clocks [] h m = All-nil IsInput
+inputs_of d resets clocks (s ∷ ss) h m =
     let declared = and_parts (is_declared d s) (list_all (is_declared d) ss) h in
     let memories = and_parts (is_lawful_memory s) (list_all is_lawful_memory ss) m in
-    here (is_data_input clock s) (λ input. an_input d resets clock s declared.0 memories.0 input) (inputs_of d resets clock ss declared.1 memories.1)
+    here (is_data_input clocks s) (λ input. an_input d resets clocks s declared.0 memories.0 input) (inputs_of d resets clocks ss declared.1 memories.1)
   where
-    here : (c : Bool) → (c ≡ true → IsInput (input_of resets s)) → All IsInput (inputs_among resets clock ss)
-        → All IsInput (map (input_of resets) (if c then (s ∷ filter (is_data_input clock) ss) else filter (is_data_input clock) ss))
-    here true few others = All-cons IsInput (input_of resets s) (inputs_among resets clock ss) (few refl) others
+    here : (c : Bool) → (c ≡ true → IsInput (input_of resets s)) → All IsInput (inputs_among resets clocks ss)
+        → All IsInput (map (input_of resets) (if c then (s ∷ filter (is_data_input clocks) ss) else filter (is_data_input clocks) ss))
+    here true few others = All-cons IsInput (input_of resets s) (inputs_among resets clocks ss) (few refl) others
     here false few others = others
 
-are_inputs : (d : Design) (name : Option (List ℕ)) (a : IsAcceptedDesign d name) → AreDataInputs d a.clock.first (data_inputs d a.clock.first)
-are_inputs d name a = record { each = inputs_of d (reset_inputs d a.clock.first) a.clock.first d.signals a.lawful.declared a.lawful.memories; inputs_are = refl }
+are_inputs : (d : Design) (names : List (List ℕ)) (a : IsAcceptedDesign d names) → AreDataInputs d (clock_bits a.clocks) (data_inputs d (clock_bits a.clocks))
+are_inputs d names a = record { each = inputs_of d (reset_inputs d (clock_bits a.clocks)) (clock_bits a.clocks) d.signals a.lawful.declared a.lawful.memories; inputs_are = refl }
 
--- ---- the clock that was found
+-- ---- the clocks that were found
 
-pub clock_is : (d : Design) (c : Clocked) (h : IsAcceptedBy d c) → h.accepted.clock.first ≡ c.bit
-clock_is d c h = ap (λ (s : Signal). s.first) (same_Some h.accepted.clock h.clock.signal (sym h.accepted.clock_found ∙ h.clock.is)) ∙ sym h.clock.bit_is
+pub clocks_are : (d : Design) (c : Clocked) (h : IsAcceptedBy d c) → (clock_bits h.accepted.clocks) ≡ c.bits
+clocks_are d c h = ap clock_bits (same_Some h.accepted.clocks h.clocks.signals (sym h.accepted.clocks_found ∙ h.clocks.are)) ∙ sym h.clocks.bits_are
 
 -- vectors of the inputs' lengths can be driven
-abbrev AreDriven : Design → List Vector → ℕ → Type 0
-AreDriven d vectors clock = AreSized d clock vectors → AreVectors d clock vectors (map (vector_state d clock) vectors)
+abbrev AreDriven : Design → List Vector → List ℕ → Type 0
+AreDriven d vectors clocks = AreSized d clocks vectors → AreVectors d clocks vectors (map (vector_state d clocks) vectors)
 
-pub all_given : (d : Design) (c : Clocked) → IsAcceptedBy d c → (vectors : List Vector) → AreSized d c.bit vectors → AreVectors d c.bit vectors (map (vector_state d c.bit) vectors)
-all_given d c h vectors = subst (AreDriven d vectors) (clock_is d c h) (vectors_given d h.name h.accepted vectors)
+pub all_given : (d : Design) (c : Clocked) → IsAcceptedBy d c → (vectors : List Vector) → AreSized d c.bits vectors → AreVectors d c.bits vectors (map (vector_state d c.bits) vectors)
+all_given d c h vectors = subst (AreDriven d vectors) (clocks_are d c h) (vectors_given d h.names h.accepted vectors)
 
 -- those of a valid stimulus give values that are known as a run asks for it
-pub record IsAsked (d : Design) (vectors : List Vector) (first : Vector) (later : List Vector) (clock : ℕ) : Type 0 where
-  pub given : AreVectors d clock vectors (vector_state d clock first ∷ map (vector_state d clock) later)
-  pub known : IsKnownVector (network_of d clock) (vector_state d clock first)
-  pub resets : AreKnownResets (network_of d clock) (map (vector_state d clock) later)
+pub record IsAsked (d : Design) (vectors : List Vector) (first : Vector) (later : List Vector) (clocks : List ℕ) : Type 0 where
+  pub given : AreVectors d clocks vectors (vector_state d clocks first ∷ map (vector_state d clocks) later)
+  pub known : IsKnownVector (network_of d clocks) (vector_state d clocks first)
+  pub resets : AreKnownResets (network_of d clocks) (map (vector_state d clocks) later)
 
-asked : (d : Design) (name : Option (List ℕ)) (a : IsAcceptedDesign d name) (vectors : List Vector) (first : Vector) (later : List Vector)
-    → AreSized d a.clock.first vectors → AreValid d a.clock.first vectors first later → IsAsked d vectors first later a.clock.first
-asked d name a vectors first later sized valid =
-    let clock = a.clock.first in
-    let inputs = data_inputs d clock in
-    let fits : AreSized d clock (first ∷ later) = subst (AreSized d clock) valid.vectors_are sized in
+asked : (d : Design) (names : List (List ℕ)) (a : IsAcceptedDesign d names) (vectors : List Vector) (first : Vector) (later : List Vector)
+    → AreSized d (clock_bits a.clocks) vectors → AreValid d (clock_bits a.clocks) vectors first later → IsAsked d vectors first later (clock_bits a.clocks)
+asked d names a vectors first later sized valid =
+    let clocks = (clock_bits a.clocks) in
+    let inputs = data_inputs d clocks in
+    let fits : AreSized d clocks (first ∷ later) = subst (AreSized d clocks) valid.vectors_are sized in
     record {
-      given = subst (λ (vs : List Vector). AreVectors d clock vs (vector_state d clock first ∷ map (vector_state d clock) later)) (sym valid.vectors_are) (vectors_given d name a (first ∷ later) fits);
-      known = vector_is_known d name a inputs first (are_inputs d name a) (fits 0 first (omega arith)) valid.known;
-      resets = all_resets_known d name a inputs later (are_inputs d name a) (λ k v h. fits (suc k) v (omega (arith, h))) valid.resets;
+      given = subst (λ (vs : List Vector). AreVectors d clocks vs (vector_state d clocks first ∷ map (vector_state d clocks) later)) (sym valid.vectors_are) (vectors_given d names a (first ∷ later) fits);
+      known = vector_is_known d names a inputs first (are_inputs d names a) (fits 0 first (omega arith)) valid.known;
+      resets = all_resets_known d names a inputs later (are_inputs d names a) (λ k v h. fits (suc k) v (omega (arith, h))) valid.resets;
     }
 
-abbrev Asks : Design → List Vector → Vector → List Vector → ℕ → Type 0
-Asks d vectors first later clock = AreSized d clock vectors → AreValid d clock vectors first later → IsAsked d vectors first later clock
+abbrev Asks : Design → List Vector → Vector → List Vector → List ℕ → Type 0
+Asks d vectors first later clocks = AreSized d clocks vectors → AreValid d clocks vectors first later → IsAsked d vectors first later clocks
 
-pub all_asked : (d : Design) (c : Clocked) → IsAcceptedBy d c → (vectors : List Vector) (first : Vector) (later : List Vector) → AreSized d c.bit vectors → AreValid d c.bit vectors first later → IsAsked d vectors first later c.bit
-all_asked d c h vectors first later = subst (Asks d vectors first later) (clock_is d c h) (asked d h.name h.accepted vectors first later)
+pub all_asked : (d : Design) (c : Clocked) → IsAcceptedBy d c → (vectors : List Vector) (first : Vector) (later : List Vector) → AreSized d c.bits vectors → AreValid d c.bits vectors first later → IsAsked d vectors first later c.bits
+all_asked d c h vectors first later = subst (Asks d vectors first later) (clocks_are d c h) (asked d h.names h.accepted vectors first later)

@@ -16,23 +16,23 @@ use Rattle.vs_stim.specs.Vectors.{vector_known}
 use Rattle.vs_vcd.specs.Shared.{text_of}
 
 -- each vector has a value of its length for each data input
-abbrev pub AreSized : Design → ℕ → List Vector → Type 0
-AreSized d clock vectors = All (λ (vector : Vector). sizes vector ≡ lengths (data_inputs d clock)) vectors
+abbrev pub AreSized : Design → List ℕ → List Vector → Type 0
+AreSized d clocks vectors = All (λ (vector : Vector). sizes vector ≡ lengths (data_inputs d clocks)) vectors
 
 -- these are vectors of a valid stimulus: in the first one all is known, and in the others the inputs of resets
-pub record AreValid (d : Design) (clock : ℕ) (vectors : List Vector) (first : Vector) (later : List Vector) : Type 0 where
+pub record AreValid (d : Design) (clocks : List ℕ) (vectors : List Vector) (first : Vector) (later : List Vector) : Type 0 where
   pub vectors_are : vectors ≡ first ∷ later
   pub known : vector_known first ≡ true
-  pub resets : All (λ (vector : Vector). known_in_resets (data_inputs d clock) vector ≡ true) later
+  pub resets : All (λ (vector : Vector). known_in_resets (data_inputs d clocks) vector ≡ true) later
 
 -- The text is the dump of every completed run of the queue on these vectors, whatever it begins with and whatever the order of its steps (11.4.2) and of its initial processes.
-abbrev pub IsEveryDump : Bool → Design → ℕ → ℕ → Vector → List Vector → List ℕ → Type 0
-IsEveryDump share d clock half first later text =
-    (initials : List Initial) → IsOrderOf d.initials initials → let n = network_in d clock initials in
-    (idle : State) → IsFirst n idle → let q = start n idle (vector_state d clock first) (map (vector_state d clock) later) in (choices : List Choice) → IsCompleted n q choices → text ≡ text_of share d half (ends n q choices)
+abbrev pub IsEveryDump : Bool → Design → List ℕ → ℕ → Vector → List Vector → List ℕ → Type 0
+IsEveryDump share d clocks half first later text =
+    (initials : List Initial) → IsOrderOf d.initials initials → let n = network_in d clocks initials in
+    (idle : State) → IsFirst n idle → let q = start n idle (vector_state d clocks first) (map (vector_state d clocks) later) in (choices : List Choice) → IsCompleted n q choices → text ≡ text_of share d half (ends n q choices)
 
 -- The run that the number chooses has so many steps, as far as 64 bits can count.
-pub record HasSteps (d : Design) (clock order : ℕ) (first : Vector) (later : List Vector) (steps : ℕ) : Type 0 where
+pub record HasSteps (d : Design) (clocks : List ℕ) (order : ℕ) (first : Vector) (later : List Vector) (steps : ℕ) : Type 0 where
   pub choices : List Choice
-  pub chosen : IsChosen (network_of d clock) (start (network_of d clock) (drawn_values (driven_bits d) order (idle_value d)) (vector_state d clock first) (map (vector_state d clock) later)) (seed_after (driven_bits d) order) choices
+  pub chosen : IsChosen (network_of d clocks) (start (network_of d clocks) (drawn_values (driven_bits d) order (idle_value d)) (vector_state d clocks first) (map (vector_state d clocks) later)) (seed_after (driven_bits d) order) choices
   pub steps_are : steps ≡ min (length choices) (2 ^ 64 - 1)

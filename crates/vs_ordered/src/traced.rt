@@ -27,7 +27,7 @@ pub struct Traced {
 /// Executes the event queue of an accepted design (IEEE 1364-2005, clause 11) on these vectors, in the order that a number chooses, and
 /// writes the waveform of that run. The only error is that there is no memory.
 ///
-/// Half a period of the clock has this many nanoseconds. There is one identifier code for all signals that ports join, if so told, or
+/// Half a period of the clocks has this many nanoseconds. There is one identifier code for all signals that ports join, if so told, or
 /// else one for each signal.
 pub fn run_vectors(
     alloc: Global,
@@ -41,13 +41,13 @@ pub fn run_vectors(
 ) -> Result<Traced, AllocError>
     requires accepted { IsAcceptedBy (design_of typed.now) clocks.now }
     requires footprints { footprints.now ≡ footprints_of (design_of typed.now) }
-    requires sized { AreSized (design_of typed.now) clocks.now.bit vectors.now }
+    requires sized { AreSized (design_of typed.now) clocks.now.bits vectors.now }
     requires few { length vectors.now ≤ 16777217 }
     requires half { half ≤ 1000000 }
-    ensures text { IfOk result (λ traced. (first : Values) (later : List Values) → AreValid (design_of typed.now) clocks.now.bit vectors.now first later
-        → IsEveryDump share (design_of typed.now) clocks.now.bit half first later traced.text.items) }
-    ensures steps { IfOk result (λ traced. (first : Values) (later : List Values) → AreValid (design_of typed.now) clocks.now.bit vectors.now first later
-        → HasSteps (design_of typed.now) clocks.now.bit order first later traced.steps) }
+    ensures text { IfOk result (λ traced. (first : Values) (later : List Values) → AreValid (design_of typed.now) clocks.now.bits vectors.now first later
+        → IsEveryDump share (design_of typed.now) clocks.now.bits half first later traced.text.items) }
+    ensures steps { IfOk result (λ traced. (first : Values) (later : List Values) → AreValid (design_of typed.now) clocks.now.bits vectors.now first later
+        → HasSteps (design_of typed.now) clocks.now.bits order first later traced.steps) }
 {
     order_law();
     unique_law();

@@ -7,6 +7,7 @@ use Rattle.std.proofs.lemmas.List.{length-map}
 use Rattle.std.proofs.lemmas.List.Sums.{sum_by-append, sum_by-cons}
 use Rattle.vs_four.specs.declared.Range.{Range}
 use Rattle.vs_four.specs.Selects.{range_length, is_descending}
+use Rattle.vs_design.specs.Clocks.{clock_bits}
 use Rattle.vs_design.specs.Expressions.{Signal, signal_length, range_or_one, words_length}
 use Rattle.vs_design.specs.Designs.{Process, Design, bit_count}
 use Rattle.vs_design.specs.Footprints.{contains, is_memory}
@@ -51,11 +52,11 @@ calls_cost d l (p ∷ ps) calls made =
     let sum = sum_by-cons (may d) p ps in
     omega (arith, is, rest, first, sum)
 
-resets_cost : (d : Design) (clock : ℕ) (l : Layout) (ps : List ℕ) (calls : List Call) → AreResetsOf d clock l ps calls → length_of calls ≤ sum_by (may d) ps
-resets_cost d clock l [] calls none = let is : length_of calls ≡ 0 = ap length_of none in omega (arith, is)
-resets_cost d clock l (p ∷ ps) calls made =
+resets_cost : (d : Design) (clocks : List ℕ) (l : Layout) (ps : List ℕ) (calls : List Call) → AreResetsOf d clocks l ps calls → length_of calls ≤ sum_by (may d) ps
+resets_cost d clocks l [] calls none = let is : length_of calls ≡ 0 = ap length_of none in omega (arith, is)
+resets_cost d clocks l (p ∷ ps) calls made =
     let is : length_of calls ≡ length_of made.0 + length_of made.1 = ap length_of made.2 ∙ sum_by-append call_cost made.0 made.1 in
-    let rest = resets_cost d clock l ps made.1 made.4 in
+    let rest = resets_cost d clocks l ps made.1 made.4 in
     let stores = made.3.2.stores in
     let first : length_of made.0 ≤ may d p = subst (λ o. length_of made.0 ≤ may_or d o) (sym made.3.1) (omega (arith, stores)) in
     let sum = sum_by-cons (may d) p ps in
@@ -76,26 +77,26 @@ pub record Small (d : Design) (p : Program) : Type 0 where
   pub fall : fall_stores p ≤ size d
   pub rise : rise_stores p ≤ size d
 
-pub small : FewAreApart → StoresFit → (d : Design) (name : Option (List ℕ)) (a : IsAcceptedDesign d name) (order : List ℕ) → is_level_order d order ≡ true
-    → (l : Layout) → IsLayoutOf d l → (regs : List ℕ) (p : Program) → IsMadeOf d a.clock.first order regs l p → Small d p
-small fewer fit d name a order ordered l low regs p made =
-    let fits : StoresFitIn d a.clock.first order (may d) (may d) = fit d name a order ordered (may d) (may d) (within d) (within d) in
-    let inputs : length p.inputs ≡ length (data_bits d a.clock.first) = ap length made.inputs in
-    let clocks = made.clocks.few in
+pub small : FewAreApart → StoresFit → (d : Design) (names : List (List ℕ)) (a : IsAcceptedDesign d names) (order : List ℕ) → is_level_order d order ≡ true
+    → (l : Layout) → IsLayoutOf d l → (regs : List ℕ) (p : Program) → IsMadeOf d (clock_bits a.clocks) order regs l p → Small d p
+small fewer fit d names a order ordered l low regs p made =
+    let fits : StoresFitIn d (clock_bits a.clocks) order (may d) (may d) = fit d names a order ordered (may d) (may d) (within d) (within d) in
+    let inputs : length p.inputs ≡ length (data_bits d (clock_bits a.clocks)) = ap length made.inputs in
+    let clocks = made.nets.few in
     let few = few_registers fewer d regs made.registers in
-    let resets = resets_cost d a.clock.first l (clocked d) made.resets made.resets_are in
-    let first : length_of p.first ≤ sum_by (may d) (clocked d) + sum_by (may d) (but_ports d a.clock.first order) =
+    let resets = resets_cost d (clock_bits a.clocks) l (clocked d) made.resets made.resets_are in
+    let first : length_of p.first ≤ sum_by (may d) (clocked d) + sum_by (may d) (but_ports d (clock_bits a.clocks) order) =
     let is : length_of p.first ≡ length_of made.resets + length_of made.settle_first = ap length_of made.first ∙ sum_by-append call_cost made.resets made.settle_first in
-    let own = calls_cost d l (but_ports d a.clock.first order) made.settle_first made.first_are in omega (arith, is, own, resets) in
-    let fall : length_of p.fall ≤ sum_by (may d) (clocked d) + sum_by (may d) (fall_processes d a.clock.first order) =
+    let own = calls_cost d l (but_ports d (clock_bits a.clocks) order) made.settle_first made.first_are in omega (arith, is, own, resets) in
+    let fall : length_of p.fall ≤ sum_by (may d) (clocked d) + sum_by (may d) (fall_processes d (clock_bits a.clocks) order) =
     let is : length_of p.fall ≡ length_of made.resets_again + length_of made.settle_fall = ap length_of made.fall ∙ sum_by-append call_cost made.resets_again made.settle_fall in
-    let again = resets_cost d a.clock.first l (clocked d) made.resets_again made.again_are in
-    let own = calls_cost d l (fall_processes d a.clock.first order) made.settle_fall made.fall_are in omega (arith, is, own, again) in
-    let rise = calls_cost d l (rise_processes d a.clock.first order) p.rise made.rise in
+    let again = resets_cost d (clock_bits a.clocks) l (clocked d) made.resets_again made.again_are in
+    let own = calls_cost d l (fall_processes d (clock_bits a.clocks) order) made.settle_fall made.fall_are in omega (arith, is, own, again) in
+    let rise = calls_cost d l (rise_processes d (clock_bits a.clocks) order) p.rise made.rise in
     let blocks = calls_cost d l (clocked d) made.blocks made.blocks_are in
     let copy = copy_cost l regs in
     let next : length_of p.next ≡ length_of made.blocks + length_of (copy_shadows l regs) = ap length_of made.next ∙ sum_by-append call_cost made.blocks (copy_shadows l regs) in
-    let later = fits.cones (fall_bits d a.clock.first) in
+    let later = fits.cones (fall_bits d (clock_bits a.clocks)) in
     let risen = fits.cones (register_bits d.processes) in
     record {
       first = omega (arith, fits.fall, inputs, clocks, first);
@@ -176,12 +177,12 @@ widest_small : (xs : List Process) → widest_of xs ≤ sum_by process_weight xs
 widest_small [] = omega arith
 widest_small (x ∷ xs) = let rest = widest_small xs in omega (arith, rest, sum_by-cons process_weight x xs)
 
-pub in_range : FewAreApart → StoresFit → SourcesOfDesign → (d : Design) (name : Option (List ℕ)) (a : IsAcceptedDesign d name) (order : List ℕ) → is_level_order d order ≡ true
-    → (l : Layout) → IsLayoutOf d l → (regs : List ℕ) (p : Program) → IsMadeOf d a.clock.first order regs l p → IsInRange p
-in_range fewer fit sources d name a order ordered l low regs p made =
-    let from : SourcesAre d a.clock.first = sources d name a in
-    let fits = small fewer fit d name a order ordered l low regs p made in
-    let stores : StoresFitIn d a.clock.first order (may d) (may d) = fit d name a order ordered (may d) (may d) (within d) (within d) in
+pub in_range : FewAreApart → StoresFit → SourcesOfDesign → (d : Design) (names : List (List ℕ)) (a : IsAcceptedDesign d names) (order : List ℕ) → is_level_order d order ≡ true
+    → (l : Layout) → IsLayoutOf d l → (regs : List ℕ) (p : Program) → IsMadeOf d (clock_bits a.clocks) order regs l p → IsInRange p
+in_range fewer fit sources d names a order ordered l low regs p made =
+    let from : SourcesAre d (clock_bits a.clocks) = sources d names a in
+    let fits = small fewer fit d names a order ordered l low regs p made in
+    let stores : StoresFitIn d (clock_bits a.clocks) order (may d) (may d) = fit d names a order ordered (may d) (may d) (within d) (within d) in
     let bits : l.bits ≡ bit_count d = low.bits in
     let temps = low.layout.temps_above in
     let homes : home p.bits ≤ length p.initial = subst (λ k. home k ≤ length p.initial) (bits ∙ sym made.bits) (omega (arith, temps, made.slots)) in
@@ -193,7 +194,7 @@ in_range fewer fit sources d name a order ordered l low regs p made =
       count = few_slots;
       bits = homes;
       inputs = all_below p.bits p.inputs (λ b h. subst (λ k. b < k) (sym made.bits) (from.data_below b (subst (λ bs. contains bs b ≡ true) made.inputs h)));
-      clocks = all_below p.bits p.clocks (λ b h. subst (λ k. b < k) (sym made.bits) (from.nets_below b (sym (made.clocks.has b) ∙ h)));
+      nets = all_below p.bits p.nets (λ b h. subst (λ k. b < k) (sym made.bits) (from.nets_below b (sym (made.nets.has b) ∙ h)));
       signals = subst (λ (ss : List Span). list_all (spans p.bits) ss ≡ true) (sym made.signals) (spans_fit d 0 p.bits d.signals a.lawful.declared a.lawful.bits_numbered (omega (arith, made.bits)));
       first = made.first_in;
       fall = made.fall_in;

@@ -6,4 +6,4 @@ use Rattle.vs_cone.specs.Sources.{SourcesOfDesign}
 use Rattle.vs_program.specs.Made.{RegistersInOrder}
 
 pub registers_in_order : AscendingIsOnce → SourcesOfDesign → RegistersInOrder
-registers_in_order ascending sources d name a = ascending (bit_count d) (register_bits d.processes) (λ b h. (sources d name a).registers_below b h)
+registers_in_order ascending sources d names a = ascending (bit_count d) (register_bits d.processes) (λ b h. (sources d names a).registers_below b h)

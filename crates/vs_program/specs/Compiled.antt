@@ -10,7 +10,7 @@ use Rattle.vs_design.specs.Values.{count_from}
 use Rattle.vs_design.specs.Designs.{Design, bit_count}
 use Rattle.vs_design.specs.Footprints.{contains}
 pub use Rattle.vs_design.specs.Footprints.{shown_signals}
-use Rattle.vs_design.specs.Clocks.{own_nets}
+use Rattle.vs_design.specs.Clocks.{clock_bits, own_nets}
 use Rattle.vs_design.specs.Networks.{network_of}
 use Rattle.vs_design.specs.SlotValues.{clock_value}
 use Rattle.vs_design.specs.Sizes.{size}
@@ -34,55 +34,55 @@ span_bits s = count_from s.first s.length
 
 -- the clock nets have this value
 pub record IsClocked (p : Program) (v : Bit4) (slots : State) : Type 0 where
-  pub nets : (b : ℕ) → contains p.clocks b ≡ true → slots (home b) ≡ v
+  pub nets : (b : ℕ) → contains p.nets b ≡ true → slots (home b) ≡ v
 
--- the data inputs have got a vector, and the clock has fallen; all else is as before
+-- the data inputs have got a vector, and the clocks have fallen; all else is as before
 pub record Falls (p : Program) (vector : N.State) (before after : State) : Type 0 where
   pub constants : (slot : ℕ) → slot < 4 → after slot ≡ before slot
   pub clock_is : IsClocked p Zero after
-  pub inputs : (b : ℕ) → contains p.inputs b ≡ true → contains p.clocks b ≡ false → after (home b) ≡ vector b
-  pub others : (b : ℕ) → contains p.inputs b ≡ false → contains p.clocks b ≡ false → after (home b) ≡ before (home b)
+  pub inputs : (b : ℕ) → contains p.inputs b ≡ true → contains p.nets b ≡ false → after (home b) ≡ vector b
+  pub others : (b : ℕ) → contains p.inputs b ≡ false → contains p.nets b ≡ false → after (home b) ≡ before (home b)
   pub behind : (slot : ℕ) → home p.bits ≤ slot → after slot ≡ before slot
 
--- the clock has risen; all else is as before
+-- the clocks have risen; all else is as before
 pub record Rises (p : Program) (before after : State) : Type 0 where
   pub constants : (slot : ℕ) → slot < 4 → after slot ≡ before slot
   pub clock_is : IsClocked p One after
-  pub others : (b : ℕ) → contains p.clocks b ≡ false → after (home b) ≡ before (home b)
+  pub others : (b : ℕ) → contains p.nets b ≡ false → after (home b) ≡ before (home b)
   pub behind : (slot : ℕ) → home p.bits ≤ slot → after slot ≡ before slot
 
--- A lane's slots hold the values at the end of this time slot, the constants, and the masks. The clock's level before it was this one
-pub record IsEnd (d : Design) (clock : ℕ) (p : Program) (level : Bit4) (before : State) (slot : Slot) (after : State) : Type 0 where
+-- A lane's slots hold the values at the end of this time slot, the constants, and the masks. The clocks' level before it was this one
+pub record IsEnd (d : Design) (clocks : List ℕ) (p : Program) (level : Bit4) (before : State) (slot : Slot) (after : State) : Type 0 where
   pub constants : HasConstants after
-  pub masks : HaveMasks d clock p.bits (clock_value slot) after
-  pub ends : IsSlotEnd (network_of d clock) (values p.bits clock level before) slot (values p.bits clock (clock_value slot) after)
+  pub masks : HaveMasks d clocks p.bits (clock_value slot) after
+  pub ends : IsSlotEnd (network_of d clocks) (values p.bits clocks level before) slot (values p.bits clocks (clock_value slot) after)
 
--- A lane's slots hold the constants, settled values of the bits, and the masks, where the clock has this level: so they do at the end of every slot
-pub record IsReached (d : Design) (clock : ℕ) (p : Program) (level : Bit4) (slots : State) : Type 0 where
+-- A lane's slots hold the constants, settled values of the bits, and the masks, where the clocks have this level: so they do at the end of every slot
+pub record IsReached (d : Design) (clocks : List ℕ) (p : Program) (level : Bit4) (slots : State) : Type 0 where
   pub constants : HasConstants slots
-  pub masks : HaveMasks d clock p.bits level slots
-  pub settled : IsSettled (network_of d clock) (values p.bits clock level slots)
+  pub masks : HaveMasks d clocks p.bits level slots
+  pub settled : IsSettled (network_of d clocks) (values p.bits clocks level slots)
 
--- the program is one of the design whose clock is this bit
-pub record IsProgramOf (d : Design) (clock : ℕ) (p : Program) : Type 0 where
+-- the program is one of the design whose clocks are these bits
+pub record IsProgramOf (d : Design) (clocks : List ℕ) (p : Program) : Type 0 where
   pub bits : p.bits ≡ bit_count d
-  pub clock_is : p.clock ≡ clock
-  pub inputs : p.inputs ≡ data_bits d clock
-  pub clocks : (b : ℕ) → contains p.clocks b ≡ contains (own_nets d clock) b
+  pub clocks_are : p.clocks ≡ clocks
+  pub inputs : p.inputs ≡ data_bits d clocks
+  pub nets : (b : ℕ) → contains p.nets b ≡ contains (own_nets d clocks) b
   pub signals : p.signals ≡ map span_of (shown_signals d)
   -- it begins with the constants, and with the values that the bits have before slot 0: what initial processes leave in them (9.9.1), and else those before anything writes them (4.2)
   pub constants : HasConstants (initial_slots p)
-  pub starts : values p.bits clock X (initial_slots p) ≡ beginning (network_of d clock)
-  pub begins : HaveMasks d clock p.bits X (initial_slots p)
-  -- in a first slot the clock falls: whatever the values at its beginning, where the masks fit them the program leaves those at its end
-  pub first : (level : Bit4) (vector : N.State) (before fallen after : State) → HasConstants before → HaveMasks d clock p.bits level before
-      → Falls p vector before fallen → AreCalled p.first fallen after → IsEnd d clock p level before (Fall vector) after
+  pub starts : values p.bits clocks X (initial_slots p) ≡ beginning (network_of d clocks)
+  pub begins : HaveMasks d clocks p.bits X (initial_slots p)
+  -- in a first slot the clocks fall: whatever the values at its beginning, where the masks fit them the program leaves those at its end
+  pub first : (level : Bit4) (vector : N.State) (before fallen after : State) → HasConstants before → HaveMasks d clocks p.bits level before
+      → Falls p vector before fallen → AreCalled p.first fallen after → IsEnd d clocks p level before (Fall vector) after
   -- and so in a later one, which begins where another has ended
-  pub falls : (level : Bit4) (vector : N.State) (before fallen after : State) → IsReached d clock p level before
-      → Falls p vector before fallen → AreCalled p.fall fallen after → IsEnd d clock p level before (Fall vector) after
-  -- where the clock rises, the registers' next values come from those before it
-  pub rises : (level : Bit4) (before stepped risen after : State) → IsReached d clock p level before
-      → AreCalled p.next before stepped → Rises p stepped risen → AreCalled p.rise risen after → IsEnd d clock p level before Rise after
+  pub falls : (level : Bit4) (vector : N.State) (before fallen after : State) → IsReached d clocks p level before
+      → Falls p vector before fallen → AreCalled p.fall fallen after → IsEnd d clocks p level before (Fall vector) after
+  -- where the clocks rise, the registers' next values come from those before it
+  pub rises : (level : Bit4) (before stepped risen after : State) → IsReached d clocks p level before
+      → AreCalled p.next before stepped → Rises p stepped risen → AreCalled p.rise risen after → IsEnd d clocks p level before Rise after
   -- within the design's size
   pub first_small : first_stores p ≤ size d
   pub fall_small : fall_stores p ≤ size d
@@ -90,12 +90,12 @@ pub record IsProgramOf (d : Design) (clock : ℕ) (p : Program) : Type 0 where
   -- no more slots than the design's bits, a second one for each register bit, one for each sleeping block, and what one process needs on the way
   pub few_slots : length p.initial ≤ slots_of_design d
 
--- an accepted design whose clock is this bit
-pub record IsAcceptedAt (d : Design) (clock : ℕ) : Type 0 where
-  pub name : Option (List ℕ)
-  pub accepted : IsAcceptedDesign d name
-  pub clock_is : accepted.clock.first ≡ clock
+-- an accepted design whose clocks are these bits
+pub record IsAcceptedAt (d : Design) (clocks : List ℕ) : Type 0 where
+  pub names : List (List ℕ)
+  pub accepted : IsAcceptedDesign d names
+  pub clocks_are : clock_bits accepted.clocks ≡ clocks
 
 -- what ends a time slot is what a later one may begin with
 abbrev pub EndsAreReached : Type 0
-EndsAreReached = (d : Design) (clock : ℕ) (p : Program) (level : Bit4) (before : State) (slot : Slot) (after : State) → IsEnd d clock p level before slot after → IsReached d clock p (clock_value slot) after
+EndsAreReached = (d : Design) (clocks : List ℕ) (p : Program) (level : Bit4) (before : State) (slot : Slot) (after : State) → IsEnd d clocks p level before slot after → IsReached d clocks p (clock_value slot) after

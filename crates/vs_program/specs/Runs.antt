@@ -14,13 +14,13 @@ use Rattle.vs_program.specs.Compiled.{IsProgramOf, Falls, Rises}
 abbrev pub fall_calls : Bool → Program → List Call
 fall_calls begun p = if begun then p.fall else p.first
 
--- the clock falls with this vector, and the slots are then these
+-- the clocks fall with this vector, and the slots are then these
 pub record IsFall (begun : Bool) (p : Program) (vector : N.State) (before after : State) : Type 0 where
   pub fallen : State
   pub falls : Falls p vector before fallen
   pub settled : AreCalled (fall_calls begun p) fallen after
 
--- the clock rises, and the slots are then these
+-- the clocks rise, and the slots are then these
 pub record IsRise (p : Program) (before after : State) : Type 0 where
   pub stepped : State
   pub steps : AreCalled p.next before stepped
@@ -34,14 +34,14 @@ AreRounds begun p before [] [] = Unit {0}
 AreRounds begun p before (v ∷ vs) (low ∷ high ∷ ends) = IsFall begun p v before low × IsRise p low high × AreRounds true p high vs ends
 AreRounds begun p before _ _ = ⊥
 
--- the values that the slots of a lane hold after each time slot, with the level that the clock has then
-abbrev pub values_after : Program → ℕ → List Slot → List State → List N.State
-values_after p clock (slot ∷ slots) (after ∷ ends) = values p.bits clock (clock_value slot) after ∷ values_after p clock slots ends
-values_after p clock _ _ = []
+-- the values that the slots of a lane hold after each time slot, with the level that the clocks have then
+abbrev pub values_after : Program → List ℕ → List Slot → List State → List N.State
+values_after p clocks (slot ∷ slots) (after ∷ ends) = values p.bits clocks (clock_value slot) after ∷ values_after p clocks slots ends
+values_after p clocks _ _ = []
 
 -- from the slots at the beginning a program of a design gives the solution, on whatever vectors
 abbrev pub RoundsSolve : Type 0
 RoundsSolve =
-    (d : Design) (clock : ℕ) (p : Program) → IsProgramOf d clock p → (vectors : List N.State) (ends : List State)
+    (d : Design) (clocks : List ℕ) (p : Program) → IsProgramOf d clocks p → (vectors : List N.State) (ends : List State)
     → AreRounds false p (initial_slots p) vectors ends
-    → IsSolution (network_of d clock) (beginning (network_of d clock)) (slots_of vectors) (values_after p clock (slots_of vectors) ends)
+    → IsSolution (network_of d clocks) (beginning (network_of d clocks)) (slots_of vectors) (values_after p clocks (slots_of vectors) ends)

@@ -27,14 +27,14 @@ pub struct Run {
     pub to: usize,
 }
 
-/// What a time slot runs. One in which the clock falls has one phase, and one in which it rises has two.
+/// What a time slot runs. One in which the clocks fall has one phase, and one in which they rise has two.
 #[derive(Clone, Copy, PartialEq, Eq, Debug)]
 pub enum Phase {
-    /// In a first slot, in which the clock falls: the resets, and then all that settles.
+    /// In a first slot, in which the clocks fall: the resets, and then all that settles.
     First,
-    /// In a later one in which it falls: the resets, and then what the data inputs and the resets lead to.
+    /// In a later one in which they fall: the resets, and then what the data inputs and the resets lead to.
     Fall,
-    /// Where it rises: what gives the registers their next values.
+    /// Where they rise: what gives the registers their next values.
     Next,
     /// After that: what the registers lead to.
     Rise,
@@ -68,12 +68,12 @@ impl Phases {
 pub struct Parts {
     /// How many bits the design has.
     pub bits: u32,
-    /// The clock's bit; the number of the design's bits stands for none.
-    pub clock: u32,
+    /// The clocks' bits; where there is no clock, the number of the design's bits alone.
+    pub clocks: Vec<u32>,
     /// The bits of the data inputs, in bit order.
     pub inputs: Vec<u32>,
-    /// The clock's bit, and those of the nets that copy it. There is none without a clock.
-    pub clocks: Vec<u32>,
+    /// The clocks' bits, and those of the nets that copy them. There is none without a clock.
+    pub nets: Vec<u32>,
     /// What each slot begins with, in every lane.
     pub initial: Vec<Bit4>,
     /// The bits of each signal that a waveform shows, in their order: of all but memories.
@@ -88,9 +88,9 @@ pub struct Parts {
 #[derive(Drop)]
 pub struct Compiled {
     bits: u32,
-    clock: u32,
-    inputs: Vec<u32>,
     clocks: Vec<u32>,
+    inputs: Vec<u32>,
+    nets: Vec<u32>,
     initial: Vec<Bit4>,
     signals: Vec<Span>,
     calls: Program,
@@ -118,9 +118,9 @@ impl Compiled {
     {
         let Parts {
             bits,
-            clock,
-            inputs,
             clocks,
+            inputs,
+            nets,
             initial,
             signals,
             calls,
@@ -128,9 +128,9 @@ impl Compiled {
         } = parts;
         Compiled {
             bits,
-            clock,
-            inputs,
             clocks,
+            inputs,
+            nets,
             initial,
             signals,
             calls,
@@ -145,11 +145,11 @@ impl Compiled {
         self.inputs.as_slice()
     }
 
-    /// The clock's bit, and those of the nets that copy it. There is none without a clock.
-    pub fn clocks(&self) -> &[u32]
-        ensures { result.now ≡ self.now.clocks }
+    /// The clocks' bits, and those of the nets that copy them. There is none without a clock.
+    pub fn nets(&self) -> &[u32]
+        ensures { result.now ≡ self.now.nets }
     {
-        self.clocks.as_slice()
+        self.nets.as_slice()
     }
 
     /// What each slot begins with, in every lane. All numbers of the design are of slots that are there.

@@ -33,26 +33,26 @@ use Rattle.vs_queue.proofs.Possible.{steps_are_possible}
 abbrev IsFound : Design → ℕ → Bool → Type 0
 IsFound d p assign = (x : D.Process) × (slice_get d.processes p ≡ Some x) × (D.is_assign x ≡ assign)
 
-assign_found : (d : Design) (clock p : ℕ) → is_assign (kind ((network_of d clock).process p)) ≡ true → IsFound d p true
-assign_found d clock p = by_kind d clock (λ p x. is_assign (kind x) ≡ true → IsFound d p true) (record {
+assign_found : (d : Design) (clocks : List ℕ) (p : ℕ) → is_assign (kind ((network_of d clocks).process p)) ≡ true → IsFound d p true
+assign_found d clocks p = by_kind d clocks (λ p x. is_assign (kind x) ≡ true → IsFound d p true) (record {
   assigns = λ p place port target_place target e at h. (Continuous place port target_place target e, at, refl);
   combs = λ p place star events st at k h. cc;
   clocked = λ p place star events st at k h. cc;
   inputs = λ p i s l e f h. cc;
   clock = λ p i s l e f h. cc;
-  spare = λ p l f h. cc;
+  spare = λ p i c l e k f h. cc;
   keeper = λ p l b bs e h. cc;
   none = λ p h. cc;
 }) p
 
-block_found : (d : Design) (clock p : ℕ) → p < length d.processes → is_block (kind ((network_of d clock).process p)) ≡ true → IsFound d p false
-block_found d clock p = by_kind d clock (λ p x. p < length d.processes → is_block (kind x) ≡ true → IsFound d p false) (record {
+block_found : (d : Design) (clocks : List ℕ) (p : ℕ) → p < length d.processes → is_block (kind ((network_of d clocks).process p)) ≡ true → IsFound d p false
+block_found d clocks p = by_kind d clocks (λ p x. p < length d.processes → is_block (kind x) ≡ true → IsFound d p false) (record {
   assigns = λ p place port target_place target e at m h. cc;
   combs = λ p place star events st at k m h. (Always place star events st, at, refl);
   clocked = λ p place star events st at k m h. (Always place star events st, at, refl);
   inputs = λ p i s l e f m h. cc;
   clock = λ p i s l e f m h. cc;
-  spare = λ p l f m h. cc;
+  spare = λ p i c l e k f m h. cc;
   keeper = λ p l b bs e m h. absurd (omega (arith, l, m));
   none = λ p m h. cc;
 }) p
@@ -63,40 +63,40 @@ found_below (y ∷ ys) zero x h = omega arith
 found_below (y ∷ ys) (suc k) x h = let l = found_below ys k x h in omega (arith, l)
 
 -- a block past the processes of the design does nothing
-pub past_idle : (d : Design) (clock p : ℕ) (s : State) → length d.processes ≤ p → is_block (kind ((network_of d clock).process p)) ≡ true → (made ((network_of d clock).process p) s ≡ []) × (updates ((network_of d clock).process p) s ≡ [])
-past_idle d clock p s = by_kind d clock (λ p x. length d.processes ≤ p → is_block (kind x) ≡ true → (made x s ≡ []) × (updates x s ≡ [])) (record {
+pub past_idle : (d : Design) (clocks : List ℕ) (p : ℕ) (s : State) → length d.processes ≤ p → is_block (kind ((network_of d clocks).process p)) ≡ true → (made ((network_of d clocks).process p) s ≡ []) × (updates ((network_of d clocks).process p) s ≡ [])
+past_idle d clocks p s = by_kind d clocks (λ p x. length d.processes ≤ p → is_block (kind x) ≡ true → (made x s ≡ []) × (updates x s ≡ [])) (record {
   assigns = λ p place port target_place target e at m h. cc;
   combs = λ p place star events st at k m h. absurd (let b = found_below d.processes p (Always place star events st) at in omega (arith, b, m));
   clocked = λ p place star events st at k m h. absurd (let b = found_below d.processes p (Always place star events st) at in omega (arith, b, m));
   inputs = λ p i s l e f m h. cc;
   clock = λ p i s l e f m h. cc;
-  spare = λ p l f m h. cc;
+  spare = λ p i c l e k f m h. cc;
   keeper = λ p l b bs e m h. (refl, refl);
   none = λ p m h. cc;
 }) p
 
-module _ (d : Design) (clock : ℕ) (e : Events) (sound : IsSound (network_of d clock) e) where
+module _ (d : Design) (clocks : List ℕ) (e : Events) (sound : IsSound (network_of d clocks) e) where
   abbrev n : Network
-  n = network_of d clock
+  n = network_of d clocks
 
   here : (c : Choice) (i : ℕ) → slice_get (steps_of e) i ≡ Some c → is_possible n (queue_of e []) c ≡ true
   here c i at = all_at (is_possible n (queue_of e [])) (open_steps n (queue_of e [])) i c (open_good n (queue_of e [])) (subst (λ cs. slice_get cs i ≡ Some c) (steps_are_possible n e [] sound) at)
 
-  made_of : (p : ℕ) (assign : Bool) → IsFound d p assign → IsProcess d clock p assign
-  made_of p assign f = record { process = f.0; at = f.1; kind_is = f.2; is = process_there d clock p f.0 f.1 }
+  made_of : (p : ℕ) (assign : Bool) → IsFound d p assign → IsProcess d clocks p assign
+  made_of p assign f = record { process = f.0; at = f.1; kind_is = f.2; is = process_there d clocks p f.0 f.1 }
 
-  pub evaluates : (p i : ℕ) → slice_get (steps_of e) i ≡ Some (Evaluate p) → IsProcess d clock p true
+  pub evaluates : (p i : ℕ) → slice_get (steps_of e) i ≡ Some (Evaluate p) → IsProcess d clocks p true
   evaluates p i at =
       let parts = and_parts (nat_lt p n.count && is_assign (kind (n.process p))) (is_due ((queue_of e []).mode p)) (here (Evaluate p) i at) in
-      made_of p true (assign_found d clock p (and_parts (nat_lt p n.count) (is_assign (kind (n.process p))) parts.0).1)
+      made_of p true (assign_found d clocks p (and_parts (nat_lt p n.count) (is_assign (kind (n.process p))) parts.0).1)
 
   pub is_running : (p i : ℕ) → slice_get (steps_of e) i ≡ Some (Run p) → is_block (kind (n.process p)) ≡ true
   is_running p i at =
       let parts = and_parts (nat_lt p n.count && is_block (kind (n.process p))) (is_due ((queue_of e []).mode p)) (here (Run p) i at) in
       (and_parts (nat_lt p n.count) (is_block (kind (n.process p))) parts.0).1
 
-  pub runs : (p i : ℕ) → p < length d.processes → slice_get (steps_of e) i ≡ Some (Run p) → IsProcess d clock p false
-  runs p i l at = made_of p false (block_found d clock p l (is_running p i at))
+  pub runs : (p i : ℕ) → p < length d.processes → slice_get (steps_of e) i ≡ Some (Run p) → IsProcess d clocks p false
+  runs p i l at = made_of p false (block_found d clocks p l (is_running p i at))
 
   there : (p : ℕ) → nat_lt p n.count ≡ true → p < length e.assigns
   there p h = let l = ltb-true p n.count h in let m = sound.count in omega (arith, l, m)

@@ -22,7 +22,7 @@ use Rattle.vs_queue.specs.Sweeps.{HasTaken}
 use Rattle.vs_queue.specs.Turns.{IsRested, IsSpent}
 use Rattle.vs_queue.proofs.Firsts.{beyond}
 use Rattle.vs_queue.proofs.Spending.{NoneActive, NoneWaiting, pass_spent, pass_resting, runs_spent, takes_spent, takes_resting}
-use Rattle.vs_queue.proofs.Told.{bit_is}
+use Rattle.vs_queue.proofs.Told.{bits_are}
 use Rattle.vs_queue.proofs.Turning.{waits_is}
 
 -- inputs are driven by what waits alone
@@ -34,36 +34,36 @@ pub driven_spent : (ds : List Drive) (e now : Events) → IsSpent e → now ≡ 
 driven_spent ds e now spent is p = ap (λ (us : List (List Update)). get_or us p []) (ap (λ (x : Events). x.active) is ∙ drives_active ds e) ∙ spent p
 
 -- a combinational block leaves no updates
-pub comb_none : AcceptedIsLawful → (d : Design) (c : Clocked) → IsAcceptedBy d c → (p : ℕ) (q : Queue) → kind ((network_of d c.bit).process p) ≡ AComb → updates ((network_of d c.bit).process p) q.now ≡ []
+pub comb_none : AcceptedIsLawful → (d : Design) (c : Clocked) → IsAcceptedBy d c → (p : ℕ) (q : Queue) → kind ((network_of d c.bits).process p) ≡ AComb → updates ((network_of d c.bits).process p) q.now ≡ []
 comb_none lawful d c b =
-    subst (λ k. (p : ℕ) (q : Queue) → kind ((network_of d k).process p) ≡ AComb → updates ((network_of d k).process p) q.now ≡ []) (sym (bit_is d c b)) (λ p q h. (lawful d b.name b.accepted d.initials (same_order d.initials)).comb_updates p q.now h)
+    subst (λ k. (p : ℕ) (q : Queue) → kind ((network_of d k).process p) ≡ AComb → updates ((network_of d k).process p) q.now ≡ []) (sym (bits_are d c b)) (λ p q h. (lawful d b.names b.accepted d.initials (same_order d.initials)).comb_updates p q.now h)
 
 any_same : (f g : ℕ → Bool) (ps : List ℕ) → ((p : ℕ) → f p ≡ g p) → list_any f ps ≡ list_any g ps
 any_same f g [] h = refl
 any_same f g (p ∷ ps) h = ap₂ ◌||◌ (h p) (any_same f g ps h)
 
-module _ (d : Design) (clock : ℕ) where
+module _ (d : Design) (clocks : List ℕ) where
   abbrev n : Network
-  n = network_of d clock
+  n = network_of d clocks
 
   past : (e : Events) → IsSound n e → (p : ℕ) → n.count ≤ p → get_or e.active p [] ≡ []
   past e sound p l = beyond e.active p [] (let a = sound.held.active in let b = sound.count in omega (arith, l, a, b))
 
   module _ (order : List ℕ) (e now : Events) (shadow : List Bit4) where
     -- nothing is active where all that was has been applied
-    pub takes_calm : IsSound n e → HasTaken d clock (λ q. sweep n order q Takes) e now shadow → IsSpent now
+    pub takes_calm : IsSound n e → HasTaken d clocks (λ q. sweep n order q Takes) e now shadow → IsSpent now
     takes_calm sound t = subst NoneActive (sym (t.swept [])) (takes_spent n (queue_of e []) (past e sound))
 
-    pub takes_rest : IsRested e → HasTaken d clock (λ q. sweep n order q Takes) e now shadow → IsRested now
+    pub takes_rest : IsRested e → HasTaken d clocks (λ q. sweep n order q Takes) e now shadow → IsRested now
     takes_rest h t = subst NoneWaiting (sym (t.swept [])) (takes_resting n (below n.count) (queue_of e []) h)
 
-    pub pass_calm : IsSpent e → HasTaken d clock (λ q. sweep n order q Pass) e now shadow → IsSpent now
+    pub pass_calm : IsSpent e → HasTaken d clocks (λ q. sweep n order q Pass) e now shadow → IsSpent now
     pass_calm h t = subst NoneActive (sym (t.swept [])) (pass_spent n order (queue_of e []) h)
 
-    pub pass_rest : ((p : ℕ) (q : Queue) → kind (n.process p) ≡ AComb → updates (n.process p) q.now ≡ []) → IsRested e → HasTaken d clock (λ q. sweep n order q Pass) e now shadow → IsRested now
+    pub pass_rest : ((p : ℕ) (q : Queue) → kind (n.process p) ≡ AComb → updates (n.process p) q.now ≡ []) → IsRested e → HasTaken d clocks (λ q. sweep n order q Pass) e now shadow → IsRested now
     pass_rest none h t = subst NoneWaiting (sym (t.swept [])) (pass_resting n none order (queue_of e []) h)
 
-    pub runs_calm : IsSpent e → HasTaken d clock (λ q. sweep n order q Runs) e now shadow → IsSpent now
+    pub runs_calm : IsSpent e → HasTaken d clocks (λ q. sweep n order q Runs) e now shadow → IsSpent now
     runs_calm h t = subst NoneActive (sym (t.swept [])) (runs_spent n (below n.count) (queue_of e []) h)
 
   -- ---- the activation
@@ -77,10 +77,10 @@ module _ (d : Design) (clock : ℕ) where
       flip true = refl
       flip false = refl
 
-  pub activation_taken : ActivateIsStep → ActivationKeeps → (order : List ℕ) (e now : Events) (shadow : List Bit4) → IsCopied d clock e shadow → IsSpent e → nat_lt 0 (length (members e.lates)) ≡ true → now ≡ after_activate e
-      → HasTaken d clock (λ q. sweep n order q Activates) e now shadow
+  pub activation_taken : ActivateIsStep → ActivationKeeps → (order : List ℕ) (e now : Events) (shadow : List Bit4) → IsCopied d clocks e shadow → IsSpent e → nat_lt 0 (length (members e.lates)) ≡ true → now ≡ after_activate e
+      → HasTaken d clocks (λ q. sweep n order q Activates) e now shadow
   activation_taken law keeps order e now shadow r spent h is = record {
-    copied = subst (λ x. IsCopied d clock x shadow) (sym is) (record {
+    copied = subst (λ x. IsCopied d clocks x shadow) (sym is) (record {
       running = record { sound = keeps n e r.running.sound; inside = record { values = r.running.inside.values; pending = r.running.inside.pending; active = r.running.inside.waiting; waiting = r.running.inside.active } };
       shadow_is = r.shadow_is;
       long = r.long;
@@ -91,5 +91,5 @@ module _ (d : Design) (clock : ℕ) where
   pub activation_rests : (e now : Events) → IsSpent e → now ≡ after_activate e → IsRested now
   activation_rests e now spent is = subst IsRested (sym is) spent
 
-  pub no_activation : (order : List ℕ) (e : Events) (shadow : List Bit4) → IsCopied d clock e shadow → nat_lt 0 (length (members e.lates)) ≡ false → HasTaken d clock (λ q. sweep n order q Activates) e e shadow
+  pub no_activation : (order : List ℕ) (e : Events) (shadow : List Bit4) → IsCopied d clocks e shadow → nat_lt 0 (length (members e.lates)) ≡ false → HasTaken d clocks (λ q. sweep n order q Activates) e e shadow
   no_activation order e shadow r h = record { copied = r; swept = λ slots. ap (after_all n (queue_of e slots)) (sym (activates_is order e r.running.sound slots false h)) }

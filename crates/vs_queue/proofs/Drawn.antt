@@ -28,18 +28,18 @@ AreDriven n (b ∷ bs) = IsDriven n b × AreDriven n bs
 
 -- ---- the bits that are driven
 
-here : (d : Design) (clock b : ℕ) (p : Process) → drives b p ≡ true → (kind (process_of d clock p) ≡ AnAssign) × (writes (process_of d clock p) b ≡ true)
-here d clock b (Continuous place port target_place target e) h = (refl, h)
-here d clock b (Always place star events statement) h = absurd (let z : ⊥ = cc in z)
+here : (d : Design) (clocks : List ℕ) (b : ℕ) (p : Process) → drives b p ≡ true → (kind (process_of d clocks p) ≡ AnAssign) × (writes (process_of d clocks p) b ≡ true)
+here d clocks b (Continuous place port target_place target e) h = (refl, h)
+here d clocks b (Always place star events statement) h = absurd (let z : ⊥ = cc in z)
 
-driver : (d : Design) (clock b : ℕ) (ps : List Process) (others : List N.Process) → list_any (drives b) ps ≡ true
-    → (p : ℕ) × (kind (at_or_input (map (process_of d clock) ps ++ others) p) ≡ AnAssign) × (writes (at_or_input (map (process_of d clock) ps ++ others) p) b ≡ true)
-driver d clock b [] others h = absurd (let z : ⊥ = cc in z)
-driver d clock b (x ∷ ps) others h = at (drives b x) refl h (driver d clock b ps others) where
+driver : (d : Design) (clocks : List ℕ) (b : ℕ) (ps : List Process) (others : List N.Process) → list_any (drives b) ps ≡ true
+    → (p : ℕ) × (kind (at_or_input (map (process_of d clocks) ps ++ others) p) ≡ AnAssign) × (writes (at_or_input (map (process_of d clocks) ps ++ others) p) b ≡ true)
+driver d clocks b [] others h = absurd (let z : ⊥ = cc in z)
+driver d clocks b (x ∷ ps) others h = at (drives b x) refl h (driver d clocks b ps others) where
   at : (k : Bool) → drives b x ≡ k → (k || list_any (drives b) ps) ≡ true
-      → (list_any (drives b) ps ≡ true → (p : ℕ) × (kind (at_or_input (map (process_of d clock) ps ++ others) p) ≡ AnAssign) × (writes (at_or_input (map (process_of d clock) ps ++ others) p) b ≡ true))
-      → (p : ℕ) × (kind (at_or_input (process_of d clock x ∷ (map (process_of d clock) ps ++ others)) p) ≡ AnAssign) × (writes (at_or_input (process_of d clock x ∷ (map (process_of d clock) ps ++ others)) p) b ≡ true)
-  at true e i rest = let own = here d clock b x e in (0, own.0, own.1)
+      → (list_any (drives b) ps ≡ true → (p : ℕ) × (kind (at_or_input (map (process_of d clocks) ps ++ others) p) ≡ AnAssign) × (writes (at_or_input (map (process_of d clocks) ps ++ others) p) b ≡ true))
+      → (p : ℕ) × (kind (at_or_input (process_of d clocks x ∷ (map (process_of d clocks) ps ++ others)) p) ≡ AnAssign) × (writes (at_or_input (process_of d clocks x ∷ (map (process_of d clocks) ps ++ others)) p) b ≡ true)
+  at true e i rest = let own = here d clocks b x e in (0, own.0, own.1)
   at false e i rest = let found = rest i in (suc found.0, found.1, found.2)
 
 right : (a b : Bool) → (a && b) ≡ true → b ≡ true
@@ -53,10 +53,10 @@ kept n test (b ∷ bs) h = at (test b) refl (kept n test bs h) where
   at true e rest = (h b e, rest)
   at false e rest = rest
 
-all_driven : (d : Design) (clock : ℕ) → AreDriven (network_of d clock) (driven_bits d)
-all_driven d clock =
-    kept (network_of d clock) (λ b. contains (net_bits d) b && list_any (drives b) d.processes) (count_from 0 (bit_count d))
-    (λ b h. driver d clock b d.processes (map (writer_of clock) (top_inputs d) ++ (spare_writers d clock ++ keeper_of clock (sole_bits d))) (right (contains (net_bits d) b) (list_any (drives b) d.processes) h))
+all_driven : (d : Design) (clocks : List ℕ) → AreDriven (network_of d clocks) (driven_bits d)
+all_driven d clocks =
+    kept (network_of d clocks) (λ b. contains (net_bits d) b && list_any (drives b) d.processes) (count_from 0 (bit_count d))
+    (λ b h. driver d clocks b d.processes (map (writer_of clocks) (top_inputs d) ++ (spare_writers d clocks ++ keeper_of clocks (sole_bits d))) (right (contains (net_bits d) b) (list_any (drives b) d.processes) h))
 
 -- ---- their values
 
@@ -90,4 +90,4 @@ x_is n [] s b h = inl refl
 x_is n (c ∷ bs) s b h = with_one n s (x_values (c ∷ bs) s) c b X (inl refl) h.0 (x_is n bs (put s c X) b h.1)
 
 pub drawn_is_first : DrawnIsFirst
-drawn_is_first d clock seed = (λ b. drawn_is (network_of d clock) (driven_bits d) seed (idle_value d) b (all_driven d clock), λ b. x_is (network_of d clock) (driven_bits d) (idle_value d) b (all_driven d clock))
+drawn_is_first d clocks seed = (λ b. drawn_is (network_of d clocks) (driven_bits d) seed (idle_value d) b (all_driven d clocks), λ b. x_is (network_of d clocks) (driven_bits d) (idle_value d) b (all_driven d clocks))

@@ -5,6 +5,7 @@ use Rattle.std.proofs.lemmas.List.{length-map}
 use Rattle.vs_four.specs.declared.Bit4.{Bit4}
 use Rattle.vs_net.specs.Network.{Update}
 use Rattle.vs_net.specs.Queue.{Slot, Fall, Rise}
+use Rattle.vs_design.specs.Footprints.{contains}
 use Rattle.vs_design.specs.Expressions as E
 use Rattle.vs_design.specs.Designs as D
 use Rattle.vs_flat.specs.declared.processes.Signal.{Signal}
@@ -53,34 +54,34 @@ input_here inputs each a k n s l is at =
 pub driven_as : (e now : Events) (w p : ℕ) (u v : Update) → now ≡ after_drive e w u → w ≡ p → u ≡ v → now ≡ after_drive e p v
 driven_as e now w p u v is same given = is ∙ ap₂ (after_drive e) same given
 
-pub none_driven : (d : D.Design) (clock : ℕ) (vector : Option Vector) (e : Events) (slot : Slot) → IsSlotOf d clock vector slot → AreSoFar clock vector (D.top_inputs d) (length d.processes) e e 0 0 slot
-none_driven d clock vector e slot h = record {
-  driven = ap (λ k. after_drives e (drives_from clock slot k (D.top_inputs d))) (let z : length d.processes + 0 ≡ length d.processes = omega arith in z);
-  left = all_left d clock vector slot h;
+pub none_driven : (d : D.Design) (clocks : List ℕ) (vector : Option Vector) (e : Events) (slot : Slot) → IsSlotOf d clocks vector slot → AreSoFar clocks vector (D.top_inputs d) (length d.processes) e e 0 0 slot
+none_driven d clocks vector e slot h = record {
+  driven = ap (λ k. after_drives e (drives_from clocks slot k (D.top_inputs d))) (let z : length d.processes + 0 ≡ length d.processes = omega arith in z);
+  left = all_left d clocks vector slot h;
 }
 
-pub all_driven : (clock : ℕ) (vector : Option Vector) (all : List E.Signal) (count : ℕ) (first now : Events) (i taken : ℕ) (slot : Slot) → length all ≤ i → AreSoFar clock vector all count first now i taken slot → now ≡ after_drives first (drives_from clock slot count all)
-all_driven clock vector all count first now i taken slot l r = ap (λ (ss : List E.Signal). after_drives now (drives_from clock slot (count + i) ss)) (sym (drop_end i all l)) ∙ r.driven
+pub all_driven : (clocks : List ℕ) (vector : Option Vector) (all : List E.Signal) (count : ℕ) (first now : Events) (i taken : ℕ) (slot : Slot) → length all ≤ i → AreSoFar clocks vector all count first now i taken slot → now ≡ after_drives first (drives_from clocks slot count all)
+all_driven clocks vector all count first now i taken slot l r = ap (λ (ss : List E.Signal). after_drives now (drives_from clocks slot (count + i) ss)) (sym (drop_end i all l)) ∙ r.driven
 
 -- at a rise a data input is left alone
-pub none_next : (clock : ℕ) (vector : Option Vector) → vector ≡ None → (all : List E.Signal) (count : ℕ) (first now : Events) (i taken : ℕ) (slot : Slot) (s : E.Signal) → drop i all ≡ s ∷ drop (i + 1) all → (s.first == clock) ≡ false → AreSoFar clock vector all count first now i taken slot → AreSoFar clock vector all count first now (i + 1) taken slot
-none_next clock vector is all count first now i taken slot s here test =
-    subst (λ (v : Option Vector). AreSoFar clock v all count first now i taken slot → AreSoFar clock v all count first now (i + 1) taken slot) (sym is) (none_more clock all count first now i taken slot s here test)
+pub none_next : (clocks : List ℕ) (vector : Option Vector) → vector ≡ None → (all : List E.Signal) (count : ℕ) (first now : Events) (i taken : ℕ) (slot : Slot) (s : E.Signal) → drop i all ≡ s ∷ drop (i + 1) all → (contains clocks s.first) ≡ false → AreSoFar clocks vector all count first now i taken slot → AreSoFar clocks vector all count first now (i + 1) taken slot
+none_next clocks vector is all count first now i taken slot s here test =
+    subst (λ (v : Option Vector). AreSoFar clocks v all count first now i taken slot → AreSoFar clocks v all count first now (i + 1) taken slot) (sym is) (none_more clocks all count first now i taken slot s here test)
 
 -- and at a fall it takes the next value
-pub data_next : (clock : ℕ) (vector : Option Vector) (values : Vector) → vector ≡ Some values → (all : List E.Signal) (count : ℕ) (first now next : Events) (i taken : ℕ) (slot : Slot) (s : E.Signal) → drop i all ≡ s ∷ drop (i + 1) all → (s.first == clock) ≡ false
-    → (value : List Bit4) → slice_get values taken ≡ Some value → next ≡ after_drive now (count + i) (given s.first value) → AreSoFar clock vector all count first now i taken slot → AreSoFar clock vector all count first next (i + 1) (taken + 1) slot
-data_next clock vector values is all count first now next i taken slot s here test value at drives =
-    subst (λ (v : Option Vector). AreSoFar clock v all count first now i taken slot → AreSoFar clock v all count first next (i + 1) (taken + 1) slot) (sym is) (data_more clock values all count first now next i taken slot s here test value at drives)
+pub data_next : (clocks : List ℕ) (vector : Option Vector) (values : Vector) → vector ≡ Some values → (all : List E.Signal) (count : ℕ) (first now next : Events) (i taken : ℕ) (slot : Slot) (s : E.Signal) → drop i all ≡ s ∷ drop (i + 1) all → (contains clocks s.first) ≡ false
+    → (value : List Bit4) → slice_get values taken ≡ Some value → next ≡ after_drive now (count + i) (given s.first value) → AreSoFar clocks vector all count first now i taken slot → AreSoFar clocks vector all count first next (i + 1) (taken + 1) slot
+data_next clocks vector values is all count first now next i taken slot s here test value at drives =
+    subst (λ (v : Option Vector). AreSoFar clocks v all count first now i taken slot → AreSoFar clocks v all count first next (i + 1) (taken + 1) slot) (sym is) (data_more clocks values all count first now next i taken slot s here test value at drives)
 
 -- the value that it takes
-pub value_there : (clock : ℕ) (vector : Option Vector) (values : Vector) → vector ≡ Some values → (all : List E.Signal) (i taken : ℕ) (slot : Slot) (s : E.Signal) → drop i all ≡ s ∷ drop (i + 1) all → (s.first == clock) ≡ false → IsLeft clock (drop i all) taken vector slot
+pub value_there : (clocks : List ℕ) (vector : Option Vector) (values : Vector) → vector ≡ Some values → (all : List E.Signal) (i taken : ℕ) (slot : Slot) (s : E.Signal) → drop i all ≡ s ∷ drop (i + 1) all → (contains clocks s.first) ≡ false → IsLeft clocks (drop i all) taken vector slot
     → (value : List Bit4) × (slice_get values taken ≡ Some value) × (length value ≡ E.signal_length s)
-value_there clock vector values is all i taken slot s here test left =
-    go slot (subst (λ (v : Option Vector). IsLeft clock (s ∷ drop (i + 1) all) taken v slot) is (subst (λ (ss : List E.Signal). IsLeft clock ss taken vector slot) here left))
+value_there clocks vector values is all i taken slot s here test left =
+    go slot (subst (λ (v : Option Vector). IsLeft clocks (s ∷ drop (i + 1) all) taken v slot) is (subst (λ (ss : List E.Signal). IsLeft clocks ss taken vector slot) here left))
   where
-    go : (slot : Slot) → IsLeft clock (s ∷ drop (i + 1) all) taken (Some values) slot → (value : List Bit4) × (slice_get values taken ≡ Some value) × (length value ≡ E.signal_length s)
-    go (Fall v) h = let t = data_taken clock s taken (drop (i + 1) all) values v test h in (t.value, t.at, t.long)
+    go : (slot : Slot) → IsLeft clocks (s ∷ drop (i + 1) all) taken (Some values) slot → (value : List Bit4) × (slice_get values taken ≡ Some value) × (length value ≡ E.signal_length s)
+    go (Fall v) h = let t = data_taken clocks s taken (drop (i + 1) all) values v test h in (t.value, t.at, t.long)
     go Rise h = absurd h
 
 pub value_same : (x y : List Bit4) → Some x ≡ Some y → x ≡ y

@@ -27,8 +27,8 @@ pub seam : (n : ℕ) (xs ys : List Bit4) → n ≡ length xs → take n (xs ++ y
 seam n xs ys h = ap {B = List Bit4} (λ m. take m (xs ++ ys)) h ∙ take-append_seam xs ys
 
 -- both copies have a value for each bit
-pub copied_on : (d : Design) (clock : ℕ) (e now : Events) (shadow next : List Bit4) → IsCopied d clock e shadow → IsRunning d clock now → state_of next ≡ state_of now.values → length next ≡ length shadow → IsCopied d clock now next
-copied_on d clock e now shadow next r running same long = record { running = running; shadow_is = same; long = long ∙ r.long ∙ r.running.inside.values ∙ sym running.inside.values }
+pub copied_on : (d : Design) (clocks : List ℕ) (e now : Events) (shadow next : List Bit4) → IsCopied d clocks e shadow → IsRunning d clocks now → state_of next ≡ state_of now.values → length next ≡ length shadow → IsCopied d clocks now next
+copied_on d clocks e now shadow next r running same long = record { running = running; shadow_is = same; long = long ∙ r.long ∙ r.running.inside.values ∙ sym running.inside.values }
 
 pub counted_on : (k n : ℕ) → k ≡ min (n + 1) (2 ^ 64 - 1) → k ≡ counted (suc n)
 counted_on k n h = h ∙ ap counted (let e : n + 1 ≡ suc n = omega arith in e)
@@ -45,17 +45,17 @@ ComesFrom n e seed ends steps now next values count =
     (from : Queue) (order : ℕ) (slots : List Slot) → IsReached n from order (queue_of e slots) seed ends steps → IsReached n from order (queue_of now slots) next values count
 
 abbrev pub IsFew : Design → Clocked → Events → Type 0
-IsFew d c e = (slots : List Slot) × AreFew (network_of d c.bit) (most_by d c) (queue_of e slots)
+IsFew d c e = (slots : List Slot) × AreFew (network_of d c.bits) (most_by d c) (queue_of e slots)
 
-pub few_first : (d : Design) (c : Clocked) (b : IsAcceptedBy d c) (e : Events) (seed : ℕ) (ends : List (List Bit4)) (steps : ℕ) → IsUnderWay d c.bit e seed ends steps → IsFew d c e
+pub few_first : (d : Design) (c : Clocked) (b : IsAcceptedBy d c) (e : Events) (seed : ℕ) (ends : List (List Bit4)) (steps : ℕ) → IsUnderWay d c.bits e seed ends steps → IsFew d c e
 few_first d c b e seed ends steps u = (u.slots, few_now d c b e seed ends steps u)
 
-pub few_turn : (d : Design) (c : Clocked) (e now : Events) (seed : ℕ) → IsFew d c e → ((slots : List Slot) → IsTurn (network_of d c.bit) (queue_of e slots) seed true (queue_of now slots)) → IsFew d c now
-few_turn d c e now seed few turn = (few.0, few_on (network_of d c.bit) (most_by d c) (queue_of e few.0) seed (queue_of now few.0) few.1 (turn few.0))
+pub few_turn : (d : Design) (c : Clocked) (e now : Events) (seed : ℕ) → IsFew d c e → ((slots : List Slot) → IsTurn (network_of d c.bits) (queue_of e slots) seed true (queue_of now slots)) → IsFew d c now
+few_turn d c e now seed few turn = (few.0, few_on (network_of d c.bits) (most_by d c) (queue_of e few.0) seed (queue_of now few.0) few.1 (turn few.0))
 
-pub turn_smaller : (d : Design) (c : Clocked) (e now : Events) (seed : ℕ) → IsFew d c e → ((slots : List Slot) → IsTurn (network_of d c.bit) (queue_of e slots) seed true (queue_of now slots))
-    → longest (network_of d c.bit) (most_by d c) (queue_of now []) < longest (network_of d c.bit) (most_by d c) (queue_of e [])
-turn_smaller d c e now seed few turn = shorter_turn (network_of d c.bit) (most_by d c) e now few.0 seed few.1 (turn few.0)
+pub turn_smaller : (d : Design) (c : Clocked) (e now : Events) (seed : ℕ) → IsFew d c e → ((slots : List Slot) → IsTurn (network_of d c.bits) (queue_of e slots) seed true (queue_of now slots))
+    → longest (network_of d c.bits) (most_by d c) (queue_of now []) < longest (network_of d c.bits) (most_by d c) (queue_of e [])
+turn_smaller d c e now seed few turn = shorter_turn (network_of d c.bits) (most_by d c) e now few.0 seed few.1 (turn few.0)
 
 pub turn_reached : (n : Network) (first e now : Events) (before seed next : ℕ) (started ends : List (List Bit4)) (begun steps count : ℕ) → ComesFrom n first before started begun e seed ends steps
     → ((slots : List Slot) → IsTurn n (queue_of e slots) seed true (queue_of now slots)) → next ≡ next_seed seed → count ≡ counted (suc steps) → ComesFrom n first before started begun now next ends count
@@ -67,24 +67,24 @@ pub over_reached : (n : Network) (first e now : Events) (before seed : ℕ) (sta
     → ((slots : List Slot) → IsTurn n (queue_of e slots) seed false (queue_of now slots)) → ComesFrom n first before started begun now seed ends steps
 over_reached n first e now before seed started ends begun steps so_far turn = λ from order slots r. subst (λ (q : Queue). IsReached n from order q seed ends steps) (sym (turn slots).same) (so_far from order slots r)
 
-pub over_ended : (d : Design) (clock : ℕ) (e now : Events) (seed : ℕ) → ((slots : List Slot) → IsTurn (network_of d clock) (queue_of e slots) seed false (queue_of now slots)) → IsRested now → IsEnded d clock now
-over_ended d clock e now seed turn rests = record {
+pub over_ended : (d : Design) (clocks : List ℕ) (e now : Events) (seed : ℕ) → ((slots : List Slot) → IsTurn (network_of d clocks) (queue_of e slots) seed false (queue_of now slots)) → IsRested now → IsEnded d clocks now
+over_ended d clocks e now seed turn rests = record {
   rested = rests;
-  over = λ slots. ap (C.possible_steps (network_of d clock)) (turn slots).same ∙ (turn slots).over;
+  over = λ slots. ap (C.possible_steps (network_of d clocks)) (turn slots).same ∙ (turn slots).over;
 }
 
 -- ---- from slot to slot
 
-pub still_under_way : (d : Design) (clock : ℕ) (e now : Events) (seed next : ℕ) (ends values : List (List Bit4)) (steps count : ℕ) (slots : List Slot) (u : IsUnderWay d clock e seed ends steps) → u.slots ≡ Rise ∷ slots
-    → ((from : Queue) (order : ℕ) → IsReached (network_of d clock) from order (queue_of e (Rise ∷ slots)) seed ends steps → IsReached (network_of d clock) from order (queue_of now slots) next values count)
-    → IsUnderWay d clock now next values count
-still_under_way d clock e now seed next ends values steps count slots u is comes = record {
+pub still_under_way : (d : Design) (clocks : List ℕ) (e now : Events) (seed next : ℕ) (ends values : List (List Bit4)) (steps count : ℕ) (slots : List Slot) (u : IsUnderWay d clocks e seed ends steps) → u.slots ≡ Rise ∷ slots
+    → ((from : Queue) (order : ℕ) → IsReached (network_of d clocks) from order (queue_of e (Rise ∷ slots)) seed ends steps → IsReached (network_of d clocks) from order (queue_of now slots) next values count)
+    → IsUnderWay d clocks now next values count
+still_under_way d clocks e now seed next ends values steps count slots u is comes = record {
   first = u.first;
   vector = u.vector;
   later = u.later;
   order = u.order;
   slots = slots;
-  reached = comes (Q.start (network_of d clock) u.first u.vector u.later) u.order (subst (λ (ss : List Slot). IsReached (network_of d clock) (Q.start (network_of d clock) u.first u.vector u.later) u.order (queue_of e ss) seed ends steps) is u.reached);
+  reached = comes (Q.start (network_of d clocks) u.first u.vector u.later) u.order (subst (λ (ss : List Slot). IsReached (network_of d clocks) (Q.start (network_of d clocks) u.first u.vector u.later) u.order (queue_of e ss) seed ends steps) is u.reached);
 }
 
 -- a turn by what it answers

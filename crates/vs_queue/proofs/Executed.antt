@@ -24,48 +24,48 @@ use Rattle.vs_queue.specs.Running.{IsRunning}
 use Rattle.vs_queue.proofs.Acting.{found_below, all_state}
 use Rattle.vs_queue.proofs.Stepwise.{AreInside, within}
 use Rattle.vs_queue.proofs.Spares.{network_count}
-use Rattle.vs_queue.proofs.Told.{bit_is, listeners_by}
+use Rattle.vs_queue.proofs.Told.{bits_are, listeners_by}
 
 module _ (d : Design) (c : Clocked) (b : IsAcceptedBy d c) where
   abbrev pub n : Network
-  n = network_of d c.bit
+  n = network_of d c.bits
 
   pub fit : list_all fits_process d.processes ≡ true
   fit = b.accepted.fit
 
-  pub made_in : BitsOfDesign → AcceptedIsLawful → (p : ℕ) (s : State) → AreInside (value_count d c.bit) (made (n.process p) s)
-  made_in bits lawful p s = subst (λ k. AreInside (value_count d k) (made ((network_of d k).process p) s)) (sym (bit_is d c b)) (within bits lawful d b.name b.accepted p s).made_in
+  pub made_in : BitsOfDesign → AcceptedIsLawful → (p : ℕ) (s : State) → AreInside (value_count d c.bits) (made (n.process p) s)
+  made_in bits lawful p s = subst (λ k. AreInside (value_count d k) (made ((network_of d k).process p) s)) (sym (bits_are d c b)) (within bits lawful d b.names b.accepted p s).made_in
 
-  pub count_is : n.count ≡ length d.processes + (length (top_inputs d) + (spare_count d c.bit + keeper_count d))
-  count_is = network_count d c.bit
+  pub count_is : n.count ≡ length d.processes + (length (top_inputs d) + (spare_count d c.bits + keeper_count d))
+  count_is = network_count d c.bits
 
-  module _ (e : Events) (r : IsRunning d c.bit e) where
+  module _ (e : Events) (r : IsRunning d c.bits e) where
     -- a process of the design is among those of the lists
-    pub own : (p : ℕ) (assign : Bool) → IsProcess d c.bit p assign → p < length e.assigns
+    pub own : (p : ℕ) (assign : Bool) → IsProcess d c.bits p assign → p < length e.assigns
     own p assign x = let l = found_below d.processes p x.process x.at in let m = r.sound.count in let k = count_is in omega (arith, l, m, k)
 
-    pub here : (p : ℕ) (assign : Bool) → IsProcess d c.bit p assign → p < length d.processes
+    pub here : (p : ℕ) (assign : Bool) → IsProcess d c.bits p assign → p < length d.processes
     here p assign x = found_below d.processes p x.process x.at
 
-    pub inside_values : (ws : List Write) → AreInside (value_count d c.bit) ws → (k : ℕ) → is_written ws k ≡ true → k < length e.values
+    pub inside_values : (ws : List Write) → AreInside (value_count d c.bits) ws → (k : ℕ) → is_written ws k ≡ true → k < length e.values
     inside_values ws h k w = let l = h k w in let m = r.inside.values in omega (arith, l, m)
 
-    pub hear_below : DesignIsWired → (k : ℕ) → AreBelow (length e.assigns) (get_or (listeners_of d c.bit) k [])
+    pub hear_below : DesignIsWired → (k : ℕ) → AreBelow (length e.assigns) (get_or (listeners_of d c.bits) k [])
     hear_below law k i l at = let h = (listeners_by d c b law).below k i l at in let m = r.sound.count in omega (arith, h, m)
 
     -- what an assign is evaluated to, and what a block does
-    pub update_is : (p : ℕ) (assign : Bool) (x : IsProcess d c.bit p assign) (ws : List Write) (s : State) → ws ≡ made (process_of d c.bit x.process) s → ws ≡ made (n.process p) s
+    pub update_is : (p : ℕ) (assign : Bool) (x : IsProcess d c.bits p assign) (ws : List Write) (s : State) → ws ≡ made (process_of d c.bits x.process) s → ws ≡ made (n.process p) s
     update_is p assign x ws s h = h ∙ ap (λ y. made y s) (sym x.is)
 
-    pub updates_are : (p : ℕ) (assign : Bool) (x : IsProcess d c.bit p assign) (us : List Update) (s : State) → us ≡ updates (process_of d c.bit x.process) s → us ≡ updates (n.process p) s
+    pub updates_are : (p : ℕ) (assign : Bool) (x : IsProcess d c.bits p assign) (us : List Update) (s : State) → us ≡ updates (process_of d c.bits x.process) s → us ≡ updates (n.process p) s
     updates_are p assign x us s h = h ∙ ap (λ y. updates y s) (sym x.is)
 
     -- the first active update is inside
-    pub first_inside : (p : ℕ) → AreInside (value_count d c.bit) (first_update (get_or e.active p []))
+    pub first_inside : (p : ℕ) → AreInside (value_count d c.bits) (first_update (get_or e.active p []))
     unfolding is_written flatten
     first_inside p = go (get_or e.active p []) (r.inside.active p)
       where
-        go : (us : List Update) → AreInside (value_count d c.bit) (flatten us) → AreInside (value_count d c.bit) (first_update us)
+        go : (us : List Update) → AreInside (value_count d c.bits) (flatten us) → AreInside (value_count d c.bits) (first_update us)
         go [] h k w = h k (none k w)
           where
             none : (k : ℕ) → is_written [] k ≡ true → is_written (flatten []) k ≡ true
@@ -96,23 +96,23 @@ pub on_ok : {V W : Type 0} {P Q : Type 0} (r : Result V W) → OnOk r P → (P �
 on_ok (Ok v) h k = k h
 on_ok (Err e) h k = h
 
-pub told_update : (a z : Arena) → z ≡ a → (vals now : List Bit4) → vals ≡ now → (p : ℕ) (ws : List Write) → ((clock : ℕ) (x : D.Process) → slice_get (design_of z).processes p ≡ Some x → D.is_assign x ≡ true → ws ≡ made (process_of (design_of z) clock x) (state_of vals))
-    → (clock : ℕ) → IsProcess (design_of a) clock p true → ws ≡ made ((network_of (design_of a) clock).process p) (state_of now)
-told_update a z same vals now is p ws h clock x =
-    subst (λ (y : Arena). ((clock : ℕ) (x : D.Process) → slice_get (design_of y).processes p ≡ Some x → D.is_assign x ≡ true → ws ≡ made (process_of (design_of y) clock x) (state_of vals)) → ws ≡ made (process_of (design_of a) clock x.process) (state_of vals)) (sym same)
-    (λ g. g clock x.process x.at x.kind_is) h
+pub told_update : (a z : Arena) → z ≡ a → (vals now : List Bit4) → vals ≡ now → (p : ℕ) (ws : List Write) → ((clocks : List ℕ) (x : D.Process) → slice_get (design_of z).processes p ≡ Some x → D.is_assign x ≡ true → ws ≡ made (process_of (design_of z) clocks x) (state_of vals))
+    → (clocks : List ℕ) → IsProcess (design_of a) clocks p true → ws ≡ made ((network_of (design_of a) clocks).process p) (state_of now)
+told_update a z same vals now is p ws h clocks x =
+    subst (λ (y : Arena). ((clocks : List ℕ) (x : D.Process) → slice_get (design_of y).processes p ≡ Some x → D.is_assign x ≡ true → ws ≡ made (process_of (design_of y) clocks x) (state_of vals)) → ws ≡ made (process_of (design_of a) clocks x.process) (state_of vals)) (sym same)
+    (λ g. g clocks x.process x.at x.kind_is) h
     ∙ ap₂ (λ y v. made y (state_of v)) (sym x.is) is
 
 pub told_effect : (a z : Arena) → z ≡ a → (vals now : State) → vals ≡ now → (p : ℕ) (ws : List Write) (us : List Update)
-    → ((clock : ℕ) (x : D.Process) → slice_get (design_of z).processes p ≡ Some x → D.is_assign x ≡ false → (ws ≡ made (process_of (design_of z) clock x) vals) × (us ≡ updates (process_of (design_of z) clock x) vals))
-    → (clock : ℕ) → IsProcess (design_of a) clock p false → (ws ≡ made ((network_of (design_of a) clock).process p) now) × (us ≡ updates ((network_of (design_of a) clock).process p) now)
-told_effect a z same vals now is p ws us h clock x =
-    let both = subst (λ (y : Arena). ((clock : ℕ) (x : D.Process) → slice_get (design_of y).processes p ≡ Some x → D.is_assign x ≡ false → (ws ≡ made (process_of (design_of y) clock x) vals) × (us ≡ updates (process_of (design_of y) clock x) vals)) → (ws ≡ made (process_of (design_of a) clock x.process) vals) × (us ≡ updates (process_of (design_of a) clock x.process) vals)) (sym same) (λ g. g clock x.process x.at x.kind_is) h in
+    → ((clocks : List ℕ) (x : D.Process) → slice_get (design_of z).processes p ≡ Some x → D.is_assign x ≡ false → (ws ≡ made (process_of (design_of z) clocks x) vals) × (us ≡ updates (process_of (design_of z) clocks x) vals))
+    → (clocks : List ℕ) → IsProcess (design_of a) clocks p false → (ws ≡ made ((network_of (design_of a) clocks).process p) now) × (us ≡ updates ((network_of (design_of a) clocks).process p) now)
+told_effect a z same vals now is p ws us h clocks x =
+    let both = subst (λ (y : Arena). ((clocks : List ℕ) (x : D.Process) → slice_get (design_of y).processes p ≡ Some x → D.is_assign x ≡ false → (ws ≡ made (process_of (design_of y) clocks x) vals) × (us ≡ updates (process_of (design_of y) clocks x) vals)) → (ws ≡ made (process_of (design_of a) clocks x.process) vals) × (us ≡ updates (process_of (design_of a) clocks x.process) vals)) (sym same) (λ g. g clocks x.process x.at x.kind_is) h in
     (both.0 ∙ ap₂ made (sym x.is) is, both.1 ∙ ap₂ updates (sym x.is) is)
 
 pub told_state : (a z : Arena) → z ≡ a → (vals now : State) → vals ≡ now → (p : ℕ) (next : State)
-    → ((clock : ℕ) (x : D.Process) → slice_get (design_of z).processes p ≡ Some x → D.is_assign x ≡ false → next ≡ write_all vals (made (process_of (design_of z) clock x) vals))
-    → (clock : ℕ) → IsProcess (design_of a) clock p false → next ≡ write_all now (made ((network_of (design_of a) clock).process p) now)
-told_state a z same vals now is p next h clock x =
-    subst (λ (y : Arena). ((clock : ℕ) (x : D.Process) → slice_get (design_of y).processes p ≡ Some x → D.is_assign x ≡ false → next ≡ write_all vals (made (process_of (design_of y) clock x) vals)) → next ≡ write_all vals (made (process_of (design_of a) clock x.process) vals)) (sym same) (λ g. g clock x.process x.at x.kind_is) h
+    → ((clocks : List ℕ) (x : D.Process) → slice_get (design_of z).processes p ≡ Some x → D.is_assign x ≡ false → next ≡ write_all vals (made (process_of (design_of z) clocks x) vals))
+    → (clocks : List ℕ) → IsProcess (design_of a) clocks p false → next ≡ write_all now (made ((network_of (design_of a) clocks).process p) now)
+told_state a z same vals now is p next h clocks x =
+    subst (λ (y : Arena). ((clocks : List ℕ) (x : D.Process) → slice_get (design_of y).processes p ≡ Some x → D.is_assign x ≡ false → next ≡ write_all vals (made (process_of (design_of y) clocks x) vals)) → next ≡ write_all vals (made (process_of (design_of a) clocks x.process) vals)) (sym same) (λ g. g clocks x.process x.at x.kind_is) h
     ∙ ap₂ (λ y s. write_all s (made y s)) (sym x.is) is

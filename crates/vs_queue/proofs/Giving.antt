@@ -191,10 +191,10 @@ module _ (d : Design) (formed : list_all (is_formed_initial d) d.initials ≡ tr
 
 -- ---- where all are given, the run has begun
 
-pub have_begun : (d : Design) (name : Option (List ℕ)) (a : IsAcceptedDesign d name) (clock : ℕ) (owners : List ℕ) → AreOwners d clock owners → (e first now : Events)
-    → first ≡ after_drives e (parts_of owners (map initial_writes d.initials)) → now ≡ after_drives (after_activate first) (parts_of owners (flat_map initial_updates d.initials)) → HasBegun d clock e now
-have_begun d name a clock owners o e first now driven is =
-    let n = network_of d clock in
+pub have_begun : (d : Design) (names : List (List ℕ)) (a : IsAcceptedDesign d names) (clocks : List ℕ) (owners : List ℕ) → AreOwners d clocks owners → (e first now : Events)
+    → first ≡ after_drives e (parts_of owners (map initial_writes d.initials)) → now ≡ after_drives (after_activate first) (parts_of owners (flat_map initial_updates d.initials)) → HasBegun d clocks e now
+have_begun d names a clocks owners o e first now driven is =
+    let n = network_of d clocks in
     let formed = a.lawful.initials in
     let firsts = map initial_writes d.initials in
     let lates = flat_map initial_updates d.initials in
@@ -322,8 +322,8 @@ not_of : (o : Bool) → not o ≡ false → o ≡ true
 not_of true h = refl
 not_of false h = cc
 
-pub initial_body : (d : Design) (name : Option (List ℕ)) (a : IsAcceptedDesign d name) (k : ℕ) (i : Initial) → slice_get d.initials k ≡ Some i → (s : State) → ((body i.statement s).writes ≡ initial_writes i) × ((body i.statement s).updates ≡ initial_updates i)
-initial_body d name a k i at s =
+pub initial_body : (d : Design) (names : List (List ℕ)) (a : IsAcceptedDesign d names) (k : ℕ) (i : Initial) → slice_get d.initials k ≡ Some i → (s : State) → ((body i.statement s).writes ≡ initial_writes i) × ((body i.statement s).updates ≡ initial_updates i)
+initial_body d names a k i at s =
     let formed = all_at (is_formed_initial d) d.initials k i a.lawful.initials at in
     let fixed = not_of (is_fixed i.statement) (none_at has_other_start d.initials k i a.initial_form at) in
     let same = fixed_body d i.statement s (λ b. X) formed fixed in (

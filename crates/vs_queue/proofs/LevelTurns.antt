@@ -225,23 +225,23 @@ module _ (n : Network) (e : Events) (sound : IsSound n e) (p : ℕ) where
 
 -- ---- which processes are clocked
 
-process_clocked : (d : Design) (clock : ℕ) (x : D.Process) → is_clocked_kind (kind (process_of d clock x)) ≡ D.is_clocked x
-process_clocked d clock (D.Continuous place port target_place target e) = refl
-process_clocked d clock (D.Always place star events s) = go (D.is_clocked (D.Always place star events s)) (D.Always place star events s)
+process_clocked : (d : Design) (clocks : List ℕ) (x : D.Process) → is_clocked_kind (kind (process_of d clocks x)) ≡ D.is_clocked x
+process_clocked d clocks (D.Continuous place port target_place target e) = refl
+process_clocked d clocks (D.Always place star events s) = go (D.is_clocked (D.Always place star events s)) (D.Always place star events s)
   where
-    go : (c : Bool) (x : D.Process) → is_clocked_kind (kind (block_process d clock c x events s)) ≡ c
+    go : (c : Bool) (x : D.Process) → is_clocked_kind (kind (block_process d clocks c x events s)) ≡ c
     go true x = refl
     go false x = refl
 
 -- a block past the processes of the design is
-past_clocked : (d : Design) (clock p : ℕ) → length d.processes ≤ p → C.is_block (kind ((network_of d clock).process p)) ≡ true → is_clocked_kind (kind ((network_of d clock).process p)) ≡ true
-past_clocked d clock p = by_kind d clock (λ p x. length d.processes ≤ p → C.is_block (kind x) ≡ true → is_clocked_kind (kind x) ≡ true) (record {
+past_clocked : (d : Design) (clocks : List ℕ) (p : ℕ) → length d.processes ≤ p → C.is_block (kind ((network_of d clocks).process p)) ≡ true → is_clocked_kind (kind ((network_of d clocks).process p)) ≡ true
+past_clocked d clocks p = by_kind d clocks (λ p x. length d.processes ≤ p → C.is_block (kind x) ≡ true → is_clocked_kind (kind x) ≡ true) (record {
   assigns = λ p place port target_place target e at l h. cc;
   combs = λ p place star events st at k l h. absurd (let b = found_below d.processes p (D.Always place star events st) at in omega (arith, b, l));
   clocked = λ p place star events st at k l h. refl;
   inputs = λ p i s l e f m h. cc;
   clock = λ p i s l e f m h. cc;
-  spare = λ p l f m h. cc;
+  spare = λ p i c l e k f m h. cc;
   keeper = λ p l b bs e m h. refl;
   none = λ p m h. cc;
 }) p
@@ -271,31 +271,31 @@ may_not true c h = cc
 may_not false c h = refl
 
 -- and such a one that is due is one
-pub due_is : (d : Design) (clock : ℕ) (e : Events) → IsSound (network_of d clock) e → (p : ℕ) → let k = is_clocked_kind (kind ((network_of d clock).process p)) in (k || nat_le (length d.processes) p) ≡ true → has_member e.runs p ≡ true → k ≡ true
-due_is d clock e sound p h on = go (is_clocked_kind (kind ((network_of d clock).process p))) refl
+pub due_is : (d : Design) (clocks : List ℕ) (e : Events) → IsSound (network_of d clocks) e → (p : ℕ) → let k = is_clocked_kind (kind ((network_of d clocks).process p)) in (k || nat_le (length d.processes) p) ≡ true → has_member e.runs p ≡ true → k ≡ true
+due_is d clocks e sound p h on = go (is_clocked_kind (kind ((network_of d clocks).process p))) refl
   where
     or_right : (k c : Bool) → k ≡ false → (k || c) ≡ true → c ≡ true
     or_right true c e h = cc
     or_right false c e h = h
 
-    go : (k : Bool) → is_clocked_kind (kind ((network_of d clock).process p)) ≡ k → is_clocked_kind (kind ((network_of d clock).process p)) ≡ true
+    go : (k : Bool) → is_clocked_kind (kind ((network_of d clocks).process p)) ≡ k → is_clocked_kind (kind ((network_of d clocks).process p)) ≡ true
     go true is = is
-    go false is = past_clocked d clock p (le_is (length d.processes) p (or_right (is_clocked_kind (kind ((network_of d clock).process p))) (nat_le (length d.processes) p) is h)) (sound.runs p on)
+    go false is = past_clocked d clocks p (le_is (length d.processes) p (or_right (is_clocked_kind (kind ((network_of d clocks).process p))) (nat_le (length d.processes) p) is h)) (sound.runs p on)
 
-module _ (trees : EachProcess) (a : Arena) (clock p : ℕ) (q : Process) (at : slice_get a.processes p ≡ Some q) where
+module _ (trees : EachProcess) (a : Arena) (clocks : List ℕ) (p : ℕ) (q : Process) (at : slice_get a.processes p ≡ Some q) where
   abbrev d : Design
   d = design_of a
 
   abbrev of_kind : F.Kind → D.Process
   of_kind k = kind_of (signal_at (arena_signals a)) (tree_at (arena_trees a)) (statement_at (arena_statements a)) q.at k
 
-  of_design : (x : D.Process) → slice_get d.processes p ≡ Some x → is_clocked_kind (kind ((network_of d clock).process p)) ≡ D.is_clocked x
-  of_design x there = ap (λ y. is_clocked_kind (kind y)) (process_there d clock p x there) ∙ process_clocked d clock x
+  of_design : (x : D.Process) → slice_get d.processes p ≡ Some x → is_clocked_kind (kind ((network_of d clocks).process p)) ≡ D.is_clocked x
+  of_design x there = ap (λ y. is_clocked_kind (kind y)) (process_there d clocks p x there) ∙ process_clocked d clocks x
 
-  pub assign_unclocked : (target e : ℕ) (port : Port) → q.kind ≡ K.Assign target e port → is_clocked_kind (kind ((network_of d clock).process p)) ≡ false
+  pub assign_unclocked : (target e : ℕ) (port : Port) → q.kind ≡ K.Assign target e port → is_clocked_kind (kind ((network_of d clocks).process p)) ≡ false
   assign_unclocked target e port is = of_design (of_kind q.kind) (trees a p q at) ∙ ap (λ k. D.is_clocked (of_kind k)) is
 
-  pub block_clocked : (star : Bool) (events : List Event) (s : ℕ) → q.kind ≡ K.Block star events s → is_clocked_kind (kind ((network_of d clock).process p)) ≡ list_any is_edge_event events
+  pub block_clocked : (star : Bool) (events : List Event) (s : ℕ) → q.kind ≡ K.Block star events s → is_clocked_kind (kind ((network_of d clocks).process p)) ≡ list_any is_edge_event events
   block_clocked star events s is =
       of_design (of_kind q.kind) (trees a p q at) ∙ ap (λ k. D.is_clocked (of_kind k)) is ∙ sym (edges_are (signal_at (arena_signals a)) events)
 
@@ -306,11 +306,11 @@ number_there test [] p h = absurd (let z : ⊥ = cc in z)
 number_there test (x ∷ xs) zero h = (x, refl, h)
 number_there test (x ∷ xs) (suc p) h = number_there test xs p h
 
-unclocked_settles : (d : Design) (clock : ℕ) (x : D.Process) → D.is_clocked x ≡ false → Settles (kind (process_of d clock x))
-unclocked_settles d clock (D.Continuous place port target_place target e) h = tt
-unclocked_settles d clock (D.Always place star events s) h = go (D.is_clocked (D.Always place star events s)) (D.Always place star events s) h
+unclocked_settles : (d : Design) (clocks : List ℕ) (x : D.Process) → D.is_clocked x ≡ false → Settles (kind (process_of d clocks x))
+unclocked_settles d clocks (D.Continuous place port target_place target e) h = tt
+unclocked_settles d clocks (D.Always place star events s) h = go (D.is_clocked (D.Always place star events s)) (D.Always place star events s) h
   where
-    go : (c : Bool) (x : D.Process) → c ≡ false → Settles (kind (block_process d clock c x events s))
+    go : (c : Bool) (x : D.Process) → c ≡ false → Settles (kind (block_process d clocks c x events s))
     go true x h = absurd (let z : ⊥ = cc in z)
     go false x h = tt
 
@@ -322,17 +322,17 @@ not_is false h = refl
 abbrev may_stand : Design → List ℕ → D.Process → Bool
 may_stand d placed process = not (D.is_clocked process) && is_ready placed 0 d.processes process
 
-first_settles : (d : Design) (clock : ℕ) (placed : List ℕ) (r : ℕ) (order : List ℕ) → is_order_after placed d (r ∷ order) ≡ true → Settles (kind ((network_of d clock).process r)) × (is_order_after (r ∷ placed) d order ≡ true)
-first_settles d clock placed r order h =
+first_settles : (d : Design) (clocks : List ℕ) (placed : List ℕ) (r : ℕ) (order : List ℕ) → is_order_after placed d (r ∷ order) ≡ true → Settles (kind ((network_of d clocks).process r)) × (is_order_after (r ∷ placed) d order ≡ true)
+first_settles d clocks placed r order h =
     let parts = and_parts (not (contains placed r) && at_number r d.processes (may_stand d placed)) (is_order_after (r ∷ placed) d order) h in
     let x = number_there (may_stand d placed) d.processes r (and_parts (not (contains placed r)) (at_number r d.processes (may_stand d placed)) parts.0).1 in
     let off = not_is (D.is_clocked x.0) (and_parts (not (D.is_clocked x.0)) (is_ready placed 0 d.processes x.0) x.2).0 in
-    (subst (λ y. Settles (kind y)) (sym (process_there d clock r x.0 x.1)) (unclocked_settles d clock x.0 off), parts.1)
+    (subst (λ y. Settles (kind y)) (sym (process_there d clocks r x.0 x.1)) (unclocked_settles d clocks x.0 off), parts.1)
 
-ordered_settle : (d : Design) (clock : ℕ) (placed order : List ℕ) → is_order_after placed d order ≡ true → (k p : ℕ) → slice_get order k ≡ Some p → Settles (kind ((network_of d clock).process p))
-ordered_settle d clock placed [] h k p at = absurd (let z : ⊥ = cc in z)
-ordered_settle d clock placed (r ∷ order) h zero p at = let same : r ≡ p = cc in subst (λ m. Settles (kind ((network_of d clock).process m))) same (first_settles d clock placed r order h).0
-ordered_settle d clock placed (r ∷ order) h (suc k) p at = ordered_settle d clock (r ∷ placed) order (first_settles d clock placed r order h).1 k p at
+ordered_settle : (d : Design) (clocks : List ℕ) (placed order : List ℕ) → is_order_after placed d order ≡ true → (k p : ℕ) → slice_get order k ≡ Some p → Settles (kind ((network_of d clocks).process p))
+ordered_settle d clocks placed [] h k p at = absurd (let z : ⊥ = cc in z)
+ordered_settle d clocks placed (r ∷ order) h zero p at = let same : r ≡ p = cc in subst (λ m. Settles (kind ((network_of d clocks).process m))) same (first_settles d clocks placed r order h).0
+ordered_settle d clocks placed (r ∷ order) h (suc k) p at = ordered_settle d clocks (r ∷ placed) order (first_settles d clocks placed r order h).1 k p at
 
-pub order_settles : (d : Design) (clock : ℕ) (order : List ℕ) → is_level_order d order ≡ true → (k p : ℕ) → slice_get order k ≡ Some p → Settles (kind ((network_of d clock).process p))
-order_settles d clock order h k p at = ordered_settle d clock [] order h k p at
+pub order_settles : (d : Design) (clocks : List ℕ) (order : List ℕ) → is_level_order d order ≡ true → (k p : ℕ) → slice_get order k ≡ Some p → Settles (kind ((network_of d clocks).process p))
+order_settles d clocks order h k p at = ordered_settle d clocks [] order h k p at

@@ -9,6 +9,7 @@ use Rattle.vs_net.specs.Queue.{Slot, Fall, Rise, Queue, Next, after, start, slot
 use Rattle.vs_net.specs.Laws.{IsKnownVector, AreKnownResets}
 use Rattle.vs_net.specs.LevelRun.{Sweep, after_all, sweep, sweeps, slot_sweeps}
 use Rattle.vs_net.specs.Solution.{beginning, IsSolution}
+use Rattle.vs_design.specs.Clocks.{clock_bits}
 use Rattle.vs_design.specs.Designs.{Design, top_inputs}
 use Rattle.vs_design.specs.Laws.{LevelRunOfDesign}
 use Rattle.vs_design.specs.Levels.{is_level_order}
@@ -24,7 +25,7 @@ use Rattle.vs_queue.specs.Ordered.{driven_bits, x_values, IsPlainRun}
 use Rattle.vs_queue.specs.Sweeps.{HasTaken, slot_parts, first_parts}
 use Rattle.vs_queue.proofs.Periods.{vector_at, none_left}
 use Rattle.vs_queue.proofs.Sweeping.{after_both, is_within, part_over, slot_over, run_over, levelled_first}
-use Rattle.vs_queue.proofs.Told.{bit_is}
+use Rattle.vs_queue.proofs.Told.{bits_are}
 use Rattle.vs_queue.proofs.Vectors.{first_given}
 
 -- ---- parts
@@ -37,12 +38,12 @@ parts_over n order from q values (s ∷ ss) rest h r now is =
     let both = and_parts (is_within s) (list_all is_within ss) h in
     parts_over n order from m values ss rest both.1 (part_over n order from q values s (ss ++ rest) r m both.0 refl) now (is ∙ after_both n (sweep n order q s) (sweeps n order m ss) q)
 
-module _ (d : Design) (clock : ℕ) (order : List ℕ) where
+module _ (d : Design) (clocks : List ℕ) (order : List ℕ) where
   abbrev n : Network
-  n = network_of d clock
+  n = network_of d clocks
 
   -- the first slot is over
-  pub first_over : (e now : Events) (shadow : List Bit4) (first v : State) (later : List State) → queue_of e (Rise ∷ slots_of later) ≡ start n first v later → HasTaken d clock (λ q. sweeps n order q first_parts) e now shadow
+  pub first_over : (e now : Events) (shadow : List Bit4) (first v : State) (later : List State) → queue_of e (Rise ∷ slots_of later) ≡ start n first v later → HasTaken d clocks (λ q. sweeps n order q first_parts) e now shadow
       → IsLevelled n order (start n first v later) (queue_of now (Rise ∷ slots_of later)) [] (slot_sweeps (Rise ∷ slots_of later))
   first_over e now shadow first v later begins t =
       let from = start n first v later in
@@ -50,7 +51,7 @@ module _ (d : Design) (clock : ℕ) (order : List ℕ) where
       (t.swept (Rise ∷ slots_of later) ∙ ap (λ (x : Queue). after_all n x (sweeps n order x first_parts)) begins)
 
   -- a later slot is over
-  pub slot_gone : (e m now : Events) (shadow : List Bit4) (from : Queue) (slot : Slot) (slots : List Slot) (ends values : List (List Bit4)) → queue_of m slots ≡ after n (queue_of e (slot ∷ slots)) Next → HasTaken d clock (λ q. sweeps n order q slot_parts) m now shadow → values ≡ ends ++ e.values ∷ []
+  pub slot_gone : (e m now : Events) (shadow : List Bit4) (from : Queue) (slot : Slot) (slots : List Slot) (ends values : List (List Bit4)) → queue_of m slots ≡ after n (queue_of e (slot ∷ slots)) Next → HasTaken d clocks (λ q. sweeps n order q slot_parts) m now shadow → values ≡ ends ++ e.values ∷ []
       → IsLevelled n order from (queue_of e (slot ∷ slots)) ends (slot_sweeps (slot ∷ slots)) → IsLevelled n order from (queue_of now slots) values (slot_sweeps slots)
   slot_gone e m now shadow from slot slots ends values next t is r =
       subst (λ (vs : List (List Bit4)). IsLevelled n order from (queue_of now slots) vs (slot_sweeps slots)) (sym is)
@@ -66,15 +67,15 @@ module _ (d : Design) (clock : ℕ) (order : List ℕ) where
 
   module _ (xs : List Vector) where
     pub first_gone : (x : Vector) → slice_get xs 0 ≡ Some x → (e now : Events) (ends values : List (List Bit4))
-        → ((v : State) (later : List State) → AreGiven (data_inputs clock (top_inputs d)) x v → IsLevelled n order (start n (x_values (driven_bits d) (idle_value d)) v later) (queue_of e (Rise ∷ slots_of later)) ends (slot_sweeps (Rise ∷ slots_of later)))
-        → GoesThrough Rise e ends now values → GoesTo d clock order xs 1 now values
+        → ((v : State) (later : List State) → AreGiven (data_inputs clocks (top_inputs d)) x v → IsLevelled n order (start n (x_values (driven_bits d) (idle_value d)) v later) (queue_of e (Rise ∷ slots_of later)) ends (slot_sweeps (Rise ∷ slots_of later)))
+        → GoesThrough Rise e ends now values → GoesTo d clocks order xs 1 now values
     first_gone x at e now ends values begun rises first later vs =
-        rises (start n (x_values (driven_bits d) (idle_value d)) first later) (slots_of later) (begun first later (first_given d clock xs x first later vs at))
+        rises (start n (x_values (driven_bits d) (idle_value d)) first later) (slots_of later) (begun first later (first_given d clocks xs x first later vs at))
 
-    pub next_gone : (k : ℕ) (x : Vector) → slice_get xs k ≡ Some x → (e m now : Events) (ends before values : List (List Bit4)) → GoesTo d clock order xs k e ends
-        → ((v : State) → AreGiven (data_inputs clock (top_inputs d)) x v → GoesThrough (Fall v) e ends m before) → GoesThrough Rise m before now values → GoesTo d clock order xs (k + 1) now values
+    pub next_gone : (k : ℕ) (x : Vector) → slice_get xs k ≡ Some x → (e m now : Events) (ends before values : List (List Bit4)) → GoesTo d clocks order xs k e ends
+        → ((v : State) → AreGiven (data_inputs clocks (top_inputs d)) x v → GoesThrough (Fall v) e ends m before) → GoesThrough Rise m before now values → GoesTo d clocks order xs (k + 1) now values
     next_gone k x at e m now ends before values come falls rises first later vs =
-        let v = vector_at d clock k xs x (first ∷ later) vs at in
+        let v = vector_at d clocks k xs x (first ∷ later) vs at in
         let from = start n (x_values (driven_bits d) (idle_value d)) first later in
         let rest = slots_of (drop (suc k) (first ∷ later)) in
         subst (λ j. IsLevelled n order from (queue_of now (slots_of (drop j (first ∷ later)))) values (slot_sweeps (slots_of (drop j (first ∷ later))))) (let e : suc k ≡ k + 1 = omega arith in e)
@@ -82,18 +83,18 @@ module _ (d : Design) (clock : ℕ) (order : List ℕ) where
         (subst (λ (ss : List Slot). IsLevelled n order from (queue_of e ss) ends (slot_sweeps ss)) (ap slots_of v.rest) (come first later vs))))
 
     -- all vectors are over
-    pub all_gone : (k : ℕ) (e : Events) (ends values : List (List Bit4)) → length xs ≤ k → GoesTo d clock order xs k e ends → values ≡ ends ++ e.values ∷ [] → (first : State) (later : List State) → AreVectors d clock xs (first ∷ later) → IsPlainRun d clock order first later values
+    pub all_gone : (k : ℕ) (e : Events) (ends values : List (List Bit4)) → length xs ≤ k → GoesTo d clocks order xs k e ends → values ≡ ends ++ e.values ∷ [] → (first : State) (later : List State) → AreVectors d clocks xs (first ∷ later) → IsPlainRun d clocks order first later values
     all_gone k e ends values l come is first later vs =
         let from = start n (x_values (driven_bits d) (idle_value d)) first later in
         ap (λ (zs : List (List Bit4)). map state_of zs) is
-        ∙ run_over n order from (queue_of e []) ends (subst (λ (ss : List State). IsLevelled n order from (queue_of e (slots_of ss)) ends (slot_sweeps (slots_of ss))) (none_left d clock k xs (first ∷ later) vs l) (come first later vs)) e.values refl
+        ∙ run_over n order from (queue_of e []) ends (subst (λ (ss : List State). IsLevelled n order from (queue_of e (slots_of ss)) ends (slot_sweeps (slots_of ss))) (none_left d clocks k xs (first ∷ later) vs l) (come first later vs)) e.values refl
 
 -- ---- the solution
 
 pub plain_solved : DrawnIsFirst → LevelRunOfDesign → (d : Design) (c : Clocked) → IsAcceptedBy d c → (order : List ℕ) → is_level_order d order ≡ true → (first : State) (later : List State) (values : List (List Bit4))
-    → IsKnownVector (network_of d c.bit) first → AreKnownResets (network_of d c.bit) later → IsPlainRun d c.bit order first later values → let n = network_of d c.bit in IsSolution n (beginning n) (slots_of (first ∷ later)) (map state_of values)
-plain_solved begun law d c b order lawful first later values = subst (λ k. IsKnownVector (network_of d k) first → AreKnownResets (network_of d k) later → IsPlainRun d k order first later values → let n = network_of d k in IsSolution n (beginning n) (slots_of (first ∷ later)) (map state_of values)) (sym (bit_is d c b))
+    → IsKnownVector (network_of d c.bits) first → AreKnownResets (network_of d c.bits) later → IsPlainRun d c.bits order first later values → let n = network_of d c.bits in IsSolution n (beginning n) (slots_of (first ∷ later)) (map state_of values)
+plain_solved begun law d c b order lawful first later values = subst (λ k. IsKnownVector (network_of d k) first → AreKnownResets (network_of d k) later → IsPlainRun d k order first later values → let n = network_of d k in IsSolution n (beginning n) (slots_of (first ∷ later)) (map state_of values)) (sym (bits_are d c b))
     (λ k r run.
-    let n = network_of d b.accepted.clock.first in
+    let n = network_of d (clock_bits b.accepted.clocks) in
     subst (λ (ss : List State). IsSolution n (beginning n) (slots_of (first ∷ later)) ss) (sym run)
-    (law d b.name b.accepted order lawful (x_values (driven_bits d) (idle_value d)) first later (begun d b.accepted.clock.first 0).1 k r).1)
+    (law d b.names b.accepted order lawful (x_values (driven_bits d) (idle_value d)) first later (begun d (clock_bits b.accepted.clocks) 0).1 k r).1)

@@ -1,11 +1,12 @@
 -- What a process of a flat design listens to.
-use Rattle.std.proofs.Common.{◌≡◌, ℕ, zero, suc, ◌+◌, ◌<◌, ◌≤◌, Bool, true, false, ◌&&◌, ◌||◌, if◌then◌else◌, List, [], ◌∷◌, ◌++◌, map, take, replicate, length, refl, sym, ap, ap₂, ◌∙◌, subst, arith, append-nil, Some}
+use Rattle.std.proofs.Common.{◌≡◌, ℕ, zero, suc, ◌+◌, ◌<◌, ◌≤◌, Bool, true, false, ◌&&◌, ◌||◌, if◌then◌else◌, List, [], ◌∷◌, ◌++◌, map, take, replicate, length, refl, sym, ap, ap₂, ◌∙◌, subst, arith, append-nil, Some, None}
 use Rattle.std.proofs.lemmas.List.{length-replicate, take_all}
 use Rattle.std.specs.Prelude.{slice_get, nat_lt, Result, Ok, Err, OnOk}
 use Rattle.std.proofs.lemmas.Bool.{and_parts, ltb-true}
 use Rattle.std.specs.List.{list_any}
 use Rattle.vs_base.specs.Events.{is_edge}
 use Rattle.vs_design.specs.Expressions as E
+use Rattle.vs_design.specs.Clocks.{first_clock}
 use Rattle.vs_design.specs.Designs as D
 use Rattle.vs_flat.specs.declared.processes.Event.{Event}
 use Rattle.vs_flat.specs.declared.processes.Process.{Process}
@@ -102,24 +103,33 @@ wired_all size count ps wiring k l r = r.told ∙ ap (λ (xs : List D.Process). 
 pub none_wired : (size count : ℕ) (ps : List D.Process) (wiring : List (List Listener)) → wiring ≡ replicate size [] → AreWired size count ps wiring 0
 none_wired size count ps wiring is = record { told = is; long = ap length is ∙ length-replicate size [] }
 
+-- the first of some numbers, where there is one
+pub first_some : (cs : List ℕ) (c : ℕ) → Some c ≡ slice_get cs 0 → c ≡ first_clock cs
+first_some [] c h = cc
+first_some (x ∷ cs) c h = cc
+
+pub first_none : (cs : List ℕ) → None ≡ slice_get cs 0 → 0 ≡ first_clock cs
+first_none [] h = refl
+first_none (x ∷ cs) h = cc
+
 -- the block that keeps what initial processes alone write listens behind them, or there is none
-abbrev keeper_entry : D.Design → ℕ → Sensitivity
-keeper_entry d clock = record { bit = clock; listener = record { process = keeper_at d clock; change = C.Pos } }
+abbrev keeper_entry : D.Design → List ℕ → Sensitivity
+keeper_entry d clocks = record { bit = first_clock clocks; listener = record { process = keeper_at d clocks; change = C.Pos } }
 
-abbrev with_entry : D.Design → ℕ → Bool → List (List Listener)
-with_entry d clock c = after_listens (replicate (value_count d clock) []) (listens_from (D.bit_count d) 0 d.processes ++ (if c then keeper_entry d clock ∷ [] else []))
+abbrev with_entry : D.Design → List ℕ → Bool → List (List Listener)
+with_entry d clocks c = after_listens (replicate (value_count d clocks) []) (listens_from (D.bit_count d) 0 d.processes ++ (if c then keeper_entry d clocks ∷ [] else []))
 
-pub keeper_listened : (d : D.Design) (clock : ℕ) (wiring now : List (List Listener)) (keeper : Bool) (bit process : ℕ) → keeper ≡ has_keeper d → keeper ≡ true → bit ≡ clock → process ≡ keeper_at d clock
-    → wiring ≡ after_listens (replicate (value_count d clock) []) (listens_from (D.bit_count d) 0 d.processes) → now ≡ after_listen wiring (record { bit = bit; listener = record { process = process; change = C.Pos } }) → now ≡ listeners_of d clock
-keeper_listened d clock wiring now keeper bit process told there b p is listened =
+pub keeper_listened : (d : D.Design) (clocks : List ℕ) (wiring now : List (List Listener)) (keeper : Bool) (bit process : ℕ) → keeper ≡ has_keeper d → keeper ≡ true → bit ≡ first_clock clocks → process ≡ keeper_at d clocks
+    → wiring ≡ after_listens (replicate (value_count d clocks) []) (listens_from (D.bit_count d) 0 d.processes) → now ≡ after_listen wiring (record { bit = bit; listener = record { process = process; change = C.Pos } }) → now ≡ listeners_of d clocks
+keeper_listened d clocks wiring now keeper bit process told there b p is listened =
     listened ∙ ap₂ (λ (x y : ℕ). after_listen wiring (record { bit = x; listener = record { process = y; change = C.Pos } })) b p
-    ∙ ap (λ (w : List (List Listener)). after_listen w (keeper_entry d clock)) is
-    ∙ sym (both_listen (listens_from (D.bit_count d) 0 d.processes) (keeper_entry d clock ∷ []) (replicate (value_count d clock) []))
-    ∙ ap (with_entry d clock) (sym there ∙ told)
+    ∙ ap (λ (w : List (List Listener)). after_listen w (keeper_entry d clocks)) is
+    ∙ sym (both_listen (listens_from (D.bit_count d) 0 d.processes) (keeper_entry d clocks ∷ []) (replicate (value_count d clocks) []))
+    ∙ ap (with_entry d clocks) (sym there ∙ told)
 
-pub keeper_unheard : (d : D.Design) (clock : ℕ) (wiring : List (List Listener)) (keeper : Bool) → keeper ≡ has_keeper d → keeper ≡ false → wiring ≡ after_listens (replicate (value_count d clock) []) (listens_from (D.bit_count d) 0 d.processes) → wiring ≡ listeners_of d clock
-keeper_unheard d clock wiring keeper told none is =
-    is ∙ ap (after_listens (replicate (value_count d clock) [])) (sym (append-nil (listens_from (D.bit_count d) 0 d.processes))) ∙ ap (with_entry d clock) (sym none ∙ told)
+pub keeper_unheard : (d : D.Design) (clocks : List ℕ) (wiring : List (List Listener)) (keeper : Bool) → keeper ≡ has_keeper d → keeper ≡ false → wiring ≡ after_listens (replicate (value_count d clocks) []) (listens_from (D.bit_count d) 0 d.processes) → wiring ≡ listeners_of d clocks
+keeper_unheard d clocks wiring keeper told none is =
+    is ∙ ap (after_listens (replicate (value_count d clocks) [])) (sym (append-nil (listens_from (D.bit_count d) 0 d.processes))) ∙ ap (with_entry d clocks) (sym none ∙ told)
 
 -- what a process listens to is there, and is told
 module _ (trees : EachProcess) (law : EachIsOfItsProcess) (a : Arena) (p : ℕ) (q : Process) (at : slice_get a.processes p ≡ Some q) (wiring : List (List Listener)) where

@@ -14,7 +14,7 @@ use Rattle.vs_design.specs.Fits.{fits_process, fits_initial}
 use Rattle.vs_design.specs.Initials.{has_other_start, clashed_bits}
 use Rattle.vs_design.specs.Sizes.{size}
 use Rattle.vs_design.specs.Rules.{function_latches, mixed_assigns, missing_bits, latches, shared_bits}
-use Rattle.vs_design.specs.Clocks.{clock_input, clock_nets, root_of, reads_clock, has_other_clock}
+use Rattle.vs_design.specs.Clocks.{clock_bits, clock_inputs, clock_nets, root_of, reads_clock, has_other_clock}
 use Rattle.vs_design.specs.Resets.{has_other_form}
 use Rattle.vs_design.specs.Levels.{level_order, has_no_cycle}
 use Rattle.vs_design.specs.Races.{has_no_race}
@@ -110,11 +110,11 @@ lawful_tests d =
     are_scopes d.scopes && (are_numbered 0 0 d.signals && (have_bits_from 0 d.signals && (list_all (is_declared d) d.signals && (list_all is_lawful_memory d.signals && (list_all (is_formed_process d) d.processes
     && (list_all (is_formed_initial d) d.initials && (are_behind 0 (length d.processes) d.initials && (list_all (is_formed_function d) d.functions && (list_all has_clocked_words d.processes && (nat_le (bit_count d) 1048576 && nat_le (length d.processes + length d.initials) 65536))))))))))
 
-abbrev rule_tests : Design → Signal → Bool
-rule_tests d clock =
+abbrev rule_tests : Design → List Signal → Bool
+rule_tests d clocks =
     list_all fits_process d.processes && (list_all fits_initial d.initials && (nat_le (size d) 16777216 && (is_empty (function_latches d.functions) && (not (list_any has_other_start d.initials) && (list_all (λ p. is_empty (mixed_assigns p)) d.processes
-    && (list_all (λ p. is_empty (missing_bits p)) d.processes && (list_all (λ p. is_empty (latches p)) d.processes && (is_empty (shared_bits d) && (is_empty (clashed_bits d) && (not (list_any (reads_clock (clock_nets d clock.first)) d.processes) && (not (list_any (has_other_clock (clock_nets d clock.first) (root_of d clock.first)) d.processes)
-    && (not (list_any (has_other_form (clock_nets d clock.first) (root_of d clock.first)) d.processes) && (has_no_cycle d && (has_no_race d && not (list_any (is_uncertain d (families d clock.first (level_order d))) d.processes)))))))))))))))
+    && (list_all (λ p. is_empty (missing_bits p)) d.processes && (list_all (λ p. is_empty (latches p)) d.processes && (is_empty (shared_bits d) && (is_empty (clashed_bits d) && (not (list_any (reads_clock (clock_nets d (clock_bits clocks))) d.processes) && (not (list_any (has_other_clock (clock_nets d (clock_bits clocks)) (root_of d (clock_bits clocks))) d.processes)
+    && (not (list_any (has_other_form (clock_nets d (clock_bits clocks)) (root_of d (clock_bits clocks))) d.processes) && (has_no_cycle d && (has_no_race d && not (list_any (is_uncertain d (families d (clock_bits clocks) (level_order d))) d.processes)))))))))))))))
 
 le_is : (a b : ℕ) → nat_le a b ≡ true → a ≤ b
 le_is a b h = grind (arith, h)
@@ -154,8 +154,8 @@ lawful_passes d l =
     both _ _ l.scopes (both _ _ l.numbered (both _ _ l.bits_numbered (both _ _ l.declared (both _ _ l.memories (both _ _ l.formed (both _ _ l.initials (both _ _ l.behind
     (both _ _ l.functions (both _ _ l.clocked_words (both _ _ (is_le _ _ l.few_bits) (is_le _ _ l.few_processes)))))))))))
 
-accepted_by : (d : Design) (name : Option (List ℕ)) (clock : Signal) → clock_input d name ≡ Some clock → lawful_tests d ≡ true → rule_tests d clock ≡ true → IsAcceptedDesign d name
-accepted_by d name clock found l h =
+accepted_by : (d : Design) (names : List (List ℕ)) (clocks : List Signal) → clock_inputs d names ≡ Some clocks → lawful_tests d ≡ true → rule_tests d clocks ≡ true → IsAcceptedDesign d names
+accepted_by d names clocks found l h =
     let a = and_parts _ _ h in
     let b = and_parts _ _ a.1 in
     let c = and_parts _ _ b.1 in
@@ -183,8 +183,8 @@ accepted_by d name clock found l h =
       no_latch = j.0;
       one_driver = k.0;
       no_clash = m.0;
-      clock = clock;
-      clock_found = found;
+      clocks = clocks;
+      clocks_found = found;
       clock_unread = not_is _ o.0;
       one_clock = not_is _ p.0;
       reset_forms = not_is _ q.0;
@@ -193,71 +193,71 @@ accepted_by d name clock found l h =
       awake = not_is _ s.1;
     }
 
-rules_pass : (d : Design) (name : Option (List ℕ)) (a : IsAcceptedDesign d name) → rule_tests d a.clock ≡ true
-rules_pass d name a =
+rules_pass : (d : Design) (names : List (List ℕ)) (a : IsAcceptedDesign d names) → rule_tests d a.clocks ≡ true
+rules_pass d names a =
     both _ _ a.fit (both _ _ a.fit_initials (both _ _ (is_le _ _ a.small) (both _ _ a.no_function_latch (both _ _ (is_not _ a.initial_form) (both _ _ a.unmixed (both _ _ a.sensitive (both _ _ a.no_latch (both _ _ a.one_driver (both _ _ a.no_clash
     (both _ _ (is_not _ a.clock_unread) (both _ _ (is_not _ a.one_clock) (both _ _ (is_not _ a.reset_forms) (both _ _ a.no_cycle (both _ _ a.no_race (is_not _ a.awake)))))))))))))))
 
-bound_by : (d : Design) (name : Option (List ℕ)) → IsAcceptedDesign d name → ℕ
-bound_by d name a = let b = bound_of d name a d.initials (same_order d.initials) in bound (network_of d a.clock.first) b.0 b.1
+bound_by : (d : Design) (names : List (List ℕ)) → IsAcceptedDesign d names → ℕ
+bound_by d names a = let b = bound_of d names a d.initials (same_order d.initials) in bound (network_of d (clock_bits a.clocks)) b.0 b.1
 
-most_for : (d : Design) (name : Option (List ℕ)) (clock : Signal) → clock_input d name ≡ Some clock → (l r : Bool) → lawful_tests d ≡ l → rule_tests d clock ≡ r → ℕ
-most_for d name clock found true true l r = bound_by d name (accepted_by d name clock found l r)
-most_for d name clock found _ _ l r = 0
+most_for : (d : Design) (names : List (List ℕ)) (clocks : List Signal) → clock_inputs d names ≡ Some clocks → (l r : Bool) → lawful_tests d ≡ l → rule_tests d clocks ≡ r → ℕ
+most_for d names clocks found true true l r = bound_by d names (accepted_by d names clocks found l r)
+most_for d names clocks found _ _ l r = 0
 
-most_of : (d : Design) (name : Option (List ℕ)) (o : Option Signal) → clock_input d name ≡ o → ℕ
-most_of d name None found = 0
-most_of d name (Some clock) found = most_for d name clock found (lawful_tests d) (rule_tests d clock) refl refl
+most_of : (d : Design) (names : List (List ℕ)) (o : Option (List Signal)) → clock_inputs d names ≡ o → ℕ
+most_of d names None found = 0
+most_of d names (Some clocks) found = most_for d names clocks found (lawful_tests d) (rule_tests d clocks) refl refl
 
 -- the most steps that a slot of the design may have, 0 where it isn't accepted
-pub most_steps : Design → Option (List ℕ) → ℕ
-most_steps d name = most_of d name (clock_input d name) refl
+pub most_steps : Design → List (List ℕ) → ℕ
+most_steps d names = most_of d names (clock_inputs d names) refl
 
 -- no run within this slot has more
 abbrev pub AreFew : Network → ℕ → Queue → Type 0
 AreFew n most q = (cs : List Choice) → IsWithinSlot n q cs → length cs ≤ most
 
-module _ (d : Design) (name : Option (List ℕ)) (a : IsAcceptedDesign d name) where
+module _ (d : Design) (names : List (List ℕ)) (a : IsAcceptedDesign d names) where
   abbrev pub n : Network
-  n = network_of d a.clock.first
+  n = network_of d (clock_bits a.clocks)
 
   beyond : (p : ℕ) → n.count ≤ p → n.process p ≡ Input []
-  beyond p h = beyond_count (all_processes d a.clock.first) p h
+  beyond p h = beyond_count (all_processes d (clock_bits a.clocks)) p h
 
   -- and no initial process writes to what lies there
   none_beyond : (p : ℕ) → n.count ≤ p → (n.initial p ≡ []) × (n.initial_updates p ≡ [])
   none_beyond p h = initial_clocked (n.process p) d.initials (λ k. let e : AnInput ≡ AClocked = sym (ap kind (beyond p h)) ∙ k in cc)
 
-  -- few in every acceptance by this clock, on whatever vectors
-  few_by : (b : IsAcceptedDesign d name) → b.clock ≡ a.clock → (first v : State) (vs : List State) (earlier steps : List Choice) → IsPartOfRun n (start n first v vs) (earlier ++ steps) → HasNoNext steps → length steps ≤ bound_by d name b
+  -- few in every acceptance by these clocks, on whatever vectors
+  few_by : (b : IsAcceptedDesign d names) → b.clocks ≡ a.clocks → (first v : State) (vs : List State) (earlier steps : List Choice) → IsPartOfRun n (start n first v vs) (earlier ++ steps) → HasNoNext steps → length steps ≤ bound_by d names b
   unfolding bound_by
   few_by b is =
-      let weighed = bound_of d name b d.initials (same_order d.initials) in
-      subst (λ (m : Network). (first v : State) (vs : List State) (earlier steps : List Choice) → IsPartOfRun m (start m first v vs) (earlier ++ steps) → HasNoNext steps → length steps ≤ bound_by d name b)
-      (ap (λ (s : Signal). network_of d s.first) is) (few_steps (network_of d b.clock.first) (lawful d name b d.initials (same_order d.initials)) (feeds_of d b.clock.first) (size_of d) weighed.0 weighed.1 weighed.2)
+      let weighed = bound_of d names b d.initials (same_order d.initials) in
+      subst (λ (m : Network). (first v : State) (vs : List State) (earlier steps : List Choice) → IsPartOfRun m (start m first v vs) (earlier ++ steps) → HasNoNext steps → length steps ≤ bound_by d names b)
+      (ap (λ (ss : List Signal). network_of d (clock_bits ss)) is) (few_steps (network_of d (clock_bits b.clocks)) (lawful d names b d.initials (same_order d.initials)) (feeds_of d (clock_bits b.clocks)) (size_of d) weighed.0 weighed.1 weighed.2)
 
   abbrev pub Few : ℕ → Type 0
   Few most = (first v : State) (vs : List State) (earlier steps : List Choice) → IsPartOfRun n (start n first v vs) (earlier ++ steps) → HasNoNext steps → length steps ≤ most
 
-  few_for : (clock : Signal) (found : clock_input d name ≡ Some clock) → clock ≡ a.clock → (l r : Bool) (e : lawful_tests d ≡ l) (f : rule_tests d clock ≡ r) → l ≡ true → r ≡ true → Few (most_for d name clock found l r e f)
+  few_for : (clocks : List Signal) (found : clock_inputs d names ≡ Some clocks) → clocks ≡ a.clocks → (l r : Bool) (e : lawful_tests d ≡ l) (f : rule_tests d clocks ≡ r) → l ≡ true → r ≡ true → Few (most_for d names clocks found l r e f)
   unfolding most_for accepted_by
-  few_for clock found is true true e f h k = few_by (accepted_by d name clock found e f) is
-  few_for clock found is true false e f h k = cc
-  few_for clock found is false true e f h k = cc
-  few_for clock found is false false e f h k = cc
+  few_for clocks found is true true e f h k = few_by (accepted_by d names clocks found e f) is
+  few_for clocks found is true false e f h k = cc
+  few_for clocks found is false true e f h k = cc
+  few_for clocks found is false false e f h k = cc
 
-  few_of : (o : Option Signal) (found : clock_input d name ≡ o) → o ≡ Some a.clock → Few (most_of d name o found)
+  few_of : (o : Option (List Signal)) (found : clock_inputs d names ≡ o) → o ≡ Some a.clocks → Few (most_of d names o found)
   unfolding most_of
   few_of None found h = cc
-  few_of (Some clock) found h =
-      let is : clock ≡ a.clock = cc in few_for clock found is (lawful_tests d) (rule_tests d clock) refl refl (lawful_passes d a.lawful) (ap (rule_tests d) is ∙ rules_pass d name a)
+  few_of (Some clocks) found h =
+      let is : clocks ≡ a.clocks = cc in few_for clocks found is (lawful_tests d) (rule_tests d clocks) refl refl (lawful_passes d a.lawful) (ap (rule_tests d) is ∙ rules_pass d names a)
 
-  pub few : Few (most_steps d name)
+  pub few : Few (most_steps d names)
   unfolding most_steps
-  few = few_of (clock_input d name) refl a.clock_found
+  few = few_of (clock_inputs d names) refl a.clocks_found
 
   -- so at each moment of a run
-  pub few_left : (first v : State) (vs : List State) (order : ℕ) (q : Queue) (seed : ℕ) (values : List (List Bit4)) (steps : ℕ) → IsReached n (start n first v vs) order q seed values steps → AreFew n (most_steps d name) q
+  pub few_left : (first v : State) (vs : List State) (order : ℕ) (q : Queue) (seed : ℕ) (values : List (List Bit4)) (steps : ℕ) → IsReached n (start n first v vs) order q seed values steps → AreFew n (most_steps d names) q
   few_left first v vs order q seed values steps reached cs h =
       let from = start n first v vs in
       let part = drawn_part n beyond reached.done cs from order (λ p e. first_waits _ e) (rests_first n beyond none_beyond first v vs) reached.drawn (subst (λ (x : Queue). IsWithinSlot n x cs) (sym reached.queue) h) in

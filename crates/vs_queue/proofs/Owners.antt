@@ -7,6 +7,7 @@ use Rattle.std.proofs.lemmas.List.{get_or-set_same, get_or-set_other, get_or-rep
 use Rattle.std.proofs.lemmas.List.Folds.{list_any_more}
 use Rattle.vs_net.specs.Network.{writes}
 use Rattle.vs_net.specs.Network as N
+use Rattle.vs_design.specs.Clocks.{clock_bits}
 use Rattle.vs_design.specs.Expressions as E
 use Rattle.vs_design.specs.Statements as T
 use Rattle.vs_design.specs.Designs.{Process, Continuous, Always, is_clocked, Design, bit_count, top_inputs}
@@ -115,47 +116,47 @@ writer_listed : (ps : List Process) (b : ℕ) → contains (written_bits ps) b �
 writer_listed [] b h = cc
 writer_listed (x ∷ ps) b h = split (writes_of x) (written_bits ps) b h (λ w. (0, x, refl, w)) (λ w. let r = writer_listed ps b w in (suc r.0, r.1, r.2, r.3))
 
-keeps_as_block : (d : Design) (clock : ℕ) (x : Process) (b : ℕ) → is_clocked x ≡ true → contains (writes_of x) b ≡ true → kept_bits (process_of d clock x) b ≡ true
-keeps_as_block d clock (Continuous place port target_place target e) b k w = cc
-keeps_as_block d clock (Always place star events st) b k w = subst (λ c. kept_bits (block_process d clock c (Always place star events st) events st) b ≡ true) (sym k) w
+keeps_as_block : (d : Design) (clocks : List ℕ) (x : Process) (b : ℕ) → is_clocked x ≡ true → contains (writes_of x) b ≡ true → kept_bits (process_of d clocks x) b ≡ true
+keeps_as_block d clocks (Continuous place port target_place target e) b k w = cc
+keeps_as_block d clocks (Always place star events st) b k w = subst (λ c. kept_bits (block_process d clocks c (Always place star events st) events st) b ≡ true) (sym k) w
 
 at_behind : (xs ks : List N.Process) → at_or_input (xs ++ ks) (length xs) ≡ at_or_input ks 0
 at_behind [] ks = refl
 at_behind (x ∷ xs) ks = at_behind xs ks
 
 -- the process of the keeper's number
-keeper_process : (d : Design) (clock : ℕ) → (network_of d clock).process (keeper_at d clock) ≡ at_or_input (keeper_of clock (sole_bits d)) 0
-keeper_process d clock =
-    let others = map (process_of d clock) d.processes ++ (map (writer_of clock) (top_inputs d) ++ spare_writers d clock) in
-    ap (λ (ps : List N.Process). at_or_input ps (keeper_at d clock)) (sym (with_keeper d clock)) ∙ ap (at_or_input (others ++ keeper_of clock (sole_bits d))) (sym (before_keeper d clock)) ∙ at_behind others (keeper_of clock (sole_bits d))
+keeper_process : (d : Design) (clocks : List ℕ) → (network_of d clocks).process (keeper_at d clocks) ≡ at_or_input (keeper_of clocks (sole_bits d)) 0
+keeper_process d clocks =
+    let others = map (process_of d clocks) d.processes ++ (map (writer_of clocks) (top_inputs d) ++ spare_writers d clocks) in
+    ap (λ (ps : List N.Process). at_or_input ps (keeper_at d clocks)) (sym (with_keeper d clocks)) ∙ ap (at_or_input (others ++ keeper_of clocks (sole_bits d))) (sym (before_keeper d clocks)) ∙ at_behind others (keeper_of clocks (sole_bits d))
 
-module _ (d : Design) (name : Option (List ℕ)) (a : IsAcceptedDesign d name) where
-  abbrev pub clock : ℕ
-  clock = a.clock.first
+module _ (d : Design) (names : List (List ℕ)) (a : IsAcceptedDesign d names) where
+  abbrev pub clocks : List ℕ
+  clocks = (clock_bits a.clocks)
 
   abbrev pub n : N.Network
-  n = network_of d clock
+  n = network_of d clocks
 
   abbrev Keeps : ℕ → ℕ → Type 0
   Keeps o b = (o < n.count) × (kept_bits (n.process o) b ≡ true)
 
   -- bits that initial processes alone write
-  sole_kept : (bs : List ℕ) (b : ℕ) → sole_bits d ≡ bs → contains bs b ≡ true → Keeps (keeper_at d clock) b
+  sole_kept : (bs : List ℕ) (b : ℕ) → sole_bits d ≡ bs → contains bs b ≡ true → Keeps (keeper_at d clocks) b
   sole_kept [] b e h = cc
   sole_kept (m ∷ bs) b e h =
       let one = keeper_one d (ap is_some_of e) in
-      let count = network_count d clock in (
+      let count = network_count d clocks in (
         omega (arith, one, count),
-        subst (λ (y : N.Process). kept_bits y b ≡ true) (sym (keeper_process d clock ∙ ap (λ (xs : List ℕ). at_or_input (keeper_of clock xs) 0) e)) h,
+        subst (λ (y : N.Process). kept_bits y b ≡ true) (sym (keeper_process d clocks ∙ ap (λ (xs : List ℕ). at_or_input (keeper_of clocks xs) 0) e)) h,
       )
 
   -- and those that a clocked block writes
-  kept_by : (b o : ℕ) → contains (initial_bits d.initials) b ≡ true → IsKeptBy d (length d.processes) (keeper_at d clock) b o → Keeps o b
+  kept_by : (b o : ℕ) → contains (initial_bits d.initials) b ≡ true → IsKeptBy d (length d.processes) (keeper_at d clocks) b o → Keeps o b
   kept_by b o h (inl (x, at, clocked, w)) =
       let l = found_below d.processes o x at in
-      let count = network_count d clock in (
+      let count = network_count d clocks in (
         omega (arith, l, count),
-        subst (λ (y : N.Process). kept_bits y b ≡ true) (sym (process_there d clock o x at)) (keeps_as_block d clock x b clocked w),
+        subst (λ (y : N.Process). kept_bits y b ≡ true) (sym (process_there d clocks o x at)) (keeps_as_block d clocks x b clocked w),
       )
   kept_by b o h (inr (is, none)) = subst (λ k. Keeps k b) (sym is) (sole_kept (sole_bits d) b refl (contains_filter (λ c. not (contains (written_bits d.processes) c)) (initial_bits d.initials) b ∙ rw (h, unwritten) refl))
     where
@@ -168,7 +169,7 @@ module _ (d : Design) (name : Option (List ℕ)) (a : IsAcceptedDesign d name) w
       unwritten = by_test (contains (written_bits d.processes) b)
           (λ w. let r = writer_listed d.processes b w in by_test (is_clocked r.1)
           (λ k. absurd (both_true (is_clocked r.1) (contains (writes_of r.1) b) k r.3 (none r.0 r.1 (found_below d.processes r.0 r.1 r.2) r.2)))
-          (λ k. absurd (either_way (contains (settled_bits d.processes) b) (listed_settled d.processes r.0 r.1 b r.2 k r.3) (unsettled_start d name a b h))))
+          (λ k. absurd (either_way (contains (settled_bits d.processes) b) (listed_settled d.processes r.0 r.1 b r.2 k r.3) (unsettled_start d names a b h))))
           (λ w. w)
 
   -- and no other process does
@@ -178,12 +179,12 @@ module _ (d : Design) (name : Option (List ℕ)) (a : IsAcceptedDesign d name) w
       go : (c : Bool) → (p == o) ≡ c → kept_bits (n.process p) b ≡ c
       go true e = ap (λ q. kept_bits (n.process q) b) (eqb-true p o e) ∙ k
       go false e = by_test (kept_bits (n.process p) b)
-          (λ h. absurd (eqb-false p o e (one_writer d name a clock o p b (kept_written d name a (n.process o) b k) (kept_written d name a (n.process p) b h))))
+          (λ h. absurd (eqb-false p o e (one_writer d names a o p b (kept_written d names a (n.process o) b k) (kept_written d names a (n.process p) b h))))
           (λ h. h)
 
-  pub are_owners : (owners : List ℕ) → length owners ≡ bit_count d → AreKept d (length d.processes) (keeper_at d clock) owners → AreOwners d clock owners
+  pub are_owners : (owners : List ℕ) → length owners ≡ bit_count d → AreKept d (length d.processes) (keeper_at d clocks) owners → AreOwners d clocks owners
   are_owners owners long kept =
-      let inside : (b : ℕ) → contains (initial_bits d.initials) b ≡ true → b < bit_count d = λ b h. kind_below d name a clock is_variable b (initial_variable d name a clock b h) in
+      let inside : (b : ℕ) → contains (initial_bits d.initials) b ≡ true → b < bit_count d = λ b h. kind_below d names a clocks is_variable b (initial_variable d names a clocks b h) in
       record {
         count = long;
         inside = inside;

@@ -7,14 +7,15 @@ use Rattle.vs_net.specs.Network.{State, Update, is_written, flatten, kind}
 use Rattle.vs_net.specs.Network as N
 use Rattle.vs_net.specs.Queue.{Slot, Fall, Rise, Queue, Choice, Next, after, start, slots_of}
 use Rattle.vs_net.proofs.Basics.{none_written}
+use Rattle.vs_design.specs.Footprints.{contains}
 use Rattle.vs_design.specs.Expressions.{Signal}
 use Rattle.vs_design.specs.Designs.{Design, Process, Continuous, Always, is_clocked, bit_count, top_inputs}
 use Rattle.vs_design.specs.Values.{bits_of_signal}
-use Rattle.vs_design.specs.Clocks.{clock_input, spare_clock}
+use Rattle.vs_design.specs.Clocks.{clock_bits}
 use Rattle.vs_design.specs.Elaborated.{have_bits_from}
 use Rattle.vs_design.specs.Initials.{sole_bits}
 use Rattle.vs_design.specs.RefusalLaws.{is_some_of}
-use Rattle.vs_design.specs.Networks.{process_of, block_process, writer_of, spare_writers, keeper_of, all_processes, at_or_input, network_of}
+use Rattle.vs_design.specs.Networks.{spare_clocks, process_of, block_process, writer_of, spare_writers, keeper_of, all_processes, at_or_input, network_of}
 use Rattle.vs_clock.specs.Clocked.{Clocked}
 use Rattle.vs_writes.specs.Held.{state_of}
 use Rattle.vs_events.specs.declared.beginning.Role.{Role}
@@ -23,7 +24,7 @@ use Rattle.vs_events.specs.Beginning.{first_events, role_at, role_of, Drive, Are
 use Rattle.vs_events.specs.Held.{Events, queue_of, after_activate}
 use Rattle.vs_queue.specs.Chosen.{next_seed, drawn}
 use Rattle.vs_queue.specs.Beginnings.{role_of_process, roles_of, driven_roles, all_roles}
-use Rattle.vs_queue.specs.Spare.{is_spare, value_count, has_keeper}
+use Rattle.vs_queue.specs.Spare.{spare_count, value_count, has_keeper}
 use Rattle.vs_queue.specs.Initially.{AllDriven, HasBegun}
 use Rattle.vs_queue.specs.Driven.{slot_drives}
 use Rattle.vs_queue.specs.Machines.{IsAcceptedBy}
@@ -32,10 +33,11 @@ use Rattle.vs_queue.specs.Running.{IsRunning, IsInside}
 use Rattle.vs_queue.specs.Runs.{IsCopied, IsEnded}
 use Rattle.vs_queue.specs.Sound.{BeginningIsSound, DrivesKeep, ActivationKeeps}
 use Rattle.vs_queue.specs.Turns.{IsRested}
-use Rattle.vs_queue.proofs.Drives.{each_given, are_driven, both_of, join_driven, wider_driven, all_driven, drives_run, drives_values, below_sum}
+use Rattle.vs_queue.proofs.Drives.{clock_near, spare_small, each_given, are_driven, both_of, join_driven, wider_driven, all_driven, drives_run, drives_values, below_sum}
 use Rattle.vs_queue.proofs.Inputs.{few_inputs, both_drives}
 use Rattle.vs_queue.proofs.Reaching.{next_more, reached_first}
-use Rattle.vs_queue.proofs.Spares.{spare_small, keeper_small, network_count}
+use Rattle.vs_queue.proofs.Told.{bits_are}
+use Rattle.vs_queue.proofs.Spares.{spare_length, keeper_small, network_count}
 use Rattle.vs_queue.proofs.Turning.{mod_one}
 
 -- ---- roles
@@ -52,71 +54,67 @@ role_there [] p = refl
 role_there (x ∷ xs) zero = refl
 role_there (x ∷ xs) (suc p) = role_there xs p
 
-process_role : (d : Design) (clock : ℕ) (x : Process) → role (process_of d clock x) ≡ role_of_process x
-process_role d clock (Continuous place port target_place target e) = refl
-process_role d clock (Always place star events s) = go (is_clocked (Always place star events s)) (Always place star events s)
+process_role : (d : Design) (clocks : List ℕ) (x : Process) → role (process_of d clocks x) ≡ role_of_process x
+process_role d clocks (Continuous place port target_place target e) = refl
+process_role d clocks (Always place star events s) = go (is_clocked (Always place star events s)) (Always place star events s)
   where
-    go : (c : Bool) (x : Process) → role (block_process d clock c x events s) ≡ R.Block
+    go : (c : Bool) (x : Process) → role (block_process d clocks c x events s) ≡ R.Block
     go true x = refl
     go false x = refl
 
-process_roles : (d : Design) (clock : ℕ) (ps : List Process) → map role (map (process_of d clock) ps) ≡ map role_of_process ps
-process_roles d clock [] = refl
-process_roles d clock (x ∷ ps) = ap₂ (λ (r : Role) (rs : List Role). r ∷ rs) (process_role d clock x) (process_roles d clock ps)
+process_roles : (d : Design) (clocks : List ℕ) (ps : List Process) → map role (map (process_of d clocks) ps) ≡ map role_of_process ps
+process_roles d clocks [] = refl
+process_roles d clocks (x ∷ ps) = ap₂ (λ (r : Role) (rs : List Role). r ∷ rs) (process_role d clocks x) (process_roles d clocks ps)
 
-input_role : (clock : ℕ) (s : Signal) → role (writer_of clock s) ≡ R.Input
-input_role clock s = go (s.first == clock)
+input_role : (clocks : List ℕ) (s : Signal) → role (writer_of clocks s) ≡ R.Input
+input_role clocks s = go (contains clocks s.first)
   where
-    go : (c : Bool) → role (if c then N.Clock clock else N.Input (bits_of_signal s)) ≡ R.Input
+    go : (c : Bool) → role (if c then N.Clock s.first else N.Input (bits_of_signal s)) ≡ R.Input
     go true = refl
     go false = refl
 
-input_roles : (clock : ℕ) (ss : List Signal) → map role (map (writer_of clock) ss) ≡ replicate (length ss) R.Input
-input_roles clock [] = refl
-input_roles clock (s ∷ ss) = ap₂ (λ (r : Role) (rs : List Role). r ∷ rs) (input_role clock s) (input_roles clock ss)
-
-abbrev spare_part : Bool → List Role
-spare_part c = if c then R.Input ∷ [] else []
+input_roles : (clocks : List ℕ) (ss : List Signal) → map role (map (writer_of clocks) ss) ≡ replicate (length ss) R.Input
+input_roles clocks [] = refl
+input_roles clocks (s ∷ ss) = ap₂ (λ (r : Role) (rs : List Role). r ∷ rs) (input_role clocks s) (input_roles clocks ss)
 
 abbrev keeper_part : Bool → List Role
 keeper_part c = if c then R.Block ∷ [] else []
 
-spare_roles : (clock : ℕ) (c : Bool) → map role (if c then [] else (N.Clock clock ∷ [])) ≡ spare_part (not c)
-spare_roles clock true = refl
-spare_roles clock false = refl
+spare_roles : (cs : List ℕ) → map role (map N.Clock cs) ≡ replicate (length cs) R.Input
+spare_roles [] = refl
+spare_roles (c ∷ cs) = ap (λ (rs : List Role). R.Input ∷ rs) (spare_roles cs)
 
-keeper_roles : (clock : ℕ) (bs : List ℕ) → map role (keeper_of clock bs) ≡ keeper_part (is_some_of bs)
-keeper_roles clock [] = refl
-keeper_roles clock (b ∷ bs) = refl
+keeper_roles : (clocks : List ℕ) (bs : List ℕ) → map role (keeper_of clocks bs) ≡ keeper_part (is_some_of bs)
+keeper_roles clocks [] = refl
+keeper_roles clocks (b ∷ bs) = refl
 
 with_part : (rs : List Role) (r : Role) (c : Bool) → (if c then rs ++ r ∷ [] else rs) ≡ rs ++ (if c then r ∷ [] else [])
 with_part rs r true = refl
 with_part rs r false = sym (append-nil rs)
 
 -- the roles are those of the network's processes
-roles_all : (d : Design) (clock : ℕ) → all_roles d clock ≡ map role (all_processes d clock)
-roles_all d clock =
+roles_all : (d : Design) (clocks : List ℕ) → all_roles d clocks ≡ map role (all_processes d clocks)
+roles_all d clocks =
     let ps = map role_of_process d.processes in
     let is = replicate (length (top_inputs d)) R.Input in
-    let ss = spare_part (is_spare d clock) in
+    let ss = replicate (spare_count d clocks) R.Input in
     let ks = keeper_part (has_keeper d) in
-    let ws = map (writer_of clock) (top_inputs d) in
-    let spare = spare_writers d clock in
-    let keeper = keeper_of clock (sole_bits d) in
-    with_part (driven_roles d clock) R.Block (has_keeper d)
-    ∙ ap (λ (rs : List Role). rs ++ ks) (with_part (roles_of d) R.Input (is_spare d clock))
+    let ws = map (writer_of clocks) (top_inputs d) in
+    let spare = spare_writers d clocks in
+    let keeper = keeper_of clocks (sole_bits d) in
+    with_part (driven_roles d clocks) R.Block (has_keeper d)
     ∙ append_assoc (ps ++ is) ss ks
     ∙ append_assoc ps is (ss ++ ks)
-    ∙ sym (map_append role (map (process_of d clock) d.processes) (ws ++ (spare ++ keeper))
-    ∙ ap₂ (λ (xs ys : List Role). xs ++ ys) (process_roles d clock d.processes) (map_append role ws (spare ++ keeper)
-    ∙ ap₂ (λ (xs ys : List Role). xs ++ ys) (input_roles clock (top_inputs d)) (map_append role spare keeper
-    ∙ ap₂ (λ (xs ys : List Role). xs ++ ys) (spare_roles clock (nat_lt clock (bit_count d))) (keeper_roles clock (sole_bits d)))))
+    ∙ sym (map_append role (map (process_of d clocks) d.processes) (ws ++ (spare ++ keeper))
+    ∙ ap₂ (λ (xs ys : List Role). xs ++ ys) (process_roles d clocks d.processes) (map_append role ws (spare ++ keeper)
+    ∙ ap₂ (λ (xs ys : List Role). xs ++ ys) (input_roles clocks (top_inputs d)) (map_append role spare keeper
+    ∙ ap₂ (λ (xs ys : List Role). xs ++ ys) (spare_roles (spare_clocks d clocks) ∙ ap (λ n. replicate n R.Input) (spare_length d clocks)) (keeper_roles clocks (sole_bits d)))))
 
-pub roles_are : (d : Design) (clock p : ℕ) → role_at (all_roles d clock) p ≡ role_of (kind ((network_of d clock).process p))
-roles_are d clock p = ap (λ (rs : List Role). get_or rs p R.Input) (roles_all d clock) ∙ role_there (all_processes d clock) p
+pub roles_are : (d : Design) (clocks : List ℕ) (p : ℕ) → role_at (all_roles d clocks) p ≡ role_of (kind ((network_of d clocks).process p))
+roles_are d clocks p = ap (λ (rs : List Role). get_or rs p R.Input) (roles_all d clocks) ∙ role_there (all_processes d clocks) p
 
-pub roles_count : (d : Design) (clock : ℕ) → length (all_roles d clock) ≡ (network_of d clock).count
-roles_count d clock = ap length (roles_all d clock) ∙ length-map (all_processes d clock) role
+pub roles_count : (d : Design) (clocks : List ℕ) → length (all_roles d clocks) ≡ (network_of d clocks).count
+roles_count d clocks = ap length (roles_all d clocks) ∙ length-map (all_processes d clocks) role
 
 -- ---- the first lists
 
@@ -147,95 +145,89 @@ first_inside count roles values h = record {
 some_is : (x y : Signal) → Some x ≡ Some y → x ≡ y
 some_is x y h = cc
 
--- the clock is one of the design's bits, or the next one
-near : (d : Design) (name : Option (List ℕ)) (input : Option ℕ) (s : Signal) → have_bits_from 0 d.signals ≡ true → is_some input ≡ is_some name → IfSome input (λ n. slice_get d.signals n ≡ Some s) → clock_input d name ≡ Some s → s.first ≤ bit_count d
-near d None input s l h at is = let same = some_is (spare_clock d) s is in let e : bit_count d ≡ s.first = ap (λ (x : Signal). x.first) same in omega (arith, e)
-near d (Some name) None s l h at is = absurd (let z : ⊥ = cc in z)
-near d (Some name) (Some k) s l h at is = let far = below_sum 0 d.signals k s l at in omega (arith, far)
-
 module _ (d : Design) (c : Clocked) (b : IsAcceptedBy d c) where
-  driven : (slot : Slot) → AllDriven (network_of d c.bit).count (value_count d c.bit) (slot_drives d c.bit slot)
-  driven slot = all_driven d c.bit slot b.accepted.lawful (let h = near d b.name c.input b.clock.signal b.accepted.lawful.bits_numbered b.clock.named b.clock.there b.clock.is in let is = b.clock.bit_is in omega (arith, h, is))
+  driven : (slot : Slot) → AllDriven (network_of d c.bits).count (value_count d c.bits) (slot_drives d c.bits slot)
+  driven slot = subst (λ (cs : List ℕ). AllDriven (network_of d cs).count (value_count d cs) (slot_drives d cs slot)) (sym (bits_are d c b)) (all_driven d (clock_bits b.accepted.clocks) slot b.accepted.lawful (clock_near d b.names b.accepted))
 
   -- ---- the beginning
 
-  pub first_running : BeginningIsSound → (values : List Bit4) → length values ≡ value_count d c.bit → IsRunning d c.bit (first_events (all_roles d c.bit) values)
-  first_running sound values long = record { sound = sound (network_of d c.bit) (all_roles d c.bit) values (roles_count d c.bit) (roles_are d c.bit); inside = first_inside (value_count d c.bit) (all_roles d c.bit) values long }
+  pub first_running : BeginningIsSound → (values : List Bit4) → length values ≡ value_count d c.bits → IsRunning d c.bits (first_events (all_roles d c.bits) values)
+  first_running sound values long = record { sound = sound (network_of d c.bits) (all_roles d c.bits) values (roles_count d c.bits) (roles_are d c.bits); inside = first_inside (value_count d c.bits) (all_roles d c.bits) values long }
 
-  pub few_roles : length (all_roles d c.bit) < 2 ^ 31
+  pub few_roles : length (all_roles d c.bits) < 2 ^ 31
   few_roles =
       let p = b.accepted.lawful.few_processes in
       let i = few_inputs d b.accepted.lawful in
-      let n = roles_count d c.bit ∙ network_count d c.bit in
-      let s = spare_small d c.bit in
+      let n = roles_count d c.bits ∙ network_count d c.bits in
+      let s = subst (λ (cs : List ℕ). spare_count d cs ≤ 1) (sym (bits_are d c b)) (spare_small d b.names b.accepted) in
       let k = keeper_small d in
       omega (arith, p, i, n, s, k)
 
   -- where what initial processes write was given
-  pub given_running : DrivesKeep → ActivationKeeps → (e now : Events) → IsRunning d c.bit e → HasBegun d c.bit e now → IsRunning d c.bit now
+  pub given_running : DrivesKeep → ActivationKeeps → (e now : Events) → IsRunning d c.bits e → HasBegun d c.bits e now → IsRunning d c.bits now
   given_running keep activation e now r h =
-      let n = network_of d c.bit in
-      let many = value_count d c.bit in
+      let n = network_of d c.bits in
+      let many = value_count d c.bits in
       let few : bit_count d ≤ many = omega arith in
       let one = after_drives e h.firsts in
-      let first = drives_run keep d c.bit h.firsts e r (wider_driven n.count (bit_count d) many h.firsts few h.firsts_there) in
-      let active : IsRunning d c.bit (after_activate one) = record { sound = activation n one first.sound; inside = record { values = first.inside.values; pending = first.inside.pending; active = first.inside.waiting; waiting = first.inside.active } } in
-      subst (IsRunning d c.bit) (sym h.now_is) (drives_run keep d c.bit h.lates (after_activate one) active (wider_driven n.count (bit_count d) many h.lates few h.lates_there))
+      let first = drives_run keep d c.bits h.firsts e r (wider_driven n.count (bit_count d) many h.firsts few h.firsts_there) in
+      let active : IsRunning d c.bits (after_activate one) = record { sound = activation n one first.sound; inside = record { values = first.inside.values; pending = first.inside.pending; active = first.inside.waiting; waiting = first.inside.active } } in
+      subst (IsRunning d c.bits) (sym h.now_is) (drives_run keep d c.bits h.lates (after_activate one) active (wider_driven n.count (bit_count d) many h.lates few h.lates_there))
 
-  given_values : (e now : Events) → HasBegun d c.bit e now → now.values ≡ e.values
+  given_values : (e now : Events) → HasBegun d c.bits e now → now.values ≡ e.values
   given_values e now h = ap (λ (x : Events). x.values) h.now_is ∙ drives_values h.lates (after_activate (after_drives e h.firsts)) ∙ drives_values h.firsts e
 
-  pub begun_copied : DrivesKeep → ActivationKeeps → (v : State) (e now : Events) (shadow : List Bit4) → IsRunning d c.bit e → HasBegun d c.bit e now → shadow ≡ e.values → IsCopied d c.bit (after_drives now (slot_drives d c.bit (Fall v))) shadow
+  pub begun_copied : DrivesKeep → ActivationKeeps → (v : State) (e now : Events) (shadow : List Bit4) → IsRunning d c.bits e → HasBegun d c.bits e now → shadow ≡ e.values → IsCopied d c.bits (after_drives now (slot_drives d c.bits (Fall v))) shadow
   begun_copied keep activation v e now shadow r h same =
-      let ds = slot_drives d c.bit (Fall v) in
+      let ds = slot_drives d c.bits (Fall v) in
       let stays = drives_values ds now ∙ given_values e now h in
       record {
-        running = drives_run keep d c.bit ds now (given_running keep activation e now r h) (driven (Fall v));
+        running = drives_run keep d c.bits ds now (given_running keep activation e now r h) (driven (Fall v));
         shadow_is = ap state_of (same ∙ sym stays);
         long = ap length (same ∙ sym stays);
       }
 
-  pub begun_start : BeginningIsStart → (v : State) (later : List State) (values : List Bit4) (now : Events) → HasBegun d c.bit (first_events (all_roles d c.bit) values) now
-      → queue_of (after_drives now (slot_drives d c.bit (Fall v))) (Rise ∷ slots_of later) ≡ start (network_of d c.bit) (state_of values) v later
+  pub begun_start : BeginningIsStart → (v : State) (later : List State) (values : List Bit4) (now : Events) → HasBegun d c.bits (first_events (all_roles d c.bits) values) now
+      → queue_of (after_drives now (slot_drives d c.bits (Fall v))) (Rise ∷ slots_of later) ≡ start (network_of d c.bits) (state_of values) v later
   begun_start law v later values now h =
-      let n = network_of d c.bit in
-      let ds = slot_drives d c.bit (Fall v) in
-      let e = first_events (all_roles d c.bit) values in
-      let there = λ (xs : List Drive) (k : AllDriven n.count (value_count d c.bit) xs). subst (λ m. AreDriven m xs) (sym (roles_count d c.bit)) (are_driven n.count (value_count d c.bit) xs k) in
-      let few : bit_count d ≤ value_count d c.bit = omega arith in
-      let firsts = wider_driven n.count (bit_count d) (value_count d c.bit) h.firsts few h.firsts_there in
-      let lates = wider_driven n.count (bit_count d) (value_count d c.bit) h.lates few h.lates_there in
+      let n = network_of d c.bits in
+      let ds = slot_drives d c.bits (Fall v) in
+      let e = first_events (all_roles d c.bits) values in
+      let there = λ (xs : List Drive) (k : AllDriven n.count (value_count d c.bits) xs). subst (λ m. AreDriven m xs) (sym (roles_count d c.bits)) (are_driven n.count (value_count d c.bits) xs k) in
+      let few : bit_count d ≤ value_count d c.bits = omega arith in
+      let firsts = wider_driven n.count (bit_count d) (value_count d c.bits) h.firsts few h.firsts_there in
+      let lates = wider_driven n.count (bit_count d) (value_count d c.bits) h.lates few h.lates_there in
       ap (λ (x : Events). queue_of (after_drives x ds) (Rise ∷ slots_of later)) h.now_is
       ∙ ap (λ (x : Events). queue_of x (Rise ∷ slots_of later)) (sym (both_drives h.lates ds (after_activate (after_drives e h.firsts))))
-      ∙ law n (all_roles d c.bit) values v later h.firsts (h.lates ++ ds) (roles_are d c.bit) (there h.firsts firsts) h.firsts_are (there (h.lates ++ ds) (join_driven n.count (value_count d c.bit) h.lates ds lates (driven (Fall v))))
-      (λ p. both_of h.lates ds p ∙ ap₂ (λ (us ts : List Update). us ++ ts) (h.lates_are p) (each_given d c.bit (Fall v) p))
+      ∙ law n (all_roles d c.bits) values v later h.firsts (h.lates ++ ds) (roles_are d c.bits) (there h.firsts firsts) h.firsts_are (there (h.lates ++ ds) (join_driven n.count (value_count d c.bits) h.lates ds lates (driven (Fall v))))
+      (λ p. both_of h.lates ds p ∙ ap₂ (λ (us ts : List Update). us ++ ts) (h.lates_are p) (each_given d c.bits (Fall v) p))
 
-  pub begun_reached : (first v : State) (later : List State) (seed : ℕ) (values : List Bit4) → state_of values ≡ first → (e : Events) → queue_of e (Rise ∷ slots_of later) ≡ start (network_of d c.bit) (state_of values) v later
-      → IsReached (network_of d c.bit) (start (network_of d c.bit) first v later) seed (queue_of e (Rise ∷ slots_of later)) seed [] 0
+  pub begun_reached : (first v : State) (later : List State) (seed : ℕ) (values : List Bit4) → state_of values ≡ first → (e : Events) → queue_of e (Rise ∷ slots_of later) ≡ start (network_of d c.bits) (state_of values) v later
+      → IsReached (network_of d c.bits) (start (network_of d c.bits) first v later) seed (queue_of e (Rise ∷ slots_of later)) seed [] 0
   begun_reached first v later seed values is e begins =
-      let n = network_of d c.bit in
+      let n = network_of d c.bits in
       subst (λ (q : Queue). IsReached n (start n first v later) seed q seed [] 0) (sym (begins ∙ ap (λ s. start n s v later) is)) (reached_first n (start n first v later) seed)
 
   -- ---- the next slot
 
-  pub next_copied : DrivesKeep → (e now : Events) (shadow : List Bit4) (slot : Slot) → IsCopied d c.bit e shadow → now ≡ after_drives e (slot_drives d c.bit slot) → IsCopied d c.bit now shadow
+  pub next_copied : DrivesKeep → (e now : Events) (shadow : List Bit4) (slot : Slot) → IsCopied d c.bits e shadow → now ≡ after_drives e (slot_drives d c.bits slot) → IsCopied d c.bits now shadow
   next_copied keep e now shadow slot r is =
-      let ds = slot_drives d c.bit slot in
+      let ds = slot_drives d c.bits slot in
       let stays = drives_values ds e in
-      subst (λ x. IsCopied d c.bit x shadow) (sym is) (record { running = drives_run keep d c.bit ds e r.running (driven slot); shadow_is = r.shadow_is ∙ ap state_of (sym stays); long = r.long ∙ ap length (sym stays) })
+      subst (λ x. IsCopied d c.bits x shadow) (sym is) (record { running = drives_run keep d c.bits ds e r.running (driven slot); shadow_is = r.shadow_is ∙ ap state_of (sym stays); long = r.long ∙ ap length (sym stays) })
 
   -- where nothing waits, the slot begins with what it drives
-  pub next_is : DrivingIsNext → (e now : Events) (slot : Slot) → IsRunning d c.bit e → IsRested e → now ≡ after_drives e (slot_drives d c.bit slot) → (slots : List Slot) → queue_of now slots ≡ after (network_of d c.bit) (queue_of e (slot ∷ slots)) Next
+  pub next_is : DrivingIsNext → (e now : Events) (slot : Slot) → IsRunning d c.bits e → IsRested e → now ≡ after_drives e (slot_drives d c.bits slot) → (slots : List Slot) → queue_of now slots ≡ after (network_of d c.bits) (queue_of e (slot ∷ slots)) Next
   next_is law e now slot r rested is slots =
-      let n = network_of d c.bit in
-      let ds = slot_drives d c.bit slot in
+      let n = network_of d c.bits in
+      let ds = slot_drives d c.bits slot in
       ap (λ x. queue_of x slots) is
-      ∙ law n e slot slots ds r.sound.held rested (subst (λ k. AreDriven k ds) (sym r.sound.count) (are_driven n.count (value_count d c.bit) ds (driven slot))) (each_given d c.bit slot)
+      ∙ law n e slot slots ds r.sound.held rested (subst (λ k. AreDriven k ds) (sym r.sound.count) (are_driven n.count (value_count d c.bits) ds (driven slot))) (each_given d c.bits slot)
 
-  pub next_reached : DrivingIsNext → (e now : Events) (shadow : List Bit4) (slot : Slot) → IsCopied d c.bit e shadow → IsEnded d c.bit e → now ≡ after_drives e (slot_drives d c.bit slot)
-      → (from : Queue) (order : ℕ) (slots : List Slot) (seed : ℕ) (ends : List (List Bit4)) (steps : ℕ) → IsReached (network_of d c.bit) from order (queue_of e (slot ∷ slots)) seed ends steps
-      → IsReached (network_of d c.bit) from order (queue_of now slots) (next_seed seed) (ends ++ e.values ∷ []) (counted (suc steps))
+  pub next_reached : DrivingIsNext → (e now : Events) (shadow : List Bit4) (slot : Slot) → IsCopied d c.bits e shadow → IsEnded d c.bits e → now ≡ after_drives e (slot_drives d c.bits slot)
+      → (from : Queue) (order : ℕ) (slots : List Slot) (seed : ℕ) (ends : List (List Bit4)) (steps : ℕ) → IsReached (network_of d c.bits) from order (queue_of e (slot ∷ slots)) seed ends steps
+      → IsReached (network_of d c.bits) from order (queue_of now slots) (next_seed seed) (ends ++ e.values ∷ []) (counted (suc steps))
   next_reached law e now shadow slot r ended is from order slots seed ends steps reached =
-      let n = network_of d c.bit in
+      let n = network_of d c.bits in
       subst (λ (q : Queue). IsReached n from order q (next_seed seed) (ends ++ e.values ∷ []) (counted (suc steps))) (sym (next_is law e now slot r.running ended.rested is slots))
       (next_more n from order (queue_of e (slot ∷ slots)) seed ends steps reached e.values refl (ap (λ (cs : List Choice). slice_get cs (drawn seed % length cs)) (ended.over (slot ∷ slots)) ∙ ap (λ k. slice_get (Next ∷ []) k) (mod_one (drawn seed))))

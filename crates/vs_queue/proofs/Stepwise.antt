@@ -12,6 +12,7 @@ use Rattle.vs_net.specs.LevelRun.{is_empty}
 use Rattle.vs_net.specs.Checked.{is_assign, is_block, is_due, is_unstarted, is_possible}
 use Rattle.vs_net.specs.Lawful.{IsLawful, Settles}
 use Rattle.vs_net.proofs.Basics.{none_written, flat_cons}
+use Rattle.vs_design.specs.Clocks.{clock_bits}
 use Rattle.vs_design.specs.Designs.{Design, bit_count, top_inputs, Continuous, Always}
 use Rattle.vs_design.specs.Footprints.{contains, all_reads, writes_of, waits_of}
 use Rattle.vs_design.specs.Networks.{network_of}
@@ -185,26 +186,26 @@ empty_of [] h = refl
 empty_of (u ∷ us) h = cc
 
 pub activation_runs : ActivateIsStep → ActivationRuns
-activation_runs step d clock e r none =
+activation_runs step d clocks e r none =
     let b = append_none (map Start (members e.unstarted)) (map Evaluate (members e.evaluates) ++ (map Apply (members e.applies) ++ (map Run (members e.runs) ++ map Take (members e.takes)))) none in
     let c = append_none (map Evaluate (members e.evaluates)) (map Apply (members e.applies) ++ (map Run (members e.runs) ++ map Take (members e.takes))) b.1 in
     let f = append_none (map Apply (members e.applies)) (map Run (members e.runs) ++ map Take (members e.takes)) c.1 in
     let g = append_none (map Run (members e.runs)) (map Take (members e.takes)) f.1 in
     let still = map_none Take (members e.takes) g.1 in
     record {
-      running = record { sound = activation_keeps (network_of d clock) e r.sound; inside = record { values = r.inside.values; pending = r.inside.pending; active = r.inside.waiting; waiting = r.inside.active } };
-      queue = λ slots. step (network_of d clock) e slots (λ p. empty_of (get_or e.active p []) (sym (r.sound.takes p) ∙ no_member e.takes 0 p still));
+      running = record { sound = activation_keeps (network_of d clocks) e r.sound; inside = record { values = r.inside.values; pending = r.inside.pending; active = r.inside.waiting; waiting = r.inside.active } };
+      queue = λ slots. step (network_of d clocks) e slots (λ p. empty_of (get_or e.active p []) (sym (r.sound.takes p) ∙ no_member e.takes 0 p still));
     }
 
-module _ (bits : BitsOfDesign) (lawful : AcceptedIsLawful) (d : Design) (name : Option (List ℕ)) (a : IsAcceptedDesign d name) where
+module _ (bits : BitsOfDesign) (lawful : AcceptedIsLawful) (d : Design) (names : List (List ℕ)) (a : IsAcceptedDesign d names) where
   abbrev n : Network
-  n = network_of d a.clock.first
+  n = network_of d (clock_bits a.clocks)
 
   abbrev many : ℕ
-  many = value_count d a.clock.first
+  many = value_count d (clock_bits a.clocks)
 
   L : IsLawful n
-  L = lawful d name a d.initials (same_order d.initials)
+  L = lawful d names a d.initials (same_order d.initials)
 
   append_has : (bs cs : List ℕ) (b : ℕ) → contains (bs ++ cs) b ≡ (contains bs b || contains cs b)
   append_has bs cs b = list_any-append (λ c. b == c) bs cs
@@ -218,14 +219,14 @@ module _ (bits : BitsOfDesign) (lawful : AcceptedIsLawful) (d : Design) (name : 
   further b l = omega (arith, l)
 
   writes_inside : (p b : ℕ) → (is_assign (kind (n.process p)) || is_block (kind (n.process p))) ≡ true → writes (n.process p) b ≡ true → b < many
-  writes_inside p b = by_kind d a.clock.first (λ p x. (is_assign (kind x) || is_block (kind x)) ≡ true → writes x b ≡ true → b < many) (record {
+  writes_inside p b = by_kind d (clock_bits a.clocks) (λ p x. (is_assign (kind x) || is_block (kind x)) ≡ true → writes x b ≡ true → b < many) (record {
     assigns = λ p place port target_place target e at h w. (let x = Continuous place port target_place target e in further b (bits d a.lawful p x at b (append_has (all_reads x) (writes_of x ++ waits_of x) b ∙ ap (λ c. contains (all_reads x) b || c) (append_has (writes_of x) (waits_of x) b) ∙ middle (contains (all_reads x) b) (contains (writes_of x) b) (contains (waits_of x) b) w)));
     combs = λ p place star events st at k h w. (let x = Always place star events st in further b (bits d a.lawful p x at b (append_has (all_reads x) (writes_of x ++ waits_of x) b ∙ ap (λ c. contains (all_reads x) b || c) (append_has (writes_of x) (waits_of x) b) ∙ middle (contains (all_reads x) b) (contains (writes_of x) b) (contains (waits_of x) b) w)));
     clocked = λ p place star events st at k h w. (let x = Always place star events st in further b (bits d a.lawful p x at b (append_has (all_reads x) (writes_of x ++ waits_of x) b ∙ ap (λ c. contains (all_reads x) b || c) (append_has (writes_of x) (waits_of x) b) ∙ middle (contains (all_reads x) b) (contains (writes_of x) b) (contains (waits_of x) b) w)));
     inputs = λ p i s l e f h w. cc;
     clock = λ p i s l e f h w. cc;
-    spare = λ p l f h w. cc;
-    keeper = λ p l k bs e h w. further b (kind_below d name a a.clock.first is_variable b (sole_variable d name a a.clock.first b (subst (λ (ks : List ℕ). contains ks b ≡ true) (sym e) w)));
+    spare = λ p i c l e k f h w. cc;
+    keeper = λ p l k bs e h w. further b (kind_below d names a (clock_bits a.clocks) is_variable b (sole_variable d names a (clock_bits a.clocks) b (subst (λ (ks : List ℕ). contains ks b ≡ true) (sym e) w)));
     none = λ p h w. cc;
   }) p
 
@@ -269,10 +270,10 @@ module _ (bits : BitsOfDesign) (lawful : AcceptedIsLawful) (d : Design) (name : 
 
   -- ---- its lists
 
-  count_is : n.count ≡ length d.processes + (length (top_inputs d) + (spare_count d a.clock.first + keeper_count d))
-  count_is = network_count d a.clock.first
+  count_is : n.count ≡ length d.processes + (length (top_inputs d) + (spare_count d (clock_bits a.clocks) + keeper_count d))
+  count_is = network_count d (clock_bits a.clocks)
 
-  module _ (wired : DesignIsWired) (e : Events) (r : IsRunning d a.clock.first e) where
+  module _ (wired : DesignIsWired) (e : Events) (r : IsRunning d (clock_bits a.clocks) e) where
     sound : IsSound n e
     sound = r.sound
 
@@ -283,10 +284,10 @@ module _ (bits : BitsOfDesign) (lawful : AcceptedIsLawful) (d : Design) (name : 
     inside = r.inside
 
     abbrev table : List (List Listener)
-    table = listeners_of d a.clock.first
+    table = listeners_of d (clock_bits a.clocks)
 
-    hears : AreListeners d a.clock.first
-    hears = wired d name a
+    hears : AreListeners d (clock_bits a.clocks)
+    hears = wired d names a
 
     below : (b : ℕ) → AreBelow (length e.assigns) (get_or table b [])
     below b k l at = let h = hears.below b k l at in let c = sound.count in omega (arith, h, c)
@@ -345,7 +346,7 @@ module _ (bits : BitsOfDesign) (lawful : AcceptedIsLawful) (d : Design) (name : 
         go false k = cc
 
     module _ (start_step : StartIsStep) (evaluate_step : EvaluateIsStep) (apply_step : ApplyIsStep) (run_step : RunIsStep) (take_step : TakeIsStep) where
-      start_runs : (p : ℕ) → is_possible n (queue_of e []) (Start p) ≡ true → IsStepped d a.clock.first e (Start p) (after_start e p)
+      start_runs : (p : ℕ) → is_possible n (queue_of e []) (Start p) ≡ true → IsStepped d (clock_bits a.clocks) e (Start p) (after_start e p)
       start_runs p h =
           let parts = and_parts (nat_lt p n.count) (is_unstarted ((queue_of e []).mode p)) h in
           let l = there p parts.0 in
@@ -355,7 +356,7 @@ module _ (bits : BitsOfDesign) (lawful : AcceptedIsLawful) (d : Design) (name : 
             queue = λ slots. start_step n e slots p held l (sound.unstarted p up);
           }
 
-      evaluate_runs : (p : ℕ) → is_possible n (queue_of e []) (Evaluate p) ≡ true → IsStepped d a.clock.first e (Evaluate p) (after_evaluate e p (to_write (state_of e.values) (made (n.process p) (state_of e.values))))
+      evaluate_runs : (p : ℕ) → is_possible n (queue_of e []) (Evaluate p) ≡ true → IsStepped d (clock_bits a.clocks) e (Evaluate p) (after_evaluate e p (to_write (state_of e.values) (made (n.process p) (state_of e.values))))
       evaluate_runs p h =
           let parts = and_parts (nat_lt p n.count && is_assign (kind (n.process p))) (is_due ((queue_of e []).mode p)) h in
           let more = and_parts (nat_lt p n.count) (is_assign (kind (n.process p))) parts.0 in
@@ -370,7 +371,7 @@ module _ (bits : BitsOfDesign) (lawful : AcceptedIsLawful) (d : Design) (name : 
             queue = λ slots. evaluate_step n e slots p ws held l due.0 (is_false (has_member e.runs p) (λ on. apart (kind (n.process p)) more.1 (sound.runs p on))) refl;
           }
 
-      apply_runs : (p : ℕ) → is_possible n (queue_of e []) (Apply p) ≡ true → IsStepped d a.clock.first e (Apply p) (after_apply e table p)
+      apply_runs : (p : ℕ) → is_possible n (queue_of e []) (Apply p) ≡ true → IsStepped d (clock_bits a.clocks) e (Apply p) (after_apply e table p)
       apply_runs p h =
           let parts = and_parts (nat_lt p n.count) (is_some ((queue_of e []).pending p)) h in
           let l = there p parts.0 in
@@ -385,7 +386,7 @@ module _ (bits : BitsOfDesign) (lawful : AcceptedIsLawful) (d : Design) (name : 
             queue = λ slots. apply_step n table hears.wired e slots p held l on (inside_len (get_or e.pending p []) (inside.pending p)) below;
           }
 
-      run_runs : (p : ℕ) → is_possible n (queue_of e []) (Run p) ≡ true → IsStepped d a.clock.first e (Run p) (after_run e table p (made (n.process p) (state_of e.values)) (updates (n.process p) (state_of e.values)))
+      run_runs : (p : ℕ) → is_possible n (queue_of e []) (Run p) ≡ true → IsStepped d (clock_bits a.clocks) e (Run p) (after_run e table p (made (n.process p) (state_of e.values)) (updates (n.process p) (state_of e.values)))
       run_runs p h =
           let parts = and_parts (nat_lt p n.count && is_block (kind (n.process p))) (is_due ((queue_of e []).mode p)) h in
           let more = and_parts (nat_lt p n.count) (is_block (kind (n.process p))) parts.0 in
@@ -411,7 +412,7 @@ module _ (bits : BitsOfDesign) (lawful : AcceptedIsLawful) (d : Design) (name : 
             queue = λ slots. run_step n table hears.wired e slots p held l due.0 (inside_len ws (within p (state_of e.values)).made_in) below;
           }
 
-      take_runs : (p : ℕ) → is_possible n (queue_of e []) (Take p) ≡ true → IsStepped d a.clock.first e (Take p) (after_take e table p (get_or e.active p []))
+      take_runs : (p : ℕ) → is_possible n (queue_of e []) (Take p) ≡ true → IsStepped d (clock_bits a.clocks) e (Take p) (after_take e table p (get_or e.active p []))
       take_runs p h =
           let parts = and_parts (nat_lt p n.count) (not (is_empty (get_or e.active p []))) h in
           let l = there p parts.0 in
@@ -429,7 +430,7 @@ module _ (bits : BitsOfDesign) (lawful : AcceptedIsLawful) (d : Design) (name : 
             queue = λ slots. take_step n table hears.wired e slots p some.0 some.1 held l some.2 (inside_len some.0 first) below;
           }
 
-      pub step_runs : (i : ℕ) (c : Choice) → slice_get (steps_of e) i ≡ Some c → IsStepped d a.clock.first e c (stepped n table e c)
+      pub step_runs : (i : ℕ) (c : Choice) → slice_get (steps_of e) i ≡ Some c → IsStepped d (clock_bits a.clocks) e c (stepped n table e c)
       step_runs i (Start p) at = start_runs p (here (Start p) i at)
       step_runs i (Evaluate p) at = evaluate_runs p (here (Evaluate p) i at)
       step_runs i (Apply p) at = apply_runs p (here (Apply p) i at)
@@ -439,4 +440,4 @@ module _ (bits : BitsOfDesign) (lawful : AcceptedIsLawful) (d : Design) (name : 
       step_runs i Next at = absurd (let z = all_at is_step (steps_of e) i Next (are_steps e) at in cc)
 
 pub steps_run : BitsOfDesign → AcceptedIsLawful → DesignIsWired → StartIsStep → EvaluateIsStep → ApplyIsStep → RunIsStep → TakeIsStep → StepsRun
-steps_run bits lawful wired start evaluate apply run take d name a e i c r at = step_runs bits lawful d name a wired e r start evaluate apply run take i c at
+steps_run bits lawful wired start evaluate apply run take d names a e i c r at = step_runs bits lawful d names a wired e r start evaluate apply run take i c at

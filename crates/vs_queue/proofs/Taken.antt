@@ -75,44 +75,44 @@ take_next [] k x h = absurd (let z : ⊥ = cc in z)
 take_next (y ∷ ys) zero x h = let same : y ≡ x = cc in ap (λ z. z ∷ []) same
 take_next (y ∷ ys) (suc k) x h = ap (λ zs. y ∷ zs) (take_next ys k x h)
 
-module _ (d : Design) (clock : ℕ) where
+module _ (d : Design) (clocks : List ℕ) where
   abbrev n : Network
-  n = network_of d clock
+  n = network_of d clocks
 
-  pub taken_none : (steps : Queue → List Choice) (e : Events) (shadow : List Bit4) → IsCopied d clock e shadow → ((slots : List Slot) → steps (queue_of e slots) ≡ []) → HasTaken d clock steps e e shadow
+  pub taken_none : (steps : Queue → List Choice) (e : Events) (shadow : List Bit4) → IsCopied d clocks e shadow → ((slots : List Slot) → steps (queue_of e slots) ≡ []) → HasTaken d clocks steps e e shadow
   taken_none steps e shadow r none = record { copied = r; swept = λ slots. ap (after_all n (queue_of e slots)) (sym (none slots)) }
 
-  pub taken_as : (f g : Queue → List Choice) (e now : Events) (shadow : List Bit4) → HasTaken d clock f e now shadow → ((slots : List Slot) → f (queue_of e slots) ≡ g (queue_of e slots)) → HasTaken d clock g e now shadow
+  pub taken_as : (f g : Queue → List Choice) (e now : Events) (shadow : List Bit4) → HasTaken d clocks f e now shadow → ((slots : List Slot) → f (queue_of e slots) ≡ g (queue_of e slots)) → HasTaken d clocks g e now shadow
   taken_as f g e now shadow r same = record { copied = r.copied; swept = λ slots. r.swept slots ∙ ap (after_all n (queue_of e slots)) (same slots) }
 
-  pub taken_then : (f g : Queue → List Choice) (e m now : Events) (before shadow : List Bit4) → HasTaken d clock f e m before → HasTaken d clock g m now shadow → HasTaken d clock (λ q. f q ++ g (after_all n q (f q))) e now shadow
+  pub taken_then : (f g : Queue → List Choice) (e m now : Events) (before shadow : List Bit4) → HasTaken d clocks f e m before → HasTaken d clocks g m now shadow → HasTaken d clocks (λ q. f q ++ g (after_all n q (f q))) e now shadow
   taken_then f g e m now before shadow a b = record {
     copied = b.copied;
     swept = λ slots. let q = queue_of e slots in b.swept slots ∙ ap (λ x. after_all n x (g x)) (a.swept slots) ∙ sym (after_both n (f q) (g (after_all n q (f q))) q);
   }
 
   -- the turn of one process more
-  pub taken_more : (turn : Queue → ℕ → List Choice) (ps : List ℕ) (p : ℕ) (e m now : Events) (before shadow : List Bit4) → HasTaken d clock (λ q. each_in turn n q ps) e m before → HasTaken d clock (λ q. turn q p) m now shadow
-      → HasTaken d clock (λ q. each_in turn n q (ps ++ p ∷ [])) e now shadow
+  pub taken_more : (turn : Queue → ℕ → List Choice) (ps : List ℕ) (p : ℕ) (e m now : Events) (before shadow : List Bit4) → HasTaken d clocks (λ q. each_in turn n q ps) e m before → HasTaken d clocks (λ q. turn q p) m now shadow
+      → HasTaken d clocks (λ q. each_in turn n q (ps ++ p ∷ [])) e now shadow
   taken_more turn ps p e m now before shadow a b =
       taken_as (λ q. each_in turn n q ps ++ turn (after_all n q (each_in turn n q ps)) p) (λ q. each_in turn n q (ps ++ p ∷ [])) e now shadow
       (taken_then (λ q. each_in turn n q ps) (λ q. turn q p) e m now before shadow a b) (λ slots. sym (each_more turn n ps p (queue_of e slots)))
 
-  pub taken_next : (turn : Queue → ℕ → List Choice) (p : ℕ) (e m now : Events) (before shadow : List Bit4) → HasTaken d clock (λ q. each_in turn n q (below p)) e m before → HasTaken d clock (λ q. turn q p) m now shadow
-      → HasTaken d clock (λ q. each_in turn n q (below (p + 1))) e now shadow
-  taken_next turn p e m now before shadow a b = subst (λ j. HasTaken d clock (λ q. each_in turn n q (below j)) e now shadow) (let s : suc p ≡ p + 1 = omega arith in s) (taken_more turn (below p) p e m now before shadow a b)
+  pub taken_next : (turn : Queue → ℕ → List Choice) (p : ℕ) (e m now : Events) (before shadow : List Bit4) → HasTaken d clocks (λ q. each_in turn n q (below p)) e m before → HasTaken d clocks (λ q. turn q p) m now shadow
+      → HasTaken d clocks (λ q. each_in turn n q (below (p + 1))) e now shadow
+  taken_next turn p e m now before shadow a b = subst (λ j. HasTaken d clocks (λ q. each_in turn n q (below j)) e now shadow) (let s : suc p ≡ p + 1 = omega arith in s) (taken_more turn (below p) p e m now before shadow a b)
 
   -- and of one of a list
-  pub taken_from : (turn : Queue → ℕ → List Choice) (ps : List ℕ) (k p : ℕ) → slice_get ps k ≡ Some p → (e m now : Events) (before shadow : List Bit4) → HasTaken d clock (λ q. each_in turn n q (take k ps)) e m before → HasTaken d clock (λ q. turn q p) m now shadow
-      → HasTaken d clock (λ q. each_in turn n q (take (k + 1) ps)) e now shadow
+  pub taken_from : (turn : Queue → ℕ → List Choice) (ps : List ℕ) (k p : ℕ) → slice_get ps k ≡ Some p → (e m now : Events) (before shadow : List Bit4) → HasTaken d clocks (λ q. each_in turn n q (take k ps)) e m before → HasTaken d clocks (λ q. turn q p) m now shadow
+      → HasTaken d clocks (λ q. each_in turn n q (take (k + 1) ps)) e now shadow
   taken_from turn ps k p at e m now before shadow a b =
-      subst (λ xs. HasTaken d clock (λ q. each_in turn n q xs) e now shadow) (sym (take_next ps k p at) ∙ ap (λ j. take j ps) (let s : suc k ≡ k + 1 = omega arith in s)) (taken_more turn (take k ps) p e m now before shadow a b)
+      subst (λ xs. HasTaken d clocks (λ q. each_in turn n q xs) e now shadow) (sym (take_next ps k p at) ∙ ap (λ j. take j ps) (let s : suc k ≡ k + 1 = omega arith in s)) (taken_more turn (take k ps) p e m now before shadow a b)
 
   -- one part more
-  pub taken_last : (order : List ℕ) (s : Sweep) (e now : Events) (shadow : List Bit4) → HasTaken d clock (λ q. sweep n order q s) e now shadow → HasTaken d clock (λ q. sweeps n order q (s ∷ [])) e now shadow
+  pub taken_last : (order : List ℕ) (s : Sweep) (e now : Events) (shadow : List Bit4) → HasTaken d clocks (λ q. sweep n order q s) e now shadow → HasTaken d clocks (λ q. sweeps n order q (s ∷ [])) e now shadow
   taken_last order s e now shadow r = taken_as (λ q. sweep n order q s) (λ q. sweeps n order q (s ∷ [])) e now shadow r (λ slots. sym (append_nil (sweep n order (queue_of e slots) s)))
 
-  pub taken_part : (order : List ℕ) (s : Sweep) (ss : List Sweep) (e m now : Events) (before shadow : List Bit4) → HasTaken d clock (λ q. sweep n order q s) e m before → HasTaken d clock (λ q. sweeps n order q ss) m now shadow → HasTaken d clock (λ q. sweeps n order q (s ∷ ss)) e now shadow
+  pub taken_part : (order : List ℕ) (s : Sweep) (ss : List Sweep) (e m now : Events) (before shadow : List Bit4) → HasTaken d clocks (λ q. sweep n order q s) e m before → HasTaken d clocks (λ q. sweeps n order q ss) m now shadow → HasTaken d clocks (λ q. sweeps n order q (s ∷ ss)) e now shadow
   taken_part order s ss e m now before shadow a b = taken_then (λ q. sweep n order q s) (λ q. sweeps n order q ss) e m now before shadow a b
 
   sweeps_both : (order : List ℕ) (ss ts : List Sweep) (q : Queue) → sweeps n order q ss ++ sweeps n order (after_all n q (sweeps n order q ss)) ts ≡ sweeps n order q (ss ++ ts)
@@ -128,15 +128,15 @@ module _ (d : Design) (clock : ℕ) where
       assoc (x ∷ xs) ys zs = ap (λ ws. x ∷ ws) (assoc xs ys zs)
 
   -- and more of them
-  pub taken_parts : (order : List ℕ) (ss ts : List Sweep) (e m now : Events) (before shadow : List Bit4) → HasTaken d clock (λ q. sweeps n order q ss) e m before → HasTaken d clock (λ q. sweeps n order q ts) m now shadow → HasTaken d clock (λ q. sweeps n order q (ss ++ ts)) e now shadow
+  pub taken_parts : (order : List ℕ) (ss ts : List Sweep) (e m now : Events) (before shadow : List Bit4) → HasTaken d clocks (λ q. sweeps n order q ss) e m before → HasTaken d clocks (λ q. sweeps n order q ts) m now shadow → HasTaken d clocks (λ q. sweeps n order q (ss ++ ts)) e now shadow
   taken_parts order ss ts e m now before shadow a b =
       taken_as (λ q. sweeps n order q ss ++ sweeps n order (after_all n q (sweeps n order q ss)) ts) (λ q. sweeps n order q (ss ++ ts)) e now shadow
       (taken_then (λ q. sweeps n order q ss) (λ q. sweeps n order q ts) e m now before shadow a b) (λ slots. sweeps_both order ss ts (queue_of e slots))
 
 -- what the machine does for a step
-pub step_taken : StepsRun → (d : Design) (c : Clocked) (b : IsAcceptedBy d c) (e now : Events) (table : List (List Listener)) (shadow next : List Bit4) → table ≡ listeners_of d c.bit → IsCopied d c.bit e shadow
-    → (s : Step) → is_open e s ≡ true → now ≡ stepped (network_of d c.bit) table e (choice_of s) → state_of next ≡ state_of now.values → length next ≡ length shadow → HasTaken d c.bit (λ q. choice_of s ∷ []) e now next
+pub step_taken : StepsRun → (d : Design) (c : Clocked) (b : IsAcceptedBy d c) (e now : Events) (table : List (List Listener)) (shadow next : List Bit4) → table ≡ listeners_of d c.bits → IsCopied d c.bits e shadow
+    → (s : Step) → is_open e s ≡ true → now ≡ stepped (network_of d c.bits) table e (choice_of s) → state_of next ≡ state_of now.values → length next ≡ length shadow → HasTaken d c.bits (λ q. choice_of s ∷ []) e now next
 step_taken law d c b e now table shadow next same r s h is state long =
     let rank = open_rank e s h in
-    let step = subst (IsStepped d c.bit e (choice_of s)) (sym (is ∙ ap (λ (t : List (List Listener)). stepped (network_of d c.bit) t e (choice_of s)) same)) (step_by d c b law e rank.0 (choice_of s) r.running rank.1) in
-    record { copied = copied_on d c.bit e now shadow next r step.running state long; swept = step.queue }
+    let step = subst (IsStepped d c.bits e (choice_of s)) (sym (is ∙ ap (λ (t : List (List Listener)). stepped (network_of d c.bits) t e (choice_of s)) same)) (step_by d c b law e rank.0 (choice_of s) r.running rank.1) in
+    record { copied = copied_on d c.bits e now shadow next r step.running state long; swept = step.queue }

@@ -1,7 +1,8 @@
--- The laws of runs, by what is told of the clock.
-use Rattle.std.proofs.Common.{◌≡◌, ℕ, sym, ap, ◌∙◌, subst, Some}
+-- The laws of runs, by what is told of the clocks.
+use Rattle.std.proofs.Common.{List, ◌≡◌, ◌≤◌, ℕ, sym, ap, ◌∙◌, subst, Some}
 use Rattle.std.specs.Prelude.{slice_get}
 use Rattle.vs_net.specs.Queue.{Choice}
+use Rattle.vs_design.specs.Clocks.{clock_bits}
 use Rattle.vs_design.specs.Expressions.{Signal}
 use Rattle.vs_design.specs.Designs.{Design}
 use Rattle.vs_design.specs.Networks.{network_of}
@@ -11,19 +12,25 @@ use Rattle.vs_events.specs.Choices.{steps_of}
 use Rattle.vs_queue.specs.Listens.{listeners_of, AreListeners, DesignIsWired}
 use Rattle.vs_queue.specs.Machines.{IsAcceptedBy}
 use Rattle.vs_queue.specs.Running.{IsRunning, stepped, IsStepped, StepsRun}
+use Rattle.vs_queue.specs.Spare.{spare_count}
+use Rattle.vs_queue.proofs.Drives.{spare_small}
 
 some_is : {A : Type 0} (x y : A) → Some x ≡ Some y → x ≡ y
 some_is x y h = cc
 
 module _ (d : Design) (c : Clocked) (b : IsAcceptedBy d c) where
-  pub signal_is : b.clock.signal ≡ b.accepted.clock
-  signal_is = some_is b.clock.signal b.accepted.clock (sym b.clock.is ∙ b.accepted.clock_found)
+  pub signals_are : b.clocks.signals ≡ b.accepted.clocks
+  signals_are = some_is b.clocks.signals b.accepted.clocks (sym b.clocks.are ∙ b.accepted.clocks_found)
 
-  pub bit_is : c.bit ≡ b.accepted.clock.first
-  bit_is = b.clock.bit_is ∙ ap (λ (s : Signal). s.first) signal_is
+  pub bits_are : c.bits ≡ (clock_bits b.accepted.clocks)
+  bits_are = b.clocks.bits_are ∙ ap clock_bits signals_are
 
-  pub listeners_by : DesignIsWired → AreListeners d c.bit
-  listeners_by law = subst (AreListeners d) (sym bit_is) (law d b.name b.accepted)
+  -- one of them at most isn't a bit of the design
+  pub few_spares : spare_count d c.bits ≤ 1
+  few_spares = subst (λ (cs : List ℕ). spare_count d cs ≤ 1) (sym bits_are) (spare_small d b.names b.accepted)
 
-  pub step_by : StepsRun → (e : Events) (i : ℕ) (x : Choice) → IsRunning d c.bit e → slice_get (steps_of e) i ≡ Some x → IsStepped d c.bit e x (stepped (network_of d c.bit) (listeners_of d c.bit) e x)
-  step_by law e i x = subst (λ k. IsRunning d k e → slice_get (steps_of e) i ≡ Some x → IsStepped d k e x (stepped (network_of d k) (listeners_of d k) e x)) (sym bit_is) (law d b.name b.accepted e i x)
+  pub listeners_by : DesignIsWired → AreListeners d c.bits
+  listeners_by law = subst (AreListeners d) (sym bits_are) (law d b.names b.accepted)
+
+  pub step_by : StepsRun → (e : Events) (i : ℕ) (x : Choice) → IsRunning d c.bits e → slice_get (steps_of e) i ≡ Some x → IsStepped d c.bits e x (stepped (network_of d c.bits) (listeners_of d c.bits) e x)
+  step_by law e i x = subst (λ k. IsRunning d k e → slice_get (steps_of e) i ≡ Some x → IsStepped d k e x (stepped (network_of d k) (listeners_of d k) e x)) (sym bits_are) (law d b.names b.accepted e i x)

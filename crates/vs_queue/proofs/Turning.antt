@@ -33,26 +33,26 @@ within_slot (Take p) h = refl
 within_slot Activate h = cc
 within_slot Next h = cc
 
-pub drawn_turn : DrawnIsPossible → (d : Design) (clock : ℕ) (e now : Events) (seed : ℕ) (c : Choice) → IsRunning d clock e → slice_get (steps_of e) (drawn seed % length (steps_of e)) ≡ Some c → IsStepped d clock e c now → (slots : List Slot) → IsTurn (network_of d clock) (queue_of e slots) seed true (queue_of now slots)
-drawn_turn law d clock e now seed c r at s slots = record {
+pub drawn_turn : DrawnIsPossible → (d : Design) (clocks : List ℕ) (e now : Events) (seed : ℕ) (c : Choice) → IsRunning d clocks e → slice_get (steps_of e) (drawn seed % length (steps_of e)) ≡ Some c → IsStepped d clocks e c now → (slots : List Slot) → IsTurn (network_of d clocks) (queue_of e slots) seed true (queue_of now slots)
+drawn_turn law d clocks e now seed c r at s slots = record {
   choice = c;
-  drawn = law (network_of d clock) e slots seed c r.sound at;
+  drawn = law (network_of d clocks) e slots seed c r.sound at;
   within = within_slot c (all_at is_step (steps_of e) (drawn seed % length (steps_of e)) c (are_steps e) at);
   after = s.queue slots;
 }
 
 -- the machine takes the step that is drawn
-pub record IsTaken (d : Design) (clock : ℕ) (e : Events) (seed : ℕ) (c : Choice) (now : Events) : Type 0 where
+pub record IsTaken (d : Design) (clocks : List ℕ) (e : Events) (seed : ℕ) (c : Choice) (now : Events) : Type 0 where
   pub drawn_is : slice_get (steps_of e) (drawn seed % length (steps_of e)) ≡ Some c
-  pub step_is : IsStepped d clock e c now
+  pub step_is : IsStepped d clocks e c now
 
-pub is_taken : StepsRun → (d : Design) (c : Clocked) (b : IsAcceptedBy d c) (e now : Events) (table : List (List Listener)) → table ≡ listeners_of d c.bit → IsRunning d c.bit e → (seed count place : ℕ) → count ≡ length (steps_of e) → place ≡ drawn seed % count
-    → (x : Choice) → slice_get (steps_of e) place ≡ Some x → now ≡ stepped (network_of d c.bit) table e x → IsTaken d c.bit e seed x now
+pub is_taken : StepsRun → (d : Design) (c : Clocked) (b : IsAcceptedBy d c) (e now : Events) (table : List (List Listener)) → table ≡ listeners_of d c.bits → IsRunning d c.bits e → (seed count place : ℕ) → count ≡ length (steps_of e) → place ≡ drawn seed % count
+    → (x : Choice) → slice_get (steps_of e) place ≡ Some x → now ≡ stepped (network_of d c.bits) table e x → IsTaken d c.bits e seed x now
 is_taken law d c b e now table same r seed count place many which x at is =
     let here : slice_get (steps_of e) (drawn seed % length (steps_of e)) ≡ Some x = ap (λ k. slice_get (steps_of e) (drawn seed % k)) (sym many) ∙ ap (slice_get (steps_of e)) (sym which) ∙ at in
     record {
       drawn_is = here;
-      step_is = subst (IsStepped d c.bit e x) (sym (is ∙ ap (λ (t : List (List Listener)). stepped (network_of d c.bit) t e x) same)) (step_by d c b law e (drawn seed % length (steps_of e)) x r here);
+      step_is = subst (IsStepped d c.bits e x) (sym (is ∙ ap (λ (t : List (List Listener)). stepped (network_of d c.bits) t e x) same)) (step_by d c b law e (drawn seed % length (steps_of e)) x r here);
     }
 
 -- ---- where no step of a process is possible
@@ -91,9 +91,9 @@ rested_by n e sound h p = empty_of (get_or e.waiting p []) (sym (sound.lates p) 
     few zero h = refl
     few (suc k) h = absurd (let z = some k in cc)
 
-module _ (d : Design) (clock : ℕ) (e : Events) (r : IsRunning d clock e) (none : length (steps_of e) ≡ 0) where
+module _ (d : Design) (clocks : List ℕ) (e : Events) (r : IsRunning d clocks e) (none : length (steps_of e) ≡ 0) where
   abbrev n : Network
-  n = network_of d clock
+  n = network_of d clocks
 
   pub no_steps : steps_of e ≡ []
   no_steps = none_of (steps_of e) none
@@ -106,7 +106,7 @@ module _ (d : Design) (clock : ℕ) (e : Events) (r : IsRunning d clock e) (none
       ap (λ os. or_else os (or_else (activation n (queue_of e slots)) (beginning slots))) (no_open slots)
       ∙ ap (λ c. or_else (if c then (Activate ∷ []) else []) (beginning slots)) (waits_is n e r.sound ∙ h)
 
-  pub activation_turn : (now : Events) (seed : ℕ) → nat_lt 0 (length (members e.lates)) ≡ true → IsStepped d clock e Activate now → (slots : List Slot) → IsTurn n (queue_of e slots) seed true (queue_of now slots)
+  pub activation_turn : (now : Events) (seed : ℕ) → nat_lt 0 (length (members e.lates)) ≡ true → IsStepped d clocks e Activate now → (slots : List Slot) → IsTurn n (queue_of e slots) seed true (queue_of now slots)
   activation_turn now seed h s slots = record {
     choice = Activate;
     drawn = ap (λ (cs : List Choice). slice_get cs (drawn seed % length cs)) (left slots true h) ∙ ap (λ k. slice_get (Activate ∷ []) k) (mod_one (drawn seed));

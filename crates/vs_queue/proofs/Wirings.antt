@@ -12,13 +12,12 @@ use Rattle.vs_design.specs.Expressions.{Signal, signal_length, Name}
 use Rattle.vs_design.specs.Statements.{Statement}
 use Rattle.vs_design.specs.Designs.{Edge, Any, Posedge, Negedge, is_edge, Event, has_edge, Process, Continuous, Always, is_clocked, Design, bit_count, top_inputs}
 use Rattle.vs_design.specs.Footprints.{contains, all_reads, writes_of, waits_of, ascending}
-use Rattle.vs_design.specs.Clocks.{Events, ByClock, ByBoth, edge_bit, is_clock_net, is_clock_event, is_reset_event, events_of, clock_bit, has_other_clock, clock_nets, root_of}
+use Rattle.vs_design.specs.Clocks.{first_clock, clock_bits, Events, ByClock, ByBoth, edge_bit, is_clock_net, is_clock_event, is_reset_event, events_of, clock_bit, has_other_clock, clock_nets, root_of}
 use Rattle.vs_design.specs.Resets.{reset_branch, has_form, has_other_form, net_edge, reset_with, reset_by}
 use Rattle.vs_design.specs.Values.{bits_of_signal}
 use Rattle.vs_design.specs.Initials.{sole_bits}
 use Rattle.vs_design.specs.RefusalLaws.{is_some_of}
-use Rattle.vs_design.specs.Networks.{process_of, block_process, writer_of, spare_writers, keeper_of, at_or_input, network_of}
-use Rattle.vs_design.proofs.ClockNets.{ClockAt, among, beyond, clock_at}
+use Rattle.vs_design.specs.Networks.{spare_clocks, process_of, block_process, writer_of, spare_writers, keeper_of, at_or_input, network_of}
 use Rattle.vs_design.proofs.Parts.{all_at, none_at}
 use Rattle.vs_design.specs.Elaborated.{is_formed_event, are_formed_events, is_formed_process, is_nil, is_plain}
 use Rattle.vs_design.specs.Accepted.{IsAcceptedDesign}
@@ -32,8 +31,8 @@ use Rattle.vs_queue.specs.There.{AllThere}
 use Rattle.vs_events.specs.declared.listener.Change.TheVariants as C
 use Rattle.vs_queue.specs.Listens.{change_of, to_bit, to_event, block_listens, process_listens, listens_from, keeper_listens, listens_of, AreListeners, DesignIsWired}
 use Rattle.vs_queue.specs.Spare.{value_count, has_keeper, keeper_at}
-use Rattle.vs_queue.proofs.Drives.{input_below}
-use Rattle.vs_queue.proofs.Spares.{network_count, keeper_one, before_keeper, with_keeper, clock_valued}
+use Rattle.vs_queue.proofs.Drives.{clock_near, input_below}
+use Rattle.vs_queue.proofs.Spares.{network_count, keeper_one, before_keeper, with_keeper, clock_valued, first_there}
 
 -- ---- Booleans and numbers
 
@@ -252,8 +251,8 @@ none_below processes (suc n) (suc b) i m at = none_below processes n b i m at
 
 -- ---- one process
 
-pub record IsHeardIn (d : Design) (clock r : ℕ) (x : Process) : Type 0 where
-  pub heard : (p b : ℕ) (old new : Bit4) → is_sensitive (process_listens (bit_count d) r x) p b old new ≡ ((p == r) && senses (process_of d clock x) old (record { bit = b; value = new }))
+pub record IsHeardIn (d : Design) (clocks : List ℕ) (r : ℕ) (x : Process) : Type 0 where
+  pub heard : (p b : ℕ) (old new : Bit4) → is_sensitive (process_listens (bit_count d) r x) p b old new ≡ ((p == r) && senses (process_of d clocks x) old (record { bit = b; value = new }))
   pub there : r < length d.processes → AllThere (bit_count d) (length d.processes) (process_listens (bit_count d) r x)
 
 below_of : (a b : ℕ) → nat_lt a b ≡ true → a < b
@@ -274,21 +273,21 @@ module _ (has : AscendingHas) (count : ℕ) (bs : List ℕ) (inside : (b : ℕ) 
   ascending_inside : (b : ℕ) → contains (ascending count bs) b ≡ true → b < count
   ascending_inside b h = inside b (sym (ascends b) ∙ h)
 
-module _ (has : AscendingHas) (d : Design) (clock : ℕ) where
-  bits_case : (x : Process) (bs : List ℕ) (r : ℕ) → ((b : ℕ) → contains bs b ≡ true → b < bit_count d) → ((b : ℕ) (old new : Bit4) → senses (process_of d clock x) old (record { bit = b; value = new }) ≡ contains bs b)
-      → process_listens (bit_count d) r x ≡ map (to_bit r) (ascending (bit_count d) bs) → IsHeardIn d clock r x
+module _ (has : AscendingHas) (d : Design) (clocks : List ℕ) where
+  bits_case : (x : Process) (bs : List ℕ) (r : ℕ) → ((b : ℕ) → contains bs b ≡ true → b < bit_count d) → ((b : ℕ) (old new : Bit4) → senses (process_of d clocks x) old (record { bit = b; value = new }) ≡ contains bs b)
+      → process_listens (bit_count d) r x ≡ map (to_bit r) (ascending (bit_count d) bs) → IsHeardIn d clocks r x
   bits_case x bs r inside sense is = record {
     heard = λ p b old new. ap (λ ss. is_sensitive ss p b old new) is ∙ bits_heard r p b old new (ascending (bit_count d) bs) ∙ ap (λ c. (p == r) && c) (ascends has (bit_count d) bs inside b ∙ sym (sense b old new));
     there = λ l. subst (AllThere (bit_count d) (length d.processes)) (sym is) (bits_there (bit_count d) (length d.processes) r (ascending (bit_count d) bs) (ascending_inside has (bit_count d) bs inside) l);
   }
 
   -- a block, clocked or not
-  block_sense : (c : Bool) (x : Process) (events : List Event) (s : Statement) (b : ℕ) (old new : Bit4) → c ≡ false → senses (block_process d clock c x events s) old (record { bit = b; value = new }) ≡ contains (waits_of x) b
+  block_sense : (c : Bool) (x : Process) (events : List Event) (s : Statement) (b : ℕ) (old new : Bit4) → c ≡ false → senses (block_process d clocks c x events s) old (record { bit = b; value = new }) ≡ contains (waits_of x) b
   block_sense true x events s b old new h = cc
   block_sense false x events s b old new h = refl
 
-  clocked_sense : (c : Bool) (x : Process) (events : List Event) (s : Statement) (b : ℕ) (old new : Bit4) → c ≡ true → let ev = events_of (clock_nets d clock) (root_of d clock) events in
-      senses (block_process d clock c x events s) old (record { bit = b; value = new }) ≡ (((clock_bit ev == b) && posedge old new) || resets (reset_by (root_of d clock) ev s) old (record { bit = b; value = new }))
+  clocked_sense : (c : Bool) (x : Process) (events : List Event) (s : Statement) (b : ℕ) (old new : Bit4) → c ≡ true → let ev = events_of (clock_nets d clocks) (root_of d clocks) events in
+      senses (block_process d clocks c x events s) old (record { bit = b; value = new }) ≡ (((clock_bit ev == b) && posedge old new) || resets (reset_by (root_of d clocks) ev s) old (record { bit = b; value = new }))
   clocked_sense true x events s b old new h = refl
   clocked_sense false x events s b old new h = cc
 
@@ -316,17 +315,17 @@ no_one : (x z : Bool) → ((x && (false && z)) || false) ≡ false
 no_one true z = refl
 no_one false z = refl
 
-keeper_off : (k clock : ℕ) (bs : List ℕ) (p b : ℕ) (old new : Bit4) → (p ≡ k → ⊥) → is_sensitive (if is_some_of bs then (record { bit = clock; listener = record { process = k; change = C.Pos } } ∷ []) else []) p b old new ≡ false
-keeper_off k clock [] p b old new far = refl
-keeper_off k clock (c ∷ bs) p b old new far = ap (λ q. ((b == clock) && (q && posedge old new)) || false) (eq_off p k far) ∙ no_one (b == clock) (posedge old new)
+keeper_off : (k : ℕ) (clocks : List ℕ) (bs : List ℕ) (p b : ℕ) (old new : Bit4) → (p ≡ k → ⊥) → is_sensitive (if is_some_of bs then (record { bit = first_clock clocks; listener = record { process = k; change = C.Pos } } ∷ []) else []) p b old new ≡ false
+keeper_off k clocks [] p b old new far = refl
+keeper_off k clocks (c ∷ bs) p b old new far = ap (λ q. ((b == first_clock clocks) && (q && posedge old new)) || false) (eq_off p k far) ∙ no_one (b == first_clock clocks) (posedge old new)
 
-keeper_on : (k clock : ℕ) (bs : List ℕ) (j b : ℕ) (old new : Bit4)
-    → is_sensitive (if is_some_of bs then (record { bit = clock; listener = record { process = k; change = C.Pos } } ∷ []) else []) (k + j) b old new ≡ senses (at_or_input (keeper_of clock bs) j) old (record { bit = b; value = new })
-keeper_on k clock [] j b old new = refl
-keeper_on k clock (c ∷ bs) zero b old new =
+keeper_on : (k : ℕ) (clocks : List ℕ) (bs : List ℕ) (j b : ℕ) (old new : Bit4)
+    → is_sensitive (if is_some_of bs then (record { bit = first_clock clocks; listener = record { process = k; change = C.Pos } } ∷ []) else []) (k + j) b old new ≡ senses (at_or_input (keeper_of clocks bs) j) old (record { bit = b; value = new })
+keeper_on k clocks [] j b old new = refl
+keeper_on k clocks (c ∷ bs) zero b old new =
     let here : k + 0 ≡ k = omega arith in
-    ap (λ q. ((b == clock) && (q && posedge old new)) || false) (ap (λ q. q == k) here ∙ eq_self k) ∙ ap (λ x. (x && posedge old new) || false) (eq_flip b clock)
-keeper_on k clock (c ∷ bs) (suc j) b old new = keeper_off k clock (c ∷ bs) (k + suc j) b old new (λ e. omega (arith, e))
+    ap (λ q. ((b == first_clock clocks) && (q && posedge old new)) || false) (ap (λ q. q == k) here ∙ eq_self k) ∙ ap (λ x. (x && posedge old new) || false) (eq_flip b (first_clock clocks))
+keeper_on k clocks (c ∷ bs) (suc j) b old new = keeper_off k clocks (c ∷ bs) (k + suc j) b old new (λ e. omega (arith, e))
 
 append_has : (bs cs : List ℕ) (b : ℕ) → contains (bs ++ cs) b ≡ (contains bs b || contains cs b)
 append_has bs cs b = list_any-append (λ c. b == c) bs cs
@@ -354,9 +353,9 @@ events_there d r (e ∷ es) within formed single l =
 le_of : (a b : ℕ) → nat_le a b ≡ true → a ≤ b
 le_of a b h = grind (arith, h)
 
-module _ (bits : BitsOfDesign) (has : AscendingHas) (formed : FormedIsWithin) (d : Design) (name : Option (List ℕ)) (a : IsAcceptedDesign d name) where
-  abbrev pub clock : ℕ
-  clock = a.clock.first
+module _ (bits : BitsOfDesign) (has : AscendingHas) (formed : FormedIsWithin) (d : Design) (names : List (List ℕ)) (a : IsAcceptedDesign d names) where
+  abbrev pub clocks : List ℕ
+  clocks = (clock_bits a.clocks)
 
   within : (s : Signal) → is_plain d s ≡ true → s.first + signal_length s ≤ bit_count d
   within s h = le_of (s.first + signal_length s) (bit_count d) (formed d a.lawful.bits_numbered (Name s) h)
@@ -370,27 +369,27 @@ module _ (bits : BitsOfDesign) (has : AscendingHas) (formed : FormedIsWithin) (d
       bits d a.lawful k x at b
       (append_has (all_reads x) (writes_of x ++ waits_of x) b ∙ ap (λ c. contains (all_reads x) b || c) (append_has (writes_of x) (waits_of x) b) ∙ or_last (contains (all_reads x) b) (contains (writes_of x) b) (contains (waits_of x) b) h)
 
-  star_or_formed : (star : Bool) (events : List Event) → are_formed_events d star events ≡ true → is_some (events_of (clock_nets d clock) (root_of d clock) events) ≡ true → list_all (is_formed_event d) events ≡ true
+  star_or_formed : (star : Bool) (events : List Event) → are_formed_events d star events ≡ true → is_some (events_of (clock_nets d clocks) (root_of d clocks) events) ≡ true → list_all (is_formed_event d) events ≡ true
   star_or_formed true [] h k = cc
   star_or_formed true (e ∷ es) h k = cc
   star_or_formed false events h k = (and_parts (not (is_nil events)) (list_all (is_formed_event d) events) h).1
 
-  block_case : (k r : ℕ) (place : ℕ) (star : Bool) (events : List Event) (s : Statement) → slice_get d.processes k ≡ Some (Always place star events s) → (c : Bool) → is_clocked (Always place star events s) ≡ c → IsHeardIn d clock r (Always place star events s)
+  block_case : (k r : ℕ) (place : ℕ) (star : Bool) (events : List Event) (s : Statement) → slice_get d.processes k ≡ Some (Always place star events s) → (c : Bool) → is_clocked (Always place star events s) ≡ c → IsHeardIn d clocks r (Always place star events s)
   block_case k r place star events s at false e =
       let x = Always place star events s in
-      bits_case has d clock x (waits_of x) r (waits_inside k x at) (λ b old new. block_sense has d clock (is_clocked x) x events s b old new e) (listens_waits has d clock (is_clocked x) r x events e)
+      bits_case has d clocks x (waits_of x) r (waits_inside k x at) (λ b old new. block_sense has d clocks (is_clocked x) x events s b old new e) (listens_waits has d clocks (is_clocked x) r x events e)
   block_case k r place star events s at true e =
       let x = Always place star events s in
-      let nets = clock_nets d clock in
-      let roots = root_of d clock in
+      let nets = clock_nets d clocks in
+      let roots = root_of d clocks in
       let other = none_at (has_other_clock nets roots) d.processes k x a.one_clock at in
       let form = none_at (has_other_form nets roots) d.processes k x a.reset_forms at in
       let told = some_of (is_clocked x) (is_some (events_of nets roots events)) e other in
       let shaped = not_of (has_form (events_of nets roots events) s) form in
-      let is = listens_events has d clock (is_clocked x) r x events e in
+      let is = listens_events has d clocks (is_clocked x) r x events e in
       let events_formed = star_or_formed star events (and_parts (are_formed_events d star events) _ (all_at (is_formed_process d) d.processes k x a.lawful.formed at)).0 told in
       record {
-        heard = λ p b old new. ap (λ ss. is_sensitive ss p b old new) is ∙ events_heard nets roots s r p b old new events told shaped ∙ ap (λ c. (p == r) && c) (sym (clocked_sense has d clock (is_clocked x) x events s b old new e));
+        heard = λ p b old new. ap (λ ss. is_sensitive ss p b old new) is ∙ events_heard nets roots s r p b old new events told shaped ∙ ap (λ c. (p == r) && c) (sym (clocked_sense has d clocks (is_clocked x) x events s b old new e));
         there = λ l. subst (AllThere (bit_count d) (length d.processes)) (sym is) (events_there d r events within events_formed (events_single nets roots events told) l);
       }
     where
@@ -403,130 +402,123 @@ module _ (bits : BitsOfDesign) (has : AscendingHas) (formed : FormedIsWithin) (d
       not_of true h = refl
       not_of false h = cc
 
-  process_case : (k r : ℕ) (x : Process) → slice_get d.processes k ≡ Some x → IsHeardIn d clock r x
+  process_case : (k r : ℕ) (x : Process) → slice_get d.processes k ≡ Some x → IsHeardIn d clocks r x
   process_case k r (Continuous place port target_place target e) at =
-      let x = Continuous place port target_place target e in bits_case has d clock x (all_reads x) r (reads_inside k x at) (λ b old new. refl) refl
+      let x = Continuous place port target_place target e in bits_case has d clocks x (all_reads x) r (reads_inside k x at) (λ b old new. refl) refl
   process_case k r (Always place star events s) at = block_case k r place star events s at (is_clocked (Always place star events s)) refl
 
   -- ---- all processes
 
   abbrev others : List N.Process
-  others = map (writer_of clock) (top_inputs d) ++ spare_writers d clock
+  others = map (writer_of clocks) (top_inputs d) ++ spare_writers d clocks
 
-  before : (xs : List Process) (r p b : ℕ) (old new : Bit4) → ((j : ℕ) (x : Process) → slice_get xs j ≡ Some x → IsHeardIn d clock (r + j) x) → p < r → is_sensitive (listens_from (bit_count d) r xs) p b old new ≡ false
+  before : (xs : List Process) (r p b : ℕ) (old new : Bit4) → ((j : ℕ) (x : Process) → slice_get xs j ≡ Some x → IsHeardIn d clocks (r + j) x) → p < r → is_sensitive (listens_from (bit_count d) r xs) p b old new ≡ false
   before [] r p b old new each l = refl
   before (x ∷ xs) r p b old new each l =
       list_any-append (λ (s : Sensitivity). (b == s.bit) && ((p == s.listener.process) && hears s.listener old new)) (process_listens (bit_count d) r x) (listens_from (bit_count d) (suc r) xs)
-      ∙ ap₂ ◌||◌ ((subst (λ q. IsHeardIn d clock q x) (let e : r + 0 ≡ r = omega arith in e) (each zero x refl)).heard p b old new ∙ ap (λ c. c && senses (process_of d clock x) old (record { bit = b; value = new })) (eq_off p r (λ e. omega (arith, e, l))))
-      (before xs (suc r) p b old new (λ j y at. subst (λ q. IsHeardIn d clock q y) (let e : r + suc j ≡ suc r + j = omega arith in e) (each (suc j) y at)) (omega (arith, l)))
+      ∙ ap₂ ◌||◌ ((subst (λ q. IsHeardIn d clocks q x) (let e : r + 0 ≡ r = omega arith in e) (each zero x refl)).heard p b old new ∙ ap (λ c. c && senses (process_of d clocks x) old (record { bit = b; value = new })) (eq_off p r (λ e. omega (arith, e, l))))
+      (before xs (suc r) p b old new (λ j y at. subst (λ q. IsHeardIn d clocks q y) (let e : r + suc j ≡ suc r + j = omega arith in e) (each (suc j) y at)) (omega (arith, l)))
 
-  deaf_spare : (c : Bool) (k : ℕ) (old : Bit4) (w : Write) → senses (at_or_input (if c then [] else (N.Clock clock ∷ [])) k) old w ≡ false
-  deaf_spare true k old w = refl
-  deaf_spare false zero old w = refl
-  deaf_spare false (suc k) old w = refl
+  deaf_spare : (cs : List ℕ) (k : ℕ) (old : Bit4) (w : Write) → senses (at_or_input (map N.Clock cs) k) old w ≡ false
+  deaf_spare [] k old w = refl
+  deaf_spare (c ∷ cs) zero old w = refl
+  deaf_spare (c ∷ cs) (suc k) old w = deaf_spare cs k old w
 
-  deaf_writers : (ss : List Signal) (k : ℕ) (old : Bit4) (w : Write) → senses (at_or_input (map (writer_of clock) ss ++ spare_writers d clock) k) old w ≡ false
-  deaf_writers [] k old w = deaf_spare (nat_lt clock (bit_count d)) k old w
-  deaf_writers (s ∷ ss) zero old w = go (s.first == clock)
+  deaf_writers : (ss : List Signal) (k : ℕ) (old : Bit4) (w : Write) → senses (at_or_input (map (writer_of clocks) ss ++ spare_writers d clocks) k) old w ≡ false
+  deaf_writers [] k old w = deaf_spare (spare_clocks d clocks) k old w
+  deaf_writers (s ∷ ss) zero old w = go (contains clocks s.first)
     where
-      go : (c : Bool) → senses (if c then N.Clock clock else N.Input (bits_of_signal s)) old w ≡ false
+      go : (c : Bool) → senses (if c then N.Clock s.first else N.Input (bits_of_signal s)) old w ≡ false
       go true = refl
       go false = refl
   deaf_writers (s ∷ ss) (suc k) old w = deaf_writers ss k old w
 
-  later : (x : Process) (xs : List Process) (r : ℕ) → ((j : ℕ) (y : Process) → slice_get (x ∷ xs) j ≡ Some y → IsHeardIn d clock (r + j) y) → (j : ℕ) (y : Process) → slice_get xs j ≡ Some y → IsHeardIn d clock (suc r + j) y
-  later x xs r each j y at = subst (λ q. IsHeardIn d clock q y) (let e : r + suc j ≡ suc r + j = omega arith in e) (each (suc j) y at)
+  later : (x : Process) (xs : List Process) (r : ℕ) → ((j : ℕ) (y : Process) → slice_get (x ∷ xs) j ≡ Some y → IsHeardIn d clocks (r + j) y) → (j : ℕ) (y : Process) → slice_get xs j ≡ Some y → IsHeardIn d clocks (suc r + j) y
+  later x xs r each j y at = subst (λ q. IsHeardIn d clocks q y) (let e : r + suc j ≡ suc r + j = omega arith in e) (each (suc j) y at)
 
   or_none : (c : Bool) → (c || false) ≡ c
   or_none true = refl
   or_none false = refl
 
-  from : (xs : List Process) (r i b : ℕ) (old new : Bit4) → ((j : ℕ) (x : Process) → slice_get xs j ≡ Some x → IsHeardIn d clock (r + j) x)
-      → is_sensitive (listens_from (bit_count d) r xs) (r + i) b old new ≡ senses (at_or_input (map (process_of d clock) xs ++ others) i) old (record { bit = b; value = new })
+  from : (xs : List Process) (r i b : ℕ) (old new : Bit4) → ((j : ℕ) (x : Process) → slice_get xs j ≡ Some x → IsHeardIn d clocks (r + j) x)
+      → is_sensitive (listens_from (bit_count d) r xs) (r + i) b old new ≡ senses (at_or_input (map (process_of d clocks) xs ++ others) i) old (record { bit = b; value = new })
   from [] r i b old new each = sym (deaf_writers (top_inputs d) i old (record { bit = b; value = new }))
   from (x ∷ xs) r zero b old new each =
       let here : r + 0 ≡ r = omega arith in
       let less : r + 0 < suc r = omega arith in
       list_any-append (λ (s : Sensitivity). (b == s.bit) && (((r + 0) == s.listener.process) && hears s.listener old new)) (process_listens (bit_count d) r x) (listens_from (bit_count d) (suc r) xs)
-      ∙ ap (λ c. c || is_sensitive (listens_from (bit_count d) (suc r) xs) (r + 0) b old new) ((subst (λ q. IsHeardIn d clock q x) here (each zero x refl)).heard (r + 0) b old new)
-      ∙ ap₂ (λ c e. (c && senses (process_of d clock x) old (record { bit = b; value = new })) || e) (ap (λ q. q == r) here ∙ eq_self r) (before xs (suc r) (r + 0) b old new (later x xs r each) less)
-      ∙ or_none (senses (process_of d clock x) old (record { bit = b; value = new }))
+      ∙ ap (λ c. c || is_sensitive (listens_from (bit_count d) (suc r) xs) (r + 0) b old new) ((subst (λ q. IsHeardIn d clocks q x) here (each zero x refl)).heard (r + 0) b old new)
+      ∙ ap₂ (λ c e. (c && senses (process_of d clocks x) old (record { bit = b; value = new })) || e) (ap (λ q. q == r) here ∙ eq_self r) (before xs (suc r) (r + 0) b old new (later x xs r each) less)
+      ∙ or_none (senses (process_of d clocks x) old (record { bit = b; value = new }))
   from (x ∷ xs) r (suc i) b old new each =
       let here : r + 0 ≡ r = omega arith in
       let far : r + suc i ≡ r → ⊥ = λ e. omega (arith, e) in
       let next : r + suc i ≡ suc r + i = omega arith in
       list_any-append (λ (s : Sensitivity). (b == s.bit) && (((r + suc i) == s.listener.process) && hears s.listener old new)) (process_listens (bit_count d) r x) (listens_from (bit_count d) (suc r) xs)
-      ∙ ap (λ c. c || is_sensitive (listens_from (bit_count d) (suc r) xs) (r + suc i) b old new) ((subst (λ q. IsHeardIn d clock q x) here (each zero x refl)).heard (r + suc i) b old new)
-      ∙ ap₂ (λ c e. (c && senses (process_of d clock x) old (record { bit = b; value = new })) || e) (eq_off (r + suc i) r far) (ap (λ q. is_sensitive (listens_from (bit_count d) (suc r) xs) q b old new) next)
+      ∙ ap (λ c. c || is_sensitive (listens_from (bit_count d) (suc r) xs) (r + suc i) b old new) ((subst (λ q. IsHeardIn d clocks q x) here (each zero x refl)).heard (r + suc i) b old new)
+      ∙ ap₂ (λ c e. (c && senses (process_of d clocks x) old (record { bit = b; value = new })) || e) (eq_off (r + suc i) r far) (ap (λ q. is_sensitive (listens_from (bit_count d) (suc r) xs) q b old new) next)
       ∙ from xs (suc r) i b old new (later x xs r each)
 
-  all_there : (xs : List Process) (r : ℕ) → ((j : ℕ) (x : Process) → slice_get xs j ≡ Some x → IsHeardIn d clock (r + j) x) → r + length xs ≤ length d.processes → AllThere (bit_count d) (length d.processes) (listens_from (bit_count d) r xs)
+  all_there : (xs : List Process) (r : ℕ) → ((j : ℕ) (x : Process) → slice_get xs j ≡ Some x → IsHeardIn d clocks (r + j) x) → r + length xs ≤ length d.processes → AllThere (bit_count d) (length d.processes) (listens_from (bit_count d) r xs)
   all_there [] r each l = tt
   all_there (x ∷ xs) r each l =
       join_there (bit_count d) (length d.processes) (process_listens (bit_count d) r x) (listens_from (bit_count d) (suc r) xs)
-      ((subst (λ q. IsHeardIn d clock q x) (let e : r + 0 ≡ r = omega arith in e) (each zero x refl)).there (omega (arith, l)))
-      (all_there xs (suc r) (λ j y at. subst (λ q. IsHeardIn d clock q y) (let e : r + suc j ≡ suc r + j = omega arith in e) (each (suc j) y at)) (omega (arith, l)))
+      ((subst (λ q. IsHeardIn d clocks q x) (let e : r + 0 ≡ r = omega arith in e) (each zero x refl)).there (omega (arith, l)))
+      (all_there xs (suc r) (λ j y at. subst (λ q. IsHeardIn d clocks q y) (let e : r + suc j ≡ suc r + j = omega arith in e) (each (suc j) y at)) (omega (arith, l)))
 
-  each_heard : (j : ℕ) (x : Process) → slice_get d.processes j ≡ Some x → IsHeardIn d clock (0 + j) x
+  each_heard : (j : ℕ) (x : Process) → slice_get d.processes j ≡ Some x → IsHeardIn d clocks (0 + j) x
   each_heard j x at = process_case j (0 + j) x at
 
   -- what one of them listens to is there
-  pub process_there : (p : ℕ) (x : Process) → p < length d.processes → slice_get d.processes p ≡ Some x → AllThere (value_count d clock) (length d.processes) (process_listens (bit_count d) p x)
-  process_there p x l at = wider_there (bit_count d) (length d.processes) (value_count d clock) (length d.processes) (process_listens (bit_count d) p x) (omega arith) (omega arith) ((process_case p p x at).there l)
+  pub process_there : (p : ℕ) (x : Process) → p < length d.processes → slice_get d.processes p ≡ Some x → AllThere (value_count d clocks) (length d.processes) (process_listens (bit_count d) p x)
+  process_there p x l at = wider_there (bit_count d) (length d.processes) (value_count d clocks) (length d.processes) (process_listens (bit_count d) p x) (omega arith) (omega arith) ((process_case p p x at).there l)
 
   -- ---- and the block that keeps what initial processes alone write
 
-  clock_below : clock ≤ bit_count d
-  clock_below = go (clock_at d name a)
-    where
-      go : ClockAt d a.clock → clock ≤ bit_count d
-      go (among i at long) = let h = input_below d a.lawful i a.clock at in omega (arith, h)
-      go (beyond is) = let e : clock ≡ bit_count d = ap (λ (s : Signal). s.first) is in omega (arith, e)
+  -- the first clock has a value
+  pub clock_there : first_clock clocks < value_count d clocks
+  clock_there = let first = first_there d names a.clocks a.clocks_found in clock_valued d clocks (first_clock clocks) first (clock_near d names a (first_clock clocks) first)
 
-  -- the clock has a value
-  pub clock_there : clock < value_count d clock
-  clock_there = clock_valued d clock clock_below
-
-  keeper_there : (c : Bool) → has_keeper d ≡ c → AllThere (value_count d clock) (network_of d clock).count (if c then (record { bit = clock; listener = record { process = keeper_at d clock; change = C.Pos } } ∷ []) else [])
-  keeper_there true h = let n = network_count d clock in let k = keeper_one d h in (clock_there, omega (arith, n, k), tt)
+  keeper_there : (c : Bool) → has_keeper d ≡ c → AllThere (value_count d clocks) (network_of d clocks).count (if c then (record { bit = first_clock clocks; listener = record { process = keeper_at d clocks; change = C.Pos } } ∷ []) else [])
+  keeper_there true h = let n = network_count d clocks in let k = keeper_one d h in (clock_there, omega (arith, n, k), tt)
   keeper_there false h = tt
 
   abbrev keepers : List N.Process
-  keepers = keeper_of clock (sole_bits d)
+  keepers = keeper_of clocks (sole_bits d)
 
   abbrev all_others : List N.Process
-  all_others = map (process_of d clock) d.processes ++ others
+  all_others = map (process_of d clocks) d.processes ++ others
 
-  keeper_hears : (p b : ℕ) (old new : Bit4) → (senses (at_or_input all_others p) old (record { bit = b; value = new }) || is_sensitive (keeper_listens d clock) p b old new) ≡ senses ((network_of d clock).process p) old (record { bit = b; value = new })
+  keeper_hears : (p b : ℕ) (old new : Bit4) → (senses (at_or_input all_others p) old (record { bit = b; value = new }) || is_sensitive (keeper_listens d clocks) p b old new) ≡ senses ((network_of d clocks).process p) old (record { bit = b; value = new })
   keeper_hears p b old new =
-      behind all_others keepers old (record { bit = b; value = new }) (λ q. is_sensitive (keeper_listens d clock) q b old new)
-      (λ q l. keeper_off (keeper_at d clock) clock (sole_bits d) q b old new (λ e. let n = before_keeper d clock in omega (arith, e, l, n)))
-      (λ j. ap (λ k. is_sensitive (keeper_listens d clock) (k + j) b old new) (before_keeper d clock) ∙ keeper_on (keeper_at d clock) clock (sole_bits d) j b old new)
+      behind all_others keepers old (record { bit = b; value = new }) (λ q. is_sensitive (keeper_listens d clocks) q b old new)
+      (λ q l. keeper_off (keeper_at d clocks) clocks (sole_bits d) q b old new (λ e. let n = before_keeper d clocks in omega (arith, e, l, n)))
+      (λ j. ap (λ k. is_sensitive (keeper_listens d clocks) (k + j) b old new) (before_keeper d clocks) ∙ keeper_on (keeper_at d clocks) clocks (sole_bits d) j b old new)
       p
-      ∙ ap (λ (ps : List N.Process). senses (at_or_input ps p) old (record { bit = b; value = new })) (with_keeper d clock)
+      ∙ ap (λ (ps : List N.Process). senses (at_or_input ps p) old (record { bit = b; value = new })) (with_keeper d clocks)
 
   -- ---- all of them
 
-  heard_exactly : (p b : ℕ) (old new : Bit4) → is_sensitive (listens_of d clock) p b old new ≡ senses ((network_of d clock).process p) old (record { bit = b; value = new })
+  heard_exactly : (p b : ℕ) (old new : Bit4) → is_sensitive (listens_of d clocks) p b old new ≡ senses ((network_of d clocks).process p) old (record { bit = b; value = new })
   heard_exactly p b old new =
-      list_any-append (λ (s : Sensitivity). (b == s.bit) && ((p == s.listener.process) && hears s.listener old new)) (listens_from (bit_count d) 0 d.processes) (keeper_listens d clock)
-      ∙ ap (λ c. c || is_sensitive (keeper_listens d clock) p b old new)
+      list_any-append (λ (s : Sensitivity). (b == s.bit) && ((p == s.listener.process) && hears s.listener old new)) (listens_from (bit_count d) 0 d.processes) (keeper_listens d clocks)
+      ∙ ap (λ c. c || is_sensitive (keeper_listens d clocks) p b old new)
       (ap (λ q. is_sensitive (listens_from (bit_count d) 0 d.processes) q b old new) (let e : p ≡ 0 + p = omega arith in e) ∙ from d.processes 0 p b old new each_heard)
       ∙ keeper_hears p b old new
 
-  pub listeners : ListeningIsHeard → AreListeners d clock
+  pub listeners : ListeningIsHeard → AreListeners d clocks
   listeners heard =
-      let n = network_count d clock in
+      let n = network_count d clocks in
       let there =
-      join_there (value_count d clock) (network_of d clock).count (listens_from (bit_count d) 0 d.processes) (keeper_listens d clock)
-      (wider_there (bit_count d) (network_of d clock).count (value_count d clock) (length d.processes) (listens_from (bit_count d) 0 d.processes) (omega arith) (omega (arith, n)) (all_there d.processes 0 each_heard (omega arith)))
+      join_there (value_count d clocks) (network_of d clocks).count (listens_from (bit_count d) 0 d.processes) (keeper_listens d clocks)
+      (wider_there (bit_count d) (network_of d clocks).count (value_count d clocks) (length d.processes) (listens_from (bit_count d) 0 d.processes) (omega arith) (omega (arith, n)) (all_there d.processes 0 each_heard (omega arith)))
       (keeper_there (has_keeper d) refl)
       in
       record {
-        wired = record { exactly = λ p old w. sym (heard (value_count d clock) (listens_of d clock) (are_bits (value_count d clock) (network_of d clock).count (listens_of d clock) there) p w.bit old w.value ∙ heard_exactly p w.bit old w.value) };
-        below = all_below (network_of d clock).count (listens_of d clock) (replicate (value_count d clock) [])
-            (subst (λ n. AllThere n (network_of d clock).count (listens_of d clock)) (sym (length-replicate (value_count d clock) [])) there) (none_below (network_of d clock).count (value_count d clock));
+        wired = record { exactly = λ p old w. sym (heard (value_count d clocks) (listens_of d clocks) (are_bits (value_count d clocks) (network_of d clocks).count (listens_of d clocks) there) p w.bit old w.value ∙ heard_exactly p w.bit old w.value) };
+        below = all_below (network_of d clocks).count (listens_of d clocks) (replicate (value_count d clocks) [])
+            (subst (λ n. AllThere n (network_of d clocks).count (listens_of d clocks)) (sym (length-replicate (value_count d clocks) [])) there) (none_below (network_of d clocks).count (value_count d clocks));
       }
 
 pub design_is_wired : ListeningIsHeard → BitsOfDesign → AscendingHas → FormedIsWithin → DesignIsWired
-design_is_wired heard bits has formed d name a = listeners bits has formed d name a heard
+design_is_wired heard bits has formed d names a = listeners bits has formed d names a heard

@@ -11,11 +11,11 @@ use Rattle.vs_queue.specs.Ordered.{driven_bits, drawn_values, seed_after}
 use Rattle.vs_queue.specs.Reached.{IsReached}
 
 -- with these slots to come
-abbrev pub HasCome : Design → ℕ → ℕ → State → List State → Events → List Slot → ℕ → List (List Bit4) → ℕ → Type 0
-HasCome d clock order first later e slots seed ends steps =
-    let n = network_of d clock in IsReached n (start n (drawn_values (driven_bits d) order (idle_value d)) first later) (seed_after (driven_bits d) order) (queue_of e slots) seed ends steps
+abbrev pub HasCome : Design → List ℕ → ℕ → State → List State → Events → List Slot → ℕ → List (List Bit4) → ℕ → Type 0
+HasCome d clocks order first later e slots seed ends steps =
+    let n = network_of d clocks in IsReached n (start n (drawn_values (driven_bits d) order (idle_value d)) first later) (seed_after (driven_bits d) order) (queue_of e slots) seed ends steps
 
 -- so many vectors are over
-abbrev pub ComesTo : Design → ℕ → ℕ → List Vector → ℕ → Events → ℕ → List (List Bit4) → ℕ → Type 0
-ComesTo d clock order vectors k e seed ends steps =
-    (first : State) (later : List State) → AreVectors d clock vectors (first ∷ later) → HasCome d clock order first later e (slots_of (drop k (first ∷ later))) seed ends steps
+abbrev pub ComesTo : Design → List ℕ → ℕ → List Vector → ℕ → Events → ℕ → List (List Bit4) → ℕ → Type 0
+ComesTo d clocks order vectors k e seed ends steps =
+    (first : State) (later : List State) → AreVectors d clocks vectors (first ∷ later) → HasCome d clocks order first later e (slots_of (drop k (first ∷ later))) seed ends steps

@@ -59,18 +59,18 @@ abbrev pub AreKept : Design → (count keeper : ℕ) → List ℕ → Type 0
 AreKept d count keeper owners = (b : ℕ) → b < bit_count d → IsKeptBy d count keeper b (owner owners b)
 
 -- by bit the process that keeps it, of those that initial processes write
-pub record AreOwners (d : Design) (clock : ℕ) (owners : List ℕ) : Type 0 where
+pub record AreOwners (d : Design) (clocks : List ℕ) (owners : List ℕ) : Type 0 where
   pub count : length owners ≡ bit_count d
   pub inside : (b : ℕ) → contains (initial_bits d.initials) b ≡ true → b < bit_count d
-  pub below : (b : ℕ) → contains (initial_bits d.initials) b ≡ true → owner owners b < (network_of d clock).count
-  pub kept : (p b : ℕ) → contains (initial_bits d.initials) b ≡ true → kept_bits ((network_of d clock).process p) b ≡ is_own owners p b
+  pub below : (b : ℕ) → contains (initial_bits d.initials) b ≡ true → owner owners b < (network_of d clocks).count
+  pub kept : (p b : ℕ) → contains (initial_bits d.initials) b ≡ true → kept_bits ((network_of d clocks).process p) b ≡ is_own owners p b
 
 -- what the initial processes of a design write at once is active, and what they give by updates waits
-pub record HasBegun (d : Design) (clock : ℕ) (e now : Events) : Type 0 where
+pub record HasBegun (d : Design) (clocks : List ℕ) (e now : Events) : Type 0 where
   pub firsts : List Drive
   pub lates : List Drive
   pub now_is : now ≡ begun e firsts lates
-  pub firsts_there : AllDriven (network_of d clock).count (bit_count d) firsts
-  pub lates_there : AllDriven (network_of d clock).count (bit_count d) lates
-  pub firsts_are : (p : ℕ) → drives_of firsts p ≡ (network_of d clock).initial p
-  pub lates_are : (p : ℕ) → drives_of lates p ≡ (network_of d clock).initial_updates p
+  pub firsts_there : AllDriven (network_of d clocks).count (bit_count d) firsts
+  pub lates_there : AllDriven (network_of d clocks).count (bit_count d) lates
+  pub firsts_are : (p : ℕ) → drives_of firsts p ≡ (network_of d clocks).initial p
+  pub lates_are : (p : ℕ) → drives_of lates p ≡ (network_of d clocks).initial_updates p

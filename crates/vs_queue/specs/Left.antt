@@ -9,10 +9,10 @@ use Rattle.vs_events.specs.Beginning.{after_drives}
 use Rattle.vs_queue.specs.Driven.{Vector, data_inputs, AreGiven, drives_from}
 
 -- these inputs have the values of the vector from this one on
-abbrev pub IsLeft : ℕ → List Signal → ℕ → Option Vector → Slot → Type 0
-IsLeft clock ss taken (Some vector) (Fall v) = AreGiven (data_inputs clock ss) (drop taken vector) v
-IsLeft clock ss taken None Rise = Unit {0}
-IsLeft clock ss taken _ _ = ⊥
+abbrev pub IsLeft : List ℕ → List Signal → ℕ → Option Vector → Slot → Type 0
+IsLeft clocks ss taken (Some vector) (Fall v) = AreGiven (data_inputs clocks ss) (drop taken vector) v
+IsLeft clocks ss taken None Rise = Unit {0}
+IsLeft clocks ss taken _ _ = ⊥
 
 -- what an input is driven by
 abbrev pub level_of : Option Vector → Bit4
@@ -20,6 +20,6 @@ level_of (Some vector) = Zero
 level_of None = One
 
 -- the lists so far, with what is left to be driven
-pub record AreSoFar (clock : ℕ) (vector : Option Vector) (all : List Signal) (count : ℕ) (first now : Events) (i taken : ℕ) (slot : Slot) : Type 0 where
-  pub driven : after_drives now (drives_from clock slot (count + i) (drop i all)) ≡ after_drives first (drives_from clock slot count all)
-  pub left : IsLeft clock (drop i all) taken vector slot
+pub record AreSoFar (clocks : List ℕ) (vector : Option Vector) (all : List Signal) (count : ℕ) (first now : Events) (i taken : ℕ) (slot : Slot) : Type 0 where
+  pub driven : after_drives now (drives_from clocks slot (count + i) (drop i all)) ≡ after_drives first (drives_from clocks slot count all)
+  pub left : IsLeft clocks (drop i all) taken vector slot

@@ -20,8 +20,8 @@ pub record IsLevelled (n : Network) (order : List ℕ) (from : Queue) (q : Queue
   pub values_are : map state_of values ≡ ends_so_far n from done
 
 -- so many vectors are over, for all values of the bits that they give
-abbrev pub GoesTo : Design → ℕ → List ℕ → List Vector → ℕ → Events → List (List Bit4) → Type 0
-GoesTo d clock order vectors k e ends =
-    let n = network_of d clock in
-    (first : State) (later : List State) → AreVectors d clock vectors (first ∷ later)
+abbrev pub GoesTo : Design → List ℕ → List ℕ → List Vector → ℕ → Events → List (List Bit4) → Type 0
+GoesTo d clocks order vectors k e ends =
+    let n = network_of d clocks in
+    (first : State) (later : List State) → AreVectors d clocks vectors (first ∷ later)
     → IsLevelled n order (start n (x_values (driven_bits d) (idle_value d)) first later) (queue_of e (slots_of (drop k (first ∷ later)))) ends (slot_sweeps (slots_of (drop k (first ∷ later))))

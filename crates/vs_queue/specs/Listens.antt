@@ -1,5 +1,6 @@
 -- Who listens to the bits of a design (IEEE 1364-2005, 9.7.2, 9.7.5 and 11.6.1).
 use Rattle.std.specs.Prelude.{ℕ, suc, Bool, true, false, List, [], ◌∷◌, ◌++◌, map, replicate, slice_index_or, if◌then◌else◌, Option}
+use Rattle.vs_design.specs.Clocks.{clock_bits, first_clock}
 use Rattle.vs_design.specs.Designs.{Edge, Any, Posedge, Negedge, Event, Process, Continuous, Always, is_clocked, Design, bit_count}
 use Rattle.vs_design.specs.Footprints.{reads_of, waits_of, ascending}
 use Rattle.vs_design.specs.Networks.{network_of}
@@ -38,21 +39,21 @@ abbrev pub listens_from : ℕ → ℕ → List Process → List Sensitivity
 listens_from count p [] = []
 listens_from count p (x ∷ xs) = process_listens count p x ++ listens_from count (suc p) xs
 
--- the block that keeps what initial processes alone write listens to the clock
-abbrev pub keeper_listens : Design → ℕ → List Sensitivity
-keeper_listens d clock = if has_keeper d then (record { bit = clock; listener = record { process = keeper_at d clock; change = C.Pos } } ∷ []) else []
+-- the block that keeps what initial processes alone write listens to the first clock
+abbrev pub keeper_listens : Design → List ℕ → List Sensitivity
+keeper_listens d clocks = if has_keeper d then (record { bit = first_clock clocks; listener = record { process = keeper_at d clocks; change = C.Pos } } ∷ []) else []
 
-abbrev pub listens_of : Design → ℕ → List Sensitivity
-listens_of d clock = listens_from (bit_count d) 0 d.processes ++ keeper_listens d clock
+abbrev pub listens_of : Design → List ℕ → List Sensitivity
+listens_of d clocks = listens_from (bit_count d) 0 d.processes ++ keeper_listens d clocks
 
--- by bit those that are sensitive to its changes; behind the design's bits stands a clock that is none of them
-abbrev pub listeners_of : Design → ℕ → List (List Listener)
-listeners_of d clock = after_listens (replicate (value_count d clock) []) (listens_of d clock)
+-- by bit those that are sensitive to its changes; behind the design's bits stand clocks that are none of them
+abbrev pub listeners_of : Design → List ℕ → List (List Listener)
+listeners_of d clocks = after_listens (replicate (value_count d clocks) []) (listens_of d clocks)
 
 -- they hear what the processes of the network sense, and are processes of it
-pub record AreListeners (d : Design) (clock : ℕ) : Type 0 where
-  pub wired : IsWired (network_of d clock) (listeners_of d clock)
-  pub below : (b : ℕ) → AreBelow (network_of d clock).count (slice_index_or (listeners_of d clock) b [])
+pub record AreListeners (d : Design) (clocks : List ℕ) : Type 0 where
+  pub wired : IsWired (network_of d clocks) (listeners_of d clocks)
+  pub below : (b : ℕ) → AreBelow (network_of d clocks).count (slice_index_or (listeners_of d clocks) b [])
 
 abbrev pub DesignIsWired : Type 0
-DesignIsWired = (d : Design) (name : Option (List ℕ)) (a : IsAcceptedDesign d name) → AreListeners d a.clock.first
+DesignIsWired = (d : Design) (names : List (List ℕ)) (a : IsAcceptedDesign d names) → AreListeners d (clock_bits a.clocks)

@@ -45,13 +45,13 @@ abbrev pub AreEnds : List (List Bit4) → List State → Type 0
 AreEnds values states = map state_of values ≡ states
 
 -- The run that this number chooses, on these vectors: the values at the ends of its slots, and how many steps it has, as far as 64 bits can count.
-pub record IsOrderedRun (d : Design) (clock order : ℕ) (first : State) (later : List State) (values : List (List Bit4)) (steps : ℕ) : Type 0 where
+pub record IsOrderedRun (d : Design) (clocks : List ℕ) (order : ℕ) (first : State) (later : List State) (values : List (List Bit4)) (steps : ℕ) : Type 0 where
   pub choices : List Choice
-  pub chosen : IsChosen (network_of d clock) (start (network_of d clock) (drawn_values (driven_bits d) order (idle_value d)) first later) (seed_after (driven_bits d) order) choices
-  pub values_are : AreEnds values (ends (network_of d clock) (start (network_of d clock) (drawn_values (driven_bits d) order (idle_value d)) first later) choices)
+  pub chosen : IsChosen (network_of d clocks) (start (network_of d clocks) (drawn_values (driven_bits d) order (idle_value d)) first later) (seed_after (driven_bits d) order) choices
+  pub values_are : AreEnds values (ends (network_of d clocks) (start (network_of d clocks) (drawn_values (driven_bits d) order (idle_value d)) first later) choices)
   pub steps_are : steps ≡ min (length choices) (2 ^ 64 - 1)
 
 -- The level run in this order, on these vectors, from a state in which driven nets are x.
-abbrev pub IsPlainRun : Design → ℕ → List ℕ → State → List State → List (List Bit4) → Type 0
-IsPlainRun d clock order first later values =
-    let n = network_of d clock in let q = start n (x_values (driven_bits d) (idle_value d)) first later in AreEnds values (ends n q (level_run n order q))
+abbrev pub IsPlainRun : Design → List ℕ → List ℕ → State → List State → List (List Bit4) → Type 0
+IsPlainRun d clocks order first later values =
+    let n = network_of d clocks in let q = start n (x_values (driven_bits d) (idle_value d)) first later in AreEnds values (ends n q (level_run n order q))

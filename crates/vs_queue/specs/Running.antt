@@ -2,6 +2,7 @@
 use Rattle.std.specs.Prelude.{◌≡◌, ◌<◌, ℕ, true, List, [], length, slice_index_or, slice_get, Option, Some}
 use Rattle.vs_net.specs.Network.{Network, is_written, flatten, made, updates}
 use Rattle.vs_net.specs.Queue.{Slot, Choice, Start, Evaluate, Apply, Run, Take, Activate, Next, after, to_write}
+use Rattle.vs_design.specs.Clocks.{clock_bits}
 use Rattle.vs_design.specs.Designs.{Design}
 use Rattle.vs_design.specs.Networks.{network_of}
 use Rattle.vs_design.specs.Accepted.{IsAcceptedDesign}
@@ -20,9 +21,9 @@ pub record IsInside (count : ℕ) (e : Events) : Type 0 where
   pub active : (p b : ℕ) → is_written (flatten (slice_index_or e.active p [])) b ≡ true → b < count
   pub waiting : (p b : ℕ) → is_written (flatten (slice_index_or e.waiting p [])) b ≡ true → b < count
 
-pub record IsRunning (d : Design) (clock : ℕ) (e : Events) : Type 0 where
-  pub sound : IsSound (network_of d clock) e
-  pub inside : IsInside (value_count d clock) e
+pub record IsRunning (d : Design) (clocks : List ℕ) (e : Events) : Type 0 where
+  pub sound : IsSound (network_of d clocks) e
+  pub inside : IsInside (value_count d clocks) e
 
 -- what a step makes of the lists; it looks at its own process, and at those that listen to what it writes
 abbrev pub stepped : Network → List (List Listener) → Events → Choice → Events
@@ -35,14 +36,14 @@ stepped n table e Activate = after_activate e
 stepped n table e Next = e
 
 -- the lists run on, and are those of the queue after the step
-pub record IsStepped (d : Design) (clock : ℕ) (e : Events) (c : Choice) (now : Events) : Type 0 where
-  pub running : IsRunning d clock now
-  pub queue : (slots : List Slot) → queue_of now slots ≡ after (network_of d clock) (queue_of e slots) c
+pub record IsStepped (d : Design) (clocks : List ℕ) (e : Events) (c : Choice) (now : Events) : Type 0 where
+  pub running : IsRunning d clocks now
+  pub queue : (slots : List Slot) → queue_of now slots ≡ after (network_of d clocks) (queue_of e slots) c
 
 -- each step of a process does so
 abbrev pub StepsRun : Type 0
-StepsRun = (d : Design) (name : Option (List ℕ)) (a : IsAcceptedDesign d name) (e : Events) (i : ℕ) (c : Choice) → IsRunning d a.clock.first e → slice_get (steps_of e) i ≡ Some c → IsStepped d a.clock.first e c (stepped (network_of d a.clock.first) (listeners_of d a.clock.first) e c)
+StepsRun = (d : Design) (names : List (List ℕ)) (a : IsAcceptedDesign d names) (e : Events) (i : ℕ) (c : Choice) → IsRunning d (clock_bits a.clocks) e → slice_get (steps_of e) i ≡ Some c → IsStepped d (clock_bits a.clocks) e c (stepped (network_of d (clock_bits a.clocks)) (listeners_of d (clock_bits a.clocks)) e c)
 
 -- and so does the activation, where no step of a process is possible
 abbrev pub ActivationRuns : Type 0
-ActivationRuns = (d : Design) (clock : ℕ) (e : Events) → IsRunning d clock e → steps_of e ≡ [] → IsStepped d clock e Activate (after_activate e)
+ActivationRuns = (d : Design) (clocks : List ℕ) (e : Events) → IsRunning d clocks e → steps_of e ≡ [] → IsStepped d clocks e Activate (after_activate e)

@@ -13,21 +13,21 @@ use Rattle.vs_queue.specs.Running.{IsRunning}
 use Rattle.vs_queue.specs.Turns.{IsRested}
 
 -- the lists run, and the other copy of the values is the same
-pub record IsCopied (d : Design) (clock : ℕ) (e : Events) (shadow : List Bit4) : Type 0 where
-  pub running : IsRunning d clock e
+pub record IsCopied (d : Design) (clocks : List ℕ) (e : Events) (shadow : List Bit4) : Type 0 where
+  pub running : IsRunning d clocks e
   pub shadow_is : state_of shadow ≡ state_of e.values
   pub long : length shadow ≡ length e.values
 
 -- a run of the design on some vectors has come to these lists
-pub record IsUnderWay (d : Design) (clock : ℕ) (e : Events) (seed : ℕ) (ends : List (List Bit4)) (steps : ℕ) : Type 0 where
+pub record IsUnderWay (d : Design) (clocks : List ℕ) (e : Events) (seed : ℕ) (ends : List (List Bit4)) (steps : ℕ) : Type 0 where
   pub first : State
   pub vector : State
   pub later : List State
   pub order : ℕ
   pub slots : List Slot
-  pub reached : IsReached (network_of d clock) (start (network_of d clock) first vector later) order (queue_of e slots) seed ends steps
+  pub reached : IsReached (network_of d clocks) (start (network_of d clocks) first vector later) order (queue_of e slots) seed ends steps
 
 -- nothing is left in the slot
-pub record IsEnded (d : Design) (clock : ℕ) (e : Events) : Type 0 where
+pub record IsEnded (d : Design) (clocks : List ℕ) (e : Events) : Type 0 where
   pub rested : IsRested e
-  pub over : (slots : List Slot) → C.possible_steps (network_of d clock) (queue_of e slots) ≡ C.beginning slots
+  pub over : (slots : List Slot) → C.possible_steps (network_of d clocks) (queue_of e slots) ≡ C.beginning slots

@@ -52,9 +52,9 @@ abbrev pub IsSwept : Network → (Queue → List Choice) → Events → Events �
 IsSwept n steps e now = (slots : List Slot) → queue_of now slots ≡ after_all n (queue_of e slots) (steps (queue_of e slots))
 
 -- they are, and the other copy of the values is the same
-pub record HasTaken (d : Design) (clock : ℕ) (steps : Queue → List Choice) (e now : Events) (shadow : List Bit4) : Type 0 where
-  pub copied : IsCopied d clock now shadow
-  pub swept : IsSwept (network_of d clock) steps e now
+pub record HasTaken (d : Design) (clocks : List ℕ) (steps : Queue → List Choice) (e now : Events) (shadow : List Bit4) : Type 0 where
+  pub copied : IsCopied d clocks now shadow
+  pub swept : IsSwept (network_of d clocks) steps e now
 
 -- no update is active, and none waits
 pub record IsCalm (e : Events) : Type 0 where

@@ -1,8 +1,9 @@
-//! What the environment drives in a slot: the clock, and the data inputs.
+//! What the environment drives in a slot: the clocks, and the data inputs.
 
 ghost use Rattle.std.specs.Prelude.{◌≡◌, ◌==◌, ◌+◌, ◌<◌, ◌≤◌, ◌^◌, [], ◌∷◌, drop, length, option_map, slice_get, Some, IfOk, OnOk};
 ghost use Rattle.vs_net.specs.Queue.{Slot};
 ghost use Rattle.vs_design.specs.Designs as D;
+ghost use Rattle.vs_design.specs.Footprints.{contains};
 ghost use Rattle.vs_design.specs.Networks.{network_of};
 ghost use Rattle.vs_events.specs.Beginning.{after_drives};
 ghost use Rattle.vs_events.specs.Held as H;
@@ -13,7 +14,7 @@ ghost use Rattle.vs_queue.specs.Left.{AreSoFar, IsLeft, level_of};
 ghost use Rattle.vs_queue.specs.Machines.{IsMachine};
 ghost use Rattle.vs_queue.specs.Running.{IsRunning};
 
-use crate::first::is_spare;
+use crate::first::spare_clock;
 use crate::machine::Machine;
 use crate::vector::Vector;
 use std::alloc::{AllocError, Global};
@@ -52,7 +53,7 @@ fn value_at(values: &[Bits], n: usize) -> Bits
     values[n]
 }
 
-/// What the clock is driven to: it falls with a vector, and rises without one.
+/// What the clocks are driven to: they fall with a vector, and rise without one.
 fn level_of(vector: Option<&Vector>) -> Bit4
     ensures { result ≡ level_of (option_map (λ v. v.now) vector.entry) }
 {
@@ -63,14 +64,14 @@ fn level_of(vector: Option<&Vector>) -> Bit4
 }
 
 impl Machine<'_> {
-    /// Whether this bit is the clock's.
+    /// Whether this bit is a clock's.
     fn is_clock(&self, bit: u32) -> bool
-        ensures { result ≡ (bit == self.now.clocks.now.bit) }
+        ensures { result ≡ contains self.now.clocks.now.bits bit }
     {
-        bit == self.clocks.bit()
+        self.clocks.bits().iter().any(|clock| bit == *clock)
     }
 
-    /// The environment writes the input of this number, and where that is a data input and the clock falls it takes a value of the vector. How many are taken then is answered.
+    /// The environment writes the input of this number, and where that is a data input and the clocks fall it takes a value of the vector. How many are taken then is answered.
     fn drive_input(
         &self,
         events: &mut Events,
@@ -80,9 +81,9 @@ impl Machine<'_> {
     ) -> Result<usize, AllocError>
         requires there { i < length (D.top_inputs (design_of self.now.typed.now)) }
         requires held { length (design_of self.now.typed.now).processes + length (D.top_inputs (design_of self.now.typed.now)) ≤ length events.old.assigns }
-        requires left { (slot : Slot) × IsLeft self.now.clocks.now.bit (drop i (D.top_inputs (design_of self.now.typed.now))) taken (option_map (λ v. v.now) vector) slot }
-        ensures driven { (first : H.Events) (slot : Slot) → AreSoFar self.now.clocks.now.bit (option_map (λ v. v.now) vector.entry) (D.top_inputs (design_of self.now.typed.now)) (length (design_of self.now.typed.now).processes) first events.old i taken slot
-            → IfOk result (λ t. AreSoFar self.now.clocks.now.bit (option_map (λ v. v.now) vector.entry) (D.top_inputs (design_of self.now.typed.now)) (length (design_of self.now.typed.now).processes) first events.new (i + 1) t slot) }
+        requires left { (slot : Slot) × IsLeft self.now.clocks.now.bits (drop i (D.top_inputs (design_of self.now.typed.now))) taken (option_map (λ v. v.now) vector) slot }
+        ensures driven { (first : H.Events) (slot : Slot) → AreSoFar self.now.clocks.now.bits (option_map (λ v. v.now) vector.entry) (D.top_inputs (design_of self.now.typed.now)) (length (design_of self.now.typed.now).processes) first events.old i taken slot
+            → IfOk result (λ t. AreSoFar self.now.clocks.now.bits (option_map (λ v. v.now) vector.entry) (D.top_inputs (design_of self.now.typed.now)) (length (design_of self.now.typed.now).processes) first events.new (i + 1) t slot) }
         ensures held { OnOk result (length events.new.assigns ≡ length events.old.assigns) }
     {
         trees_law();
@@ -105,13 +106,13 @@ impl Machine<'_> {
         }
     }
 
-    /// The environment writes the inputs of the top: the clock, where it is one, and where that falls the data inputs, each by one update.
+    /// The environment writes the inputs of the top: the clocks, where they are some, and where they fall the data inputs, each by one update.
     fn drive_inputs(&self, events: &mut Events, vector: Option<&Vector>) -> Result<(), AllocError>
         requires machine { IsMachine self.now.typed.now self.now.clocks.now self.now.wiring.now self.now.keeper }
-        requires running { IsRunning (design_of self.now.typed.now) self.now.clocks.now.bit events.old }
-        requires slot { (slot : Slot) × IsSlotOf (design_of self.now.typed.now) self.now.clocks.now.bit (option_map (λ v. v.now) vector) slot }
-        ensures driven { (slot : Slot) → IsSlotOf (design_of self.now.typed.now) self.now.clocks.now.bit (option_map (λ v. v.now) vector.entry) slot
-            → OnOk result (events.new ≡ after_drives events.old (drives_from self.now.clocks.now.bit slot (length (design_of self.now.typed.now).processes) (D.top_inputs (design_of self.now.typed.now)))) }
+        requires running { IsRunning (design_of self.now.typed.now) self.now.clocks.now.bits events.old }
+        requires slot { (slot : Slot) × IsSlotOf (design_of self.now.typed.now) self.now.clocks.now.bits (option_map (λ v. v.now) vector) slot }
+        ensures driven { (slot : Slot) → IsSlotOf (design_of self.now.typed.now) self.now.clocks.now.bits (option_map (λ v. v.now) vector.entry) slot
+            → OnOk result (events.new ≡ after_drives events.old (drives_from self.now.clocks.now.bits slot (length (design_of self.now.typed.now).processes) (D.top_inputs (design_of self.now.typed.now)))) }
         ensures held { OnOk result (length events.new.assigns ≡ length events.old.assigns) }
     {
         trees_law();
@@ -128,34 +129,35 @@ impl Machine<'_> {
     /// The environment writes a clock that is none of the design's bits.
     fn drive_spare(&self, events: &mut Events, vector: Option<&Vector>) -> Result<(), AllocError>
         requires machine { IsMachine self.now.typed.now self.now.clocks.now self.now.wiring.now self.now.keeper }
-        requires held { length events.old.assigns ≡ (network_of (design_of self.now.typed.now) self.now.clocks.now.bit).count }
-        ensures { (slot : Slot) → IsSlotOf (design_of self.now.typed.now) self.now.clocks.now.bit (option_map (λ v. v.now) vector.entry) slot
-            → OnOk result (events.new ≡ after_drives events.old (spare_drives (design_of self.now.typed.now) self.now.clocks.now.bit slot)) }
+        requires held { length events.old.assigns ≡ (network_of (design_of self.now.typed.now) self.now.clocks.now.bits).count }
+        ensures { (slot : Slot) → IsSlotOf (design_of self.now.typed.now) self.now.clocks.now.bits (option_map (λ v. v.now) vector.entry) slot
+            → OnOk result (events.new ≡ after_drives events.old (spare_drives (design_of self.now.typed.now) self.now.clocks.now.bits slot)) }
     {
         trees_law();
         lawful_law();
         let flat = self.typed.flat();
-        let clock = self.clocks.bit();
-        if is_spare(flat, clock) {
-            let inputs = flat.top_inputs().len() as u32;
-            let update = level(self.alloc, clock, level_of(vector))?;
-            events.drive(flat.process_count() + inputs, update)?;
-            return Ok(());
+        match spare_clock(flat, self.clocks.bits()) {
+            Some(clock) => {
+                let inputs = flat.top_inputs().len() as u32;
+                let update = level(self.alloc, clock, level_of(vector))?;
+                events.drive(flat.process_count() + inputs, update)?;
+                Ok(())
+            }
+            None => Ok(()),
         }
-        Ok(())
     }
 
-    /// The environment writes the clock, and where that falls the data inputs, each by one update. The only error is that there is no memory.
+    /// The environment writes the clocks, and where they fall the data inputs, each by one update. The only error is that there is no memory.
     pub(crate) fn drive(
         &self,
         events: &mut Events,
         vector: Option<&Vector>,
     ) -> Result<(), AllocError>
         requires machine { IsMachine self.now.typed.now self.now.clocks.now self.now.wiring.now self.now.keeper }
-        requires running { IsRunning (design_of self.now.typed.now) self.now.clocks.now.bit events.old }
-        requires slot { (slot : Slot) × IsSlotOf (design_of self.now.typed.now) self.now.clocks.now.bit (option_map (λ v. v.now) vector) slot }
-        ensures { (slot : Slot) → IsSlotOf (design_of self.now.typed.now) self.now.clocks.now.bit (option_map (λ v. v.now) vector.entry) slot
-            → OnOk result (events.new ≡ after_drives events.old (slot_drives (design_of self.now.typed.now) self.now.clocks.now.bit slot)) }
+        requires running { IsRunning (design_of self.now.typed.now) self.now.clocks.now.bits events.old }
+        requires slot { (slot : Slot) × IsSlotOf (design_of self.now.typed.now) self.now.clocks.now.bits (option_map (λ v. v.now) vector) slot }
+        ensures { (slot : Slot) → IsSlotOf (design_of self.now.typed.now) self.now.clocks.now.bits (option_map (λ v. v.now) vector.entry) slot
+            → OnOk result (events.new ≡ after_drives events.old (slot_drives (design_of self.now.typed.now) self.now.clocks.now.bits slot)) }
     {
         self.drive_inputs(events, vector)?;
         self.drive_spare(events, vector)

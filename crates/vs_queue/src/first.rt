@@ -4,14 +4,14 @@ ghost use Rattle.std.specs.Prelude.{◌≡◌, ◌<◌, ◌+◌, ◌≤◌, ◌^
 ghost use Rattle.std.specs.List.{list_any};
 ghost use Rattle.vs_design.specs.Designs as D;
 ghost use Rattle.vs_design.specs.Footprints.{contains, net_bits};
-ghost use Rattle.vs_design.specs.Networks.{idle_value};
+ghost use Rattle.vs_design.specs.Networks.{idle_value, spare_clocks};
 ghost use Rattle.vs_design.specs.Values.{count_from};
 ghost use Rattle.vs_flat.specs.DesignOf.{design_of};
 ghost use Rattle.vs_flat.specs.Lawful.{IsLawful};
 ghost use Rattle.vs_reads.specs.Footprint.{footprints_of};
 ghost use Rattle.vs_writes.specs.Held.{state_of};
 ghost use Rattle.vs_queue.specs.Beginnings.{all_roles, driven_roles, role_of_kind, roles_of};
-ghost use Rattle.vs_queue.specs.Spare.{has_keeper, is_spare, keeper_at, spare_count, value_count};
+ghost use Rattle.vs_queue.specs.Spare.{alone, has_keeper, keeper_at, spare_count, value_count};
 ghost use Rattle.vs_queue.specs.First.{first_seed, first_value, flag_at, flagged, idle_by, is_assign_kind, plain_value};
 ghost use Rattle.vs_queue.specs.Ordered.{driven_bits, drawn_values, drives, seed_after, x_or_z, x_values};
 
@@ -62,41 +62,52 @@ fn roles_of(alloc: Global, flat: &Flat) -> Result<Vec<Role>, AllocError>
     Ok(roles)
 }
 
-/// Whether the clock is none of the design's bits.
-pub(crate) fn is_spare(flat: &Flat, clock: u32) -> bool
-    ensures { result ≡ is_spare (design_of flat.now) clock }
+/// The clock that is none of the design's bits, where there is one.
+pub(crate) fn spare_clock(flat: &Flat, clocks: &[u32]) -> Option<u32>
+    requires { spare_count (design_of flat.now) clocks.now ≤ 1 }
+    ensures { spare_clocks (design_of flat.now) clocks.now ≡ alone result }
 {
     trees_law();
-    clock >= count_bits(flat)
+    for clock in clocks {
+        if *clock >= count_bits(flat) {
+            return Some(*clock);
+        }
+    }
+    None
 }
 
 /// How many clocks are none of the design's bits.
-pub(crate) fn spare_count(flat: &Flat, clock: u32) -> u32
-    ensures { result ≡ spare_count (design_of flat.now) clock }
+pub(crate) fn spare_count(flat: &Flat, clocks: &[u32]) -> u32
+    requires { spare_count (design_of flat.now) clocks.now ≤ 1 }
+    ensures { result ≡ spare_count (design_of flat.now) clocks.now }
 {
-    if is_spare(flat, clock) { 1 } else { 0 }
+    match spare_clock(flat, clocks) {
+        Some(_) => 1,
+        None => 0,
+    }
 }
 
 /// How many processes there are besides the block that keeps what initial processes alone write: those of the design, its inputs, and a clock that is none of its bits. It is the number of that block.
-pub(crate) fn keeper_at(flat: &Flat, clock: u32) -> u32
-    requires { IsLawful flat.now }
-    ensures is { result ≡ keeper_at (design_of flat.now) clock }
+pub(crate) fn keeper_at(flat: &Flat, clocks: &[u32]) -> u32
+    requires lawful { IsLawful flat.now }
+    requires one { spare_count (design_of flat.now) clocks.now ≤ 1 }
+    ensures is { result ≡ keeper_at (design_of flat.now) clocks.now }
     ensures most { result < 2 ^ 31 }
 {
     trees_law();
     lawful_law();
     let inputs = flat.top_inputs().len() as u32;
-    flat.process_count() + inputs + spare_count(flat, clock)
+    flat.process_count() + inputs + spare_count(flat, clocks)
 }
 
 /// The roles of the processes, of the inputs of the top, and of a clock that is none of the design's bits. The only error is that there is no memory.
-fn driven_roles(alloc: Global, flat: &Flat, clock: u32) -> Result<Vec<Role>, AllocError>
-    ensures { IfOk result (λ v. v.items ≡ driven_roles (design_of flat.now) clock) }
+fn driven_roles(alloc: Global, flat: &Flat, clocks: &[u32]) -> Result<Vec<Role>, AllocError>
+    requires { spare_count (design_of flat.now) clocks.now ≤ 1 }
+    ensures { IfOk result (λ v. v.items ≡ driven_roles (design_of flat.now) clocks.now) }
 {
     let mut roles = roles_of(alloc, flat)?;
-    if is_spare(flat, clock) {
+    for n in 0..spare_count(flat, clocks) {
         roles.push(Role::Input)?;
-        return Ok(roles);
     }
     Ok(roles)
 }
@@ -105,13 +116,14 @@ fn driven_roles(alloc: Global, flat: &Flat, clock: u32) -> Result<Vec<Role>, All
 pub(crate) fn all_roles(
     alloc: Global,
     flat: &Flat,
-    clock: u32,
+    clocks: &[u32],
     keeper: bool,
 ) -> Result<Vec<Role>, AllocError>
-    requires { keeper ≡ has_keeper (design_of flat.now) }
-    ensures { IfOk result (λ v. v.items ≡ all_roles (design_of flat.now) clock) }
+    requires keeper { keeper ≡ has_keeper (design_of flat.now) }
+    requires one { spare_count (design_of flat.now) clocks.now ≤ 1 }
+    ensures { IfOk result (λ v. v.items ≡ all_roles (design_of flat.now) clocks.now) }
 {
-    let mut roles = driven_roles(alloc, flat, clock)?;
+    let mut roles = driven_roles(alloc, flat, clocks)?;
     if keeper {
         roles.push(Role::Block)?;
         return Ok(roles);
@@ -255,14 +267,13 @@ fn first_values(
     values_by(alloc, nets.as_slice(), driven.as_slice(), order)
 }
 
-/// An x behind these values, where there is to be one.
-fn add_spare(values: &mut Vec<Bit4>, spare: bool) -> Result<(), AllocError>
-    ensures count { OnOk result (length values.new.items ≡ length values.old.items + (if spare then 1 else 0)) }
+/// So many x behind these values.
+fn add_spares(values: &mut Vec<Bit4>, count: u32) -> Result<(), AllocError>
+    ensures count { OnOk result (length values.new.items ≡ length values.old.items + count) }
     ensures same { OnOk result (state_of values.new.items ≡ state_of values.old.items) }
 {
-    if spare {
+    for n in 0..count {
         values.push(Bit4::X)?;
-        return Ok(());
     }
     Ok(())
 }
@@ -272,16 +283,17 @@ pub(crate) fn all_values(
     alloc: Global,
     typed: &Typed,
     footprints: &Footprints,
-    clock: u32,
+    clocks: &[u32],
     order: u64,
 ) -> Result<(Vec<Bit4>, u64), AllocError>
-    requires { footprints.now ≡ footprints_of (design_of typed.now) }
-    ensures count { IfOk result (λ r. length r.0.items ≡ value_count (design_of typed.now) clock) }
+    requires one { spare_count (design_of typed.now) clocks.now ≤ 1 }
+    requires footprints { footprints.now ≡ footprints_of (design_of typed.now) }
+    ensures count { IfOk result (λ r. length r.0.items ≡ value_count (design_of typed.now) clocks.now) }
     ensures values { IfOk result (λ r. state_of r.0.items ≡ drawn_values (driven_bits (design_of typed.now)) order (idle_value (design_of typed.now))) }
     ensures seed { IfOk result (λ r. r.1 ≡ seed_after (driven_bits (design_of typed.now)) order) }
 {
     let (mut values, seed) = first_values(alloc, typed, footprints, order)?;
-    add_spare(&mut values, is_spare(typed.flat(), clock))?;
+    add_spares(&mut values, spare_count(typed.flat(), clocks))?;
     Ok((values, seed))
 }
 
@@ -310,15 +322,16 @@ pub(crate) fn plain_values(
     alloc: Global,
     typed: &Typed,
     footprints: &Footprints,
-    clock: u32,
+    clocks: &[u32],
 ) -> Result<Vec<Bit4>, AllocError>
-    requires { footprints.now ≡ footprints_of (design_of typed.now) }
-    ensures count { IfOk result (λ r. length r.items ≡ value_count (design_of typed.now) clock) }
+    requires one { spare_count (design_of typed.now) clocks.now ≤ 1 }
+    requires footprints { footprints.now ≡ footprints_of (design_of typed.now) }
+    ensures count { IfOk result (λ r. length r.items ≡ value_count (design_of typed.now) clocks.now) }
     ensures values { IfOk result (λ r. state_of r.items ≡ x_values (driven_bits (design_of typed.now)) (idle_value (design_of typed.now))) }
 {
     let nets = net_flags(alloc, typed)?;
     let driven = driven_flags(alloc, typed, footprints)?;
     let mut values = plain_by(alloc, nets.as_slice(), driven.as_slice())?;
-    add_spare(&mut values, is_spare(typed.flat(), clock))?;
+    add_spares(&mut values, spare_count(typed.flat(), clocks))?;
     Ok(values)
 }

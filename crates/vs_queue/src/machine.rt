@@ -26,7 +26,7 @@ use vs_interpret::{assigned, run_block};
 use vs_typed::Typed;
 use vs_writes::write_all;
 
-/// What the queue of an accepted design is executed with: memory, the design with its clock, the listeners of its bits, and whether initial processes alone write some of them.
+/// What the queue of an accepted design is executed with: memory, the design with its clocks, the listeners of its bits, and whether initial processes alone write some of them.
 #[derive(Clone, Copy)]
 pub(crate) struct Machine<'a> {
     pub(crate) alloc: Global,
@@ -40,9 +40,9 @@ impl Machine<'_> {
     /// The assign is evaluated.
     fn evaluate(&self, events: &mut Events, p: u32) -> Result<(), AllocError>
         requires machine { IsMachine self.now.typed.now self.now.clocks.now self.now.wiring.now self.now.keeper }
-        requires running { IsRunning (design_of self.now.typed.now) self.now.clocks.now.bit events.old }
+        requires running { IsRunning (design_of self.now.typed.now) self.now.clocks.now.bits events.old }
         requires possible { (rank : ℕ) × (slice_get (steps_of events.old) rank ≡ Some (Q.Evaluate p)) }
-        ensures { OnOk result (events.new ≡ stepped (network_of (design_of self.now.typed.now) self.now.clocks.now.bit) self.now.wiring.now events.old (Q.Evaluate p)) }
+        ensures { OnOk result (events.new ≡ stepped (network_of (design_of self.now.typed.now) self.now.clocks.now.bits) self.now.wiring.now events.old (Q.Evaluate p)) }
     {
         trees_law();
         footprint_law();
@@ -62,11 +62,11 @@ impl Machine<'_> {
     ) -> Result<(), AllocError>
         requires there { p < length (design_of self.now.typed.now).processes }
         requires machine { IsMachine self.now.typed.now self.now.clocks.now self.now.wiring.now self.now.keeper }
-        requires running { IsRunning (design_of self.now.typed.now) self.now.clocks.now.bit events.old }
+        requires running { IsRunning (design_of self.now.typed.now) self.now.clocks.now.bits events.old }
         requires shadow { state_of shadow.old ≡ state_of events.old.values }
         requires long { length shadow.old ≡ length events.old.values }
         requires possible { (rank : ℕ) × (slice_get (steps_of events.old) rank ≡ Some (Q.Run p)) }
-        ensures events { OnOk result (events.new ≡ stepped (network_of (design_of self.now.typed.now) self.now.clocks.now.bit) self.now.wiring.now events.old (Q.Run p)) }
+        ensures events { OnOk result (events.new ≡ stepped (network_of (design_of self.now.typed.now) self.now.clocks.now.bits) self.now.wiring.now events.old (Q.Run p)) }
         ensures shadow { OnOk result (state_of shadow.new ≡ state_of events.new.values) }
     {
         listeners_law();
@@ -83,9 +83,9 @@ impl Machine<'_> {
     fn run_keeper(&self, events: &mut Events, p: u32) -> Result<(), AllocError>
         requires past { length (design_of self.now.typed.now).processes ≤ p }
         requires machine { IsMachine self.now.typed.now self.now.clocks.now self.now.wiring.now self.now.keeper }
-        requires running { IsRunning (design_of self.now.typed.now) self.now.clocks.now.bit events.old }
+        requires running { IsRunning (design_of self.now.typed.now) self.now.clocks.now.bits events.old }
         requires possible { (rank : ℕ) × (slice_get (steps_of events.old) rank ≡ Some (Q.Run p)) }
-        ensures events { OnOk result (events.new ≡ stepped (network_of (design_of self.now.typed.now) self.now.clocks.now.bit) self.now.wiring.now events.old (Q.Run p)) }
+        ensures events { OnOk result (events.new ≡ stepped (network_of (design_of self.now.typed.now) self.now.clocks.now.bits) self.now.wiring.now events.old (Q.Run p)) }
         ensures values { OnOk result (events.new.values ≡ events.old.values) }
     {
         listeners_law();
@@ -95,11 +95,11 @@ impl Machine<'_> {
     /// The block runs whole, on the shadow too.
     fn run(&self, events: &mut Events, shadow: &mut [Bit4], p: u32) -> Result<(), AllocError>
         requires machine { IsMachine self.now.typed.now self.now.clocks.now self.now.wiring.now self.now.keeper }
-        requires running { IsRunning (design_of self.now.typed.now) self.now.clocks.now.bit events.old }
+        requires running { IsRunning (design_of self.now.typed.now) self.now.clocks.now.bits events.old }
         requires shadow { state_of shadow.old ≡ state_of events.old.values }
         requires long { length shadow.old ≡ length events.old.values }
         requires possible { (rank : ℕ) × (slice_get (steps_of events.old) rank ≡ Some (Q.Run p)) }
-        ensures events { OnOk result (events.new ≡ stepped (network_of (design_of self.now.typed.now) self.now.clocks.now.bit) self.now.wiring.now events.old (Q.Run p)) }
+        ensures events { OnOk result (events.new ≡ stepped (network_of (design_of self.now.typed.now) self.now.clocks.now.bits) self.now.wiring.now events.old (Q.Run p)) }
         ensures shadow { OnOk result (state_of shadow.new ≡ state_of events.new.values) }
     {
         trees_law();
@@ -113,11 +113,11 @@ impl Machine<'_> {
     /// What the assign has pending is applied, to both copies of the values.
     fn apply(&self, events: &mut Events, shadow: &mut [Bit4], p: u32)
         requires machine { IsMachine self.now.typed.now self.now.clocks.now self.now.wiring.now self.now.keeper }
-        requires running { IsRunning (design_of self.now.typed.now) self.now.clocks.now.bit events.old }
+        requires running { IsRunning (design_of self.now.typed.now) self.now.clocks.now.bits events.old }
         requires shadow { state_of shadow.old ≡ state_of events.old.values }
         requires long { length shadow.old ≡ length events.old.values }
         requires there { p < length events.old.assigns }
-        ensures events { events.new ≡ stepped (network_of (design_of self.now.typed.now) self.now.clocks.now.bit) self.now.wiring.now events.old (Q.Apply p) }
+        ensures events { events.new ≡ stepped (network_of (design_of self.now.typed.now) self.now.clocks.now.bits) self.now.wiring.now events.old (Q.Apply p) }
         ensures shadow { state_of shadow.new ≡ state_of events.new.values }
     {
         listeners_law();
@@ -128,11 +128,11 @@ impl Machine<'_> {
     /// The first active update of the writer is applied, to both copies of the values.
     fn take(&self, events: &mut Events, shadow: &mut [Bit4], p: u32)
         requires machine { IsMachine self.now.typed.now self.now.clocks.now self.now.wiring.now self.now.keeper }
-        requires running { IsRunning (design_of self.now.typed.now) self.now.clocks.now.bit events.old }
+        requires running { IsRunning (design_of self.now.typed.now) self.now.clocks.now.bits events.old }
         requires shadow { state_of shadow.old ≡ state_of events.old.values }
         requires long { length shadow.old ≡ length events.old.values }
         requires there { p < length events.old.assigns }
-        ensures events { events.new ≡ stepped (network_of (design_of self.now.typed.now) self.now.clocks.now.bit) self.now.wiring.now events.old (Q.Take p) }
+        ensures events { events.new ≡ stepped (network_of (design_of self.now.typed.now) self.now.clocks.now.bits) self.now.wiring.now events.old (Q.Take p) }
         ensures shadow { state_of shadow.new ≡ state_of events.new.values }
     {
         listeners_law();
@@ -148,11 +148,11 @@ impl Machine<'_> {
         step: Step,
     ) -> Result<(), AllocError>
         requires machine { IsMachine self.now.typed.now self.now.clocks.now self.now.wiring.now self.now.keeper }
-        requires running { IsRunning (design_of self.now.typed.now) self.now.clocks.now.bit events.old }
+        requires running { IsRunning (design_of self.now.typed.now) self.now.clocks.now.bits events.old }
         requires shadow { state_of shadow.old ≡ state_of events.old.values }
         requires long { length shadow.old ≡ length events.old.values }
         requires possible { (rank : ℕ) × (slice_get (steps_of events.old) rank ≡ Some (choice_of step)) }
-        ensures events { OnOk result (events.new ≡ stepped (network_of (design_of self.now.typed.now) self.now.clocks.now.bit) self.now.wiring.now events.old (choice_of step)) }
+        ensures events { OnOk result (events.new ≡ stepped (network_of (design_of self.now.typed.now) self.now.clocks.now.bits) self.now.wiring.now events.old (choice_of step)) }
         ensures shadow { OnOk result (state_of shadow.new ≡ state_of events.new.values) }
     {
         match step {
@@ -181,11 +181,11 @@ impl Machine<'_> {
         seed: u64,
     ) -> Result<bool, AllocError>
         requires machine { IsMachine self.now.typed.now self.now.clocks.now self.now.wiring.now self.now.keeper }
-        requires running { IsRunning (design_of self.now.typed.now) self.now.clocks.now.bit events.old }
+        requires running { IsRunning (design_of self.now.typed.now) self.now.clocks.now.bits events.old }
         requires shadow { state_of shadow.old ≡ state_of events.old.values }
         requires long { length shadow.old ≡ length events.old.values }
-        ensures turn { IfOk result (λ more. (slots : List Slot) → IsTurn (network_of (design_of self.now.typed.now) self.now.clocks.now.bit) (queue_of events.old slots) seed more (queue_of events.new slots)) }
-        ensures running { OnOk result (IsRunning (design_of self.now.typed.now) self.now.clocks.now.bit events.new) }
+        ensures turn { IfOk result (λ more. (slots : List Slot) → IsTurn (network_of (design_of self.now.typed.now) self.now.clocks.now.bits) (queue_of events.old slots) seed more (queue_of events.new slots)) }
+        ensures running { OnOk result (IsRunning (design_of self.now.typed.now) self.now.clocks.now.bits events.new) }
         ensures shadow { OnOk result (state_of shadow.new ≡ state_of events.new.values) }
         ensures rested { IfOk result (λ more. more ≡ false → IsRested events.new) }
     {

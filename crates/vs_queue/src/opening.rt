@@ -23,7 +23,7 @@ use vs_events::{Events, slot_law};
 use vs_four::Bit4;
 use vs_reads::Footprints;
 
-/// The state of the queue at the beginning of a run from these values: what initial processes write is active or waits, and in the first slot the clock falls with this vector; and the second copy of the values. The only error is that there is no memory.
+/// The state of the queue at the beginning of a run from these values: what initial processes write is active or waits, and in the first slot the clocks fall with this vector; and the second copy of the values. The only error is that there is no memory.
 pub(crate) fn open(
     machine: &Machine,
     footprints: &Footprints,
@@ -32,18 +32,18 @@ pub(crate) fn open(
 ) -> Result<(Events, Vec<Bit4>), AllocError>
     requires machine { IsMachine machine.now.typed.now machine.now.clocks.now machine.now.wiring.now machine.now.keeper }
     requires footprints { footprints.now ≡ footprints_of (design_of machine.now.typed.now) }
-    requires long { length values.items ≡ value_count (design_of machine.now.typed.now) machine.now.clocks.now.bit }
-    requires given { (v : State) × AreGiven (data_inputs machine.now.clocks.now.bit (D.top_inputs (design_of machine.now.typed.now))) vector.now v }
-    ensures copied { IfOk result (λ r. IsCopied (design_of machine.now.typed.now) machine.now.clocks.now.bit r.0 r.1.items) }
-    ensures start { IfOk result (λ r. (v : State) (later : List State) → AreGiven (data_inputs machine.now.clocks.now.bit (D.top_inputs (design_of machine.now.typed.now))) vector.now v
-        → queue_of r.0 (Rise ∷ slots_of later) ≡ start (network_of (design_of machine.now.typed.now) machine.now.clocks.now.bit) (state_of values.items) v later) }
+    requires long { length values.items ≡ value_count (design_of machine.now.typed.now) machine.now.clocks.now.bits }
+    requires given { (v : State) × AreGiven (data_inputs machine.now.clocks.now.bits (D.top_inputs (design_of machine.now.typed.now))) vector.now v }
+    ensures copied { IfOk result (λ r. IsCopied (design_of machine.now.typed.now) machine.now.clocks.now.bits r.0 r.1.items) }
+    ensures start { IfOk result (λ r. (v : State) (later : List State) → AreGiven (data_inputs machine.now.clocks.now.bits (D.top_inputs (design_of machine.now.typed.now))) vector.now v
+        → queue_of r.0 (Rise ∷ slots_of later) ≡ start (network_of (design_of machine.now.typed.now) machine.now.clocks.now.bits) (state_of values.items) v later) }
 {
     slot_law();
     keeping_law();
     let alloc = machine.alloc;
-    let clock = machine.clocks.bit();
+    let clocks = machine.clocks.bits();
     let shadow = Vec::from_slice(alloc, values.as_slice())?;
-    let roles = all_roles(alloc, machine.typed.flat(), clock, machine.keeper)?;
+    let roles = all_roles(alloc, machine.typed.flat(), clocks, machine.keeper)?;
     let mut events = Events::new(alloc, roles.as_slice(), values)?;
     machine.give_initial(&mut events, footprints)?;
     machine.drive(&mut events, Some(vector))?;

@@ -25,9 +25,9 @@ impl Machine<'_> {
     /// How many processes there are: those of the design, its inputs, a clock that is none of its bits, and the block that keeps what initial processes alone write.
     fn writer_count(&self) -> u32
         requires machine { IsMachine self.now.typed.now self.now.clocks.now self.now.wiring.now self.now.keeper }
-        ensures { result ≡ (network_of (design_of self.now.typed.now) self.now.clocks.now.bit).count }
+        ensures { result ≡ (network_of (design_of self.now.typed.now) self.now.clocks.now.bits).count }
     {
-        let others = keeper_at(self.typed.flat(), self.clocks.bit());
+        let others = keeper_at(self.typed.flat(), self.clocks.bits());
         if self.keeper {
             return others + 1;
         }
@@ -37,8 +37,8 @@ impl Machine<'_> {
     /// Each block starts.
     fn start_all(&self, events: &mut Events, shadow: &mut [Bit4]) -> Result<(), AllocError>
         requires machine { IsMachine self.now.typed.now self.now.clocks.now self.now.wiring.now self.now.keeper }
-        requires copied { IsCopied (design_of self.now.typed.now) self.now.clocks.now.bit events.old shadow.old }
-        ensures { (order : List ℕ) → OnOk result (HasTaken (design_of self.now.typed.now) self.now.clocks.now.bit (λ q. sweep (network_of (design_of self.now.typed.now) self.now.clocks.now.bit) order q Starts) events.old events.new shadow.new) }
+        requires copied { IsCopied (design_of self.now.typed.now) self.now.clocks.now.bits events.old shadow.old }
+        ensures { (order : List ℕ) → OnOk result (HasTaken (design_of self.now.typed.now) self.now.clocks.now.bits (λ q. sweep (network_of (design_of self.now.typed.now) self.now.clocks.now.bits) order q Starts) events.old events.new shadow.new) }
     {
         for p in 0..self.writer_count() {
             self.start_one(events, shadow, p)?;
@@ -49,8 +49,8 @@ impl Machine<'_> {
     /// The active updates are applied, writer by writer.
     fn take_all(&self, events: &mut Events, shadow: &mut [Bit4]) -> Result<(), AllocError>
         requires machine { IsMachine self.now.typed.now self.now.clocks.now self.now.wiring.now self.now.keeper }
-        requires copied { IsCopied (design_of self.now.typed.now) self.now.clocks.now.bit events.old shadow.old }
-        ensures { (order : List ℕ) → OnOk result (HasTaken (design_of self.now.typed.now) self.now.clocks.now.bit (λ q. sweep (network_of (design_of self.now.typed.now) self.now.clocks.now.bit) order q Takes) events.old events.new shadow.new) }
+        requires copied { IsCopied (design_of self.now.typed.now) self.now.clocks.now.bits events.old shadow.old }
+        ensures { (order : List ℕ) → OnOk result (HasTaken (design_of self.now.typed.now) self.now.clocks.now.bits (λ q. sweep (network_of (design_of self.now.typed.now) self.now.clocks.now.bits) order q Takes) events.old events.new shadow.new) }
     {
         for p in 0..self.writer_count() {
             self.take_one(events, shadow, p)?;
@@ -61,8 +61,8 @@ impl Machine<'_> {
     /// The due clocked blocks run.
     fn run_all(&self, events: &mut Events, shadow: &mut [Bit4]) -> Result<(), AllocError>
         requires machine { IsMachine self.now.typed.now self.now.clocks.now self.now.wiring.now self.now.keeper }
-        requires copied { IsCopied (design_of self.now.typed.now) self.now.clocks.now.bit events.old shadow.old }
-        ensures { (order : List ℕ) → OnOk result (HasTaken (design_of self.now.typed.now) self.now.clocks.now.bit (λ q. sweep (network_of (design_of self.now.typed.now) self.now.clocks.now.bit) order q Runs) events.old events.new shadow.new) }
+        requires copied { IsCopied (design_of self.now.typed.now) self.now.clocks.now.bits events.old shadow.old }
+        ensures { (order : List ℕ) → OnOk result (HasTaken (design_of self.now.typed.now) self.now.clocks.now.bits (λ q. sweep (network_of (design_of self.now.typed.now) self.now.clocks.now.bits) order q Runs) events.old events.new shadow.new) }
     {
         for p in 0..self.writer_count() {
             self.run_one(events, shadow, p)?;
@@ -79,8 +79,8 @@ impl Machine<'_> {
     ) -> Result<(), AllocError>
         requires machine { IsMachine self.now.typed.now self.now.clocks.now self.now.wiring.now self.now.keeper }
         requires order { is_level_order (design_of self.now.typed.now) order.now ≡ true }
-        requires copied { IsCopied (design_of self.now.typed.now) self.now.clocks.now.bit events.old shadow.old }
-        ensures { OnOk result (HasTaken (design_of self.now.typed.now) self.now.clocks.now.bit (λ q. sweep (network_of (design_of self.now.typed.now) self.now.clocks.now.bit) order.now q Pass) events.old events.new shadow.new) }
+        requires copied { IsCopied (design_of self.now.typed.now) self.now.clocks.now.bits events.old shadow.old }
+        ensures { OnOk result (HasTaken (design_of self.now.typed.now) self.now.clocks.now.bits (λ q. sweep (network_of (design_of self.now.typed.now) self.now.clocks.now.bits) order.now q Pass) events.old events.new shadow.new) }
     {
         let processes = order.list();
         for k in 0..processes.len() {
@@ -92,10 +92,10 @@ impl Machine<'_> {
     /// What waits becomes active, if anything does. Nothing is active before.
     fn activate(&self, events: &mut Events)
         requires machine { IsMachine self.now.typed.now self.now.clocks.now self.now.wiring.now self.now.keeper }
-        requires running { IsRunning (design_of self.now.typed.now) self.now.clocks.now.bit events.old }
+        requires running { IsRunning (design_of self.now.typed.now) self.now.clocks.now.bits events.old }
         requires spent { IsSpent events.old }
-        ensures taken { (order : List ℕ) (shadow : List Bit4) → IsCopied (design_of self.now.typed.now) self.now.clocks.now.bit events.old shadow
-            → HasTaken (design_of self.now.typed.now) self.now.clocks.now.bit (λ q. sweep (network_of (design_of self.now.typed.now) self.now.clocks.now.bit) order q Activates) events.old events.new shadow }
+        ensures taken { (order : List ℕ) (shadow : List Bit4) → IsCopied (design_of self.now.typed.now) self.now.clocks.now.bits events.old shadow
+            → HasTaken (design_of self.now.typed.now) self.now.clocks.now.bits (λ q. sweep (network_of (design_of self.now.typed.now) self.now.clocks.now.bits) order q Activates) events.old events.new shadow }
         ensures rested { IsRested events.new }
     {
         step_law();
@@ -114,9 +114,9 @@ impl Machine<'_> {
     ) -> Result<(), AllocError>
         requires machine { IsMachine self.now.typed.now self.now.clocks.now self.now.wiring.now self.now.keeper }
         requires order { is_level_order (design_of self.now.typed.now) order.now ≡ true }
-        requires copied { IsCopied (design_of self.now.typed.now) self.now.clocks.now.bit events.old shadow.old }
+        requires copied { IsCopied (design_of self.now.typed.now) self.now.clocks.now.bits events.old shadow.old }
         requires spent { IsSpent events.old }
-        ensures taken { OnOk result (HasTaken (design_of self.now.typed.now) self.now.clocks.now.bit (λ q. sweeps (network_of (design_of self.now.typed.now) self.now.clocks.now.bit) order.now q waiting_parts) events.old events.new shadow.new) }
+        ensures taken { OnOk result (HasTaken (design_of self.now.typed.now) self.now.clocks.now.bits (λ q. sweeps (network_of (design_of self.now.typed.now) self.now.clocks.now.bits) order.now q waiting_parts) events.old events.new shadow.new) }
         ensures calm { OnOk result (IsCalm events.new) }
     {
         lawful_law();
@@ -134,9 +134,9 @@ impl Machine<'_> {
     ) -> Result<(), AllocError>
         requires machine { IsMachine self.now.typed.now self.now.clocks.now self.now.wiring.now self.now.keeper }
         requires order { is_level_order (design_of self.now.typed.now) order.now ≡ true }
-        requires copied { IsCopied (design_of self.now.typed.now) self.now.clocks.now.bit events.old shadow.old }
+        requires copied { IsCopied (design_of self.now.typed.now) self.now.clocks.now.bits events.old shadow.old }
         requires spent { IsSpent events.old }
-        ensures taken { OnOk result (HasTaken (design_of self.now.typed.now) self.now.clocks.now.bit (λ q. sweeps (network_of (design_of self.now.typed.now) self.now.clocks.now.bit) order.now q slot_parts) events.old events.new shadow.new) }
+        ensures taken { OnOk result (HasTaken (design_of self.now.typed.now) self.now.clocks.now.bits (λ q. sweeps (network_of (design_of self.now.typed.now) self.now.clocks.now.bits) order.now q slot_parts) events.old events.new shadow.new) }
         ensures calm { OnOk result (IsCalm events.new) }
     {
         self.settle_waiting(order, events, shadow)?;
@@ -154,8 +154,8 @@ impl Machine<'_> {
     ) -> Result<(), AllocError>
         requires machine { IsMachine self.now.typed.now self.now.clocks.now self.now.wiring.now self.now.keeper }
         requires order { is_level_order (design_of self.now.typed.now) order.now ≡ true }
-        requires copied { IsCopied (design_of self.now.typed.now) self.now.clocks.now.bit events.old shadow.old }
-        ensures taken { OnOk result (HasTaken (design_of self.now.typed.now) self.now.clocks.now.bit (λ q. sweeps (network_of (design_of self.now.typed.now) self.now.clocks.now.bit) order.now q first_parts) events.old events.new shadow.new) }
+        requires copied { IsCopied (design_of self.now.typed.now) self.now.clocks.now.bits events.old shadow.old }
+        ensures taken { OnOk result (HasTaken (design_of self.now.typed.now) self.now.clocks.now.bits (λ q. sweeps (network_of (design_of self.now.typed.now) self.now.clocks.now.bits) order.now q first_parts) events.old events.new shadow.new) }
         ensures calm { OnOk result (IsCalm events.new) }
     {
         self.start_all(events, shadow)?;

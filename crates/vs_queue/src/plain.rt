@@ -48,7 +48,7 @@ struct Levelled {
     ends: Ends,
 }
 
-/// The first slot, in which the clock falls with this vector.
+/// The first slot, in which the clocks fall with this vector.
 fn first_slot(
     machine: &Machine,
     footprints: &Footprints,
@@ -58,17 +58,17 @@ fn first_slot(
     requires machine { IsMachine machine.now.typed.now machine.now.clocks.now machine.now.wiring.now machine.now.keeper }
     requires footprints { footprints.now ≡ footprints_of (design_of machine.now.typed.now) }
     requires order { is_level_order (design_of machine.now.typed.now) order.now ≡ true }
-    requires given { (v : State) × AreGiven (data_inputs machine.now.clocks.now.bit (D.top_inputs (design_of machine.now.typed.now))) vector.now v }
-    ensures copied { IfOk result (λ r. IsCopied (design_of machine.now.typed.now) machine.now.clocks.now.bit r.events r.shadow.items) }
+    requires given { (v : State) × AreGiven (data_inputs machine.now.clocks.now.bits (D.top_inputs (design_of machine.now.typed.now))) vector.now v }
+    ensures copied { IfOk result (λ r. IsCopied (design_of machine.now.typed.now) machine.now.clocks.now.bits r.events r.shadow.items) }
     ensures calm { IfOk result (λ r. IsCalm r.events) }
-    ensures levelled { IfOk result (λ r. (v : State) (later : List State) → AreGiven (data_inputs machine.now.clocks.now.bit (D.top_inputs (design_of machine.now.typed.now))) vector.now v
-        → let d = design_of machine.now.typed.now in let n = network_of d machine.now.clocks.now.bit in
+    ensures levelled { IfOk result (λ r. (v : State) (later : List State) → AreGiven (data_inputs machine.now.clocks.now.bits (D.top_inputs (design_of machine.now.typed.now))) vector.now v
+        → let d = design_of machine.now.typed.now in let n = network_of d machine.now.clocks.now.bits in
         IsLevelled n order.now (start n (x_values (driven_bits d) (idle_value d)) v later) (queue_of r.events (Rise ∷ slots_of later)) r.ends (slot_sweeps (Rise ∷ slots_of later))) }
-    ensures whole { IfOk result (λ r. AreWhole (design_of machine.now.typed.now) machine.now.clocks.now.bit 0 r.ends) }
+    ensures whole { IfOk result (λ r. AreWhole (design_of machine.now.typed.now) machine.now.clocks.now.bits 0 r.ends) }
 {
     let alloc = machine.alloc;
-    let clock = machine.clocks.bit();
-    let values = plain_values(alloc, machine.typed, footprints, clock)?;
+    let clocks = machine.clocks.bits();
+    let values = plain_values(alloc, machine.typed, footprints, clocks)?;
     let (mut events, mut shadow) = open(machine, footprints, vector, values)?;
     machine.run_first_slot(order, &mut events, shadow.as_mut_slice())?;
     let ends = Ends::new(alloc);
@@ -79,7 +79,7 @@ fn first_slot(
     })
 }
 
-/// Keeps the values at the end of the slot, and comes through the next one: the clock falls with a vector, or rises. Want of memory is the only error, and the run is then of no use.
+/// Keeps the values at the end of the slot, and comes through the next one: the clocks fall with a vector, or rise. Want of memory is the only error, and the run is then of no use.
 fn next_slot(
     machine: &Machine,
     order: &Order,
@@ -88,15 +88,15 @@ fn next_slot(
 ) -> Result<(), AllocError>
     requires machine { IsMachine machine.now.typed.now machine.now.clocks.now machine.now.wiring.now machine.now.keeper }
     requires order { is_level_order (design_of machine.now.typed.now) order.now ≡ true }
-    requires copied { IsCopied (design_of machine.now.typed.now) machine.now.clocks.now.bit run.old.events run.old.shadow.items }
+    requires copied { IsCopied (design_of machine.now.typed.now) machine.now.clocks.now.bits run.old.events run.old.shadow.items }
     requires calm { IsCalm run.old.events }
-    requires slot { (slot : Slot) × IsSlotOf (design_of machine.now.typed.now) machine.now.clocks.now.bit (option_map (λ v. v.now) vector) slot }
-    ensures copied { OnOk result (IsCopied (design_of machine.now.typed.now) machine.now.clocks.now.bit run.new.events run.new.shadow.items) }
+    requires slot { (slot : Slot) × IsSlotOf (design_of machine.now.typed.now) machine.now.clocks.now.bits (option_map (λ v. v.now) vector) slot }
+    ensures copied { OnOk result (IsCopied (design_of machine.now.typed.now) machine.now.clocks.now.bits run.new.events run.new.shadow.items) }
     ensures calm { OnOk result (IsCalm run.new.events) }
-    ensures levelled { OnOk result ((slot : Slot) → IsSlotOf (design_of machine.now.typed.now) machine.now.clocks.now.bit (option_map (λ v. v.now) vector.entry) slot → (from : Queue) (slots : List Slot)
-        → let n = network_of (design_of machine.now.typed.now) machine.now.clocks.now.bit in
+    ensures levelled { OnOk result ((slot : Slot) → IsSlotOf (design_of machine.now.typed.now) machine.now.clocks.now.bits (option_map (λ v. v.now) vector.entry) slot → (from : Queue) (slots : List Slot)
+        → let n = network_of (design_of machine.now.typed.now) machine.now.clocks.now.bits in
         IsLevelled n order.now from (queue_of run.old.events (slot ∷ slots)) run.old.ends (slot_sweeps (slot ∷ slots)) → IsLevelled n order.now from (queue_of run.new.events slots) run.new.ends (slot_sweeps slots)) }
-    ensures whole { (count : ℕ) → AreWhole (design_of machine.now.typed.now) machine.now.clocks.now.bit count run.old.ends → OnOk result (AreWhole (design_of machine.now.typed.now) machine.now.clocks.now.bit (count + 1) run.new.ends) }
+    ensures whole { (count : ℕ) → AreWhole (design_of machine.now.typed.now) machine.now.clocks.now.bits count run.old.ends → OnOk result (AreWhole (design_of machine.now.typed.now) machine.now.clocks.now.bits (count + 1) run.new.ends) }
 {
     slot_law();
     keeping_law();
@@ -105,7 +105,7 @@ fn next_slot(
     machine.run_slot(order, &mut run.events, run.shadow.as_mut_slice())
 }
 
-/// The first period: the clock falls with the first vector, and rises.
+/// The first period: the clocks fall with the first vector, and rise.
 fn first_plain_period(
     machine: &Machine,
     footprints: &Footprints,
@@ -115,12 +115,12 @@ fn first_plain_period(
     requires machine { IsMachine machine.now.typed.now machine.now.clocks.now machine.now.wiring.now machine.now.keeper }
     requires footprints { footprints.now ≡ footprints_of (design_of machine.now.typed.now) }
     requires order { is_level_order (design_of machine.now.typed.now) order.now ≡ true }
-    requires drive { IsDrive (design_of machine.now.typed.now) machine.now.clocks.now.bit vectors.now }
+    requires drive { IsDrive (design_of machine.now.typed.now) machine.now.clocks.now.bits vectors.now }
     requires there { 0 < length vectors.now }
-    ensures copied { IfOk result (λ r. IsCopied (design_of machine.now.typed.now) machine.now.clocks.now.bit r.events r.shadow.items) }
+    ensures copied { IfOk result (λ r. IsCopied (design_of machine.now.typed.now) machine.now.clocks.now.bits r.events r.shadow.items) }
     ensures calm { IfOk result (λ r. IsCalm r.events) }
-    ensures goes { IfOk result (λ r. GoesTo (design_of machine.now.typed.now) machine.now.clocks.now.bit order.now vectors.now 1 r.events r.ends) }
-    ensures whole { IfOk result (λ r. AreWhole (design_of machine.now.typed.now) machine.now.clocks.now.bit 1 r.ends) }
+    ensures goes { IfOk result (λ r. GoesTo (design_of machine.now.typed.now) machine.now.clocks.now.bits order.now vectors.now 1 r.events r.ends) }
+    ensures whole { IfOk result (λ r. AreWhole (design_of machine.now.typed.now) machine.now.clocks.now.bits 1 r.ends) }
 {
     let mut run = first_slot(machine, footprints, order, &vectors[0])?;
     next_slot(machine, order, &mut run, None)?;
@@ -137,21 +137,21 @@ fn next_plain_period(
 ) -> Result<(), AllocError>
     requires machine { IsMachine machine.now.typed.now machine.now.clocks.now machine.now.wiring.now machine.now.keeper }
     requires order { is_level_order (design_of machine.now.typed.now) order.now ≡ true }
-    requires drive { IsDrive (design_of machine.now.typed.now) machine.now.clocks.now.bit vectors.now }
+    requires drive { IsDrive (design_of machine.now.typed.now) machine.now.clocks.now.bits vectors.now }
     requires there { k < length vectors.now }
-    requires copied { IsCopied (design_of machine.now.typed.now) machine.now.clocks.now.bit run.old.events run.old.shadow.items }
+    requires copied { IsCopied (design_of machine.now.typed.now) machine.now.clocks.now.bits run.old.events run.old.shadow.items }
     requires calm { IsCalm run.old.events }
-    ensures copied { OnOk result (IsCopied (design_of machine.now.typed.now) machine.now.clocks.now.bit run.new.events run.new.shadow.items) }
+    ensures copied { OnOk result (IsCopied (design_of machine.now.typed.now) machine.now.clocks.now.bits run.new.events run.new.shadow.items) }
     ensures calm { OnOk result (IsCalm run.new.events) }
-    ensures goes { GoesTo (design_of machine.now.typed.now) machine.now.clocks.now.bit order.now vectors.now k run.old.events run.old.ends
-        → OnOk result (GoesTo (design_of machine.now.typed.now) machine.now.clocks.now.bit order.now vectors.now (k + 1) run.new.events run.new.ends) }
-    ensures whole { (count : ℕ) → AreWhole (design_of machine.now.typed.now) machine.now.clocks.now.bit count run.old.ends → OnOk result (AreWhole (design_of machine.now.typed.now) machine.now.clocks.now.bit (count + 2) run.new.ends) }
+    ensures goes { GoesTo (design_of machine.now.typed.now) machine.now.clocks.now.bits order.now vectors.now k run.old.events run.old.ends
+        → OnOk result (GoesTo (design_of machine.now.typed.now) machine.now.clocks.now.bits order.now vectors.now (k + 1) run.new.events run.new.ends) }
+    ensures whole { (count : ℕ) → AreWhole (design_of machine.now.typed.now) machine.now.clocks.now.bits count run.old.ends → OnOk result (AreWhole (design_of machine.now.typed.now) machine.now.clocks.now.bits (count + 2) run.new.ends) }
 {
     next_slot(machine, order, run, Some(&vectors[k]))?;
     next_slot(machine, order, run, None)
 }
 
-/// Executes the event queue of an accepted design (IEEE 1364-2005, clause 11) in level order, as a levelised simulator does, on these vectors, one for each period of the clock: the values of all bits at the end of each slot, behind those of the design's bits that of a clock that is none of them. Nets that assigns drive begin with x. The only error is that there is no memory.
+/// Executes the event queue of an accepted design (IEEE 1364-2005, clause 11) in level order, as a levelised simulator does, on these vectors, one for each period of the clocks: the values of all bits at the end of each slot, behind those of the design's bits that of a clock that is none of them. Nets that assigns drive begin with x. The only error is that there is no memory.
 ///
 /// A vector has a value of its length for each data input, of bits 0, 1, x or z. There are two slots for each vector, so none where there is no vector.
 ///
@@ -167,12 +167,12 @@ pub fn plain_run(
     requires accepted { IsAcceptedBy (design_of typed.now) clocks.now }
     requires footprints { footprints.now ≡ footprints_of (design_of typed.now) }
     requires order { is_level_order (design_of typed.now) order.now ≡ true }
-    requires drive { IsDrive (design_of typed.now) clocks.now.bit vectors.now }
-    ensures run { IfOk result (λ r. (first : State) (later : List State) → AreVectors (design_of typed.now) clocks.now.bit vectors.now (first ∷ later) → IsPlainRun (design_of typed.now) clocks.now.bit order.now first later r) }
-    ensures solution { IfOk result (λ r. (first : State) (later : List State) → AreVectors (design_of typed.now) clocks.now.bit vectors.now (first ∷ later) → IsKnownVector (network_of (design_of typed.now) clocks.now.bit) first
-        → AreKnownResets (network_of (design_of typed.now) clocks.now.bit) later → let n = network_of (design_of typed.now) clocks.now.bit in IsSolution n (beginning n) (slots_of (first ∷ later)) (map state_of r)) }
+    requires drive { IsDrive (design_of typed.now) clocks.now.bits vectors.now }
+    ensures run { IfOk result (λ r. (first : State) (later : List State) → AreVectors (design_of typed.now) clocks.now.bits vectors.now (first ∷ later) → IsPlainRun (design_of typed.now) clocks.now.bits order.now first later r) }
+    ensures solution { IfOk result (λ r. (first : State) (later : List State) → AreVectors (design_of typed.now) clocks.now.bits vectors.now (first ∷ later) → IsKnownVector (network_of (design_of typed.now) clocks.now.bits) first
+        → AreKnownResets (network_of (design_of typed.now) clocks.now.bits) later → let n = network_of (design_of typed.now) clocks.now.bits in IsSolution n (beginning n) (slots_of (first ∷ later)) (map state_of r)) }
     ensures slots { IfOk result (λ r. length r ≡ 2 * length vectors.now) }
-    ensures long { IfOk result (λ r. All (λ values. length values ≡ value_count (design_of typed.now) clocks.now.bit) r) }
+    ensures long { IfOk result (λ r. All (λ values. length values ≡ value_count (design_of typed.now) clocks.now.bits) r) }
 {
     first_law();
     exists_law();

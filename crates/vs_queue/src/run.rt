@@ -37,12 +37,12 @@ impl Machine<'_> {
     /// Takes steps until none is left in the slot. Want of memory is the only error, here as in all that follows; the run is then of no use.
     pub(crate) fn settle(&self, run: &mut Run) -> Result<(), AllocError>
         requires machine { IsMachine self.now.typed.now self.now.clocks.now self.now.wiring.now self.now.keeper }
-        requires copied { IsCopied (design_of self.now.typed.now) self.now.clocks.now.bit run.old.events run.old.shadow.items }
-        requires under_way { IsUnderWay (design_of self.now.typed.now) self.now.clocks.now.bit run.old.events run.old.seed run.old.ends run.old.steps }
-        ensures copied { OnOk result (IsCopied (design_of self.now.typed.now) self.now.clocks.now.bit run.new.events run.new.shadow.items) }
-        ensures reached { OnOk result ((from : Queue) (order : ℕ) (slots : List Slot) → IsReached (network_of (design_of self.now.typed.now) self.now.clocks.now.bit) from order (queue_of run.old.events slots) run.old.seed run.old.ends run.old.steps
-            → IsReached (network_of (design_of self.now.typed.now) self.now.clocks.now.bit) from order (queue_of run.new.events slots) run.new.seed run.new.ends run.new.steps) }
-        ensures ended { OnOk result (IsEnded (design_of self.now.typed.now) self.now.clocks.now.bit run.new.events) }
+        requires copied { IsCopied (design_of self.now.typed.now) self.now.clocks.now.bits run.old.events run.old.shadow.items }
+        requires under_way { IsUnderWay (design_of self.now.typed.now) self.now.clocks.now.bits run.old.events run.old.seed run.old.ends run.old.steps }
+        ensures copied { OnOk result (IsCopied (design_of self.now.typed.now) self.now.clocks.now.bits run.new.events run.new.shadow.items) }
+        ensures reached { OnOk result ((from : Queue) (order : ℕ) (slots : List Slot) → IsReached (network_of (design_of self.now.typed.now) self.now.clocks.now.bits) from order (queue_of run.old.events slots) run.old.seed run.old.ends run.old.steps
+            → IsReached (network_of (design_of self.now.typed.now) self.now.clocks.now.bits) from order (queue_of run.new.events slots) run.new.seed run.new.ends run.new.steps) }
+        ensures ended { OnOk result (IsEnded (design_of self.now.typed.now) self.now.clocks.now.bits run.new.events) }
         ensures ends { OnOk result (run.new.ends ≡ run.old.ends) }
     {
         'turns: while self.turn(&mut run.events, run.shadow.as_mut_slice(), run.seed)? {
@@ -52,21 +52,21 @@ impl Machine<'_> {
         Ok(())
     }
 
-    /// Keeps the values at the end of the slot, and begins the next one: the clock falls with a vector, or rises.
+    /// Keeps the values at the end of the slot, and begins the next one: the clocks fall with a vector, or rise.
     pub(crate) fn begin_slot(
         &self,
         run: &mut Run,
         vector: Option<&Vector>,
     ) -> Result<(), AllocError>
         requires machine { IsMachine self.now.typed.now self.now.clocks.now self.now.wiring.now self.now.keeper }
-        requires copied { IsCopied (design_of self.now.typed.now) self.now.clocks.now.bit run.old.events run.old.shadow.items }
-        requires ended { IsEnded (design_of self.now.typed.now) self.now.clocks.now.bit run.old.events }
-        requires slot { (slot : Slot) × IsSlotOf (design_of self.now.typed.now) self.now.clocks.now.bit (option_map (λ v. v.now) vector) slot }
-        ensures copied { OnOk result (IsCopied (design_of self.now.typed.now) self.now.clocks.now.bit run.new.events run.new.shadow.items) }
-        ensures reached { OnOk result ((from : Queue) (order : ℕ) (slot : Slot) (slots : List Slot) → IsSlotOf (design_of self.now.typed.now) self.now.clocks.now.bit (option_map (λ v. v.now) vector.entry) slot
-            → IsReached (network_of (design_of self.now.typed.now) self.now.clocks.now.bit) from order (queue_of run.old.events (slot ∷ slots)) run.old.seed run.old.ends run.old.steps
-            → IsReached (network_of (design_of self.now.typed.now) self.now.clocks.now.bit) from order (queue_of run.new.events slots) run.new.seed run.new.ends run.new.steps) }
-        ensures whole { (count : ℕ) → AreWhole (design_of self.now.typed.now) self.now.clocks.now.bit count run.old.ends → OnOk result (AreWhole (design_of self.now.typed.now) self.now.clocks.now.bit (count + 1) run.new.ends) }
+        requires copied { IsCopied (design_of self.now.typed.now) self.now.clocks.now.bits run.old.events run.old.shadow.items }
+        requires ended { IsEnded (design_of self.now.typed.now) self.now.clocks.now.bits run.old.events }
+        requires slot { (slot : Slot) × IsSlotOf (design_of self.now.typed.now) self.now.clocks.now.bits (option_map (λ v. v.now) vector) slot }
+        ensures copied { OnOk result (IsCopied (design_of self.now.typed.now) self.now.clocks.now.bits run.new.events run.new.shadow.items) }
+        ensures reached { OnOk result ((from : Queue) (order : ℕ) (slot : Slot) (slots : List Slot) → IsSlotOf (design_of self.now.typed.now) self.now.clocks.now.bits (option_map (λ v. v.now) vector.entry) slot
+            → IsReached (network_of (design_of self.now.typed.now) self.now.clocks.now.bits) from order (queue_of run.old.events (slot ∷ slots)) run.old.seed run.old.ends run.old.steps
+            → IsReached (network_of (design_of self.now.typed.now) self.now.clocks.now.bits) from order (queue_of run.new.events slots) run.new.seed run.new.ends run.new.steps) }
+        ensures whole { (count : ℕ) → AreWhole (design_of self.now.typed.now) self.now.clocks.now.bits count run.old.ends → OnOk result (AreWhole (design_of self.now.typed.now) self.now.clocks.now.bits (count + 1) run.new.ends) }
     {
         slot_law();
         keeping_law();
@@ -77,16 +77,16 @@ impl Machine<'_> {
         Ok(())
     }
 
-    /// Ends the slot in which the clock has fallen, lets it rise, and takes the steps of that slot.
+    /// Ends the slot in which the clocks have fallen, lets them rise, and takes the steps of that slot.
     pub(crate) fn rise(&self, run: &mut Run) -> Result<(), AllocError>
         requires machine { IsMachine self.now.typed.now self.now.clocks.now self.now.wiring.now self.now.keeper }
-        requires copied { IsCopied (design_of self.now.typed.now) self.now.clocks.now.bit run.old.events run.old.shadow.items }
-        requires under_way { (u : IsUnderWay (design_of self.now.typed.now) self.now.clocks.now.bit run.old.events run.old.seed run.old.ends run.old.steps) × (slots : List Slot) × (u.slots ≡ Rise ∷ slots) }
-        ensures copied { OnOk result (IsCopied (design_of self.now.typed.now) self.now.clocks.now.bit run.new.events run.new.shadow.items) }
-        ensures reached { OnOk result ((from : Queue) (order : ℕ) (slots : List Slot) → IsReached (network_of (design_of self.now.typed.now) self.now.clocks.now.bit) from order (queue_of run.old.events (Rise ∷ slots)) run.old.seed run.old.ends run.old.steps
-            → IsReached (network_of (design_of self.now.typed.now) self.now.clocks.now.bit) from order (queue_of run.new.events slots) run.new.seed run.new.ends run.new.steps) }
-        ensures ended { OnOk result (IsEnded (design_of self.now.typed.now) self.now.clocks.now.bit run.new.events) }
-        ensures whole { (count : ℕ) → AreWhole (design_of self.now.typed.now) self.now.clocks.now.bit count run.old.ends → OnOk result (AreWhole (design_of self.now.typed.now) self.now.clocks.now.bit (count + 1) run.new.ends) }
+        requires copied { IsCopied (design_of self.now.typed.now) self.now.clocks.now.bits run.old.events run.old.shadow.items }
+        requires under_way { (u : IsUnderWay (design_of self.now.typed.now) self.now.clocks.now.bits run.old.events run.old.seed run.old.ends run.old.steps) × (slots : List Slot) × (u.slots ≡ Rise ∷ slots) }
+        ensures copied { OnOk result (IsCopied (design_of self.now.typed.now) self.now.clocks.now.bits run.new.events run.new.shadow.items) }
+        ensures reached { OnOk result ((from : Queue) (order : ℕ) (slots : List Slot) → IsReached (network_of (design_of self.now.typed.now) self.now.clocks.now.bits) from order (queue_of run.old.events (Rise ∷ slots)) run.old.seed run.old.ends run.old.steps
+            → IsReached (network_of (design_of self.now.typed.now) self.now.clocks.now.bits) from order (queue_of run.new.events slots) run.new.seed run.new.ends run.new.steps) }
+        ensures ended { OnOk result (IsEnded (design_of self.now.typed.now) self.now.clocks.now.bits run.new.events) }
+        ensures whole { (count : ℕ) → AreWhole (design_of self.now.typed.now) self.now.clocks.now.bits count run.old.ends → OnOk result (AreWhole (design_of self.now.typed.now) self.now.clocks.now.bits (count + 1) run.new.ends) }
     {
         self.settle(run)?;
         self.begin_slot(run, None)?;

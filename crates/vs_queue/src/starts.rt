@@ -240,10 +240,10 @@ impl Machine<'_> {
     fn owners(&self, footprints: &Footprints) -> Result<Vec<u32>, AllocError>
         requires machine { IsMachine self.now.typed.now self.now.clocks.now self.now.wiring.now self.now.keeper }
         requires footprints { footprints.now ≡ footprints_of (design_of self.now.typed.now) }
-        ensures { IfOk result (λ v. AreOwners (design_of self.now.typed.now) self.now.clocks.now.bit v.items) }
+        ensures { IfOk result (λ v. AreOwners (design_of self.now.typed.now) self.now.clocks.now.bits v.items) }
     {
         vs_design::lawful_law();
-        let keeper = keeper_at(self.typed.flat(), self.clocks.bit());
+        let keeper = keeper_at(self.typed.flat(), self.clocks.bits());
         block_owners(self.alloc, self.typed, footprints, keeper)
     }
 
@@ -267,9 +267,9 @@ impl Machine<'_> {
         owners: &[u32],
     ) -> Result<(), AllocError>
         requires machine { IsMachine self.now.typed.now self.now.clocks.now self.now.wiring.now self.now.keeper }
-        requires owners { AreOwners (design_of self.now.typed.now) self.now.clocks.now.bit owners.now }
+        requires owners { AreOwners (design_of self.now.typed.now) self.now.clocks.now.bits owners.now }
         requires values { D.bit_count (design_of self.now.typed.now) ≤ length values.old }
-        requires held { length events.old.assigns ≡ (network_of (design_of self.now.typed.now) self.now.clocks.now.bit).count }
+        requires held { length events.old.assigns ≡ (network_of (design_of self.now.typed.now) self.now.clocks.now.bits).count }
         ensures { OnOk result (events.new ≡ after_drives events.old (parts_of owners.now (map initial_writes (design_of self.now.typed.now).initials))) }
     {
         trees_law();
@@ -289,9 +289,9 @@ impl Machine<'_> {
         owners: &[u32],
     ) -> Result<(), AllocError>
         requires machine { IsMachine self.now.typed.now self.now.clocks.now self.now.wiring.now self.now.keeper }
-        requires owners { AreOwners (design_of self.now.typed.now) self.now.clocks.now.bit owners.now }
+        requires owners { AreOwners (design_of self.now.typed.now) self.now.clocks.now.bits owners.now }
         requires values { D.bit_count (design_of self.now.typed.now) ≤ length values.old }
-        requires held { length events.old.assigns ≡ (network_of (design_of self.now.typed.now) self.now.clocks.now.bit).count }
+        requires held { length events.old.assigns ≡ (network_of (design_of self.now.typed.now) self.now.clocks.now.bits).count }
         ensures { OnOk result (events.new ≡ after_drives events.old (parts_of owners.now (flat_map initial_updates (design_of self.now.typed.now).initials))) }
     {
         trees_law();
@@ -311,10 +311,10 @@ impl Machine<'_> {
         owners: &[u32],
     ) -> Result<(), AllocError>
         requires machine { IsMachine self.now.typed.now self.now.clocks.now self.now.wiring.now self.now.keeper }
-        requires owners { AreOwners (design_of self.now.typed.now) self.now.clocks.now.bit owners.now }
+        requires owners { AreOwners (design_of self.now.typed.now) self.now.clocks.now.bits owners.now }
         requires values { D.bit_count (design_of self.now.typed.now) ≤ length values.old }
-        requires held { length events.old.assigns ≡ (network_of (design_of self.now.typed.now) self.now.clocks.now.bit).count }
-        ensures { OnOk result (HasBegun (design_of self.now.typed.now) self.now.clocks.now.bit events.old events.new) }
+        requires held { length events.old.assigns ≡ (network_of (design_of self.now.typed.now) self.now.clocks.now.bits).count }
+        ensures { OnOk result (HasBegun (design_of self.now.typed.now) self.now.clocks.now.bits events.old events.new) }
     {
         self.drive_firsts(events, values, owners)?;
         events.activate();
@@ -329,8 +329,8 @@ impl Machine<'_> {
     ) -> Result<(), AllocError>
         requires machine { IsMachine self.now.typed.now self.now.clocks.now self.now.wiring.now self.now.keeper }
         requires footprints { footprints.now ≡ footprints_of (design_of self.now.typed.now) }
-        requires held { length events.old.assigns ≡ (network_of (design_of self.now.typed.now) self.now.clocks.now.bit).count }
-        ensures { OnOk result (HasBegun (design_of self.now.typed.now) self.now.clocks.now.bit events.old events.new) }
+        requires held { length events.old.assigns ≡ (network_of (design_of self.now.typed.now) self.now.clocks.now.bits).count }
+        ensures { OnOk result (HasBegun (design_of self.now.typed.now) self.now.clocks.now.bits events.old events.new) }
     {
         let owners = self.owners(footprints)?;
         let mut values = vec![in self.alloc; Bit4::X; owners.len()]?;

@@ -27,9 +27,9 @@ impl Machine<'_> {
         step: Step,
     ) -> Result<(), AllocError>
         requires machine { IsMachine self.now.typed.now self.now.clocks.now self.now.wiring.now self.now.keeper }
-        requires copied { IsCopied (design_of self.now.typed.now) self.now.clocks.now.bit events.old shadow.old }
+        requires copied { IsCopied (design_of self.now.typed.now) self.now.clocks.now.bits events.old shadow.old }
         requires possible { is_open events.old step ≡ true }
-        ensures { OnOk result (HasTaken (design_of self.now.typed.now) self.now.clocks.now.bit (λ q. choice_of step ∷ []) events.old events.new shadow.new) }
+        ensures { OnOk result (HasTaken (design_of self.now.typed.now) self.now.clocks.now.bits (λ q. choice_of step ∷ []) events.old events.new shadow.new) }
     {
         running_law();
         self.step(events, shadow, step)
@@ -43,8 +43,8 @@ impl Machine<'_> {
         p: u32,
     ) -> Result<(), AllocError>
         requires machine { IsMachine self.now.typed.now self.now.clocks.now self.now.wiring.now self.now.keeper }
-        requires copied { IsCopied (design_of self.now.typed.now) self.now.clocks.now.bit events.old shadow.old }
-        ensures { OnOk result (HasTaken (design_of self.now.typed.now) self.now.clocks.now.bit (λ q. start_turn q p) events.old events.new shadow.new) }
+        requires copied { IsCopied (design_of self.now.typed.now) self.now.clocks.now.bits events.old shadow.old }
+        ensures { OnOk result (HasTaken (design_of self.now.typed.now) self.now.clocks.now.bits (λ q. start_turn q p) events.old events.new shadow.new) }
     {
         let start = Step::Start { p };
         if events.is_open(start) {
@@ -61,9 +61,9 @@ impl Machine<'_> {
         p: u32,
     ) -> Result<(), AllocError>
         requires machine { IsMachine self.now.typed.now self.now.clocks.now self.now.wiring.now self.now.keeper }
-        requires copied { IsCopied (design_of self.now.typed.now) self.now.clocks.now.bit events.old shadow.old }
+        requires copied { IsCopied (design_of self.now.typed.now) self.now.clocks.now.bits events.old shadow.old }
         requires possible { is_open events.old (S.Evaluate p) ≡ true }
-        ensures { OnOk result (HasTaken (design_of self.now.typed.now) self.now.clocks.now.bit (λ q. settle_turn (network_of (design_of self.now.typed.now) self.now.clocks.now.bit) q p) events.old events.new shadow.new) }
+        ensures { OnOk result (HasTaken (design_of self.now.typed.now) self.now.clocks.now.bits (λ q. settle_turn (network_of (design_of self.now.typed.now) self.now.clocks.now.bits) q p) events.old events.new shadow.new) }
     {
         self.take_step(events, shadow, Step::Evaluate { p })?;
         let apply = Step::Apply { p };
@@ -81,9 +81,9 @@ impl Machine<'_> {
         p: u32,
     ) -> Result<(), AllocError>
         requires machine { IsMachine self.now.typed.now self.now.clocks.now self.now.wiring.now self.now.keeper }
-        requires copied { IsCopied (design_of self.now.typed.now) self.now.clocks.now.bit events.old shadow.old }
-        requires settles { Settles (kind ((network_of (design_of self.now.typed.now) self.now.clocks.now.bit).process p)) }
-        ensures { OnOk result (HasTaken (design_of self.now.typed.now) self.now.clocks.now.bit (λ q. settle_turn (network_of (design_of self.now.typed.now) self.now.clocks.now.bit) q p) events.old events.new shadow.new) }
+        requires copied { IsCopied (design_of self.now.typed.now) self.now.clocks.now.bits events.old shadow.old }
+        requires settles { Settles (kind ((network_of (design_of self.now.typed.now) self.now.clocks.now.bits).process p)) }
+        ensures { OnOk result (HasTaken (design_of self.now.typed.now) self.now.clocks.now.bits (λ q. settle_turn (network_of (design_of self.now.typed.now) self.now.clocks.now.bits) q p) events.old events.new shadow.new) }
     {
         if events.is_open(Step::Evaluate { p }) {
             return self.evaluate_one(events, shadow, p);
@@ -103,8 +103,8 @@ impl Machine<'_> {
         p: u32,
     ) -> Result<(), AllocError>
         requires machine { IsMachine self.now.typed.now self.now.clocks.now self.now.wiring.now self.now.keeper }
-        requires copied { IsCopied (design_of self.now.typed.now) self.now.clocks.now.bit events.old shadow.old }
-        ensures { OnOk result (HasTaken (design_of self.now.typed.now) self.now.clocks.now.bit (λ q. take_turn q p) events.old events.new shadow.new) }
+        requires copied { IsCopied (design_of self.now.typed.now) self.now.clocks.now.bits events.old shadow.old }
+        ensures { OnOk result (HasTaken (design_of self.now.typed.now) self.now.clocks.now.bits (λ q. take_turn q p) events.old events.new shadow.new) }
     {
         let take = Step::Take { p };
         'updates: while events.is_open(take) {
@@ -115,7 +115,7 @@ impl Machine<'_> {
 
     /// Whether the process is a clocked block of the design, or none of its processes.
     fn may_be_clocked(&self, p: u32) -> bool
-        ensures { result ≡ (is_clocked_kind (kind ((network_of (design_of self.now.typed.now) self.now.clocks.now.bit).process p)) || nat_le (length (design_of self.now.typed.now).processes) p) }
+        ensures { result ≡ (is_clocked_kind (kind ((network_of (design_of self.now.typed.now) self.now.clocks.now.bits).process p)) || nat_le (length (design_of self.now.typed.now).processes) p) }
     {
         trees_law();
         let flat = self.typed.flat();
@@ -136,8 +136,8 @@ impl Machine<'_> {
         p: u32,
     ) -> Result<(), AllocError>
         requires machine { IsMachine self.now.typed.now self.now.clocks.now self.now.wiring.now self.now.keeper }
-        requires copied { IsCopied (design_of self.now.typed.now) self.now.clocks.now.bit events.old shadow.old }
-        ensures { OnOk result (HasTaken (design_of self.now.typed.now) self.now.clocks.now.bit (λ q. run_turn (network_of (design_of self.now.typed.now) self.now.clocks.now.bit) q p) events.old events.new shadow.new) }
+        requires copied { IsCopied (design_of self.now.typed.now) self.now.clocks.now.bits events.old shadow.old }
+        ensures { OnOk result (HasTaken (design_of self.now.typed.now) self.now.clocks.now.bits (λ q. run_turn (network_of (design_of self.now.typed.now) self.now.clocks.now.bits) q p) events.old events.new shadow.new) }
     {
         if !self.may_be_clocked(p) {
             return Ok(());

@@ -5,7 +5,7 @@ ghost use Rattle.std.specs.Prelude.{◌≡◌};
 use std::marker::Model;
 use vs_four::Bits;
 
-/// A value for each data input of a design, the inputs of the top but the clock, in order of declaration: what the environment drives from one fall of the clock to the next.
+/// A value for each data input of a design, the inputs of the top but the clocks, in order of declaration: what the environment drives from one fall of the clock to the next.
 #[derive(Drop)]
 pub struct Vector {
     values: Vec<Bits>,

@@ -1,6 +1,7 @@
 //! Who listens to the bits of a design (IEEE 1364-2005, 9.7.2, 9.7.5 and 11.6.1).
 
-ghost use Rattle.std.specs.Prelude.{◌≡◌, ◌<◌, ℕ, [], length, map, replicate, slice_get, Some, IfOk, OnOk};
+ghost use Rattle.std.specs.Prelude.{◌≤◌, ◌≡◌, ◌<◌, ℕ, [], length, map, replicate, slice_get, Some, IfOk, OnOk};
+ghost use Rattle.vs_design.specs.Clocks.{first_clock};
 ghost use Rattle.vs_design.specs.Designs as D;
 ghost use Rattle.vs_events.specs.Wired.{after_listen, after_listens};
 ghost use Rattle.vs_flat.specs.DesignOf.{arena_signals, design_of, event_of};
@@ -9,7 +10,7 @@ ghost use Rattle.vs_flat.specs.Trees.{signal_at};
 ghost use Rattle.vs_reads.specs.Footprint.{footprints_of};
 ghost use Rattle.vs_queue.specs.Listens.{listeners_of, listens_from, process_listens, to_bit, to_event};
 ghost use Rattle.vs_queue.specs.Machines.{IsAcceptedBy};
-ghost use Rattle.vs_queue.specs.Spare.{has_keeper, value_count};
+ghost use Rattle.vs_queue.specs.Spare.{has_keeper, spare_count, value_count};
 ghost use Rattle.vs_queue.specs.There.{AllThere};
 
 use crate::first::{keeper_at, spare_count};
@@ -102,13 +103,24 @@ fn listen(
 }
 
 /// How many values there are: one for each bit of the design, and one for a clock that is none of them.
-fn value_count(flat: &Flat, clock: u32) -> u32
-    requires { IsLawful flat.now }
-    ensures { result ≡ value_count (design_of flat.now) clock }
+fn value_count(flat: &Flat, clocks: &[u32]) -> u32
+    requires lawful { IsLawful flat.now }
+    requires one { spare_count (design_of flat.now) clocks.now ≤ 1 }
+    ensures { result ≡ value_count (design_of flat.now) clocks.now }
 {
     trees_law();
     lawful_law();
-    count_bits(flat) + spare_count(flat, clock)
+    count_bits(flat) + spare_count(flat, clocks)
+}
+
+/// The first of the clocks.
+fn first_clock(clocks: &[u32]) -> u32
+    ensures { result ≡ first_clock clocks.now }
+{
+    match clocks.first() {
+        Some(clock) => *clock,
+        None => 0,
+    }
 }
 
 /// By bit the listeners among the processes of a design.
@@ -120,13 +132,13 @@ fn process_wiring(
 ) -> Result<Wiring, AllocError>
     requires accepted { IsAcceptedBy (design_of typed.now) clocks.now }
     requires footprints { footprints.now ≡ footprints_of (design_of typed.now) }
-    ensures { IfOk result (λ w. w ≡ after_listens (replicate (value_count (design_of typed.now) clocks.now.bit) []) (listens_from (D.bit_count (design_of typed.now)) 0 (design_of typed.now).processes)) }
+    ensures { IfOk result (λ w. w ≡ after_listens (replicate (value_count (design_of typed.now) clocks.now.bits) []) (listens_from (D.bit_count (design_of typed.now)) 0 (design_of typed.now).processes)) }
 {
     trees_law();
     vs_design::footprint_law();
     vs_design::within_law();
     let flat = typed.flat();
-    let mut wiring = Wiring::new(alloc, value_count(flat, clocks.bit()))?;
+    let mut wiring = Wiring::new(alloc, value_count(flat, clocks.bits()))?;
     for p in 0..flat.process_count() {
         listen(typed, footprints, &mut wiring, p)?;
     }
@@ -144,14 +156,14 @@ pub(crate) fn wiring_of(
     requires accepted { IsAcceptedBy (design_of typed.now) clocks.now }
     requires footprints { footprints.now ≡ footprints_of (design_of typed.now) }
     requires keeper { keeper ≡ has_keeper (design_of typed.now) }
-    ensures { IfOk result (λ w. w ≡ listeners_of (design_of typed.now) clocks.now.bit) }
+    ensures { IfOk result (λ w. w ≡ listeners_of (design_of typed.now) clocks.now.bits) }
 {
     vs_design::footprint_law();
     vs_design::within_law();
     let mut wiring = process_wiring(alloc, typed, footprints, clocks)?;
     if keeper {
-        let bit = clocks.bit();
-        let process = keeper_at(typed.flat(), bit);
+        let bit = first_clock(clocks.bits());
+        let process = keeper_at(typed.flat(), clocks.bits());
         let change = Change::Pos;
         wiring.listen(bit, Listener { process, change })?;
         return Ok(wiring);

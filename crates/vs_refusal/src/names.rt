@@ -11,7 +11,7 @@ pub enum BareName {
     TooLong,
     /// There is no module of the top's name.
     NoTop,
-    /// The top has no one-bit input of the clock's name.
+    /// The top has no one-bit input of a clock's name, or two clocks have one name.
     NoClock,
 }
 
@@ -74,7 +74,7 @@ pub enum AtName {
     TooManyProcesses,
     /// A loop of a block or a function takes more than 4,096 turns, or all of them copy more than 1,048,576 statements (9.6).
     LoopTurns,
-    /// An integer is named outside its loops, assigned in its loop, heads a loop within it, or heads loops of two blocks (9.6).
+    /// An integer that is no variable is named outside its loops, or an integer is assigned in its loop, heads a loop within it, or heads loops of two blocks (9.6).
     LoopVariable,
     /// A function names, writes or has what it may not, or a call has another number of arguments than the function has inputs (10.4.4).
     FunctionRule,

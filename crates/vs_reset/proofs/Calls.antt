@@ -10,6 +10,7 @@ use Rattle.vs_four.specs.declared.Bit4.TheVariants.{Zero, One, X, Z}
 use Rattle.vs_four.specs.Tables.{same, is_one}
 use Rattle.vs_four.specs.Logic.{truth}
 use Rattle.vs_net.specs.Network.{Edge, Posedge, Negedge, Reset, branch, Write, to_value, write_all, is_written, flatten}
+use Rattle.vs_design.specs.Clocks.{clock_bits}
 use Rattle.vs_design.specs.Designs.{Process, is_clocked}
 use Rattle.vs_design.specs.Footprints.{contains, writes_of}
 use Rattle.vs_design.specs.Sizes.{distinct, process_weight, size}
@@ -392,15 +393,15 @@ none_needed l x = record {
     }
 
 pub reset_calls_are : SourcesOfDesign → FewAreApart → WritesAre → ResetCallsAre
-reset_calls_are sources fewer law d name a l layout room p x e k r is [] has = record {
+reset_calls_are sources fewer law d names a l layout room p x e k r is [] has = record {
   are_calls = All-nil IsCall;
   stores = omega arith;
   slots = All-nil (λ slot. slot < l.first_temp + process_weight x);
   run = λ before after const called. idle_run law l r has before after called;
 }
-reset_calls_are sources fewer law d name a l layout room p x e k r is (b ∷ bs) has =
-    let from : SourcesAre d a.clock.first = sources d name a in
-    let wide = reset_wide d a.clock.first x r is in
+reset_calls_are sources fewer law d names a l layout room p x e k r is (b ∷ bs) has =
+    let from : SourcesAre d (clock_bits a.clocks) = sources d names a in
+    let wide = reset_wide d (clock_bits a.clocks) x r is in
     let own : (c : ℕ) → contains (b ∷ bs) c ≡ true → contains (writes_of x) c ≡ true = λ c h.
     from.reset_writes p x c e k (ap (λ (o : Option Reset). contains (bits_of_reset o) c) is ∙ sym (has.has c) ∙ h) in
     let few : length (b ∷ bs) ≤ distinct (writes_of x) = fewer (writes_of x) (b ∷ bs) has.once own in

@@ -15,6 +15,7 @@ use Rattle.vs_net.specs.Network.{Sleeper, Write, write_all, is_written, writes, 
 use Rattle.vs_net.specs.Network as N
 use Rattle.vs_net.specs.Solution.{all_x, blank}
 use Rattle.vs_net.specs.Lawful.{Settles}
+use Rattle.vs_design.specs.Clocks.{clock_bits}
 use Rattle.vs_design.specs.Bodies.{body}
 use Rattle.vs_design.specs.Designs.{Process, Continuous, Always, is_clocked, is_combinational, Design, top_inputs}
 use Rattle.vs_design.specs.Footprints.{contains, statement_bits, all_reads, writes_of, waits_of}
@@ -526,19 +527,19 @@ module _ (sequence : SequenceIsBoth) (law : WritesAre) (l : Layout) (p : Process
 some_is : {A : Type 0} (x y : A) → Some x ≡ Some y → x ≡ y
 some_is x y e = cc
 
-process_number : (d : Design) (clock p : ℕ) (x : Process) → slice_get d.processes p ≡ Some x → (network_of d clock).process p ≡ process_of d clock x
-process_number d clock p x e = go d.processes p e
+process_number : (d : Design) (clocks : List ℕ) (p : ℕ) (x : Process) → slice_get d.processes p ≡ Some x → (network_of d clocks).process p ≡ process_of d clocks x
+process_number d clocks p x e = go d.processes p e
   where
-    go : (ps : List Process) (p : ℕ) → slice_get ps p ≡ Some x → at_or_input (map (process_of d clock) ps ++ (map (writer_of clock) (top_inputs d) ++ (spare_writers d clock ++ keeper_of clock (sole_bits d)))) p ≡ process_of d clock x
+    go : (ps : List Process) (p : ℕ) → slice_get ps p ≡ Some x → at_or_input (map (process_of d clocks) ps ++ (map (writer_of clocks) (top_inputs d) ++ (spare_writers d clocks ++ keeper_of clocks (sole_bits d)))) p ≡ process_of d clocks x
     go [] p e = cc
-    go (y ∷ ps) zero e = ap (process_of d clock) (some_is y x e)
+    go (y ∷ ps) zero e = ap (process_of d clocks) (some_is y x e)
     go (y ∷ ps) (suc p) e = go ps p e
 
-made_is : (d : Design) (clock : ℕ) (x : Process) (s : N.State) → made (process_of d clock x) s ≡ made_of x s
-made_is d clock (Continuous place port target_place target e) s = refl
-made_is d clock (Always place star events statement) s = by_clock (is_clocked (Always place star events statement))
+made_is : (d : Design) (clocks : List ℕ) (x : Process) (s : N.State) → made (process_of d clocks x) s ≡ made_of x s
+made_is d clocks (Continuous place port target_place target e) s = refl
+made_is d clocks (Always place star events statement) s = by_clock (is_clocked (Always place star events statement))
   where
-    by_clock : (c : Bool) → made (block_process d clock c (Always place star events statement) events statement) s ≡ (body statement s).writes
+    by_clock : (c : Bool) → made (block_process d clocks c (Always place star events statement) events statement) s ≡ (body statement s).writes
     by_clock true = refl
     by_clock false = refl
 
@@ -593,12 +594,12 @@ one_of_all f [] q y e = cc
 one_of_all f (z ∷ ps) zero y e = let sum = sum_by-cons f z ps in subst (λ w. f w ≤ sum_by f (z ∷ ps)) (some_is z y e) (omega (arith, sum))
 one_of_all f (z ∷ ps) (suc q) y e = let sum = sum_by-cons f z ps in let rest = one_of_all f ps q y e in omega (arith, sum, rest)
 
-module _ (fewer : FewAreApart) (lawful : AcceptedIsLawful) (footprint : BitsOfDesign) (masks : MasksFit) (d : Design) (name : Option (List ℕ)) (a : IsAcceptedDesign d name) (l : Layout) (layout : IsLayoutOf d l) (numbers : l.first_temp + size d ≤ 2 ^ 32) (p : ℕ) (x : Process) (e : slice_get d.processes p ≡ Some x) (h : is_sleeping d x ≡ true) (on bits : List ℕ) (on_is : HasEachOnce (waits_of x) on) (bits_is : HasEachOnce (writes_of x) bits) where
+module _ (fewer : FewAreApart) (lawful : AcceptedIsLawful) (footprint : BitsOfDesign) (masks : MasksFit) (d : Design) (names : List (List ℕ)) (a : IsAcceptedDesign d names) (l : Layout) (layout : IsLayoutOf d l) (numbers : l.first_temp + size d ≤ 2 ^ 32) (p : ℕ) (x : Process) (e : slice_get d.processes p ≡ Some x) (h : is_sleeping d x ≡ true) (on bits : List ℕ) (on_is : HasEachOnce (waits_of x) on) (bits_is : HasEachOnce (writes_of x) bits) where
   room_is : HasRoom l x (record { on = waits_of x; bits = writes_of x }) (mask_of d p) l.first_temp on bits
   room_is =
       let fits = masks d l layout p x e h in
       let temps = layout.layout.temps_above in
-      let L = lawful d name a d.initials (same_order d.initials) in
+      let L = lawful d names a d.initials (same_order d.initials) in
       let is = L.sleepers p (record { on = waits_of x; bits = writes_of x }) (ap (sleeper_of d) e ∙ ap (λ (c : Bool). sleeper_if c x) h) in
       let weight = one_of_all process_weight d.processes p x e in
       let more = one_of_all (sleeper_weight d) d.processes p x e in
@@ -620,8 +621,8 @@ module _ (fewer : FewAreApart) (lawful : AcceptedIsLawful) (footprint : BitsOfDe
         few_written = few_writes;
         numbers = omega (arith, weight, numbers);
         written = λ t b.
-            ap (λ ws. is_written ws b) (sym (made_is d a.clock.first x t))
-            ∙ sym (ap (λ (q : N.Process). is_written (made q t) b) (process_number d a.clock.first p x e))
+            ap (λ ws. is_written ws b) (sym (made_is d (clock_bits a.clocks) x t))
+            ∙ sym (ap (λ (q : N.Process). is_written (made q t) b) (process_number d (clock_bits a.clocks) p x e))
             ∙ exactly b t
             ∙ sym (is.bits_is b)
             ∙ sym (bits_is.has b);
@@ -632,14 +633,14 @@ module _ (fewer : FewAreApart) (lawful : AcceptedIsLawful) (footprint : BitsOfDe
       }
     where
       -- it writes each of its bits, and no other
-      exactly : (b : ℕ) (t : N.State) → is_written (made ((network_of d a.clock.first).process p) t) b ≡ writes ((network_of d a.clock.first).process p) b
+      exactly : (b : ℕ) (t : N.State) → is_written (made ((network_of d (clock_bits a.clocks)).process p) t) b ≡ writes ((network_of d (clock_bits a.clocks)).process p) b
       exactly b t =
-          let L = lawful d name a d.initials (same_order d.initials) in
+          let L = lawful d names a d.initials (same_order d.initials) in
           let is = L.sleepers p (record { on = waits_of x; bits = writes_of x }) (ap (sleeper_of d) e ∙ ap (λ (c : Bool). sleeper_if c x) h) in
-          by_test (writes ((network_of d a.clock.first).process p) b)
+          by_test (writes ((network_of d (clock_bits a.clocks)).process p) b)
           (λ w. is.exact b t w ∙ sym w)
-          (λ w. by_test (is_written (made ((network_of d a.clock.first).process p) t) b)
-          (λ u. absurd (both_ways (writes ((network_of d a.clock.first).process p) b) w (L.own p b t (subst Settles (sym is.comb) tt) u)))
+          (λ w. by_test (is_written (made ((network_of d (clock_bits a.clocks)).process p) t) b)
+          (λ u. absurd (both_ways (writes ((network_of d (clock_bits a.clocks)).process p) b) w (L.own p b t (subst Settles (sym is.comb) tt) u)))
           (λ u. u ∙ sym w))
 
       below : (b : ℕ) → contains (all_reads x ++ (writes_of x ++ waits_of x)) b ≡ true → b < l.bits
@@ -649,9 +650,9 @@ module _ (fewer : FewAreApart) (lawful : AcceptedIsLawful) (footprint : BitsOfDe
       nothing_there c k = cc
 
 pub sleeper_calls_are : SequenceIsBoth → WritesAre → FewAreApart → AcceptedIsLawful → BitsOfDesign → MasksFit → SleeperCallsAre
-sleeper_calls_are sequence law fewer lawful footprint masks d name a l layout numbers p x e h on bits on_is bits_is now body is = (
+sleeper_calls_are sequence law fewer lawful footprint masks d names a l layout numbers p x e h on bits on_is bits_is now body is = (
   x,
   e,
   subst (λ (c : Bool). IsLoweredAs l (mask_of d p) (sleeper_if c x) x (sleeper_calls (mask_of d p) l.first_temp on bits now body)) (sym h)
-      (lowered sequence law l x (record { on = waits_of x; bits = writes_of x }) (mask_of d p) l.first_temp on bits now body is (room_is fewer lawful footprint masks d name a l layout numbers p x e h on bits on_is bits_is)),
+      (lowered sequence law l x (record { on = waits_of x; bits = writes_of x }) (mask_of d p) l.first_temp on bits now body is (room_is fewer lawful footprint masks d names a l layout numbers p x e h on bits on_is bits_is)),
 )

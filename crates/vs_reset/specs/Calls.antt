@@ -3,6 +3,7 @@ use Rattle.std.specs.Prelude.{◌≡◌, ℕ, suc, ◌+◌, ◌≤◌, ◌^◌, 
 use Rattle.vs_four.specs.declared.Bit4.{Bit4}
 use Rattle.vs_four.specs.declared.Bit4.TheVariants.{Zero, One, X, Z}
 use Rattle.vs_net.specs.Network.{Edge, Posedge, Negedge, Reset, branch, write_all, flatten}
+use Rattle.vs_design.specs.Clocks.{clock_bits}
 use Rattle.vs_design.specs.Values.{count_from}
 use Rattle.vs_design.specs.Designs.{Process, is_clocked, Design}
 use Rattle.vs_design.specs.Resets.{reset_of}
@@ -62,9 +63,9 @@ reset_calls l r (b ∷ bits) = condition_call l r ∷ choice_call l r (b ∷ bit
 -- they are calls of the block's reset, by a list of the bits that it sets, each once, and where all slots can be numbered
 abbrev pub ResetCallsAre : Type 0
 ResetCallsAre =
-    (d : Design) (name : Option (List ℕ)) (a : IsAcceptedDesign d name) (l : Layout) → IsLayoutOf d l → l.first_temp + size d ≤ 2 ^ 32
+    (d : Design) (names : List (List ℕ)) (a : IsAcceptedDesign d names) (l : Layout) → IsLayoutOf d l → l.first_temp + size d ≤ 2 ^ 32
     → (p : ℕ) (x : Process) → slice_get d.processes p ≡ Some x → is_clocked x ≡ true
-    → (r : Reset) → reset_of d a.clock.first x ≡ Some r → (bits : List ℕ) → HasEachOnce (bits_of_reset (Some r)) bits
+    → (r : Reset) → reset_of d (clock_bits a.clocks) x ≡ Some r → (bits : List ℕ) → HasEachOnce (bits_of_reset (Some r)) bits
     → IsLoweredReset l (Some r) x (reset_calls l r bits)
 
 -- of a block without a reset there need be none

@@ -25,7 +25,7 @@ calls_with d bits (Some r) = reset_calls (layout_of d bits) r bits
 -- those of the resets of all processes of the list
 abbrev pub calls_of : Design → List ℕ → List Process → List Call
 calls_of d bits [] = []
-calls_of d bits (x ∷ xs) = calls_with d bits (reset_of d 0 x) ++ calls_of d bits xs
+calls_of d bits (x ∷ xs) = calls_with d bits (reset_of d (0 ∷ []) x) ++ calls_of d bits xs
 
 -- of `always @* y = q & 1'b0;`, where q is bit 3 and y bit 4, the mask slot 10, the temporaries from slot 11 on
 abbrev pub block_calls : List Call

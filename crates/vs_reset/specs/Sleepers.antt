@@ -93,7 +93,7 @@ pub record IsBody (l : Layout) (p : Process) (bits now : List ℕ) (calls : List
 -- they are calls of the block as one that sleeps, by lists of the bits that it waits on and of those that it writes, each once, and where all slots can be numbered. The mask is found in the first temporary, before the statement needs it
 abbrev pub SleeperCallsAre : Type 0
 SleeperCallsAre =
-    (d : Design) (name : Option (List ℕ)) (a : IsAcceptedDesign d name) (l : Layout) → IsLayoutOf d l → l.first_temp + size d ≤ 2 ^ 32
+    (d : Design) (names : List (List ℕ)) (a : IsAcceptedDesign d names) (l : Layout) → IsLayoutOf d l → l.first_temp + size d ≤ 2 ^ 32
     → (p : ℕ) (x : Process) → slice_get d.processes p ≡ Some x → is_sleeping d x ≡ true
     → (on bits : List ℕ) → HasEachOnce (waits_of x) on → HasEachOnce (writes_of x) bits
     → (now : List ℕ) (body : List Call) → IsBody l x bits now body

@@ -41,9 +41,9 @@ kept_on same f s = record {
 }
 
 -- a check that is about to begin can be run
-pub parts_checkable : {W : Type 0} (m : Checking W) (d : Design) (clock : ℕ) (stimuli : List Known) (engine : Running W) (outputs : List Span)
-    → m.stimuli ≡ stimuli → m.engine ≡ engine → m.misses.outputs ≡ outputs → HasColumns m.misses (named m.stimuli) → AllFit outputs stimuli → AreCheckParts d clock stimuli engine.program outputs → IsCheckable m
-parts_checkable m d clock stimuli engine outputs stimuli_are engine_is outputs_are columns fit h = record {
+pub parts_checkable : {W : Type 0} (m : Checking W) (d : Design) (clocks : List ℕ) (stimuli : List Known) (engine : Running W) (outputs : List Span)
+    → m.stimuli ≡ stimuli → m.engine ≡ engine → m.misses.outputs ≡ outputs → HasColumns m.misses (named m.stimuli) → AllFit outputs stimuli → AreCheckParts d clocks stimuli engine.program outputs → IsCheckable m
+parts_checkable m d clocks stimuli engine outputs stimuli_are engine_is outputs_are columns fit h = record {
   lanes = subst AreLanes (sym stimuli_are) h.lanes;
   bits = subst (λ (e : Running _). HaveBits (length e.program.inputs) m.stimuli) (sym engine_is) (subst (HaveBits (length engine.program.inputs)) (sym stimuli_are) h.bits);
   inside = ap (list_all (spans m.engine.program.bits)) outputs_are ∙ ap (λ (e : Running _). list_all (spans e.program.bits) outputs) engine_is ∙ h.inside;
@@ -92,7 +92,7 @@ nothing_yet run i found now none begins = record { given = record { ends = []; s
 pub watched_begun : {W : Type 0} (lane : W → ℕ → Bool) (run : Run) (m new : Checking W) (before after : Contents) → AreWatched lane run m before
     → length new.stimuli ≡ length m.stimuli → new.misses ≡ m.misses → new.engine ≡ m.engine → HaveVectors run 0 new.stimuli after → AreFoundIn lane run 0 new after
 watched_begun lane run m new before after h long misses engine read = record {
-  program = subst (λ (e : Running _). IsProgramOf run.design run.clock e.program) (sym engine) h.program;
+  program = subst (λ (e : Running _). IsProgramOf run.design run.clocks e.program) (sym engine) h.program;
   outputs = ap (λ (w : Watch). w.outputs) misses ∙ h.outputs;
   read = read;
   found = record {
@@ -110,7 +110,7 @@ pub record IsCompared {W : Type 0} (lane : W → ℕ → Bool) (run : Run) (old 
   pub stimuli : new.stimuli ≡ old.stimuli
   pub program : new.engine.program ≡ old.engine.program
   pub outputs : new.misses.outputs ≡ old.misses.outputs
-  pub falls : (i : ℕ) → i < length old.stimuli → (lane_at old.stimuli i).live ≡ true → IsSlotEnd (network run) (state lane old.engine i) (Fall (vector_state run.design run.clock (lane_at old.stimuli i).vector)) (state lane middle i)
+  pub falls : (i : ℕ) → i < length old.stimuli → (lane_at old.stimuli i).live ≡ true → IsSlotEnd (network run) (state lane old.engine i) (Fall (vector_state run.design run.clocks (lane_at old.stimuli i).vector)) (state lane middle i)
   pub rises : (i : ℕ) → i < length old.stimuli → (lane_at old.stimuli i).live ≡ true → IsSlotEnd (network run) (state lane middle i) Rise (state lane new.engine i)
   pub found : (i : ℕ) → i < length old.stimuli → found_at new.misses.found i ≡ found_behind (found_at old.misses.found i) (found_now old.misses.outputs (lane_at old.stimuli i) (state lane middle i))
 
@@ -153,7 +153,7 @@ compared_lane lines lane run k old new c i lt made h (inr dead) =
 
 pub compared : LinesOfVectors → {W : Type 0} (lane : W → ℕ → Bool) (run : Run) (k : ℕ) (old new : Checking W) (c : Contents) → IsCompared lane run old new → AreFoundIn lane run k old c → AreFoundBefore lane run (suc k) new c
 compared lines lane run k old new c made h = record {
-  program = subst (λ (p : Program). IsProgramOf run.design run.clock p) (sym made.program) h.program;
+  program = subst (λ (p : Program). IsProgramOf run.design run.clocks p) (sym made.program) h.program;
   outputs = made.outputs ∙ h.outputs;
   next = subst (λ (ks : List Known). HaveNext run (suc k) ks c) (sym made.stimuli) (record { each = λ i lt. read_on (h.read.each i lt); read = λ i lt live. h.read.read i lt live; taken = h.read.taken });
   found = record { each = λ i lt. let within : i < length old.stimuli = omega (arith, ap length made.stimuli, lt) in compared_lane lines lane run k old new c i within made h (either (lane_at old.stimuli i).live) };
@@ -163,7 +163,7 @@ compared lines lane run k old new c made h = record {
 pub check_next : {W : Type 0} (lane : W → ℕ → Bool) (run : Run) (k : ℕ) (old new : Checking W) (before after : Contents) → length new.stimuli ≡ length old.stimuli → new.misses ≡ old.misses → new.engine ≡ old.engine
     → AreFoundBefore lane run k old before → (HaveNext run k old.stimuli before → HaveVectors run k new.stimuli after) → AreFoundIn lane run k new after
 check_next lane run k old new before after long misses engine h read = record {
-  program = subst (λ (e : Running _). IsProgramOf run.design run.clock e.program) (sym engine) h.program;
+  program = subst (λ (e : Running _). IsProgramOf run.design run.clocks e.program) (sym engine) h.program;
   outputs = ap (λ (w : Watch). w.outputs) misses ∙ h.outputs;
   read = read h.next;
   found = record {
@@ -182,7 +182,7 @@ pub check_stops : {W : Type 0} (lane : W → ℕ → Bool) (run : Run) (k lanes 
 check_stops lane run k lanes m misses before after stop some long same h read = record {
   later = some;
   read = read;
-  found = record { each = λ i lt. let within : i < length m.stimuli = omega (arith, long, lt) in subst (λ (w : Watch). IsFound run.design run.clock run.ports (run.texts i) k (found_at w.found i)) (sym same) (h.found.each i within).given };
+  found = record { each = λ i lt. let within : i < length m.stimuli = omega (arith, long, lt) in subst (λ (w : Watch). IsFound run.design run.clocks run.ports (run.texts i) k (found_at w.found i)) (sym same) (h.found.each i within).given };
 }
 
 -- in a round in which no lane has a vector
@@ -196,7 +196,7 @@ checked_before lane run lanes k old m c long same none numbered h =
       taken = λ i lt. (dead i lt).2;
       found = λ i lt.
           let within : i < length m.stimuli = omega (arith, long_now, lt) in
-          found_past run.design run.clock run.ports (run.texts i) (suc k) (length (reading_of run i).vectors) (found_at m.misses.found i) (omega (arith, (dead i lt).1)) (omega arith) (h.found.each i within).given;
+          found_past run.design run.clocks run.ports (run.texts i) (suc k) (length (reading_of run i).vectors) (found_at m.misses.found i) (omega (arith, (dead i lt).1)) (omega arith) (h.found.each i within).given;
     }
 
 -- no text has a vector for the last round
@@ -208,5 +208,5 @@ checked_at_last lane run lanes k m c long past numbered h =
       taken = λ i lt. (dead i lt).2;
       found = λ i lt.
           let within : i < length m.stimuli = omega (arith, long, lt) in
-          found_past run.design run.clock run.ports (run.texts i) k (length (reading_of run i).vectors) (found_at m.misses.found i) (omega (arith, (dead i lt).1)) (omega arith) (h.found.each i within).given;
+          found_past run.design run.clocks run.ports (run.texts i) k (length (reading_of run i).vectors) (found_at m.misses.found i) (omega (arith, (dead i lt).1)) (omega arith) (h.found.each i within).given;
     }

@@ -60,7 +60,7 @@ found_step lines run i k s c rest outputs ends mid next before after outputs_are
 -- a live lane's round
 pub found_goes_on : LinesOfVectors → (run : Run) (i k : ℕ) (s : Known) (c : Contents) (rest : Reading) (outputs : List Span) (now mid next : State) (before after : Option Found)
     → outputs ≡ output_spans run.design run.ports.outputs → IsFoundAt run i k before now → IsRead (reading_of run i) k true (last_entry s) rest → HasGiven run i (suc k) s c
-    → IsSlotEnd (network run) now (Fall (vector_state run.design run.clock s.vector)) mid → IsSlotEnd (network run) mid Rise next
+    → IsSlotEnd (network run) now (Fall (vector_state run.design run.clocks s.vector)) mid → IsSlotEnd (network run) mid Rise next
     → after ≡ found_behind before (on_line s.line (first_miss outputs mid 0 s.columns.expected s.wanted))
     → IsFoundAt run i (suc k) after next
 found_goes_on lines run i k s c rest outputs now mid next before after outputs_are h read given falls rises after_is =
@@ -68,11 +68,11 @@ found_goes_on lines run i k s c rest outputs now mid next before after outputs_a
     let at = vector_read read in
     let within : k ≤ length r.vectors = omega (arith, at.0) in
     let ends = h.given.ends in
-    let long : length ends ≡ 2 * k = ends_of_solution run.design run.clock k r.vectors ends h.given.solution within in
+    let long : length ends ≡ 2 * k = ends_of_solution run.design run.clocks k r.vectors ends h.given.solution within in
     record {
       given = record {
         ends = ends ++ mid ∷ next ∷ [];
-        solution = solution_goes_on run.design run.clock k r.vectors s.vector ends now mid next at.1 (h.now_is within) h.given.solution falls rises;
+        solution = solution_goes_on run.design run.clocks k r.vectors s.vector ends now mid next at.1 (h.now_is within) h.given.solution falls rises;
         found_is = found_step lines run i k s c rest outputs ends mid next before after outputs_are read given long h.given.found_is after_is;
       };
       now_is = λ _. sym (last_of_two (beginning (network run)) ends mid next);
@@ -87,14 +87,14 @@ missed_past d ports text j k ends past over =
     let same : take j whole ≡ take k whole = take_all j whole (omega (arith, long)) ∙ sym (take_all k whole (omega (arith, long))) in
     ap (λ (ws : List (List (List Digit))). missed_of d ports text ws ends) same
 
-pub found_past : (d : Design) (clock : ℕ) (ports : PortLists) (text : List ℕ) (j k : ℕ) (found : Option Found) → length (reading ports text).vectors ≤ j → length (reading ports text).vectors ≤ k
-    → IsFound d clock ports text j found → IsFound d clock ports text k found
-found_past d clock ports text j k found past over h =
+pub found_past : (d : Design) (clocks : List ℕ) (ports : PortLists) (text : List ℕ) (j k : ℕ) (found : Option Found) → length (reading ports text).vectors ≤ j → length (reading ports text).vectors ≤ k
+    → IsFound d clocks ports text j found → IsFound d clocks ports text k found
+found_past d clocks ports text j k found past over h =
     let vectors = (reading ports text).vectors in
     let same : take j vectors ≡ take k vectors = take_all j vectors past ∙ sym (take_all k vectors over) in
     record {
       ends = h.ends;
-      solution = subst (λ (vs : List Vector). IsSolution (network_of d clock) (beginning (network_of d clock)) (drive_of d clock vs) h.ends) same h.solution;
+      solution = subst (λ (vs : List Vector). IsSolution (network_of d clocks) (beginning (network_of d clocks)) (drive_of d clocks vs) h.ends) same h.solution;
       found_is = h.found_is ∙ missed_past d ports text j k h.ends past over;
     }
 
@@ -104,6 +104,6 @@ pub found_ends : (run : Run) (i k : ℕ) (entry : Entry) (rest : Reading) (now n
 found_ends run i k entry rest now next before after h read same =
     let over = read.ended refl in
     record {
-      given = found_past run.design run.clock run.ports (run.texts i) k (suc k) after over (omega (arith, over)) (subst (IsFound run.design run.clock run.ports (run.texts i) k) (sym same) h.given);
+      given = found_past run.design run.clocks run.ports (run.texts i) k (suc k) after over (omega (arith, over)) (subst (IsFound run.design run.clocks run.ports (run.texts i) k) (sym same) h.given);
       now_is = λ within. absurd (omega (arith, over, within));
     }

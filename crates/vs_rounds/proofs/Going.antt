@@ -23,7 +23,7 @@ others_read f read = record { others = λ place ne. ap (λ (put : ℕ → List �
 pub in_next : {W : Type 0} (lane : W → ℕ → Bool) (run : Run) (k : ℕ) (old new : Simulation W) (before after : Contents) → length new.stimuli ≡ length old.stimuli → new.waves ≡ old.waves → new.engine ≡ old.engine → after.put ≡ before.put
     → AreBeforeRound lane run k old before → (HaveNext run k old.stimuli before → HaveVectors run k new.stimuli after) → AreInRound lane run k new after
 in_next lane run k old new before after long waves engine put h read = record {
-  program = subst (λ (e : Running _). IsProgramOf run.design run.clock e.program) (sym engine) h.program;
+  program = subst (λ (e : Running _). IsProgramOf run.design run.clocks e.program) (sym engine) h.program;
   read = read h.next;
   waves = waves_kept lane run k old new before after long waves engine put h.waves;
 }

@@ -14,8 +14,9 @@ use Rattle.vs_net.specs.Network.{State, put, write_all, kind, writes, AnInput}
 use Rattle.vs_net.specs.Network as N
 use Rattle.vs_net.specs.Lawful.{IsKnown}
 use Rattle.vs_net.specs.Laws.{IsKnownVector}
+use Rattle.std.specs.List.{list_any}
 use Rattle.vs_design.specs.Expressions.{Signal, signal_length}
-use Rattle.vs_design.specs.Clocks.{same_name, spare_clock, clock_input}
+use Rattle.vs_design.specs.Clocks.{clock_bits, same_name, spare_clock, clock_inputs, and_inputs, named_input, named_inputs}
 use Rattle.vs_design.specs.Statements.{Statement}
 use Rattle.vs_design.specs.Designs.{Event, Design, Process, Continuous, Always, top_inputs, bit_count}
 use Rattle.vs_design.specs.Values.{count_from, bits_of_signal}
@@ -24,7 +25,7 @@ use Rattle.vs_design.specs.Elaborated.{have_bits_from}
 use Rattle.vs_design.specs.Resets.{reset_inputs}
 use Rattle.vs_design.specs.Accepted.{IsAcceptedDesign}
 use Rattle.vs_design.specs.Initials.{sole_bits}
-use Rattle.vs_design.specs.Networks.{process_of, block_process, writer_of, spare_writers, keeper_of, at_or_input, network_of}
+use Rattle.vs_design.specs.Networks.{spare_clocks, process_of, block_process, writer_of, spare_writers, keeper_of, at_or_input, network_of}
 use Rattle.vs_cone.specs.Given.{data_bits}
 use Rattle.vs_stim.specs.declared.input.Input.{Input}
 use Rattle.vs_stim.specs.Header.{lengths}
@@ -36,7 +37,7 @@ use Rattle.vs_rounds.proofs.Settled.{length-count_from}
 
 -- ---- the bits of the data inputs
 
--- The signal is the clock's, of one bit, or has not the clock's bit.
+-- The signal is the one of this bit alone, or has not the bit.
 abbrev pub IsApart : ℕ → Signal → Type 0
 IsApart clock s = ((s.first ≡ clock) × (signal_length s ≡ 1)) ⊎ ((clock < s.first) ⊎ (s.first + signal_length s ≤ clock))
 
@@ -85,64 +86,64 @@ kept_append : (keeps : Bool) (x : ℕ) (xs ys : List ℕ) → (if keeps then x �
 kept_append true x xs ys = refl
 kept_append false x xs ys = refl
 
-without_append : (clock : ℕ) (xs ys : List ℕ) → without (xs ++ ys) (clock ∷ []) ≡ without xs (clock ∷ []) ++ without ys (clock ∷ [])
-without_append clock [] ys = refl
-without_append clock (x ∷ xs) ys =
-    let keeps = not (contains (clock ∷ []) x) in
-    ap (λ (rest : List ℕ). if keeps then x ∷ rest else rest) (without_append clock xs ys) ∙ kept_append keeps x (without xs (clock ∷ [])) (without ys (clock ∷ []))
+without_append : (clocks : List ℕ) (xs ys : List ℕ) → without (xs ++ ys) clocks ≡ without xs clocks ++ without ys clocks
+without_append clocks [] ys = refl
+without_append clocks (x ∷ xs) ys =
+    let keeps = not (contains clocks x) in
+    ap (λ (rest : List ℕ). if keeps then x ∷ rest else rest) (without_append clocks xs ys) ∙ kept_append keeps x (without xs clocks) (without ys clocks)
 
-without_none : (clock first count : ℕ) → (clock < first) ⊎ (first + count ≤ clock) → without (count_from first count) (clock ∷ []) ≡ count_from first count
-without_none clock first zero h = refl
-without_none clock first (suc count) h =
-    let other : (first == clock) ≡ false = elim h [ inl below ↦ grind (arith, nat_tests) | inr above ↦ grind (arith, nat_tests) ] in
-    let rest = without_none clock (suc first) count (elim h [ inl below ↦ inl (omega arith) | inr above ↦ inr (omega arith) ]) in
-    ap (λ (b : Bool). if not (b || false) then first ∷ without (count_from (suc first) count) (clock ∷ []) else without (count_from (suc first) count) (clock ∷ [])) other
+without_none : (clocks : List ℕ) (first count : ℕ) → ((b : ℕ) → first ≤ b → b < first + count → contains clocks b ≡ false) → without (count_from first count) clocks ≡ count_from first count
+without_none clocks first zero h = refl
+without_none clocks first (suc count) h =
+    let rest = without_none clocks (suc first) count (λ b l k. h b (omega (arith, l)) (omega (arith, k))) in
+    ap (λ (b : Bool). if not b then first ∷ without (count_from (suc first) count) clocks else without (count_from (suc first) count) clocks) (h first (omega arith) (omega arith))
     ∙ ap (λ (bs : List ℕ). first ∷ bs) rest
 
-without_one : (clock first count : ℕ) → first ≡ clock → count ≡ 1 → without (count_from first count) (clock ∷ []) ≡ []
-without_one clock first count is one =
-    let same : (first == clock) ≡ true = grind (arith, nat_tests) in
-    ap (λ (n : ℕ). without (count_from first n) (clock ∷ [])) one
-    ∙ ap (λ (b : Bool). if not (b || false) then first ∷ [] else []) same
-
-signal_bits_are : (clock : ℕ) (s : Signal) → IsApart clock s → without (bits_of_signal s) (clock ∷ []) ≡ (if not (s.first == clock) then bits_of_signal s else [])
-signal_bits_are clock s (inl h) =
-    let same : (s.first == clock) ≡ true = let e = h.0 in grind (arith, nat_tests) in
-    without_one clock s.first (signal_length s) h.0 h.1 ∙ sym (ap (λ (b : Bool). if not b then bits_of_signal s else []) same)
-signal_bits_are clock s (inr h) = without_none clock s.first (signal_length s) h ∙ elim (either (s.first == clock)) [
-  | inl same ↦
-      let is = eqb-true s.first clock same in
-      let empty : signal_length s ≡ 0 = elim h [ inl below ↦ omega arith | inr above ↦ omega arith ] in
-      let none : bits_of_signal s ≡ [] = ap (count_from s.first) empty in
-      none ∙ sym (ap (λ (b : Bool). if not b then bits_of_signal s else []) same)
-  | inr other ↦ sym (ap (λ (b : Bool). if not b then bits_of_signal s else []) other)
+signal_bits_are : (clocks : List ℕ) (s : Signal) → ((c : ℕ) → contains clocks c ≡ true → IsApart c s) → without (bits_of_signal s) clocks ≡ (if not (contains clocks s.first) then bits_of_signal s else [])
+signal_bits_are clocks s h = elim (either (contains clocks s.first)) [
+  | inl same ↦ here same (h s.first same) ∙ sym (ap (λ (b : Bool). if not b then bits_of_signal s else []) same)
+  | inr other ↦ without_none clocks s.first (signal_length s) (λ b l k. apart_from other b l k) ∙ sym (ap (λ (b : Bool). if not b then bits_of_signal s else []) other)
 ]
+  where
+    here : contains clocks s.first ≡ true → IsApart s.first s → without (bits_of_signal s) clocks ≡ []
+    here same (inl one) = ap (λ (n : ℕ). without (count_from s.first n) clocks) one.1 ∙ ap (λ (b : Bool). if not b then s.first ∷ [] else []) same
+    here same (inr (inl below)) = absurd (omega (arith, below))
+    here same (inr (inr above)) = let empty : signal_length s ≡ 0 = omega (arith, above) in ap (λ (n : ℕ). without (count_from s.first n) clocks) empty
+
+    apart_from : contains clocks s.first ≡ false → (b : ℕ) → s.first ≤ b → b < s.first + signal_length s → contains clocks b ≡ false
+    apart_from other b l k = elim (either (contains clocks b)) [
+      | inl has ↦ elim (h b has) [
+        | inl at ↦ sym (ap (contains clocks) at.0) ∙ other
+        | inr off ↦ elim off [ inl below ↦ absurd (omega (arith, below, l)) | inr above ↦ absurd (omega (arith, above, k)) ]
+      ]
+      | inr none ↦ none
+    ]
 
 joined : (b : Bool) (s : Signal) (ss : List Signal) → (if b then bits_of_signal s else []) ++ signals_bits ss ≡ signals_bits (if b then s ∷ ss else ss)
 joined true s ss = refl
 joined false s ss = refl
 
-bits_step : (clock : ℕ) (s : Signal) (ss : List Signal) (i : Bool) → s.input ≡ i → IsApart clock s → without (signals_bits (filter is_input ss)) (clock ∷ []) ≡ signals_bits (filter (is_data_input clock) ss)
-    → without (signals_bits (filter is_input (s ∷ ss))) (clock ∷ []) ≡ signals_bits (filter (is_data_input clock) (s ∷ ss))
-bits_step clock s ss true is h rest =
+bits_step : (clocks : List ℕ) (s : Signal) (ss : List Signal) (i : Bool) → s.input ≡ i → ((c : ℕ) → contains clocks c ≡ true → IsApart c s) → without (signals_bits (filter is_input ss)) clocks ≡ signals_bits (filter (is_data_input clocks) ss)
+    → without (signals_bits (filter is_input (s ∷ ss))) clocks ≡ signals_bits (filter (is_data_input clocks) (s ∷ ss))
+bits_step clocks s ss true is h rest =
     let others = filter is_input ss in
-    let those = filter (is_data_input clock) ss in
-    ap (λ (b : Bool). without (signals_bits (if b then s ∷ others else others)) (clock ∷ [])) is
-    ∙ without_append clock (bits_of_signal s) (signals_bits others)
-    ∙ ap (λ (bs : List ℕ). bs ++ without (signals_bits others) (clock ∷ [])) (signal_bits_are clock s h)
-    ∙ ap (λ (bs : List ℕ). (if not (s.first == clock) then bits_of_signal s else []) ++ bs) rest
-    ∙ joined (not (s.first == clock)) s those
-    ∙ sym (ap (λ (b : Bool). signals_bits (if b && not (s.first == clock) then s ∷ those else those)) is)
-bits_step clock s ss false is h rest =
+    let those = filter (is_data_input clocks) ss in
+    ap (λ (b : Bool). without (signals_bits (if b then s ∷ others else others)) clocks) is
+    ∙ without_append clocks (bits_of_signal s) (signals_bits others)
+    ∙ ap (λ (bs : List ℕ). bs ++ without (signals_bits others) clocks) (signal_bits_are clocks s h)
+    ∙ ap (λ (bs : List ℕ). (if not (contains clocks s.first) then bits_of_signal s else []) ++ bs) rest
+    ∙ joined (not (contains clocks s.first)) s those
+    ∙ sym (ap (λ (b : Bool). signals_bits (if b && not (contains clocks s.first) then s ∷ those else those)) is)
+bits_step clocks s ss false is h rest =
     let others = filter is_input ss in
-    let those = filter (is_data_input clock) ss in
-    ap (λ (b : Bool). without (signals_bits (if b then s ∷ others else others)) (clock ∷ [])) is
+    let those = filter (is_data_input clocks) ss in
+    ap (λ (b : Bool). without (signals_bits (if b then s ∷ others else others)) clocks) is
     ∙ rest
-    ∙ sym (ap (λ (b : Bool). signals_bits (if b && not (s.first == clock) then s ∷ those else those)) is)
+    ∙ sym (ap (λ (b : Bool). signals_bits (if b && not (contains clocks s.first) then s ∷ those else those)) is)
 
-bits_are : (clock : ℕ) (ss : List Signal) → AreApart clock ss → without (signals_bits (filter is_input ss)) (clock ∷ []) ≡ signals_bits (filter (is_data_input clock) ss)
-bits_are clock [] h = refl
-bits_are clock (s ∷ ss) h = bits_step clock s ss s.input refl h.0 (bits_are clock ss h.1)
+bits_are : (clocks : List ℕ) (ss : List Signal) → ((c : ℕ) → contains clocks c ≡ true → AreApart c ss) → without (signals_bits (filter is_input ss)) clocks ≡ signals_bits (filter (is_data_input clocks) ss)
+bits_are clocks [] h = refl
+bits_are clocks (s ∷ ss) h = bits_step clocks s ss s.input refl (λ c k. (h c k).0) (bits_are clocks ss (λ c k. (h c k).1))
 
 one_bit : (name : List ℕ) (s : Signal) → (s.input && same_name s.name name && (signal_length s == 1)) ≡ true → signal_length s ≡ 1
 one_bit name s h = eqb-true (signal_length s) 1 (and_parts (s.input && same_name s.name name) (signal_length s == 1) h).1
@@ -155,16 +156,41 @@ all_before clock base (s ∷ ss) h past =
     let total = sum_by-cons signal_length s ss in
     (inr (inr (omega (arith, at.0, total, past))), all_before clock (base + signal_length s) ss at.1 (omega (arith, total, past)))
 
--- the clock is a signal of one bit, or none of the design's
-clock_apart : (d : Design) (name : Option (List ℕ)) (c : Signal) → have_bits_from 0 d.signals ≡ true → clock_input d name ≡ Some c → AreApart c.first d.signals
-clock_apart d None c h found =
-    let is : spare_clock d ≡ c = same_Some (spare_clock d) c found in
-    all_before c.first 0 d.signals h (omega (arith, ap (λ (x : Signal). x.first) is))
-clock_apart d (Some name) c h found = apart (λ s. s.input && same_name s.name name && (signal_length s == 1)) c.first 0 d.signals c h found refl (one_bit name)
+same_list : (xs ys : List Signal) → Some xs ≡ Some ys → xs ≡ ys
+same_list xs ys e = cc
+
+-- each clock is a signal of one bit
+names_apart : (d : Design) → have_bits_from 0 d.signals ≡ true → (names : List (List ℕ)) (ss : List Signal) → named_inputs d names ≡ Some ss → (c : ℕ) → contains (clock_bits ss) c ≡ true → AreApart c d.signals
+names_apart d h [] ss found c k = absurd (let e : false ≡ true = subst (λ (xs : List Signal). contains (clock_bits xs) c ≡ true) (sym (same_list [] ss found)) k in cc)
+names_apart d h (name ∷ names) ss found c k = by_twice (list_any (same_name name) names) refl (λ more rest has. names_apart d h names more rest c has)
+  where
+    split : (o : Option Signal) → named_input d name ≡ o → (q : Option (List Signal)) → named_inputs d names ≡ q → and_inputs o q ≡ Some ss → ((more : List Signal) → named_inputs d names ≡ Some more → contains (clock_bits more) c ≡ true → AreApart c d.signals) → AreApart c d.signals
+    split None first q rest e later = absurd (cc)
+    split (Some s) first None rest e later = absurd (cc)
+    split (Some s) first (Some more) rest e later =
+        let has : ((c == s.first) || contains (clock_bits more) c) ≡ true = subst (λ (xs : List Signal). contains (clock_bits xs) c ≡ true) (sym (same_list (s ∷ more) ss e)) k in
+        elim (either (c == s.first)) [
+          | inl at ↦ apart (λ s. s.input && same_name s.name name && (signal_length s == 1)) c 0 d.signals s h first (sym (eqb-true c s.first at)) (one_bit name)
+          | inr other ↦ later more rest (subst (λ (b : Bool). (b || contains (clock_bits more) c) ≡ true) other has)
+        ]
+
+    by_twice : (t : Bool) → list_any (same_name name) names ≡ t → ((more : List Signal) → named_inputs d names ≡ Some more → contains (clock_bits more) c ≡ true → AreApart c d.signals) → AreApart c d.signals
+    by_twice true t later = absurd (let e : None ≡ Some ss = subst (λ (b : Bool). (if b then None else and_inputs (named_input d name) (named_inputs d names)) ≡ Some ss) t found in cc)
+    by_twice false t later = split (named_input d name) refl (named_inputs d names) refl (subst (λ (b : Bool). (if b then None else and_inputs (named_input d name) (named_inputs d names)) ≡ Some ss) t found) later
+
+-- each clock is a signal of one bit, or none of the design's
+clocks_apart : (d : Design) (names : List (List ℕ)) (ss : List Signal) → have_bits_from 0 d.signals ≡ true → clock_inputs d names ≡ Some ss → (c : ℕ) → contains (clock_bits ss) c ≡ true → AreApart c d.signals
+clocks_apart d [] ss h found c k =
+    let has : ((c == bit_count d) || false) ≡ true = subst (λ (xs : List Signal). contains (clock_bits xs) c ≡ true) (sym (same_list (spare_clock d ∷ []) ss found)) k in
+    elim (either (c == bit_count d)) [
+      | inl at ↦ all_before c 0 d.signals h (let is = eqb-true c (bit_count d) at in omega (arith, is))
+      | inr other ↦ absurd (let e : false ≡ true = subst (λ (b : Bool). (b || false) ≡ true) other has in cc)
+    ]
+clocks_apart d (name ∷ names) ss h found c k = names_apart d h (name ∷ names) ss found c k
 
 -- the data bits are the bits of the data inputs
-pub data_bits_are : (d : Design) (name : Option (List ℕ)) (a : IsAcceptedDesign d name) → data_bits d a.clock.first ≡ signals_bits (filter (is_data_input a.clock.first) d.signals)
-data_bits_are d name a = bits_are a.clock.first d.signals (clock_apart d name a.clock a.lawful.bits_numbered a.clock_found)
+pub data_bits_are : (d : Design) (names : List (List ℕ)) (a : IsAcceptedDesign d names) → data_bits d (clock_bits a.clocks) ≡ signals_bits (filter (is_data_input (clock_bits a.clocks)) d.signals)
+data_bits_are d names a = bits_are (clock_bits a.clocks) d.signals (clocks_apart d names a.clocks a.lawful.bits_numbered a.clocks_found)
 
 inputs_sum : (resets : List ℕ) (ss : List Signal) → sum (lengths (map (input_of resets) ss)) ≡ length (signals_bits ss)
 inputs_sum resets [] = refl
@@ -173,10 +199,10 @@ inputs_sum resets (s ∷ ss) =
     let first = length-count_from s.first (signal_length s) in
     sum_by-cons (λ x. x) (signal_length s) (lengths (map (input_of resets) ss)) ∙ omega (arith, length-append (bits_of_signal s) (signals_bits ss))
 
-pub inputs_fit : (d : Design) (name : Option (List ℕ)) (a : IsAcceptedDesign d name) (inputs : List Input) → AreDataInputs d a.clock.first inputs → sum (lengths inputs) ≡ length (data_bits d a.clock.first)
-inputs_fit d name a inputs h =
+pub inputs_fit : (d : Design) (names : List (List ℕ)) (a : IsAcceptedDesign d names) (inputs : List Input) → AreDataInputs d (clock_bits a.clocks) inputs → sum (lengths inputs) ≡ length (data_bits d (clock_bits a.clocks))
+inputs_fit d names a inputs h =
     ap (λ (is : List Input). sum (lengths is)) h.inputs_are
-    ∙ inputs_sum (reset_inputs d a.clock.first) (filter (is_data_input a.clock.first) d.signals) ∙ ap length (sym (data_bits_are d name a))
+    ∙ inputs_sum (reset_inputs d (clock_bits a.clocks)) (filter (is_data_input (clock_bits a.clocks)) d.signals) ∙ ap length (sym (data_bits_are d names a))
 
 -- ---- the bits of a vector
 
@@ -236,75 +262,75 @@ contains_front [] ys b h = absurd (cc)
 contains_front (x ∷ xs) ys b h = front_case (b == x) (contains xs b) (contains (xs ++ ys) b) h (contains_front xs ys b)
 
 -- a process of the design is no input
-no_block : (d : Design) (clock : ℕ) (b : Bool) (p : Process) (events : List Event) (statement : Statement) → kind (block_process d clock b p events statement) ≡ AnInput → ⊥
-no_block d clock true p events statement h = cc
-no_block d clock false p events statement h = cc
+no_block : (d : Design) (clocks : List ℕ) (b : Bool) (p : Process) (events : List Event) (statement : Statement) → kind (block_process d clocks b p events statement) ≡ AnInput → ⊥
+no_block d clocks true p events statement h = cc
+no_block d clocks false p events statement h = cc
 
-no_input : (d : Design) (clock : ℕ) (p : Process) → kind (process_of d clock p) ≡ AnInput → ⊥
-no_input d clock (Continuous place port target_place target e) h = cc
-no_input d clock (Always place star events statement) h = no_block d clock _ _ _ _ h
+no_input : (d : Design) (clocks : List ℕ) (p : Process) → kind (process_of d clocks p) ≡ AnInput → ⊥
+no_input d clocks (Continuous place port target_place target e) h = cc
+no_input d clocks (Always place star events statement) h = no_block d clocks _ _ _ _ h
 
-input_bit : (clock : ℕ) (s : Signal) (ss : List Signal) (b : ℕ) (e : Bool) → (s.first == clock) ≡ e → kind (if e then N.Clock clock else N.Input (bits_of_signal s)) ≡ AnInput → writes (if e then N.Clock clock else N.Input (bits_of_signal s)) b ≡ true
+input_bit : (clocks : List ℕ) (s : Signal) (ss : List Signal) (b : ℕ) (e : Bool) → (contains clocks s.first) ≡ e → kind (if e then N.Clock s.first else N.Input (bits_of_signal s)) ≡ AnInput → writes (if e then N.Clock s.first else N.Input (bits_of_signal s)) b ≡ true
     → contains (signals_bits (if not e then s ∷ ss else ss)) b ≡ true
-input_bit clock s ss b true is k w = absurd (cc)
-input_bit clock s ss b false is k w = contains_front (bits_of_signal s) (signals_bits ss) b w
+input_bit clocks s ss b true is k w = absurd (cc)
+input_bit clocks s ss b false is k w = contains_front (bits_of_signal s) (signals_bits ss) b w
 
 pub skip_bit : (e : Bool) (s : Signal) (ss : List Signal) (b : ℕ) → contains (signals_bits ss) b ≡ true → contains (signals_bits (if e then s ∷ ss else ss)) b ≡ true
 skip_bit true s ss b h = contains_append (bits_of_signal s) (signals_bits ss) b h
 skip_bit false s ss b h = h
 
-at_place : (clock : ℕ) (spare : List N.Process) (s : Signal) (ss others : List Signal) (p b : ℕ) → let process = at_or_input (map (writer_of clock) (s ∷ others) ++ spare) p in kind process ≡ AnInput → writes process b ≡ true
-    → ((q : ℕ) → let other = at_or_input (map (writer_of clock) others ++ spare) q in kind other ≡ AnInput → writes other b ≡ true → contains (signals_bits ss) b ≡ true)
-    → contains (signals_bits (if not (s.first == clock) then s ∷ ss else ss)) b ≡ true
-at_place clock spare s ss others zero b k w rest = input_bit clock s ss b (s.first == clock) refl k w
-at_place clock spare s ss others (suc p) b k w rest = skip_bit (not (s.first == clock)) s ss b (rest p k w)
+at_place : (clocks : List ℕ) (spare : List N.Process) (s : Signal) (ss others : List Signal) (p b : ℕ) → let process = at_or_input (map (writer_of clocks) (s ∷ others) ++ spare) p in kind process ≡ AnInput → writes process b ≡ true
+    → ((q : ℕ) → let other = at_or_input (map (writer_of clocks) others ++ spare) q in kind other ≡ AnInput → writes other b ≡ true → contains (signals_bits ss) b ≡ true)
+    → contains (signals_bits (if not (contains clocks s.first) then s ∷ ss else ss)) b ≡ true
+at_place clocks spare s ss others zero b k w rest = input_bit clocks s ss b (contains clocks s.first) refl k w
+at_place clocks spare s ss others (suc p) b k w rest = skip_bit (not (contains clocks s.first)) s ss b (rest p k w)
 
-at_signal : (clock : ℕ) (spare : List N.Process) (s : Signal) (ss : List Signal) (p b : ℕ) (i : Bool) → s.input ≡ i
-    → let process = at_or_input (map (writer_of clock) (filter (λ s. s.input) (s ∷ ss)) ++ spare) p in kind process ≡ AnInput → writes process b ≡ true
-    → ((q : ℕ) → let other = at_or_input (map (writer_of clock) (filter (λ s. s.input) ss) ++ spare) q in kind other ≡ AnInput → writes other b ≡ true → contains (signals_bits (filter (is_data_input clock) ss)) b ≡ true)
-    → contains (signals_bits (filter (is_data_input clock) (s ∷ ss))) b ≡ true
-at_signal clock spare s ss p b true is k w rest =
+at_signal : (clocks : List ℕ) (spare : List N.Process) (s : Signal) (ss : List Signal) (p b : ℕ) (i : Bool) → s.input ≡ i
+    → let process = at_or_input (map (writer_of clocks) (filter (λ s. s.input) (s ∷ ss)) ++ spare) p in kind process ≡ AnInput → writes process b ≡ true
+    → ((q : ℕ) → let other = at_or_input (map (writer_of clocks) (filter (λ s. s.input) ss) ++ spare) q in kind other ≡ AnInput → writes other b ≡ true → contains (signals_bits (filter (is_data_input clocks) ss)) b ≡ true)
+    → contains (signals_bits (filter (is_data_input clocks) (s ∷ ss))) b ≡ true
+at_signal clocks spare s ss p b true is k w rest =
     let inputs = filter (λ (x : Signal). x.input) ss in
-    let those = filter (is_data_input clock) ss in
-    let at = λ (i : Bool). at_or_input (map (writer_of clock) (if i then s ∷ inputs else inputs) ++ spare) p in
-    subst (λ (i : Bool). contains (signals_bits (if i && not (s.first == clock) then s ∷ those else those)) b ≡ true) (sym is)
-    (at_place clock spare s those inputs p b (subst (λ (i : Bool). kind (at i) ≡ AnInput) is k) (subst (λ (i : Bool). writes (at i) b ≡ true) is w) rest)
-at_signal clock spare s ss p b false is k w rest =
+    let those = filter (is_data_input clocks) ss in
+    let at = λ (i : Bool). at_or_input (map (writer_of clocks) (if i then s ∷ inputs else inputs) ++ spare) p in
+    subst (λ (i : Bool). contains (signals_bits (if i && not (contains clocks s.first) then s ∷ those else those)) b ≡ true) (sym is)
+    (at_place clocks spare s those inputs p b (subst (λ (i : Bool). kind (at i) ≡ AnInput) is k) (subst (λ (i : Bool). writes (at i) b ≡ true) is w) rest)
+at_signal clocks spare s ss p b false is k w rest =
     let inputs = filter (λ (x : Signal). x.input) ss in
-    let those = filter (is_data_input clock) ss in
-    let at = λ (i : Bool). at_or_input (map (writer_of clock) (if i then s ∷ inputs else inputs) ++ spare) p in
-    subst (λ (i : Bool). contains (signals_bits (if i && not (s.first == clock) then s ∷ those else those)) b ≡ true) (sym is)
+    let those = filter (is_data_input clocks) ss in
+    let at = λ (i : Bool). at_or_input (map (writer_of clocks) (if i then s ∷ inputs else inputs) ++ spare) p in
+    subst (λ (i : Bool). contains (signals_bits (if i && not (contains clocks s.first) then s ∷ those else those)) b ≡ true) (sym is)
     (rest p (subst (λ (i : Bool). kind (at i) ≡ AnInput) is k) (subst (λ (i : Bool). writes (at i) b ≡ true) is w))
 
-no_keeper : (clock : ℕ) (ks : List ℕ) (p : ℕ) → kind (at_or_input (keeper_of clock ks) p) ≡ AnInput → (b : ℕ) → writes (at_or_input (keeper_of clock ks) p) b ≡ true → ⊥
-no_keeper clock [] p k b w = cc
-no_keeper clock (c ∷ ks) zero k b w = cc
-no_keeper clock (c ∷ ks) (suc p) k b w = cc
+no_keeper : (clocks : List ℕ) (ks : List ℕ) (p : ℕ) → kind (at_or_input (keeper_of clocks ks) p) ≡ AnInput → (b : ℕ) → writes (at_or_input (keeper_of clocks ks) p) b ≡ true → ⊥
+no_keeper clocks [] p k b w = cc
+no_keeper clocks (c ∷ ks) zero k b w = cc
+no_keeper clocks (c ∷ ks) (suc p) k b w = cc
 
-at_inputs : (d : Design) (clock : ℕ) (ss : List Signal) (p b : ℕ) → let process = at_or_input (map (writer_of clock) (filter (λ s. s.input) ss) ++ (spare_writers d clock ++ keeper_of clock (sole_bits d))) p in kind process ≡ AnInput → writes process b ≡ true
-    → contains (signals_bits (filter (is_data_input clock) ss)) b ≡ true
-at_inputs d clock [] p b k w = absurd (no_spare (nat_lt clock (bit_count d)) p k w)
+at_inputs : (d : Design) (clocks : List ℕ) (ss : List Signal) (p b : ℕ) → let process = at_or_input (map (writer_of clocks) (filter (λ s. s.input) ss) ++ (spare_writers d clocks ++ keeper_of clocks (sole_bits d))) p in kind process ≡ AnInput → writes process b ≡ true
+    → contains (signals_bits (filter (is_data_input clocks) ss)) b ≡ true
+at_inputs d clocks [] p b k w = absurd (no_spare (spare_clocks d clocks) p k w)
   where
-    no_spare : (c : Bool) (p : ℕ) → let process = at_or_input ((if c then [] else (N.Clock clock ∷ [])) ++ keeper_of clock (sole_bits d)) p in kind process ≡ AnInput → writes process b ≡ true → ⊥
-    no_spare true p k w = no_keeper clock (sole_bits d) p k b w
-    no_spare false zero k w = cc
-    no_spare false (suc p) k w = no_keeper clock (sole_bits d) p k b w
-at_inputs d clock (s ∷ ss) p b k w = at_signal clock (spare_writers d clock ++ keeper_of clock (sole_bits d)) s ss p b s.input refl k w (λ q. at_inputs d clock ss q b)
+    no_spare : (cs : List ℕ) (p : ℕ) → let process = at_or_input (map N.Clock cs ++ keeper_of clocks (sole_bits d)) p in kind process ≡ AnInput → writes process b ≡ true → ⊥
+    no_spare [] p k w = no_keeper clocks (sole_bits d) p k b w
+    no_spare (c ∷ cs) zero k w = cc
+    no_spare (c ∷ cs) (suc p) k w = no_spare cs p k w
+at_inputs d clocks (s ∷ ss) p b k w = at_signal clocks (spare_writers d clocks ++ keeper_of clocks (sole_bits d)) s ss p b s.input refl k w (λ q. at_inputs d clocks ss q b)
 
-at_process : (d : Design) (clock : ℕ) (ps : List Process) (others : List N.Process) (p b : ℕ) (P : Type 0) → let process = at_or_input (map (process_of d clock) ps ++ others) p in kind process ≡ AnInput → writes process b ≡ true
+at_process : (d : Design) (clocks : List ℕ) (ps : List Process) (others : List N.Process) (p b : ℕ) (P : Type 0) → let process = at_or_input (map (process_of d clocks) ps ++ others) p in kind process ≡ AnInput → writes process b ≡ true
     → ((q : ℕ) → kind (at_or_input others q) ≡ AnInput → writes (at_or_input others q) b ≡ true → P) → P
-at_process d clock [] others p b P k w rest = rest p k w
-at_process d clock (x ∷ ps) others zero b P k w rest = absurd (no_input d clock x k)
-at_process d clock (x ∷ ps) others (suc p) b P k w rest = at_process d clock ps others p b P k w rest
+at_process d clocks [] others p b P k w rest = rest p k w
+at_process d clocks (x ∷ ps) others zero b P k w rest = absurd (no_input d clocks x k)
+at_process d clocks (x ∷ ps) others (suc p) b P k w rest = at_process d clocks ps others p b P k w rest
 
 -- an input's bits are data bits
-pub input_bits_are : (d : Design) (name : Option (List ℕ)) (a : IsAcceptedDesign d name) (p b : ℕ) → let process = (network_of d a.clock.first).process p in kind process ≡ AnInput → writes process b ≡ true → contains (data_bits d a.clock.first) b ≡ true
-input_bits_are d name a p b k w =
-    subst (λ (bs : List ℕ). contains bs b ≡ true) (sym (data_bits_are d name a))
-    (at_process d a.clock.first d.processes (map (writer_of a.clock.first) (top_inputs d) ++ (spare_writers d a.clock.first ++ keeper_of a.clock.first (sole_bits d))) p b (contains (signals_bits (filter (is_data_input a.clock.first) d.signals)) b ≡ true) k w (λ q. at_inputs d a.clock.first d.signals q b))
+pub input_bits_are : (d : Design) (names : List (List ℕ)) (a : IsAcceptedDesign d names) (p b : ℕ) → let process = (network_of d (clock_bits a.clocks)).process p in kind process ≡ AnInput → writes process b ≡ true → contains (data_bits d (clock_bits a.clocks)) b ≡ true
+input_bits_are d names a p b k w =
+    subst (λ (bs : List ℕ). contains bs b ≡ true) (sym (data_bits_are d names a))
+    (at_process d (clock_bits a.clocks) d.processes (map (writer_of (clock_bits a.clocks)) (top_inputs d) ++ (spare_writers d (clock_bits a.clocks) ++ keeper_of (clock_bits a.clocks) (sole_bits d))) p b (contains (signals_bits (filter (is_data_input (clock_bits a.clocks)) d.signals)) b ≡ true) k w (λ q. at_inputs d (clock_bits a.clocks) d.signals q b))
 
 -- a known vector of the inputs' lengths is known in every input
-pub vector_is_known : (d : Design) (name : Option (List ℕ)) (a : IsAcceptedDesign d name) (inputs : List Input) (v : Vector) → AreDataInputs d a.clock.first inputs → sizes v ≡ lengths inputs → vector_known v ≡ true
-    → IsKnownVector (network_of d a.clock.first) (vector_state d a.clock.first v)
-vector_is_known d name a inputs v h fits known = λ p b k w.
-    written_known (data_bits d a.clock.first) (bits_of v) (λ b. X) b (sym (bits_long v ∙ ap sum fits ∙ inputs_fit d name a inputs h)) (bits_known v known) (inl (input_bits_are d name a p b k w))
+pub vector_is_known : (d : Design) (names : List (List ℕ)) (a : IsAcceptedDesign d names) (inputs : List Input) (v : Vector) → AreDataInputs d (clock_bits a.clocks) inputs → sizes v ≡ lengths inputs → vector_known v ≡ true
+    → IsKnownVector (network_of d (clock_bits a.clocks)) (vector_state d (clock_bits a.clocks) v)
+vector_is_known d names a inputs v h fits known = λ p b k w.
+    written_known (data_bits d (clock_bits a.clocks)) (bits_of v) (λ b. X) b (sym (bits_long v ∙ ap sum fits ∙ inputs_fit d names a inputs h)) (bits_known v known) (inl (input_bits_are d names a p b k w))

@@ -45,7 +45,7 @@ pub opened_begun : {W : Type 0} (lane : W → ℕ → Bool) (run : Run) (m new :
     → length new.stimuli ≡ length m.stimuli → new.waves ≡ m.waves → new.engine ≡ m.engine → HaveVectors run 0 new.stimuli after → AreBegun lane run new after
 opened_begun lane run m new before after h long waves engine read = record {
   begun = λ c left empty. record {
-    program = subst (λ (e : Running _). IsProgramOf run.design run.clock e.program) (sym engine) h.program;
+    program = subst (λ (e : Running _). IsProgramOf run.design run.clocks e.program) (sym engine) h.program;
     read = record {
       each = λ i lt. subst (λ (rest : Reading). IsRead (reading_of run i) 0 (lane_at new.stimuli i).live (last_entry (lane_at new.stimuli i)) rest) (sym (remaining_left (lane_at new.stimuli i) after c left)) (read.each i lt);
       read = λ i lt live. given_left run i 1 (lane_at new.stimuli i) after c left (read.read i lt live);
@@ -63,12 +63,12 @@ opened_begun lane run m new before after h long waves engine read = record {
 }
 
 -- the first round can be run
-pub parts_ready : {W : Type 0} (share : Bool) (d : Design) (clock half : ℕ) (stimuli : List Known) (waves : List Wave) (engine : Running W) → AreParts share d clock half stimuli waves engine.program
+pub parts_ready : {W : Type 0} (share : Bool) (d : Design) (clocks : List ℕ) (half : ℕ) (stimuli : List Known) (waves : List Wave) (engine : Running W) → AreParts share d clocks half stimuli waves engine.program
     → IsReady {W = W} 0 (record { stimuli = stimuli; waves = waves; engine = engine })
-parts_ready share d clock half stimuli waves engine h = record {
+parts_ready share d clocks half stimuli waves engine h = record {
   alike = record { lanes = h.lanes; waves = h.count; bits = h.bits };
   waves = λ i lt.
       let w = h.new i closed (omega (arith, h.count)) in
       let small : (wave_at waves i).dump.half ≤ 1000000 = omega (arith, w.half_is, h.small) in
-      record { half = small; in_time = in_time 0 (wave_at waves i).dump.half (omega arith) small; lengths = new_lengths share d half engine.program (wave_at waves i) (sym (lengths_of_spans d clock engine.program h.program)) w; handed_out = w.left_is };
+      record { half = small; in_time = in_time 0 (wave_at waves i).dump.half (omega arith) small; lengths = new_lengths share d half engine.program (wave_at waves i) (sym (lengths_of_spans d clocks engine.program h.program)) w; handed_out = w.left_is };
 }

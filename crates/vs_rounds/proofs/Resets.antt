@@ -18,11 +18,11 @@ use Rattle.vs_design.specs.Designs.{Event, Design, Process, Continuous, Always, 
 use Rattle.vs_design.specs.Values.{count_from, bits_of_signal}
 use Rattle.vs_design.specs.Footprints.{contains, signals_bits}
 use Rattle.vs_design.specs.Elaborated.{have_bits_from}
-use Rattle.vs_design.specs.Clocks.{Events, ByClock, ByBoth, clock_nets, root_of, may_reset, first_of, one_bit_inputs}
+use Rattle.vs_design.specs.Clocks.{clock_bits, Events, ByClock, ByBoth, clock_nets, root_of, may_reset, first_of, one_bit_inputs}
 use Rattle.vs_design.specs.Resets.{reset_branch, reset_with, reset_by, reset_of, has_root, reset_inputs}
 use Rattle.vs_design.specs.Accepted.{IsAcceptedDesign}
 use Rattle.vs_design.specs.Initials.{sole_bits}
-use Rattle.vs_design.specs.Networks.{events_in, block_process, process_of, writer_of, spare_writers, keeper_of, at_or_input, network_of}
+use Rattle.vs_design.specs.Networks.{spare_clocks, events_in, block_process, process_of, writer_of, spare_writers, keeper_of, at_or_input, network_of}
 use Rattle.vs_cone.specs.Given.{data_bits}
 use Rattle.vs_stim.specs.declared.input.Input.{Input}
 use Rattle.vs_stim.specs.Header.{lengths}
@@ -73,119 +73,119 @@ by_root roots (Some (ByClock clock)) s r h = absurd (cc)
 by_root roots (Some (ByBoth clock reset)) s r h = (reset.signal.first, with_root reset (roots reset.signal.first) (reset_branch reset.edge reset.signal.first s) r h)
 
 -- the input is at the root of a reset of one of these processes, and may be one
-abbrev IsRoot : Design → ℕ → List Process → ℕ → Type 0
-IsRoot d clock ps i = (list_any (λ p. has_root i (reset_of d clock p)) ps ≡ true) × (contains (one_bit_inputs d clock) i ≡ true)
+abbrev IsRoot : Design → List ℕ → List Process → ℕ → Type 0
+IsRoot d clocks ps i = (list_any (λ p. has_root i (reset_of d clocks p)) ps ≡ true) × (contains (one_bit_inputs d clocks) i ≡ true)
 
-block_root : (d : Design) (clock : ℕ) (clocked : Bool) (place : ℕ) (star : Bool) (events : List Event) (s : Statement) (ps : List Process) (r : Reset)
-    → N.reset_of (block_process d clock clocked (Always place star events s) events s) ≡ Some r → IsRoot d clock (Always place star events s ∷ ps) r.input
-block_root d clock true place star events s ps r h =
-    let root = by_root (root_of d clock) (events_in d clock events) s r h in
-    let own : has_root r.input (reset_of d clock (Always place star events s)) ≡ true = ap (has_root r.input) h ∙ eq-eqb r.input r.input refl in
-    (ap (λ (e : Bool). e || list_any (λ p. has_root r.input (reset_of d clock p)) ps) own, found_in (λ i. contains (clock_nets d i) root.0) (one_bit_inputs d clock) r.input root.1)
-block_root d clock false place star events s ps r h = absurd (cc)
+block_root : (d : Design) (clocks : List ℕ) (clocked : Bool) (place : ℕ) (star : Bool) (events : List Event) (s : Statement) (ps : List Process) (r : Reset)
+    → N.reset_of (block_process d clocks clocked (Always place star events s) events s) ≡ Some r → IsRoot d clocks (Always place star events s ∷ ps) r.input
+block_root d clocks true place star events s ps r h =
+    let root = by_root (root_of d clocks) (events_in d clocks events) s r h in
+    let own : has_root r.input (reset_of d clocks (Always place star events s)) ≡ true = ap (has_root r.input) h ∙ eq-eqb r.input r.input refl in
+    (ap (λ (e : Bool). e || list_any (λ p. has_root r.input (reset_of d clocks p)) ps) own, found_in (λ i. contains (clock_nets d (i ∷ [])) root.0) (one_bit_inputs d clocks) r.input root.1)
+block_root d clocks false place star events s ps r h = absurd (cc)
 
-no_keeper : (clock : ℕ) (bs : List ℕ) (p : ℕ) (r : Reset) → N.reset_of (at_or_input (keeper_of clock bs) p) ≡ Some r → ⊥
-no_keeper clock [] p r h = cc
-no_keeper clock (b ∷ bs) zero r h = cc
-no_keeper clock (b ∷ bs) (suc p) r h = cc
+no_keeper : (clocks : List ℕ) (bs : List ℕ) (p : ℕ) (r : Reset) → N.reset_of (at_or_input (keeper_of clocks bs) p) ≡ Some r → ⊥
+no_keeper clocks [] p r h = cc
+no_keeper clocks (b ∷ bs) zero r h = cc
+no_keeper clocks (b ∷ bs) (suc p) r h = cc
 
-no_writer : (d : Design) (clock : ℕ) (ss : List Signal) (p : ℕ) (r : Reset) → N.reset_of (at_or_input (map (writer_of clock) ss ++ (spare_writers d clock ++ keeper_of clock (sole_bits d))) p) ≡ Some r → ⊥
-no_writer d clock [] p r h = no_spare (nat_lt clock (bit_count d)) p h
+no_writer : (d : Design) (clocks : List ℕ) (ss : List Signal) (p : ℕ) (r : Reset) → N.reset_of (at_or_input (map (writer_of clocks) ss ++ (spare_writers d clocks ++ keeper_of clocks (sole_bits d))) p) ≡ Some r → ⊥
+no_writer d clocks [] p r h = no_spare (spare_clocks d clocks) p h
   where
-    no_spare : (c : Bool) (p : ℕ) → N.reset_of (at_or_input ((if c then [] else (N.Clock clock ∷ [])) ++ keeper_of clock (sole_bits d)) p) ≡ Some r → ⊥
-    no_spare true p h = no_keeper clock (sole_bits d) p r h
-    no_spare false zero h = cc
-    no_spare false (suc p) h = no_keeper clock (sole_bits d) p r h
-no_writer d clock (s ∷ ss) zero r h = by_clock (s.first == clock) h
+    no_spare : (cs : List ℕ) (p : ℕ) → N.reset_of (at_or_input (map N.Clock cs ++ keeper_of clocks (sole_bits d)) p) ≡ Some r → ⊥
+    no_spare [] p h = no_keeper clocks (sole_bits d) p r h
+    no_spare (c ∷ cs) zero h = cc
+    no_spare (c ∷ cs) (suc p) h = no_spare cs p h
+no_writer d clocks (s ∷ ss) zero r h = by_clock (contains clocks s.first) h
   where
-    by_clock : (b : Bool) → N.reset_of (if b then N.Clock clock else N.Input (bits_of_signal s)) ≡ Some r → ⊥
+    by_clock : (b : Bool) → N.reset_of (if b then N.Clock s.first else N.Input (bits_of_signal s)) ≡ Some r → ⊥
     by_clock true h = cc
     by_clock false h = cc
-no_writer d clock (s ∷ ss) (suc p) r h = no_writer d clock ss p r h
+no_writer d clocks (s ∷ ss) (suc p) r h = no_writer d clocks ss p r h
 
-root_among : (d : Design) (clock : ℕ) (ps : List Process) (ss : List Signal) (p : ℕ) (r : Reset) → N.reset_of (at_or_input (map (process_of d clock) ps ++ (map (writer_of clock) ss ++ (spare_writers d clock ++ keeper_of clock (sole_bits d)))) p) ≡ Some r → IsRoot d clock ps r.input
-root_among d clock [] ss p r h = absurd (no_writer d clock ss p r h)
-root_among d clock (Continuous place port target_place target e ∷ ps) ss zero r h = absurd (cc)
-root_among d clock (Always place star events s ∷ ps) ss zero r h = block_root d clock (is_clocked (Always place star events s)) place star events s ps r h
-root_among d clock (q ∷ ps) ss (suc p) r h =
-    let later = root_among d clock ps ss p r h in
-    (ap (λ (e : Bool). has_root r.input (reset_of d clock q) || e) later.0 ∙ or_true (has_root r.input (reset_of d clock q)), later.1)
+root_among : (d : Design) (clocks : List ℕ) (ps : List Process) (ss : List Signal) (p : ℕ) (r : Reset) → N.reset_of (at_or_input (map (process_of d clocks) ps ++ (map (writer_of clocks) ss ++ (spare_writers d clocks ++ keeper_of clocks (sole_bits d)))) p) ≡ Some r → IsRoot d clocks ps r.input
+root_among d clocks [] ss p r h = absurd (no_writer d clocks ss p r h)
+root_among d clocks (Continuous place port target_place target e ∷ ps) ss zero r h = absurd (cc)
+root_among d clocks (Always place star events s ∷ ps) ss zero r h = block_root d clocks (is_clocked (Always place star events s)) place star events s ps r h
+root_among d clocks (q ∷ ps) ss (suc p) r h =
+    let later = root_among d clocks ps ss p r h in
+    (ap (λ (e : Bool). has_root r.input (reset_of d clocks q) || e) later.0 ∙ or_true (has_root r.input (reset_of d clocks q)), later.1)
 
 -- ---- a one-bit input has a bit of its own
 
 -- the bits of the one-bit inputs among these signals
-abbrev firsts : ℕ → List Signal → List ℕ
-firsts clock ss = map first_of (filter (may_reset clock) (filter (λ s. s.input) ss))
+abbrev firsts : List ℕ → List Signal → List ℕ
+firsts clocks ss = map first_of (filter (may_reset clocks) (filter (λ s. s.input) ss))
 
 -- the bit is this signal's, or that of a later one
-first_or_later : (clock b : ℕ) (s : Signal) (ss : List Signal) → contains (firsts clock (s ∷ ss)) b ≡ true
-    → ((s.first ≡ b) × (s.input ≡ true) × (may_reset clock s ≡ true)) ⊎ (contains (firsts clock ss) b ≡ true)
-first_or_later clock b s ss h = by_input s.input refl h
+first_or_later : (clocks : List ℕ) (b : ℕ) (s : Signal) (ss : List Signal) → contains (firsts clocks (s ∷ ss)) b ≡ true
+    → ((s.first ≡ b) × (s.input ≡ true) × (may_reset clocks s ≡ true)) ⊎ (contains (firsts clocks ss) b ≡ true)
+first_or_later clocks b s ss h = by_input s.input refl h
   where
     inputs : List Signal
     inputs = filter (λ x. x.input) ss
 
-    by_bit : (e : Bool) → (b == s.first) ≡ e → s.input ≡ true → may_reset clock s ≡ true → (e || contains (map first_of (filter (may_reset clock) inputs)) b) ≡ true
-        → ((s.first ≡ b) × (s.input ≡ true) × (may_reset clock s ≡ true)) ⊎ (contains (map first_of (filter (may_reset clock) inputs)) b ≡ true)
+    by_bit : (e : Bool) → (b == s.first) ≡ e → s.input ≡ true → may_reset clocks s ≡ true → (e || contains (map first_of (filter (may_reset clocks) inputs)) b) ≡ true
+        → ((s.first ≡ b) × (s.input ≡ true) × (may_reset clocks s ≡ true)) ⊎ (contains (map first_of (filter (may_reset clocks) inputs)) b ≡ true)
     by_bit true e is may h = inl (sym (eqb-true b s.first e), is, may)
     by_bit false e is may h = inr h
 
-    by_reset : (m : Bool) → may_reset clock s ≡ m → s.input ≡ true → contains (map first_of (if m then s ∷ filter (may_reset clock) inputs else filter (may_reset clock) inputs)) b ≡ true
-        → ((s.first ≡ b) × (s.input ≡ true) × (may_reset clock s ≡ true)) ⊎ (contains (map first_of (filter (may_reset clock) inputs)) b ≡ true)
+    by_reset : (m : Bool) → may_reset clocks s ≡ m → s.input ≡ true → contains (map first_of (if m then s ∷ filter (may_reset clocks) inputs else filter (may_reset clocks) inputs)) b ≡ true
+        → ((s.first ≡ b) × (s.input ≡ true) × (may_reset clocks s ≡ true)) ⊎ (contains (map first_of (filter (may_reset clocks) inputs)) b ≡ true)
     by_reset true may is h = by_bit (b == s.first) refl is may h
     by_reset false may is h = inr h
 
-    by_input : (i : Bool) → s.input ≡ i → contains (map first_of (filter (may_reset clock) (if i then s ∷ inputs else inputs))) b ≡ true
-        → ((s.first ≡ b) × (s.input ≡ true) × (may_reset clock s ≡ true)) ⊎ (contains (map first_of (filter (may_reset clock) inputs)) b ≡ true)
-    by_input true is h = by_reset (may_reset clock s) refl is h
+    by_input : (i : Bool) → s.input ≡ i → contains (map first_of (filter (may_reset clocks) (if i then s ∷ inputs else inputs))) b ≡ true
+        → ((s.first ≡ b) × (s.input ≡ true) × (may_reset clocks s ≡ true)) ⊎ (contains (map first_of (filter (may_reset clocks) inputs)) b ≡ true)
+    by_input true is h = by_reset (may_reset clocks s) refl is h
     by_input false is h = inr h
 
-one_of : (clock : ℕ) (s : Signal) → may_reset clock s ≡ true → signal_length s ≡ 1
-one_of clock s h = eqb-true (signal_length s) 1 (and_parts (signal_length s == 1) (not (s.first == clock)) h).0
+one_of : (clocks : List ℕ) (s : Signal) → may_reset clocks s ≡ true → signal_length s ≡ 1
+one_of clocks s h = eqb-true (signal_length s) 1 (and_parts (signal_length s == 1) (not (contains clocks s.first)) h).0
 
-firsts_behind : (clock b base : ℕ) (ss : List Signal) → have_bits_from base ss ≡ true → contains (firsts clock ss) b ≡ true → base ≤ b
-firsts_behind clock b base [] h k = absurd (cc)
-firsts_behind clock b base (s ∷ ss) h k =
+firsts_behind : (clocks : List ℕ) (b base : ℕ) (ss : List Signal) → have_bits_from base ss ≡ true → contains (firsts clocks ss) b ≡ true → base ≤ b
+firsts_behind clocks b base [] h k = absurd (cc)
+firsts_behind clocks b base (s ∷ ss) h k =
     let at = first_is base s ss h in
-    elim (first_or_later clock b s ss k) [
+    elim (first_or_later clocks b s ss k) [
       | inl here ↦ omega (arith, at.0, here.0)
-      | inr later ↦ let behind = firsts_behind clock b (base + signal_length s) ss at.1 later in omega (arith, behind)
+      | inr later ↦ let behind = firsts_behind clocks b (base + signal_length s) ss at.1 later in omega (arith, behind)
     ]
 
-firsts_apart : (clock b base : ℕ) (ss : List Signal) → have_bits_from base ss ≡ true → contains (firsts clock ss) b ≡ true → AreApart b ss
-firsts_apart clock b base [] h k = tt
-firsts_apart clock b base (s ∷ ss) h k =
+firsts_apart : (clocks : List ℕ) (b base : ℕ) (ss : List Signal) → have_bits_from base ss ≡ true → contains (firsts clocks ss) b ≡ true → AreApart b ss
+firsts_apart clocks b base [] h k = tt
+firsts_apart clocks b base (s ∷ ss) h k =
     let at = first_is base s ss h in
-    elim (first_or_later clock b s ss k) [
-      | inl here ↦ (inl (here.0, one_of clock s here.2), apart_past b (base + signal_length s) ss at.1 (omega (arith, at.0, here.0, one_of clock s here.2)))
+    elim (first_or_later clocks b s ss k) [
+      | inl here ↦ (inl (here.0, one_of clocks s here.2), apart_past b (base + signal_length s) ss at.1 (omega (arith, at.0, here.0, one_of clocks s here.2)))
       | inr later ↦
-          let behind = firsts_behind clock b (base + signal_length s) ss at.1 later in
-          (inr (inr (omega (arith, at.0, behind))), firsts_apart clock b (base + signal_length s) ss at.1 later)
+          let behind = firsts_behind clocks b (base + signal_length s) ss at.1 later in
+          (inr (inr (omega (arith, at.0, behind))), firsts_apart clocks b (base + signal_length s) ss at.1 later)
     ]
 
-own_bit : (clock b : ℕ) (s : Signal) → s.first ≡ b → signal_length s ≡ 1 → contains (bits_of_signal s) b ≡ true
-own_bit clock b s is one =
+own_bit : (clocks : List ℕ) (b : ℕ) (s : Signal) → s.first ≡ b → signal_length s ≡ 1 → contains (bits_of_signal s) b ≡ true
+own_bit clocks b s is one =
     ap (λ (n : ℕ). contains (count_from s.first n) b) one ∙ ap (λ (e : Bool). e || false) (eq-eqb b s.first (sym is))
 
 -- a one-bit input's bit is a data bit
-firsts_driven : (clock b : ℕ) (ss : List Signal) → contains (firsts clock ss) b ≡ true → contains (signals_bits (filter (is_data_input clock) ss)) b ≡ true
-firsts_driven clock b [] h = absurd (cc)
-firsts_driven clock b (s ∷ ss) h =
-    let those = filter (is_data_input clock) ss in
-    elim (first_or_later clock b s ss h) [
+firsts_driven : (clocks : List ℕ) (b : ℕ) (ss : List Signal) → contains (firsts clocks ss) b ≡ true → contains (signals_bits (filter (is_data_input clocks) ss)) b ≡ true
+firsts_driven clocks b [] h = absurd (cc)
+firsts_driven clocks b (s ∷ ss) h =
+    let those = filter (is_data_input clocks) ss in
+    elim (first_or_later clocks b s ss h) [
       | inl here ↦
-          let other : not (s.first == clock) ≡ true = (and_parts (signal_length s == 1) (not (s.first == clock)) here.2).1 in
-          let is_data : is_data_input clock s ≡ true = ap (λ (i : Bool). i && not (s.first == clock)) here.1 ∙ other in
+          let other : not (contains clocks s.first) ≡ true = (and_parts (signal_length s == 1) (not (contains clocks s.first)) here.2).1 in
+          let is_data : is_data_input clocks s ≡ true = ap (λ (i : Bool). i && not (contains clocks s.first)) here.1 ∙ other in
           subst (λ (e : Bool). contains (signals_bits (if e then s ∷ those else those)) b ≡ true) (sym is_data)
-          (contains_front (bits_of_signal s) (signals_bits those) b (own_bit clock b s here.0 (one_of clock s here.2)))
-      | inr later ↦ skip_bit (is_data_input clock s) s those b (firsts_driven clock b ss later)
+          (contains_front (bits_of_signal s) (signals_bits those) b (own_bit clocks b s here.0 (one_of clocks s here.2)))
+      | inr later ↦ skip_bit (is_data_input clocks s) s those b (firsts_driven clocks b ss later)
     ]
 
-data_apart : (clock b : ℕ) (ss : List Signal) → AreApart b ss → AreApart b (filter (is_data_input clock) ss)
-data_apart clock b [] h = tt
-data_apart clock b (s ∷ ss) h = by_test (is_data_input clock s) (data_apart clock b ss h.1)
+data_apart : (clocks : List ℕ) (b : ℕ) (ss : List Signal) → AreApart b ss → AreApart b (filter (is_data_input clocks) ss)
+data_apart clocks b [] h = tt
+data_apart clocks b (s ∷ ss) h = by_test (is_data_input clocks s) (data_apart clocks b ss h.1)
   where
-    by_test : (t : Bool) → AreApart b (filter (is_data_input clock) ss) → AreApart b (if t then s ∷ filter (is_data_input clock) ss else filter (is_data_input clock) ss)
+    by_test : (t : Bool) → AreApart b (filter (is_data_input clocks) ss) → AreApart b (if t then s ∷ filter (is_data_input clocks) ss else filter (is_data_input clocks) ss)
     by_test true later = (h.0, later)
     by_test false later = later
 
@@ -255,26 +255,26 @@ signals_known_at resets b (s ∷ ss) (x ∷ v) on apart fits known =
     (signal_known_at resets b s x on apart.0 k.0) (signals_known_at resets b ss v on apart.1 later k.1)
 
 -- a vector whose reset inputs are known has known resets
-resets_known : (d : Design) (name : Option (List ℕ)) (a : IsAcceptedDesign d name) (inputs : List Input) (v : Vector) → AreDataInputs d a.clock.first inputs → sizes v ≡ lengths inputs → known_in_resets inputs v ≡ true
-    → HasKnownResets (network_of d a.clock.first) (vector_state d a.clock.first v)
-resets_known d name a inputs v h fits known = λ p r is.
-    let clock = a.clock.first in
-    let resets = reset_inputs d clock in
-    let root = root_among d clock d.processes (top_inputs d) p r is in
-    let on : contains resets r.input ≡ true = kept_in (λ i. list_any (λ q. has_root i (reset_of d clock q)) d.processes) (one_bit_inputs d clock) r.input root.1 root.0 in
-    let apart = data_apart clock r.input d.signals (firsts_apart clock r.input 0 d.signals a.lawful.bits_numbered root.1) in
-    let those = filter (is_data_input clock) d.signals in
+resets_known : (d : Design) (names : List (List ℕ)) (a : IsAcceptedDesign d names) (inputs : List Input) (v : Vector) → AreDataInputs d (clock_bits a.clocks) inputs → sizes v ≡ lengths inputs → known_in_resets inputs v ≡ true
+    → HasKnownResets (network_of d (clock_bits a.clocks)) (vector_state d (clock_bits a.clocks) v)
+resets_known d names a inputs v h fits known = λ p r is.
+    let clocks = (clock_bits a.clocks) in
+    let resets = reset_inputs d clocks in
+    let root = root_among d clocks d.processes (top_inputs d) p r is in
+    let on : contains resets r.input ≡ true = kept_in (λ i. list_any (λ q. has_root i (reset_of d clocks q)) d.processes) (one_bit_inputs d clocks) r.input root.1 root.0 in
+    let apart = data_apart clocks r.input d.signals (firsts_apart clocks r.input 0 d.signals a.lawful.bits_numbered root.1) in
+    let those = filter (is_data_input clocks) d.signals in
     let each = signals_known_at resets r.input those v on apart (subst (λ (is : List Input). sizes v ≡ lengths is) h.inputs_are fits) (subst (λ (is : List Input). known_in_resets is v ≡ true) h.inputs_are known) in
-    let long = sym (bits_long v ∙ ap sum fits ∙ inputs_fit d name a inputs h) in
-    written_at (data_bits d clock) (bits_of v) (λ b. X) r.input long
-    (subst (λ (bs : List ℕ). known_at r.input bs (bits_of v) ≡ true) (sym (data_bits_are d name a)) each)
-    (inl (subst (λ (bs : List ℕ). contains bs r.input ≡ true) (sym (data_bits_are d name a)) (firsts_driven clock r.input d.signals root.1)))
+    let long = sym (bits_long v ∙ ap sum fits ∙ inputs_fit d names a inputs h) in
+    written_at (data_bits d clocks) (bits_of v) (λ b. X) r.input long
+    (subst (λ (bs : List ℕ). known_at r.input bs (bits_of v) ≡ true) (sym (data_bits_are d names a)) each)
+    (inl (subst (λ (bs : List ℕ). contains bs r.input ≡ true) (sym (data_bits_are d names a)) (firsts_driven clocks r.input d.signals root.1)))
 
 -- and so have all of these
-pub all_resets_known : (d : Design) (name : Option (List ℕ)) (a : IsAcceptedDesign d name) (inputs : List Input) (vs : List Vector) → AreDataInputs d a.clock.first inputs
-    → All (λ v. sizes v ≡ lengths inputs) vs → All (λ v. known_in_resets inputs v ≡ true) vs → AreKnownResets (network_of d a.clock.first) (map (vector_state d a.clock.first) vs)
-all_resets_known d name a inputs [] h fits known = tt
-all_resets_known d name a inputs (v ∷ vs) h fits known = (
-  resets_known d name a inputs v h (fits 0 v (omega arith)) (known 0 v (omega arith)),
-  all_resets_known d name a inputs vs h (λ i x lt. fits (suc i) x (omega (arith, lt))) (λ i x lt. known (suc i) x (omega (arith, lt))),
+pub all_resets_known : (d : Design) (names : List (List ℕ)) (a : IsAcceptedDesign d names) (inputs : List Input) (vs : List Vector) → AreDataInputs d (clock_bits a.clocks) inputs
+    → All (λ v. sizes v ≡ lengths inputs) vs → All (λ v. known_in_resets inputs v ≡ true) vs → AreKnownResets (network_of d (clock_bits a.clocks)) (map (vector_state d (clock_bits a.clocks)) vs)
+all_resets_known d names a inputs [] h fits known = tt
+all_resets_known d names a inputs (v ∷ vs) h fits known = (
+  resets_known d names a inputs v h (fits 0 v (omega arith)) (known 0 v (omega arith)),
+  all_resets_known d names a inputs vs h (λ i x lt. fits (suc i) x (omega (arith, lt))) (λ i x lt. known (suc i) x (omega (arith, lt))),
 )

@@ -40,8 +40,8 @@ values_of_spans : (s : State) (signals : List Signal) → map (λ (x : Span). re
 values_of_spans s [] = refl
 values_of_spans s (x ∷ xs) = ap (λ (vs : List BitList). read s (bits_of_signal x) ∷ vs) (values_of_spans s xs)
 
-signal_values_are : (d : Design) (clock : ℕ) (p : Program) (s : State) → IsProgramOf d clock p → signal_values p s ≡ values_of d s
-signal_values_are d clock p s h = ap (map (λ (x : Span). read s (span_bits x))) h.signals ∙ values_of_spans s (shown_signals d)
+signal_values_are : (d : Design) (clocks : List ℕ) (p : Program) (s : State) → IsProgramOf d clocks p → signal_values p s ≡ values_of d s
+signal_values_are d clocks p s h = ap (map (λ (x : Span). read s (span_bits x))) h.signals ∙ values_of_spans s (shown_signals d)
 
 -- what is left of a text depends on what is left on the desk alone
 pub remaining_left : (s : Known) (c new : Contents) → new.left ≡ c.left → remaining s new ≡ remaining s c
@@ -63,7 +63,7 @@ still_taken stimuli c new same h = record {
 -- a lane's round, whether it is live or has ended
 lane_done : (run : Run) (r : Reading) (k : ℕ) (w : Wave) (now mid next : State) (live : Bool) (entry : Entry) (rest : Reading) (text : List ℕ) → (r.refusal ≡ None → 0 < length r.vectors)
     → IsWaveAt run r k w now text → IsRead r k live entry rest
-    → (live ≡ true → IsSlotEnd (network run) now (Fall (vector_state run.design run.clock entry.values)) mid) → (live ≡ true → IsSlotEnd (network run) mid Rise next)
+    → (live ≡ true → IsSlotEnd (network run) now (Fall (vector_state run.design run.clocks entry.values)) mid) → (live ≡ true → IsSlotEnd (network run) mid Rise next)
     → let noted = begun k live (values_of run.design mid) w in
     IsWaveAt run r (suc k) (after_put live (values_of run.design next) noted) next (text ++ round_text k live (values_of run.design next) noted)
 lane_done run r k w now mid next true entry rest text some h read falls rises = wave_goes_on run r k w now mid next entry rest text h read (falls refl) (rises refl)
@@ -75,7 +75,7 @@ pub record IsRun {W : Type 0} (lane : W → ℕ → Bool) (run : Run) (k : ℕ) 
   pub stimuli : m.stimuli ≡ old.stimuli
   pub program : m.engine.program ≡ old.engine.program
   pub began : AreInRound lane run k old c
-  pub settled : (i : ℕ) → i < length old.stimuli → Settles lane run.design run.clock k i old m
+  pub settled : (i : ℕ) → i < length old.stimuli → Settles lane run.design run.clocks k i old m
 
 -- lane i, where the round's text was put
 pub lane_put : {W : Type 0} (lane : W → ℕ → Bool) (run : Run) (k : ℕ) (old m : Simulation W) (c : Contents) (i : ℕ) (text : List ℕ) → IsRun lane run k old m c → i < length old.stimuli
@@ -91,9 +91,9 @@ lane_put lane run k old m c i text h within text_is =
     let values = lane_values lane m.engine i in
     let done = lane_done run (reading_of run i) k (wave_at old.waves i) (state lane old.engine i) s.between next l (last_entry (lane_at old.stimuli i)) (remaining (lane_at old.stimuli i) c) (c.put (wave_place i))
     (has_vector run.ports (run.texts i)) (h.began.waves.each i within) (h.began.read.each i within) s.falls s.rises in
-    let values_next : values_of d next ≡ values = sym (values_are lane m.engine old.engine.program i h.program ∙ signal_values_are d run.clock old.engine.program next h.began.program) in
+    let values_next : values_of d next ≡ values = sym (values_are lane m.engine old.engine.program i h.program ∙ signal_values_are d run.clocks old.engine.program next h.began.program) in
     let noted : begun k l (values_of d s.between) (wave_at old.waves i) ≡ wave_at m.waves i =
-    ap (λ (vs : List BitList). begun k l vs (wave_at old.waves i)) (sym (signal_values_are d run.clock old.engine.program s.between h.began.program)) ∙ sym s.noted in
+    ap (λ (vs : List BitList). begun k l vs (wave_at old.waves i)) (sym (signal_values_are d run.clocks old.engine.program s.between h.began.program)) ∙ sym s.noted in
     let P = λ (vs : List BitList) (w : Wave) (t : List ℕ). IsWaveAt run (reading_of run i) (suc k) (after_put l vs w) next t in
     subst (P values (wave_at m.waves i)) (sym text_is)
     (subst (λ (w : Wave). P values w (c.put (wave_place i) ++ round_text k l values w)) noted
@@ -107,7 +107,7 @@ pub round_done : {W : Type 0} (lane : W → ℕ → Bool) (run : Run) (k : ℕ) 
     → PutsLanes k (lane_values lane m.engine) live m.waves (length m.waves) c new
     → AreBeforeRound {W = W} lane run (suc k) (record { stimuli = m.stimuli; waves = waves; engine = m.engine }) new
 round_done lane run k old m c new live waves h lives gone puts = record {
-  program = subst (λ (p : Program). IsProgramOf run.design run.clock p) (sym h.program) h.began.program;
+  program = subst (λ (p : Program). IsProgramOf run.design run.clocks p) (sym h.program) h.began.program;
   next = record {
     each = λ i lt.
         subst (λ (ks : List Known). IsUnread (reading_of run i) (suc k) (lane_at ks i).live (remaining (lane_at ks i) new)) (sym h.stimuli)
@@ -199,6 +199,6 @@ write_stop lane run k old m c new live l h lives is_lane puts =
       behind = record {
         each = λ i gt lt.
             let kept = puts.others (wave_place i) (λ j le e. absurd (omega arith)) in
-            subst (IsGiven run.share run.design run.clock run.half (reading_of run i) k) (sym kept) (h.began.waves.each i lt).given;
+            subst (IsGiven run.share run.design run.clocks run.half (reading_of run i) k) (sym kept) (h.began.waves.each i lt).given;
       };
     }

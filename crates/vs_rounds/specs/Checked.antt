@@ -38,23 +38,23 @@ pub record IsCheckable {W : Type 0} (m : Checking W) : Type 0 where
 
 -- The parts of a check that is about to begin: stimuli of the same lanes, a program of the design whose data inputs have as many bits as each vector, and
 -- the bits of outputs.
-pub record AreCheckParts (d : Design) (clock : ℕ) (stimuli : List Known) (p : Program) (outputs : List Span) : Type 0 where
-  pub program : IsProgramOf d clock p
+pub record AreCheckParts (d : Design) (clocks : List ℕ) (stimuli : List Known) (p : Program) (outputs : List Span) : Type 0 where
+  pub program : IsProgramOf d clocks p
   pub lanes : AreLanes stimuli
   pub bits : HaveBits (length p.inputs) stimuli
   pub inside : list_all (spans p.bits) outputs ≡ true
 
 -- Before round k there was found in a lane what is missed of the first k vectors that its text gives, all of them where it gives fewer, by the one solution
 -- on these.
-pub record IsFound (d : Design) (clock : ℕ) (ports : PortLists) (text : List ℕ) (k : ℕ) (found : Option Found) : Type 0 where
+pub record IsFound (d : Design) (clocks : List ℕ) (ports : PortLists) (text : List ℕ) (k : ℕ) (found : Option Found) : Type 0 where
   -- the values at the end of each slot
   pub ends : List State
-  pub solution : IsSolution (network_of d clock) (beginning (network_of d clock)) (drive_of d clock (take k (reading ports text).vectors)) ends
+  pub solution : IsSolution (network_of d clocks) (beginning (network_of d clocks)) (drive_of d clocks (take k (reading ports text).vectors)) ends
   pub found_is : found ≡ missed_in d ports text k ends
 
 -- Before round k: what was found in lane i, and the engine's values to go on with. Those in a lane that has ended no longer matter.
 pub record IsFoundAt (run : Run) (i k : ℕ) (found : Option Found) (now : State) : Type 0 where
-  pub given : IsFound run.design run.clock run.ports (run.texts i) k found
+  pub given : IsFound run.design run.clocks run.ports (run.texts i) k found
   pub now_is : k ≤ length (reading_of run i).vectors → now ≡ last_or (beginning (network run)) given.ends
 
 -- what was found in each lane before round k, where `lane` reads a lane of a word
@@ -63,21 +63,21 @@ pub record AreFoundAt {W : Type 0} (lane : W → ℕ → Bool) (run : Run) (k : 
 
 -- All lanes stand before round k of a check, whose vectors weren't read.
 pub record AreFoundBefore {W : Type 0} (lane : W → ℕ → Bool) (run : Run) (k : ℕ) (m : Checking W) (c : Contents) : Type 0 where
-  pub program : IsProgramOf run.design run.clock m.engine.program
+  pub program : IsProgramOf run.design run.clocks m.engine.program
   pub outputs : m.misses.outputs ≡ output_spans run.design run.ports.outputs
   pub next : HaveNext run k m.stimuli c
   pub found : AreFoundAt lane run k m
 
 -- All lanes stand in round k of a check, whose vectors were read.
 pub record AreFoundIn {W : Type 0} (lane : W → ℕ → Bool) (run : Run) (k : ℕ) (m : Checking W) (c : Contents) : Type 0 where
-  pub program : IsProgramOf run.design run.clock m.engine.program
+  pub program : IsProgramOf run.design run.clocks m.engine.program
   pub outputs : m.misses.outputs ≡ output_spans run.design run.ports.outputs
   pub read : HaveVectors run k m.stimuli c
   pub found : AreFoundAt lane run k m
 
 -- The stimuli were opened, the outputs of the design are watched and nothing was found, and the engine has in every lane the values before slot 0.
 pub record AreWatched {W : Type 0} (lane : W → ℕ → Bool) (run : Run) (m : Checking W) (c : Contents) : Type 0 where
-  pub program : IsProgramOf run.design run.clock m.engine.program
+  pub program : IsProgramOf run.design run.clocks m.engine.program
   pub outputs : m.misses.outputs ≡ output_spans run.design run.ports.outputs
   pub live : (i : ℕ) → i < length m.stimuli → (lane_at m.stimuli i).live ≡ true
   pub reading : (i : ℕ) → i < length m.stimuli → reading_of run i ≡ remaining (lane_at m.stimuli i) c

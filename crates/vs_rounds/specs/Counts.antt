@@ -22,7 +22,7 @@ greatest_below (suc k) f = max (greatest_below k f) (f k)
 pub record AreDone (run : Run) (lanes : ℕ) (c : Contents) : Type 0 where
   pub valid : (i : ℕ) → i < lanes → (reading_of run i).refusal ≡ None
   pub taken : (i : ℕ) → i < lanes → c.left (place_of i) ≡ []
-  pub given : (i : ℕ) → i < lanes → IsGiven run.share run.design run.clock run.half (reading_of run i) (suc (vectors_of run i)) (c.put (wave_place i))
+  pub given : (i : ℕ) → i < lanes → IsGiven run.share run.design run.clocks run.half (reading_of run i) (suc (vectors_of run i)) (c.put (wave_place i))
 
 -- the vectors of all lanes together, and two settlings of the engine for each vector of a lane that has most
 pub record AreCounted (run : Run) (lanes vectors settlings : ℕ) : Type 0 where

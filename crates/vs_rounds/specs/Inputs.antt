@@ -1,10 +1,10 @@
 -- The data inputs and the outputs of a design, as the stimuli name them.
-use Rattle.std.specs.Prelude.{◌≡◌, ℕ, Bool, not, ◌&&◌, ◌==◌, List, map, filter, length, sum, All, Option}
+use Rattle.std.specs.Prelude.{◌≡◌, ℕ, Bool, not, ◌&&◌, ◌==◌, List, map, filter, length, sum, All}
 use Rattle.std.specs.List.{list_any}
 use Rattle.vs_design.specs.Expressions.{Signal, signal_length}
 use Rattle.vs_design.specs.Designs.{Design}
 use Rattle.vs_design.specs.Footprints.{contains, is_memory}
-use Rattle.vs_design.specs.Clocks.{same_name}
+use Rattle.vs_design.specs.Clocks.{clock_bits, same_name}
 use Rattle.vs_design.specs.Resets.{reset_inputs}
 use Rattle.vs_design.specs.Accepted.{IsAcceptedDesign}
 use Rattle.vs_cone.specs.Given.{data_bits}
@@ -12,20 +12,20 @@ use Rattle.vs_stim.specs.declared.input.Input.{Input}
 use Rattle.vs_stim.specs.declared.input.Output.{Output}
 use Rattle.vs_stim.specs.Header.{IsInput, lengths}
 
--- an input of the top whose bit isn't the clock's
-abbrev pub is_data_input : ℕ → Signal → Bool
-is_data_input clock s = s.input && not (s.first == clock)
+-- an input of the top whose bit isn't a clock's
+abbrev pub is_data_input : List ℕ → Signal → Bool
+is_data_input clocks s = s.input && not (contains clocks s.first)
 
 -- A stimulus names the signal so, and gives it as many digits as it has bits. It is a reset input where its bit is one of these.
 abbrev pub input_of : List ℕ → Signal → Input
 input_of resets s = record { name = s.name; length = signal_length s; reset = contains resets s.first }
 
-abbrev pub inputs_among : List ℕ → ℕ → List Signal → List Input
-inputs_among resets clock signals = map (input_of resets) (filter (is_data_input clock) signals)
+abbrev pub inputs_among : List ℕ → List ℕ → List Signal → List Input
+inputs_among resets clocks signals = map (input_of resets) (filter (is_data_input clocks) signals)
 
--- the inputs of the top but the clock, which has this bit, in order of declaration
-abbrev pub data_inputs : Design → ℕ → List Input
-data_inputs d clock = inputs_among (reset_inputs d clock) clock d.signals
+-- the inputs of the top but the clocks, which have these bits, in order of declaration
+abbrev pub data_inputs : Design → List ℕ → List Input
+data_inputs d clocks = inputs_among (reset_inputs d clocks) clocks d.signals
 
 -- a signal of the top, whose scope is 0, that has one of these names; a memory is no port
 abbrev pub is_output : List (List ℕ) → Signal → Bool
@@ -43,10 +43,10 @@ abbrev pub outputs : Design → List (List ℕ) → List Output
 outputs d names = outputs_among names d.signals
 
 -- the stimuli drive the data inputs of the design
-pub record AreDataInputs (d : Design) (clock : ℕ) (inputs : List Input) : Type 0 where
+pub record AreDataInputs (d : Design) (clocks : List ℕ) (inputs : List Input) : Type 0 where
   pub each : All IsInput inputs
-  pub inputs_are : inputs ≡ data_inputs d clock
+  pub inputs_are : inputs ≡ data_inputs d clocks
 
 -- They have together as many bits as the design's data inputs.
 abbrev pub InputBitsFit : Type 0
-InputBitsFit = (d : Design) (name : Option (List ℕ)) (a : IsAcceptedDesign d name) (inputs : List Input) → AreDataInputs d a.clock.first inputs → sum (lengths inputs) ≡ length (data_bits d a.clock.first)
+InputBitsFit = (d : Design) (names : List (List ℕ)) (a : IsAcceptedDesign d names) (inputs : List Input) → AreDataInputs d (clock_bits a.clocks) inputs → sum (lengths inputs) ≡ length (data_bits d (clock_bits a.clocks))

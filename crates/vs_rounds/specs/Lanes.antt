@@ -21,17 +21,17 @@ use Rattle.vs_waves.specs.Wave.{Wave, IsNewWave}
 use Rattle.vs_waves.specs.Puts.{wave_place}
 use Rattle.vs_rounds.specs.Given.{has_ended, IsGiven}
 
--- What is run: a design with the bit of its clock, the clock's half-period, the data inputs and the outputs, and the text of each lane's stimulus; and whether the waveforms have one code for each class of signals that ports join.
+-- What is run: a design with the bits of its clocks, their half-period, the data inputs and the outputs, and the text of each lane's stimulus; and whether the waveforms have one code for each class of signals that ports join.
 pub record Run : Type 0 where
   pub share : Bool
   pub design : Design
-  pub clock : ℕ
+  pub clocks : List ℕ
   pub half : ℕ
   pub ports : PortLists
   pub texts : ℕ → List ℕ
 
 abbrev pub network : Run → Network
-network run = network_of run.design run.clock
+network run = network_of run.design run.clocks
 
 -- what the text of lane i gives
 abbrev pub reading_of : Run → ℕ → Reading
@@ -77,7 +77,7 @@ pub record IsUnread (r : Reading) (k : ℕ) (live : Bool) (rest : Reading) : Typ
 -- Before the puts of round k: what the lane has got, and what is kept of its wave to go on. The engine's values in a lane that has
 -- ended no longer matter.
 pub record IsWaveAt (run : Run) (r : Reading) (k : ℕ) (w : Wave) (now : State) (text : List ℕ) : Type 0 where
-  pub given : IsGiven run.share run.design run.clock run.half r k text
+  pub given : IsGiven run.share run.design run.clocks run.half r k text
   pub head_is : w.dump.head ≡ head_text (coded run.share run.design)
   pub numbers_are : w.dump.numbers ≡ shown_numbers (led run.share run.design)
   pub places_are : w.places ≡ led_places run.share run.design
@@ -111,19 +111,19 @@ pub record AreWavesAt {W : Type 0} (lane : W → ℕ → Bool) (run : Run) (k : 
 
 -- All lanes stand before round k, whose vectors weren't read.
 pub record AreBeforeRound {W : Type 0} (lane : W → ℕ → Bool) (run : Run) (k : ℕ) (m : Simulation W) (c : Contents) : Type 0 where
-  pub program : IsProgramOf run.design run.clock m.engine.program
+  pub program : IsProgramOf run.design run.clocks m.engine.program
   pub next : HaveNext run k m.stimuli c
   pub waves : AreWavesAt lane run k m c
 
 -- All lanes stand in round k, whose vectors were read.
 pub record AreInRound {W : Type 0} (lane : W → ℕ → Bool) (run : Run) (k : ℕ) (m : Simulation W) (c : Contents) : Type 0 where
-  pub program : IsProgramOf run.design run.clock m.engine.program
+  pub program : IsProgramOf run.design run.clocks m.engine.program
   pub read : HaveVectors run k m.stimuli c
   pub waves : AreWavesAt lane run k m c
 
 -- The stimuli were opened, the waves are new, and the engine has in every lane the values before slot 0.
 pub record AreOpened {W : Type 0} (lane : W → ℕ → Bool) (run : Run) (m : Simulation W) (c : Contents) : Type 0 where
-  pub program : IsProgramOf run.design run.clock m.engine.program
+  pub program : IsProgramOf run.design run.clocks m.engine.program
   pub live : (i : ℕ) → i < length m.stimuli → (lane_at m.stimuli i).live ≡ true
   pub reading : (i : ℕ) → i < length m.stimuli → reading_of run i ≡ remaining (lane_at m.stimuli i) c
   pub read : (i : ℕ) → i < length m.stimuli → HasGiven run i 0 (lane_at m.stimuli i) c

@@ -34,7 +34,7 @@ abbrev pub at_vector : ℕ → Option Miss → Option Missed → Option Missed
 at_vector k None later = later
 at_vector k (Some m) later = Some (record { vector = k; miss = m })
 
--- the first, where vectors are numbered from k: of two slots of a vector the first counts, when the clock is low and the vector stands on the inputs
+-- the first, where vectors are numbered from k: of two slots of a vector the first counts, when the clocks are low and the vector stands on the inputs
 abbrev pub missed_from : List Span → List Expected → ℕ → List (List (List Digit)) → List State → Option Missed
 missed_from spans es k [] ends = None
 missed_from spans es k (w ∷ ws) [] = None

@@ -1,6 +1,6 @@
 //! A check: rounds that put nothing, and compare the outputs with what the stimuli want of them.
 
-ghost use Rattle.std.specs.Prelude.{◌≡◌, ℕ, ◌+◌, ◌*◌, ◌<◌, ◌≤◌, ◌^◌, length, suc, true, None, IsTrue, IfOk, IfErr, OnOk};
+ghost use Rattle.std.specs.Prelude.{List, ◌≡◌, ℕ, ◌+◌, ◌*◌, ◌<◌, ◌≤◌, ◌^◌, length, suc, true, None, IsTrue, IfOk, IfErr, OnOk};
 ghost use Rattle.std.specs.List.{count_by};
 ghost use Rattle.vs_desk.specs.Desk.{Contents};
 ghost use Rattle.vs_desk.specs.Places.{most_lanes};
@@ -62,7 +62,7 @@ impl<W: Lanes> Checker<W> {
         ensures engine { IfOk result (λ c. c.engine ≡ engine) }
         ensures outputs { IfOk result (λ c. c.misses.outputs ≡ outputs.items) }
         ensures none { IfOk result (λ c. (i : ℕ) → found_at c.misses.found i ≡ None) }
-        ensures ready { (d : Design) (clock : ℕ) → AreCheckParts d clock drive engine.program outputs.items → IfOk result IsCheckable }
+        ensures ready { (d : Design) (clocks : List ℕ) → AreCheckParts d clocks drive engine.program outputs.items → IfOk result IsCheckable }
     {
         let misses = Misses::new(alloc, &drive, outputs)?;
         let driven = Driven::new(alloc, drive, engine)?;
@@ -115,8 +115,8 @@ impl<W: Lanes> Checker<W> {
 
     /// Runs the rounds until every lane has ended. It takes no memory, and puts nothing.
     ///
-    /// In each round but the first the next vector of each lane that hasn't ended is read. If some lane has one, the clock falls once in all
-    /// lanes, what each stimulus wants is compared with the outputs' bits then, and the clock rises. Of each lane the first miss is kept.
+    /// In each round but the first the next vector of each lane that hasn't ended is read. If some lane has one, the clocks fall once in all
+    /// lanes, what each stimulus wants is compared with the outputs' bits then, and the clocks rise. Of each lane the first miss is kept.
     ///
     /// It stops at the first line that is no vector, or one too many (`Stop::Refused`), and at the first lane whose place can't be read
     /// (`Stop::ReadFault`); each names the lane. What was found is then what the rounds before that gave.
@@ -144,7 +144,7 @@ impl<W: Lanes> Checker<W> {
         // The engine's steps are those of a fall and a rise in each round, for all lanes together, within the design's size each.
         ensures ticked { IfOk result (λ counts. (n : ℕ) × (counts.settlings ≡ 2 * n)
             × TicksRounds self.old.engine.program self.old.engine.begun n steps.old steps.new) }
-        ensures within { (d : Design) (clock : ℕ) → IsProgramOf d clock self.old.engine.program
+        ensures within { (d : Design) (clocks : List ℕ) → IsProgramOf d clocks self.old.engine.program
             → IfOk result (λ counts. steps.new ≤ steps.old + size d * counts.settlings) }
         ensures ticked_always { (n : ℕ) × TicksRounds self.old.engine.program self.old.engine.begun n steps.old steps.new }
 
@@ -200,7 +200,7 @@ impl<W: Lanes> Checker<W> {
         self.driven.read(desk)
     }
 
-    /// Runs a round whose vectors were read: what is missed is noted when the clock is low. Answers how many lanes had a vector.
+    /// Runs a round whose vectors were read: what is missed is noted when the clocks are low. Answers how many lanes had a vector.
     fn round<L: Ledger>(&mut self, steps: &mut Steps<L>) -> u64
         requires width { W.LANES ≤ most_lanes }
         requires lanes { length self.old.stimuli ≤ W.LANES }

@@ -105,7 +105,7 @@ impl<W: Lanes> Driven<W> {
         Ok(())
     }
 
-    /// Feeds the vectors of a round and lets the clock fall, where some lane has one. Answers how many have.
+    /// Feeds the vectors of a round and lets the clocks fall, where some lane has one. Answers how many have.
     pub(crate) fn fall<L: Ledger>(&mut self, steps: &mut Steps<L>) -> u64
         requires width { W.LANES ≤ most_lanes }
         requires lanes { length self.old.stimuli ≤ W.LANES }
@@ -113,9 +113,9 @@ impl<W: Lanes> Driven<W> {
         ensures count { result ≡ count_by (λ k. k.live) self.old.stimuli }
         ensures stimuli { self.new.stimuli ≡ self.old.stimuli }
         ensures program { self.new.engine.program ≡ self.old.engine.program }
-        ensures falls { (d : Design) (clock i : ℕ) → IsProgramOf d clock self.old.engine.program → i < length self.old.stimuli
+        ensures falls { (d : Design) (clocks : List ℕ) (i : ℕ) → IsProgramOf d clocks self.old.engine.program → i < length self.old.stimuli
             → (lane_at self.old.stimuli i).live ≡ true
-            → IsSlotEnd (network_of d clock) (state W.lane self.old.engine i) (Fall (vector_state d clock (lane_at self.old.stimuli i).vector))
+            → IsSlotEnd (network_of d clocks) (state W.lane self.old.engine i) (Fall (vector_state d clocks (lane_at self.old.stimuli i).vector))
             (state W.lane self.new.engine i) }
         ensures idle { result ≡ 0 → (self.new ≡ self.old) × (steps.new ≡ steps.old) }
         ensures begun { 0 < result → self.new.engine.begun ≡ true }
@@ -130,14 +130,14 @@ impl<W: Lanes> Driven<W> {
         vectors
     }
 
-    /// Lets the clock rise, behind a fall.
+    /// Lets the clocks rise, behind a fall.
     pub(crate) fn rise<L: Ledger>(&mut self, steps: &mut Steps<L>)
         requires { self.old.engine.begun ≡ true }
         ensures stimuli { self.new.stimuli ≡ self.old.stimuli }
         ensures program { self.new.engine.program ≡ self.old.engine.program }
         ensures begun { self.new.engine.begun ≡ true }
-        ensures rises { (d : Design) (clock i : ℕ) → IsProgramOf d clock self.old.engine.program → i < W.LANES
-            → IsSlotEnd (network_of d clock) (state W.lane self.old.engine i) Rise (state W.lane self.new.engine i) }
+        ensures rises { (d : Design) (clocks : List ℕ) (i : ℕ) → IsProgramOf d clocks self.old.engine.program → i < W.LANES
+            → IsSlotEnd (network_of d clocks) (state W.lane self.old.engine i) Rise (state W.lane self.new.engine i) }
         ensures ticked { steps.new ≡ steps.old + rise_stores self.old.engine.program }
     {
         self.engine.rise(steps);

@@ -1,6 +1,6 @@
 //! What a run needs in its rounds, and the phases of a round.
 
-ghost use Rattle.std.specs.Prelude.{◌≡◌, ℕ, ◌<◌, ◌≤◌, Bool, length, suc, true, IsTrue, IfOk, IfErr, OnOk};
+ghost use Rattle.std.specs.Prelude.{List, ◌≡◌, ℕ, ◌<◌, ◌≤◌, Bool, length, suc, true, IsTrue, IfOk, IfErr, OnOk};
 ghost use Rattle.std.specs.List.{count_by};
 ghost use Rattle.vs_desk.specs.Places.{most_lanes};
 ghost use Rattle.vs_design.specs.Designs.{Design};
@@ -47,7 +47,7 @@ impl<W: Lanes> Machine<W> {
         engine: Engine<W>,
     ) -> Result<Machine<W>, AllocError>
         ensures parts { IfOk result (λ m. m ≡ record { stimuli = drive; waves = waves; engine = engine }) }
-        ensures ready { (share : Bool) (d : Design) (clock half : ℕ) → AreParts share d clock half drive waves engine.program → IfOk result (IsReady 0) }
+        ensures ready { (share : Bool) (d : Design) (clocks : List ℕ) (half : ℕ) → AreParts share d clocks half drive waves engine.program → IfOk result (IsReady 0) }
     {
         let driven = Driven::new(alloc, drive, engine)?;
         Ok(Machine { driven, waves })
@@ -91,8 +91,8 @@ impl<W: Lanes> Machine<W> {
         ensures stimuli { self.new.stimuli ≡ self.old.stimuli }
         ensures program { self.new.engine.program ≡ self.old.engine.program }
         ensures noted { IsNoted self.new }
-        ensures lanes { (d : Design) (clock i : ℕ) → IsProgramOf d clock self.old.engine.program → i < length self.old.stimuli
-            → Settles W.lane d clock round i self.old self.new }
+        ensures lanes { (d : Design) (clocks : List ℕ) (i : ℕ) → IsProgramOf d clocks self.old.engine.program → i < length self.old.stimuli
+            → Settles W.lane d clocks round i self.old self.new }
         ensures begun { 0 < count_by (λ k. k.live) self.old.stimuli → self.new.engine.begun ≡ true }
         ensures ticked { Ticks self.old.engine.program self.old.engine.begun (count_by (λ k. k.live) self.old.stimuli) steps.old steps.new }
     {

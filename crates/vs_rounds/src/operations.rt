@@ -10,7 +10,7 @@ use vs_plane::Word;
 /// How many plane operations each of an engine's slots executes, for all lanes together.
 #[derive(Clone, Copy)]
 pub(crate) struct SlotOperations {
-    /// The next slot in which the clock falls.
+    /// The next slot in which the clocks fall.
     next_fall: u64,
     /// Each later one in which it falls.
     later_fall: u64,

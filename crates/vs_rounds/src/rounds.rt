@@ -1,6 +1,6 @@
 //! The rounds of a run.
 
-ghost use Rattle.std.specs.Prelude.{◌≡◌, ℕ, ◌+◌, ◌*◌, ◌<◌, ◌≤◌, length, IsTrue, IfOk, IfErr, OnOk};
+ghost use Rattle.std.specs.Prelude.{List, ◌≡◌, ℕ, ◌+◌, ◌*◌, ◌<◌, ◌≤◌, length, IsTrue, IfOk, IfErr, OnOk};
 ghost use Rattle.vs_desk.specs.Places.{most_lanes};
 ghost use Rattle.vs_design.specs.Designs.{Design};
 ghost use Rattle.vs_design.specs.Sizes.{size};
@@ -63,7 +63,7 @@ impl<W: Lanes> Machine<W> {
 
     /// Runs the rounds until every lane has ended. It takes no memory.
     ///
-    /// In each round but the first the next vector of each lane that hasn't ended is read. If some lane has one, the clock falls and
+    /// In each round but the first the next vector of each lane that hasn't ended is read. If some lane has one, the clocks fall and
     /// rises once in all lanes. Then the round puts, by lane: of a lane that has a vector its two slots, in round 0 with the head
     /// before them; of a lane whose end was read in this round the last line; of a lane that ended earlier nothing.
     ///
@@ -93,7 +93,7 @@ impl<W: Lanes> Machine<W> {
         // The engine's steps are those of a fall and a rise in each round, for all lanes together, within the design's size each.
         ensures ticked { IfOk result (λ counts. (n : ℕ) × (counts.settlings ≡ 2 * n)
             × TicksRounds self.old.engine.program self.old.engine.begun n steps.old steps.new) }
-        ensures within { (d : Design) (clock : ℕ) → IsProgramOf d clock self.old.engine.program
+        ensures within { (d : Design) (clocks : List ℕ) → IsProgramOf d clocks self.old.engine.program
             → IfOk result (λ counts. steps.new ≤ steps.old + size d * counts.settlings) }
         ensures ticked_always { (n : ℕ) × TicksRounds self.old.engine.program self.old.engine.begun n steps.old steps.new }
 

@@ -23,7 +23,7 @@ use Rattle.vs_scope.specs.declared.inside.Locals.{Locals}
 use Rattle.vs_scope.specs.Signalled.{Placed}
 use Rattle.vs_scope.specs.Frames.{view_env}
 use Rattle.vs_scope.specs.Inside.{first_at, AreNumbered}
-use Rattle.vs_scope.specs.Locals.{local_meaning, placed_local, placed_local_of, numbered, local_at, block_meaning, own_meaning, own_or, inside_names, inside_declared, place_of, AreLocals}
+use Rattle.vs_scope.specs.Locals.{local_meaning, placed_local, placed_local_of, numbered, local_at, own_meaning, own_or, inside_names, inside_declared, place_of, AreLocals}
 use Rattle.vs_scope.proofs.Fair.{view_fair}
 
 -- ---- numbers by places
@@ -146,7 +146,7 @@ own_at (s ∷ ss) place h = by (s.place == place) (own_at ss place h.1)
 
 -- ---- what names mean
 
-block_same : (a : Option LocalSignal) (b : Option spec.LocalSignal) → option local_meaning a ≡ option (λ (s : spec.LocalSignal). s.meaning) b → block_meaning a ≡ spec.meaning_or b
+block_same : (a : Option LocalSignal) (b : Option spec.LocalSignal) → option local_meaning a ≡ option (λ (s : spec.LocalSignal). s.meaning) b → own_meaning a ≡ spec.meaning_or b
 block_same None None h = refl
 block_same None (Some s) h = cc
 block_same (Some c) None h = cc
@@ -238,6 +238,6 @@ inside_fair i = λ name. fair_own i.locals (value_at name (pairs i.locals.names)
 pub declared_fair : (i : Inside) (place : ℕ) → IsFairMeaning (inside_declared i place)
 declared_fair i place = by (local_at i.locals place)
   where
-    by : (o : Option LocalSignal) → IsFairMeaning (block_meaning o)
+    by : (o : Option LocalSignal) → IsFairMeaning (own_meaning o)
     by None = tt
     by (Some s) = tt

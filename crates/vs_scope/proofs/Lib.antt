@@ -10,6 +10,7 @@ pub mod Collected
 pub mod NamedLists
 pub mod NamedPairs
 pub mod DeclaredSoFar
+pub mod OpenKinds
 pub mod Changes
 pub mod Evaluations
 pub mod Signalling
@@ -28,6 +29,7 @@ pub mod Says
 pub mod SameBits
 pub mod Mades
 pub mod ChosenBlocks
+pub mod IntegerUses
 pub mod MakingSteps
 pub mod ClashSteps
 pub mod BlocksBehind

@@ -9,7 +9,8 @@ use Rattle.vs_ast.specs.declared.statements.Statement.{Statement, Case, Sequence
 use Rattle.vs_ast.specs.Views as view
 use Rattle.vs_bodies.proofs.Walking.{case_alone_view, case_default_view, sequence_view}
 use Rattle.vs_elaborated.specs.Statements.{Local, scope_locals}
-use Rattle.vs_elaborated.specs.Functions.{block_locals, sequence_locals, arms_locals}
+use Rattle.vs_elaborated.specs.Functions.{variables_of, block_locals, sequence_locals, arms_locals}
+use Rattle.vs_elaborated.specs.Uses.{is_variable_among}
 
 abbrev of_block : Statement → List Local
 of_block s = block_locals (view.statement s)
@@ -34,6 +35,6 @@ default_declares s place kind e list q o xs y h k m n =
     ∙ sym (ap block_locals (ap view.statement h ∙ ap (λ (r : Option (Box Statement Global)). view.statement (Case place kind e list r)) k ∙ case_default_view place kind e list q))
 
 pub sequence_declares : (s : Statement) (place : ℕ) (scope : Option BlockScope) (list : Vec Statement Global) (xs : List Statement) → s ≡ Sequence place scope list → xs ≡ list.items
-    → scope_locals (view.option view.block_scope scope) ++ sequence_locals (view.statements xs) ≡ of_block s
+    → variables_of (is_variable_among (view.statements xs)) (scope_locals (view.option view.block_scope scope)) ++ sequence_locals (view.statements xs) ≡ of_block s
 sequence_declares s place scope list xs h m =
-    ap (λ (z : List Statement). scope_locals (view.option view.block_scope scope) ++ sequence_locals (view.statements z)) m ∙ sym (ap block_locals (ap view.statement h ∙ sequence_view place scope list))
+    ap (λ (z : List Statement). variables_of (is_variable_among (view.statements z)) (scope_locals (view.option view.block_scope scope)) ++ sequence_locals (view.statements z)) m ∙ sym (ap block_locals (ap view.statement h ∙ sequence_view place scope list))

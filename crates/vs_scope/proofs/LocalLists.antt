@@ -1,5 +1,5 @@
 -- Declarations and local signals of a function, one after the other.
-use Rattle.std.proofs.Common.{◌≡◌, ℕ, zero, suc, ◌+◌, ◌<◌, ◌≤◌, ◌&&◌, Bool, true, false, List, [], ◌∷◌, ◌++◌, map, flat_map, length, get_or, take, sum_by, fold, if◌then◌else◌, Option, Some, None, refl, sym, ap, ◌∙◌, subst, append_assoc, arith}
+use Rattle.std.proofs.Common.{◌≡◌, ℕ, zero, suc, ◌+◌, ◌<◌, ◌≤◌, ◌&&◌, not, Bool, true, false, List, [], ◌∷◌, ◌++◌, map, flat_map, length, get_or, take, sum_by, fold, if◌then◌else◌, Option, Some, None, refl, sym, ap, ◌∙◌, subst, append_assoc, arith}
 use Rattle.std.proofs.lemmas.List.{append-nil, map-append, take_more, take_all}
 use Rattle.vs_design.specs.Expressions.{signal_length}
 use Rattle.vs_grammar.specs.Trees as tree
@@ -12,6 +12,7 @@ use Rattle.vs_const.proofs.Least.{least_append}
 use Rattle.vs_elaborated.specs.Environments.{Env}
 use Rattle.vs_elaborated.specs.Statements as statements
 use Rattle.vs_elaborated.specs.Functions as spec
+use Rattle.vs_elaborated.specs.Uses.{is_variable_in, is_variable_among}
 use Rattle.vs_scope.specs.declared.local_signals.Signalling.{Signalling}
 use Rattle.vs_scope.specs.declared.local_signals.SaidLocal.{SaidLocal}
 use Rattle.vs_scope.specs.declared.locals.Local.{Local}
@@ -25,31 +26,43 @@ local_named t n = record { name = n; value_type = t }
 
 -- ---- variables
 
-variables_behind : (vs : List statements.Local) (v : statements.Local) → spec.variables_of (vs ++ v ∷ []) ≡ spec.variables_of vs ++ (if statements.is_integer v then [] else v ∷ [])
-variables_behind [] v = refl
-variables_behind (w ∷ vs) v = by (statements.is_integer w) (variables_behind vs v)
+-- whether one is left out
+abbrev left_out : (List ℕ → Bool) → statements.Local → Bool
+left_out used v = statements.is_integer v && not (used v.name.bytes)
+
+variables_behind : (used : List ℕ → Bool) (vs : List statements.Local) (v : statements.Local) → spec.variables_of used (vs ++ v ∷ []) ≡ spec.variables_of used vs ++ (if left_out used v then [] else v ∷ [])
+variables_behind used [] v = refl
+variables_behind used (w ∷ vs) v = by (left_out used w) (variables_behind used vs v)
   where
-    by : (b : Bool) → spec.variables_of (vs ++ v ∷ []) ≡ spec.variables_of vs ++ (if statements.is_integer v then [] else v ∷ [])
-        → (if b then spec.variables_of (vs ++ v ∷ []) else w ∷ spec.variables_of (vs ++ v ∷ [])) ≡ (if b then spec.variables_of vs else w ∷ spec.variables_of vs) ++ (if statements.is_integer v then [] else v ∷ [])
+    by : (b : Bool) → spec.variables_of used (vs ++ v ∷ []) ≡ spec.variables_of used vs ++ (if left_out used v then [] else v ∷ [])
+        → (if b then spec.variables_of used (vs ++ v ∷ []) else w ∷ spec.variables_of used (vs ++ v ∷ [])) ≡ (if b then spec.variables_of used vs else w ∷ spec.variables_of used vs) ++ (if left_out used v then [] else v ∷ [])
     by true h = h
     by false h = ap (λ r. w ∷ r) h
 
 pub first_more : (all : List Local) (i : ℕ) (v : Local) → i < length all → v ≡ get_or all i v → map local (take (i + 1) all) ≡ map local (take i all) ++ local v ∷ []
 first_more all i v h e = ap (map local) (take_more all i v h ∙ ap (λ (x : Local). take i all ++ x ∷ []) (sym e)) ∙ map-append local (take i all) (v ∷ [])
 
-pub variable_more : (all list new : List Local) (i : ℕ) (v : Local) (b : Bool) → i < length all → v ≡ get_or all i v → b ≡ statements.is_integer (local v) → map local list ≡ spec.variables_of (map local (take i all))
-    → map local new ≡ (if b then map local list else map local list ++ local v ∷ []) → map local new ≡ spec.variables_of (map local (take (i + 1) all))
-variable_more all list new i v b h e k before is =
-    is ∙ ap (λ (t : Bool). if t then map local list else map local list ++ local v ∷ []) k ∙ by (statements.is_integer (local v))
-    ∙ ap (λ r. r ++ (if statements.is_integer (local v) then [] else local v ∷ [])) before
-    ∙ sym (variables_behind (map local (take i all)) (local v)) ∙ ap spec.variables_of (sym (first_more all i v h e))
+-- the variables of so many, behind others
+abbrev pub ArePushed : (used : List ℕ → Bool) (all first list : List Local) (i : ℕ) → Type 0
+ArePushed used all first list i = map local list ≡ map local first ++ spec.variables_of used (map local (take i all))
+
+pub variable_none : (used : List ℕ → Bool) (all first : List Local) → ArePushed used all first first 0
+variable_none used all first = sym (append-nil (map local first))
+
+pub variable_more : (used : List ℕ → Bool) (all first list new : List Local) (i : ℕ) (v : Local) (taken : Bool) → i < length all → v ≡ get_or all i v → taken ≡ used (local v).name.bytes → ArePushed used all first list i
+    → map local new ≡ (if statements.is_integer (local v) && not taken then map local list else map local list ++ local v ∷ []) → ArePushed used all first new (i + 1)
+variable_more used all first list new i v taken h e k before is =
+    is ∙ ap (λ (t : Bool). if statements.is_integer (local v) && not t then map local list else map local list ++ local v ∷ []) k ∙ by (left_out used (local v))
+    ∙ ap (λ r. r ++ (if left_out used (local v) then [] else local v ∷ [])) before
+    ∙ append_assoc (map local first) (spec.variables_of used (map local (take i all))) (if left_out used (local v) then [] else local v ∷ [])
+    ∙ ap (λ r. map local first ++ r) (sym (variables_behind used (map local (take i all)) (local v)) ∙ ap (spec.variables_of used) (sym (first_more all i v h e)))
   where
     by : (t : Bool) → (if t then map local list else map local list ++ local v ∷ []) ≡ map local list ++ (if t then [] else local v ∷ [])
     by true = sym (append-nil (map local list))
     by false = refl
 
-pub variable_end : (all list : List Local) (i : ℕ) → length all ≤ i → map local list ≡ spec.variables_of (map local (take i all)) → map local list ≡ spec.variables_of (map local all)
-variable_end all list i h e = e ∙ ap (λ (x : List Local). spec.variables_of (map local x)) (take_all i all h)
+pub variable_end : (used : List ℕ → Bool) (all first list : List Local) (i : ℕ) → length all ≤ i → ArePushed used all first list i → map local list ≡ map local first ++ spec.variables_of used (map local all)
+variable_end used all first list i h e = e ∙ ap (λ (x : List Local). map local first ++ spec.variables_of used (map local x)) (take_all i all h)
 
 -- ---- local signals
 
@@ -140,11 +153,11 @@ pub shaped_both : (vs ws : List statements.Local) → AreShapedLocals vs → Are
 shaped_both [] ws h k = k
 shaped_both (v ∷ vs) ws h k = (h.0, shaped_both vs ws h.1 k)
 
-pub shaped_variables : (vs : List statements.Local) → AreShapedLocals vs → AreShapedLocals (spec.variables_of vs)
-shaped_variables [] h = tt
-shaped_variables (v ∷ vs) h = by (statements.is_integer v) (shaped_variables vs h.1)
+pub shaped_variables : (used : List ℕ → Bool) (vs : List statements.Local) → AreShapedLocals vs → AreShapedLocals (spec.variables_of used vs)
+shaped_variables used [] h = tt
+shaped_variables used (v ∷ vs) h = by (left_out used v) (shaped_variables used vs h.1)
   where
-    by : (b : Bool) → AreShapedLocals (spec.variables_of vs) → AreShapedLocals (if b then spec.variables_of vs else v ∷ spec.variables_of vs)
+    by : (b : Bool) → AreShapedLocals (spec.variables_of used vs) → AreShapedLocals (if b then spec.variables_of used vs else v ∷ spec.variables_of used vs)
     by true k = k
     by false k = (h.0, k)
 
@@ -166,7 +179,8 @@ mutual
   shaped_blocks (tree.Assignment target e blocking) h = tt
   shaped_blocks (tree.If place c taken other) h = shaped_both (spec.block_locals taken) (spec.fallback_locals other) (shaped_blocks taken h.1) (shaped_fallback other h.2)
   shaped_blocks (tree.Case place kind subject arms other) h = shaped_both (spec.arms_locals arms) (spec.fallback_locals other) (shaped_arms arms h.1) (shaped_fallback other h.2)
-  shaped_blocks (tree.Sequence place scope parts) h = shaped_both (statements.scope_locals scope) (spec.sequence_locals parts) (shaped_scope scope h.0) (shaped_sequence parts h.1)
+  shaped_blocks (tree.Sequence place scope parts) h =
+      shaped_both (spec.variables_of (is_variable_among parts) (statements.scope_locals scope)) (spec.sequence_locals parts) (shaped_variables (is_variable_among parts) (statements.scope_locals scope) (shaped_scope scope h.0)) (shaped_sequence parts h.1)
   shaped_blocks (tree.For head statement) h = shaped_blocks statement h.1
 
   shaped_fallback : (o : tree.Fallback) → IsFallback o → AreShapedLocals (spec.fallback_locals o)
@@ -183,7 +197,8 @@ mutual
 
 pub shaped_own : (f : tree.Function) → IsFunction f → AreShapedLocals (spec.own_locals f)
 shaped_own f h =
-    shaped_variables (flat_map statements.locals_of f.variables ++ spec.block_locals f.statement) (shaped_both (flat_map statements.locals_of f.variables) (spec.block_locals f.statement) (shaped_declarations f.variables h.variables) (shaped_blocks f.statement h.statement))
+    shaped_both (spec.variables_of (is_variable_in f.statement) (flat_map statements.locals_of f.variables)) (spec.block_locals f.statement)
+    (shaped_variables (is_variable_in f.statement) (flat_map statements.locals_of f.variables) (shaped_declarations f.variables h.variables)) (shaped_blocks f.statement h.statement)
 
 -- ---- all local signals: the inputs, the result, its own variables
 

@@ -232,5 +232,6 @@ no_function d other = by d.sort other
     by (sorts.Parameter p value) other = refl
     by (sorts.Function f) other = absurd (other f refl)
     by sorts.Genvar other = refl
+    by sorts.Variable other = refl
     by sorts.Integer other = refl
     by sorts.Scope other = refl

@@ -1,11 +1,13 @@
 -- Every declaration of a module's tree is as the grammar has it.
-use Rattle.std.proofs.Common.{◌≡◌, Bool, true, false, List, [], ◌∷◌, ◌++◌, map, flat_map, Option, Some, None, refl}
+use Rattle.std.proofs.Common.{◌≡◌, ℕ, Bool, true, false, List, [], ◌∷◌, ◌++◌, map, flat_map, Option, Some, None, refl}
 use Rattle.vs_grammar.specs.Trees as tree
 use Rattle.vs_grammar.specs.Trees.{items_list}
 use Rattle.vs_grammar.specs.Shapes.{IsRange, IsValueType, Given, Each, OneOrMore, IsStored, IsPort, IsVariablePort, AreNames, AreSignals, IsSetting, AreParameters, ArePorts, AreHeaderParameters, IsGenerateItem, IsItem, AreItems, IsHeader, IsModule}
-use Rattle.vs_elaborated.specs.Declarations.{Declaration, signals_declared, parameters_declared, item_declared, header_declared, module_declared}
-use Rattle.vs_scope.specs.Shaped.{AreShaped}
-use Rattle.vs_scope.proofs.Collected.{signal_declared, parameter_declared, genvar_declared, integer_declared, instance_declared}
+use Rattle.vs_elaborated.specs.Declarations.{Declaration, signals_declared, parameters_declared, integer_sort, item_declared, items_declared, header_declared, module_declared}
+use Rattle.vs_elaborated.specs.Uses.{is_variable_of}
+use Rattle.vs_scope.specs.Shaped.{AreShaped, IsShapedSort}
+use Rattle.vs_scope.specs.Declares.{genvar_declared, integer_declared, instance_declared}
+use Rattle.vs_scope.proofs.Collected.{signal_declared, parameter_declared}
 
 both_shaped : (xs ys : List Declaration) → AreShaped xs → AreShaped ys → AreShaped (xs ++ ys)
 both_shaped [] ys h k = k
@@ -58,9 +60,13 @@ genvars_shaped : (ns : List tree.Name) → AreShaped (map genvar_declared ns)
 genvars_shaped [] = tt
 genvars_shaped (n ∷ ns) = (tt, genvars_shaped ns)
 
-integers_shaped : (ns : List tree.Name) → AreShaped (map integer_declared ns)
-integers_shaped [] = tt
-integers_shaped (n ∷ ns) = (tt, integers_shaped ns)
+integer_shaped : (n : tree.Name) (b : Bool) → IsShapedSort n (integer_sort b)
+integer_shaped n true = (tt, tt)
+integer_shaped n false = tt
+
+integers_shaped : (v : List ℕ → Bool) (ns : List tree.Name) → AreShaped (map (integer_declared v) ns)
+integers_shaped v [] = tt
+integers_shaped v (n ∷ ns) = (integer_shaped n (v n.bytes), integers_shaped v ns)
 
 instances_shaped : (is : List tree.Instance) → AreShaped (map instance_declared is)
 instances_shaped [] = tt
@@ -69,23 +75,23 @@ instances_shaped (i ∷ is) = (tt, instances_shaped is)
 parameters_shaped : (t : tree.Parameters) → AreParameters t → AreShaped (parameters_declared t)
 parameters_shaped t h = some_settings t t.settings h.value_type h.settings
 
-item_shaped : (i : tree.Item) → IsItem i → AreShaped (item_declared i)
-item_shaped (tree.SignalsItem t) h = signals_shaped false t h
-item_shaped (tree.ParametersItem t) h = parameters_shaped t h
-item_shaped (tree.AssignsItem place assigns) h = tt
-item_shaped (tree.AlwaysItem block) h = tt
-item_shaped (tree.InitialItem block) h = tt
-item_shaped (tree.GenvarsItem place names) h = genvars_shaped names
-item_shaped (tree.IntegersItem place names) h = integers_shaped names
-item_shaped (tree.FunctionItem f) h = ((h, refl), tt)
-item_shaped (tree.InstancesItem t) h = instances_shaped t.instances
-item_shaped (tree.GenerateFor head block) h = tt
-item_shaped (tree.GenerateIf place c taken other) h = tt
-item_shaped (tree.GenerateCase place subject arms other) h = tt
+item_shaped : (v : List ℕ → Bool) (i : tree.Item) → IsItem i → AreShaped (item_declared v i)
+item_shaped v (tree.SignalsItem t) h = signals_shaped false t h
+item_shaped v (tree.ParametersItem t) h = parameters_shaped t h
+item_shaped v (tree.AssignsItem place assigns) h = tt
+item_shaped v (tree.AlwaysItem block) h = tt
+item_shaped v (tree.InitialItem block) h = tt
+item_shaped v (tree.GenvarsItem place names) h = genvars_shaped names
+item_shaped v (tree.IntegersItem place names) h = integers_shaped v names
+item_shaped v (tree.FunctionItem f) h = ((h, refl), tt)
+item_shaped v (tree.InstancesItem t) h = instances_shaped t.instances
+item_shaped v (tree.GenerateFor head block) h = tt
+item_shaped v (tree.GenerateIf place c taken other) h = tt
+item_shaped v (tree.GenerateCase place subject arms other) h = tt
 
-items_shaped : (is : tree.Items) → AreItems is → AreShaped (flat_map item_declared (items_list is))
-items_shaped tree.NoItem h = tt
-items_shaped (tree.AndItem i is) h = both_shaped (item_declared i) (flat_map item_declared (items_list is)) (item_shaped i h.0) (items_shaped is h.1)
+items_shaped : (v : List ℕ → Bool) (is : tree.Items) → AreItems is → AreShaped (flat_map (item_declared v) (items_list is))
+items_shaped v tree.NoItem h = tt
+items_shaped v (tree.AndItem i is) h = both_shaped (item_declared v i) (flat_map (item_declared v) (items_list is)) (item_shaped v i h.0) (items_shaped v is h.1)
 
 header_parameters : (ps : List tree.Parameters) → Each AreHeaderParameters ps → AreShaped (flat_map parameters_declared ps)
 header_parameters [] h = tt
@@ -107,8 +113,8 @@ header_shaped (tree.DeclaredPorts ports) h = some_ports ports h
 -- of a module
 pub module_shaped : (m : tree.Module) → IsModule m → AreShaped (module_declared m)
 module_shaped m h =
-    both_shaped (flat_map parameters_declared m.parameters) (header_declared m.header ++ flat_map item_declared (items_list m.items)) (header_parameters m.parameters h.parameters)
-    (both_shaped (header_declared m.header) (flat_map item_declared (items_list m.items)) (header_shaped m.header h.header) (items_shaped m.items h.items))
+    both_shaped (flat_map parameters_declared m.parameters) (header_declared m.header ++ items_declared (items_list m.items)) (header_parameters m.parameters h.parameters)
+    (both_shaped (header_declared m.header) (items_declared (items_list m.items)) (header_shaped m.header h.header) (items_shaped (is_variable_of (items_list m.items)) m.items h.items))
 
 generate_item : (i : tree.Item) → IsGenerateItem i → IsItem i
 generate_item (tree.SignalsItem t) h = h.0
@@ -125,6 +131,9 @@ generate_item (tree.GenerateIf place c taken other) h = h
 generate_item (tree.GenerateCase place subject arms other) h = h
 
 -- of the items of a generate block
-pub block_shaped : (is : List tree.Item) → Each IsGenerateItem is → AreShaped (flat_map item_declared is)
-block_shaped [] h = tt
-block_shaped (i ∷ is) h = both_shaped (item_declared i) (flat_map item_declared is) (item_shaped i (generate_item i h.0)) (block_shaped is h.1)
+block_shaped_by : (v : List ℕ → Bool) (is : List tree.Item) → Each IsGenerateItem is → AreShaped (flat_map (item_declared v) is)
+block_shaped_by v [] h = tt
+block_shaped_by v (i ∷ is) h = both_shaped (item_declared v i) (flat_map (item_declared v) is) (item_shaped v i (generate_item i h.0)) (block_shaped_by v is h.1)
+
+pub block_shaped : (is : List tree.Item) → Each IsGenerateItem is → AreShaped (items_declared is)
+block_shaped is h = block_shaped_by (is_variable_of is) is h

@@ -1,9 +1,9 @@
 -- What a scope is made of.
-use Rattle.std.specs.Prelude.{List, [], ◌∷◌, map, flat_map}
+use Rattle.std.specs.Prelude.{List, [], ◌∷◌, map}
 use Rattle.vs_grammar.specs.Trees as tree
 use Rattle.vs_grammar.specs.Trees.{items_list}
 use Rattle.vs_ast.specs.Views as view
-use Rattle.vs_elaborated.specs.Declarations.{Declaration, item_declared, module_declared}
+use Rattle.vs_elaborated.specs.Declarations.{Declaration, items_declared, module_declared}
 use Rattle.vs_scope.specs.declared.contents.BlockItems.{BlockItems}
 use Rattle.vs_scope.specs.declared.contents.BlockItems.TheVariants.{One, Many}
 use Rattle.vs_scope.specs.declared.contents.Contents.{Contents}
@@ -27,4 +27,4 @@ contents_header (Block b) = tree.NoPorts
 -- its declarations
 abbrev pub contents_declared : Contents → List Declaration
 contents_declared (Module m) = module_declared (view.module_tree m.now)
-contents_declared (Block b) = flat_map item_declared (block_items b)
+contents_declared (Block b) = items_declared (block_items b)

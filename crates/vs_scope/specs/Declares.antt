@@ -1,9 +1,11 @@
 -- The names of a scope, one declaration after the other.
-use Rattle.std.specs.Prelude.{◌≡◌, ℕ, Bool, true, false, not, ◌||◌, List, [], ◌∷◌, map, is_some, Option, Some, None, if◌then◌else◌}
+use Rattle.std.specs.Prelude.{◌≡◌, ℕ, Bool, true, false, not, ◌&&◌, ◌||◌, List, [], ◌∷◌, map, is_some, Option, Some, None, if◌then◌else◌}
 use Rattle.vs_ast.specs.Views.{option}
 use Rattle.vs_design.specs.Clocks.{same_name}
+use Rattle.vs_grammar.specs.Trees as tree
+use Rattle.vs_grammar.specs.Trees.{SignalKind}
 use Rattle.vs_elaborated.specs.Environments as environment
-use Rattle.vs_elaborated.specs.Declarations.{Declaration, Named, are_sorts_of_one}
+use Rattle.vs_elaborated.specs.Declarations.{Sort, SignalOf, FunctionOf, GenvarSort, InstanceSort, has_addresses, integer_sort, Declaration, Named, are_kinds_of_one, are_sorts_of_one}
 use Rattle.vs_elaborated.specs.Parameters.{first_declared}
 use Rattle.vs_scope.specs.declared.names.Declaration.{Declaration as DeclarationOf}
 use Rattle.vs_scope.specs.declared.names.Entry.{Entry}
@@ -11,6 +13,22 @@ use Rattle.vs_scope.specs.declared.names.Names.{Names}
 use Rattle.vs_maps.specs.Maps.{Pair}
 use Rattle.vs_maps.specs.MapViews.{pairs}
 use Rattle.vs_scope.specs.Views.{declaration, pair_entry}
+
+-- ---- of an item
+
+abbrev pub genvar_declared : tree.Name → Declaration
+genvar_declared n = record { name = n; sort = GenvarSort }
+
+abbrev pub integer_declared : (is_variable : List ℕ → Bool) → tree.Name → Declaration
+integer_declared is_variable n = record { name = n; sort = integer_sort (is_variable n.bytes) }
+
+abbrev pub function_declared : tree.Function → Declaration
+function_declared f = record { name = f.name; sort = FunctionOf f }
+
+abbrev pub instance_declared : tree.Instance → Declaration
+instance_declared i = record { name = i.name; sort = InstanceSort }
+
+-- ---- of a scope
 
 -- the declarations of a name
 abbrev pub entry_named : Entry → Named
@@ -41,6 +59,16 @@ pub record AreFirst (names : Names) : Type 0 where
 abbrev pub with_second : (is_second : Bool) → Declaration → Named → Named
 with_second true a n = record { first = n.first; second = Some a }
 with_second false a n = n
+
+-- the kind of a declaration that may be one of two of a signal
+abbrev pub open_kind : Sort → Option SignalKind
+open_kind (SignalOf s) = if not s.header && not (has_addresses s) then Some s.kind else None
+open_kind _ = None
+
+-- whether those of these kinds, if they may be, are of one signal
+abbrev pub both_kinds : Option SignalKind → Option SignalKind → Bool
+both_kinds (Some a) (Some b) = are_kinds_of_one a b
+both_kinds _ _ = false
 
 -- one of its name, of the same signal and without a second one
 abbrev pub is_open : Named → Declaration → Bool

@@ -1,10 +1,10 @@
 -- Laws of what the code's scopes stand for.
-use Rattle.std.specs.Prelude.{List, flat_map}
+use Rattle.std.specs.Prelude.{List}
 use Rattle.vs_grammar.specs.Trees as tree
 use Rattle.vs_grammar.specs.Shapes.{Each, IsGenerateItem, IsModule}
 use Rattle.vs_const.specs.Meanings.{IsFair}
 use Rattle.vs_elaborated.specs.Environments.{named}
-use Rattle.vs_elaborated.specs.Declarations.{item_declared, module_declared}
+use Rattle.vs_elaborated.specs.Declarations.{items_declared, module_declared}
 use Rattle.vs_scope.specs.Shaped.{AreShaped}
 use Rattle.vs_scope.specs.declared.places.View.{View}
 use Rattle.vs_scope.specs.Frames.{view_env}
@@ -19,4 +19,4 @@ ModulesAreShaped = (m : tree.Module) → IsModule m → AreShaped (module_declar
 
 -- and those of a generate block's items
 abbrev pub BlocksAreShaped : Type 0
-BlocksAreShaped = (items : List tree.Item) → Each IsGenerateItem items → AreShaped (flat_map item_declared items)
+BlocksAreShaped = (items : List tree.Item) → Each IsGenerateItem items → AreShaped (items_declared items)

@@ -3,7 +3,7 @@ use Rattle.std.specs.Prelude.{◌≡◌, ℕ, false, List, length, map, slice_ge
 use Rattle.vs_ast.specs.Views as view
 use Rattle.vs_ast.specs.Views.{option}
 use Rattle.vs_const.specs.Faults.{least}
-use Rattle.vs_const.specs.declared.rules.Rule.TheVariants.{WrongKind, LoopVariable}
+use Rattle.vs_const.specs.declared.rules.Rule.TheVariants.{LoopVariable}
 use Rattle.vs_const.specs.Meanings.{SignalMeaning, Meaning, ASignal, Barred, Find}
 use Rattle.vs_elaborated.specs.Environments.{named}
 use Rattle.vs_elaborated.specs.Statements as statements
@@ -32,7 +32,7 @@ local_start s = record { scope = s.scope; signal = s.signal; bit = s.bit }
 -- a local signal
 abbrev pub local_meaning : LocalSignal → SignalMeaning
 local_meaning s = record {
-  signal = record { name = s.name.now; scope = s.scope; number = s.number; net = false; input = s.input; range = s.range; signed = s.signed; first = s.first; words = None };
+  signal = record { name = s.name.now; scope = s.scope; number = s.number; net = false; input = s.input; range = s.range; signed = s.signed; first = s.first; words = None; integer = false };
   input = s.input;
   role = s.role;
   known = s.known;
@@ -61,12 +61,7 @@ numbered ss (Some i) = slice_get ss i
 abbrev pub local_at : Locals → ℕ → Option LocalSignal
 local_at l place = numbered l.signals.items (found_at place (by_place l.places))
 
--- what a variable of a named block means
-abbrev pub block_meaning : Option LocalSignal → Meaning
-block_meaning None = Barred WrongKind
-block_meaning (Some s) = ASignal (local_meaning s)
-
--- what a name of the function's own means, which is an integer if it is no local signal
+-- what a name of the function's own means, or of a named block in it; if it is no local signal it is an integer of loops
 abbrev pub own_meaning : Option LocalSignal → Meaning
 own_meaning None = Barred LoopVariable
 own_meaning (Some s) = ASignal (local_meaning s)
@@ -82,7 +77,7 @@ inside_names i name = own_or i.locals (value_at name (pairs i.locals.names)) (na
 
 -- what a variable of a named block means that is declared at a place
 abbrev pub inside_declared : Inside → ℕ → Meaning
-inside_declared i place = block_meaning (local_at i.locals place)
+inside_declared i place = own_meaning (local_at i.locals place)
 
 -- ---- all of a function
 

@@ -6,7 +6,7 @@ use Rattle.vs_elaborated.specs.Declarations.{Sort, SignalOf, ParameterOf, Functi
 
 -- ranges, types, addresses, values and functions are the grammar's; a function has the name of its declaration
 abbrev pub IsShapedSort : Name → Sort → Type 0
-IsShapedSort name (SignalOf s) = Given IsRange s.range × Given IsRange s.addresses
+IsShapedSort name (SignalOf s) = IsValueType s.value_type × Given IsRange s.addresses
 IsShapedSort name (ParameterOf p) = IsValueType p.value_type × IsExpr p.value
 IsShapedSort name (FunctionOf f) = IsFunction f × (name ≡ f.name)
 IsShapedSort name GenvarSort = Unit {0}

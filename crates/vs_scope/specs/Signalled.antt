@@ -2,8 +2,7 @@
 use Rattle.std.specs.Prelude.{◌≡◌, ℕ, ◌+◌, Bool, List, [], ◌∷◌, length, sum_by, Option, Some, None}
 use Rattle.vs_design.specs.Expressions.{signal_length}
 use Rattle.vs_ast.specs.Views as view
-use Rattle.vs_grammar.specs.Trees.{RangeTree}
-use Rattle.vs_ast.specs.declared.items.Signals.{Signals}
+use Rattle.vs_grammar.specs.Trees.{RangeTree, ValueType, IntegerType, RangeType, SignalKind, Reg}
 use Rattle.vs_const.specs.declared.faults.Fault.{Fault}
 use Rattle.vs_const.specs.Faults.{least, fault_if}
 use Rattle.vs_const.specs.declared.rules.Rule.TheVariants.{BadRange}
@@ -15,6 +14,8 @@ use Rattle.vs_elaborated.specs.Signals as spec
 use Rattle.vs_scope.specs.declared.names.Declaration.{Declaration}
 use Rattle.vs_scope.specs.declared.names.Signal.{Signal}
 use Rattle.vs_scope.specs.declared.signals.Start.{Start}
+use Rattle.vs_scope.specs.declared.signals.Form.{Form}
+use Rattle.vs_scope.specs.declared.signals.Form.TheVariants.{Signals, Integer}
 use Rattle.vs_scope.specs.declared.signals.SaidSignal.{SaidSignal}
 use Rattle.vs_scope.specs.Views.{signal_meaning}
 
@@ -26,9 +27,18 @@ start_of s = record { scope = s.scope; top = s.top; signal = s.signal; bit = s.b
 abbrev pub start_after : spec.Start → List spec.SaidSignal → spec.Start
 start_after s ss = record s { signal = s.signal + length ss; bit = s.bit + sum_by (λ (x : spec.SaidSignal). signal_length x.meaning.signal) ss }
 
--- one name of a declaration of signals, with its addresses
-abbrev pub signal_sort : Signals → Option RangeTree → Bool → SignalSort
-signal_sort s addresses header = record { kind = view.signal_kind s.kind; signed = s.signed; range = view.option view.range s.range; addresses = addresses; header = header }
+-- the kind and the type of a declaration
+abbrev pub form_kind : Form → SignalKind
+form_kind (Signals s) = view.signal_kind s.now.kind
+form_kind Integer = Reg
+
+abbrev pub form_type : Form → ValueType
+form_type (Signals s) = RangeType s.now.signed (view.option view.range s.now.range)
+form_type Integer = IntegerType
+
+-- one name of a declaration, with its addresses
+abbrev pub signal_sort : Form → Option RangeTree → Bool → SignalSort
+signal_sort f addresses header = record { kind = form_kind f; value_type = form_type f; addresses = addresses; header = header }
 
 -- the ranges of both declarations are equal
 abbrev pub second_faults : parameters.SaidRange → parameters.SaidRange → Option Declaration → List Fault
@@ -36,10 +46,9 @@ second_faults r q None = []
 second_faults r q (Some d) = fault_if (spec.are_unequal r q) BadRange d.name.now.place
 
 -- but for its addresses and where it stands
-pub record IsSortOf (c : Signals) (s : SignalSort) : Type 0 where
-  pub kind : view.signal_kind c.kind ≡ s.kind
-  pub signed : c.signed ≡ s.signed
-  pub range : view.option view.range c.range ≡ s.range
+pub record IsSortOf (f : Form) (s : SignalSort) : Type 0 where
+  pub kind : form_kind f ≡ s.kind
+  pub value_type : form_type f ≡ s.value_type
 
 -- a signal, where it is first declared, and of its faults the first
 pub record IsSaidSignal (c : SaidSignal) (s : spec.SaidSignal) : Type 0 where

@@ -1,5 +1,6 @@
 -- What the names of the code stand for.
 use Rattle.std.specs.Prelude.{ℕ, Bool, true, false, List, map, Some, None}
+use Rattle.vs_grammar.specs.Trees as tree
 use Rattle.vs_ast.specs.Views as view
 use Rattle.vs_const.specs.declared.names.Role.TheVariants.{InModule}
 use Rattle.vs_const.specs.Meanings.{SignalMeaning}
@@ -21,10 +22,11 @@ use Rattle.vs_maps.specs.MapViews.{pairs}
 
 -- what a declaration declares
 abbrev pub sort : Sort → declarations.Sort
-sort (sorts.Signal s addresses header) = declarations.SignalOf (record { kind = view.signal_kind s.now.kind; signed = s.now.signed; range = view.option view.range s.now.range; addresses = view.option view.range addresses.now; header = header })
+sort (sorts.Signal s addresses header) = declarations.SignalOf (record { kind = view.signal_kind s.now.kind; value_type = tree.RangeType s.now.signed (view.option view.range s.now.range); addresses = view.option view.range addresses.now; header = header })
 sort (sorts.Parameter p value) = declarations.ParameterOf (record { is_local = p.now.is_local; value_type = view.value_type p.now.value_type; value = view.expr value.now })
 sort (sorts.Function f) = declarations.FunctionOf (view.function f.now)
 sort sorts.Genvar = declarations.GenvarSort
+sort sorts.Variable = declarations.integer_sort true
 sort sorts.Integer = declarations.IntegerSort
 sort sorts.Scope = declarations.InstanceSort
 
@@ -34,7 +36,7 @@ declaration d = record { name = view.name d.name.now; sort = sort d.sort }
 
 -- a signal
 abbrev pub signal_meaning : Signal → SignalMeaning
-signal_meaning s = record { signal = record { name = s.name.now; scope = s.scope; number = s.number; net = s.net; input = s.input; range = s.range; signed = s.signed; first = s.first; words = s.words }; input = s.is_input; role = InModule; known = s.known }
+signal_meaning s = record { signal = record { name = s.name.now; scope = s.scope; number = s.number; net = s.net; input = s.input; range = s.range; signed = s.signed; first = s.first; words = s.words; integer = s.integer }; input = s.is_input; role = InModule; known = s.known }
 
 -- a signal of which nothing is known
 abbrev pub unknown_signal : SignalMeaning

@@ -1,13 +1,15 @@
 //! The declarations of a scope in the order of the text (IEEE 1364-2005, 12.7).
 
-ghost use Rattle.std.specs.Prelude.{◌≡◌, ◌++◌, true, OnOk, IfOk, map, flat_map};
-ghost use Rattle.vs_grammar.specs.Trees as tree;
+ghost use Rattle.std.specs.Prelude.{◌≡◌, ◌∷◌, ◌++◌, [], true, OnOk, IfOk, map, flat_map};
 ghost use Rattle.vs_ast.specs.Views as view;
 ghost use Rattle.vs_elaborated.specs.Declarations as spec;
-ghost use Rattle.vs_scope.specs.Views.{declaration};
-ghost use Rattle.vs_scope.specs.Contents.{contents_declared};
+ghost use Rattle.vs_elaborated.specs.Uses.{is_variable_of};
+ghost use Rattle.vs_scope.specs.Views.{declaration, sort};
+ghost use Rattle.vs_scope.specs.Contents.{contents_declared, contents_items};
+ghost use Rattle.vs_scope.specs.Declares.{genvar_declared, integer_declared, function_declared, instance_declared};
 
 use crate::contents::{BlockItems, Contents};
+use crate::integers::is_variable;
 use crate::names::{Declaration, Sort};
 use std::alloc::{AllocError, Global};
 use vs_ast::{Function, Header, Instances, Item, Module, Name, Parameters, Signals};
@@ -55,12 +57,8 @@ fn collect_parameters<'a>(
 }
 
 /// The genvars of an item.
-fn collect_genvars<'a>(
-    list: &mut Vec<Declaration<'a>>,
-    place: u32,
-    names: &'a [Name],
-) -> Result<(), AllocError>
-    ensures { OnOk result (map declaration list.new.items ≡ map declaration list.old.items ++ spec.item_declared (tree.GenvarsItem place (map view.name names.now))) }
+fn collect_genvars<'a>(list: &mut Vec<Declaration<'a>>, names: &'a [Name]) -> Result<(), AllocError>
+    ensures { OnOk result (map declaration list.new.items ≡ map declaration list.old.items ++ map genvar_declared (map view.name names.now)) }
 {
     for name in names {
         list.push(Declaration {
@@ -71,19 +69,28 @@ fn collect_genvars<'a>(
     Ok(())
 }
 
+/// An integer of a scope: a variable, or one that heads loops.
+fn integer_sort<'a>(name: &Name, contents: Contents<'_>) -> Sort<'a>
+    ensures { sort result ≡ spec.integer_sort (is_variable_of (contents_items contents.entry) (view.name name.now).bytes) }
+{
+    if is_variable(name.text.as_slice(), contents) {
+        Sort::Variable
+    } else {
+        Sort::Integer
+    }
+}
+
 /// The integers of an item (4.8).
 fn collect_integers<'a>(
     list: &mut Vec<Declaration<'a>>,
-    place: u32,
+    contents: Contents<'a>,
     names: &'a [Name],
 ) -> Result<(), AllocError>
-    ensures { OnOk result (map declaration list.new.items ≡ map declaration list.old.items ++ spec.item_declared (tree.IntegersItem place (map view.name names.now))) }
+    ensures { OnOk result (map declaration list.new.items ≡ map declaration list.old.items ++ map (integer_declared (is_variable_of (contents_items contents.entry))) (map view.name names.now)) }
 {
     for name in names {
-        list.push(Declaration {
-            name,
-            sort: Sort::Integer,
-        })?;
+        let sort = integer_sort(name, contents);
+        list.push(Declaration { name, sort })?;
     }
     Ok(())
 }
@@ -93,7 +100,7 @@ fn collect_function<'a>(
     list: &mut Vec<Declaration<'a>>,
     function: &'a Function,
 ) -> Result<(), AllocError>
-    ensures { OnOk result (map declaration list.new.items ≡ map declaration list.old.items ++ spec.item_declared (tree.FunctionItem (view.function function.now))) }
+    ensures { OnOk result (map declaration list.new.items ≡ map declaration list.old.items ++ function_declared (view.function function.now) ∷ []) }
 {
     list.push(Declaration {
         name: &function.name,
@@ -107,7 +114,7 @@ fn collect_instances<'a>(
     list: &mut Vec<Declaration<'a>>,
     instances: &'a Instances,
 ) -> Result<(), AllocError>
-    ensures { OnOk result (map declaration list.new.items ≡ map declaration list.old.items ++ spec.item_declared (tree.InstancesItem (view.instances instances.now))) }
+    ensures { OnOk result (map declaration list.new.items ≡ map declaration list.old.items ++ map instance_declared (view.instances instances.now).instances) }
 {
     for i in &instances.instances {
         list.push(Declaration {
@@ -119,26 +126,34 @@ fn collect_instances<'a>(
 }
 
 /// The names that an item declares in its scope.
-fn collect_item<'a>(list: &mut Vec<Declaration<'a>>, item: &'a Item) -> Result<(), AllocError>
-    ensures { OnOk result (map declaration list.new.items ≡ map declaration list.old.items ++ spec.item_declared (view.item item.now)) }
+fn collect_item<'a>(
+    list: &mut Vec<Declaration<'a>>,
+    contents: Contents<'a>,
+    item: &'a Item,
+) -> Result<(), AllocError>
+    ensures { OnOk result (map declaration list.new.items ≡ map declaration list.old.items ++ spec.item_declared (is_variable_of (contents_items contents.entry)) (view.item item.now)) }
 {
     match item {
         Item::Signals(s) => collect_signals(list, false, s),
         Item::Parameters(p) => collect_parameters(list, p),
-        Item::Genvars { place, names } => collect_genvars(list, *place, names),
-        Item::Integers { place, names } => collect_integers(list, *place, names),
+        Item::Genvars { names, .. } => collect_genvars(list, names),
+        Item::Integers { names, .. } => collect_integers(list, contents, names),
         Item::Function(f) => collect_function(list, f),
         Item::Instances(i) => collect_instances(list, i),
         _ => Ok(()),
     }
 }
 
-/// The names that items declare.
-fn collect_items<'a>(list: &mut Vec<Declaration<'a>>, items: &'a [Item]) -> Result<(), AllocError>
-    ensures { OnOk result (map declaration list.new.items ≡ map declaration list.old.items ++ flat_map spec.item_declared (map view.item items.now)) }
+/// The names that items of a scope declare.
+fn collect_items<'a>(
+    list: &mut Vec<Declaration<'a>>,
+    contents: Contents<'a>,
+    items: &'a [Item],
+) -> Result<(), AllocError>
+    ensures { OnOk result (map declaration list.new.items ≡ map declaration list.old.items ++ flat_map (spec.item_declared (is_variable_of (contents_items contents.entry))) (map view.item items.now)) }
 {
     for item in items {
-        collect_item(list, item)?;
+        collect_item(list, contents, item)?;
     }
     Ok(())
 }
@@ -182,7 +197,7 @@ fn collect_module<'a>(list: &mut Vec<Declaration<'a>>, whole: &'a Module) -> Res
 {
     collect_header_parameters(list, &whole.parameters)?;
     collect_header(list, &whole.header)?;
-    collect_items(list, &whole.items)?;
+    collect_items(list, Contents::Module(whole), &whole.items)?;
     Ok(())
 }
 
@@ -196,8 +211,8 @@ pub(crate) fn collect<'a>(
     let mut list = Vec::new(alloc);
     match contents {
         Contents::Module(whole) => collect_module(&mut list, whole)?,
-        Contents::Block(BlockItems::One(item)) => collect_item(&mut list, item)?,
-        Contents::Block(BlockItems::Many(items)) => collect_items(&mut list, items)?,
+        Contents::Block(BlockItems::One(item)) => collect_item(&mut list, contents, item)?,
+        Contents::Block(BlockItems::Many(items)) => collect_items(&mut list, contents, items)?,
     }
     Ok(list)
 }

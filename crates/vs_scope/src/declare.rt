@@ -1,6 +1,6 @@
 //! The names that declarations make, and which of them are declared too often (IEEE 1364-2005, 12.3.3 and 12.7).
 
-ghost use Rattle.std.specs.Prelude.{◌≡◌, ◌||◌, not, [], OnOk, IfOk, map, is_some, None};
+ghost use Rattle.std.specs.Prelude.{◌≡◌, ◌&&◌, ◌||◌, not, [], OnOk, IfOk, map, is_some, None};
 ghost use Rattle.vs_ast.specs.Views as view;
 ghost use Rattle.vs_const.specs.Faults.{least, fault_if};
 ghost use Rattle.vs_const.specs.declared.rules.Rule.TheVariants.{DuplicateName};
@@ -10,12 +10,12 @@ ghost use Rattle.vs_maps.specs.Maps.{value_at};
 ghost use Rattle.vs_maps.specs.MapViews.{pairs};
 ghost use Rattle.vs_scope.specs.Views as scope;
 ghost use Rattle.vs_scope.specs.Complete.{IsIncomplete, IsStill, shape_kept};
-ghost use Rattle.vs_scope.specs.Declares.{named_list, AreFirst, IsOpenAt, with_named, is_one_too_many};
+ghost use Rattle.vs_scope.specs.Declares.{both_kinds, named_list, open_kind, AreFirst, IsOpenAt, with_named, is_one_too_many};
 
 use crate::counts::Counts;
 use crate::names::{Declaration, Declared, Entry, Names, Sort};
 use std::alloc::{AllocError, Global};
-use vs_ast::SignalKind;
+use vs_ast::{Range, SignalKind};
 use vs_const::{Fault, Rule, fault_at, first_of};
 use vs_maps::NameMap;
 
@@ -39,31 +39,55 @@ fn are_kinds_of_one(a: SignalKind, b: SignalKind) -> bool
     }
 }
 
-/// Whether two declarations are those of one signal; what a header declares with its direction is complete, and a port is no memory.
+/// Whether a declaration of signals may be one of two of a signal: what a header declares with its direction is complete, and a port is no memory.
+fn may_be_one(header: bool, addresses: &Option<Range>) -> bool
+    ensures { result ≡ (not header && not (is_some (view.option view.range addresses.now))) }
+{
+    match addresses {
+        None => !header,
+        Some(_) => false,
+    }
+}
+
+/// The kind of a declaration that may be one of two of a signal.
+fn open_kind(sort: Sort<'_>) -> Option<SignalKind>
+    ensures { view.option view.signal_kind result ≡ open_kind (scope.sort sort.entry) }
+{
+    match sort {
+        Sort::Signal {
+            signals,
+            addresses,
+            header,
+        } => {
+            if may_be_one(header, addresses) {
+                Some(signals.kind)
+            } else {
+                None
+            }
+        }
+        Sort::Variable => Some(SignalKind::Reg),
+        _ => None,
+    }
+}
+
+/// Whether declarations of these kinds, if they may be, are those of one signal.
+fn are_of_one(a: Option<SignalKind>, b: Option<SignalKind>) -> bool
+    ensures { result ≡ both_kinds (view.option view.signal_kind a) (view.option view.signal_kind b) }
+{
+    match a {
+        None => false,
+        Some(a) => match b {
+            None => false,
+            Some(b) => are_kinds_of_one(a, b),
+        },
+    }
+}
+
+/// Whether two declarations are those of one signal.
 fn are_sorts_of_one(a: Sort<'_>, b: Sort<'_>) -> bool
     ensures { result ≡ spec.are_sorts_of_one (scope.sort a.entry) (scope.sort b.entry) }
 {
-    match (a, b) {
-        (
-            Sort::Signal {
-                signals,
-                addresses,
-                header,
-            },
-            Sort::Signal {
-                signals: others,
-                addresses: other_addresses,
-                header: other_header,
-            },
-        ) => {
-            !header
-                && (!other_header
-                    && (addresses.is_none()
-                        && (other_addresses.is_none()
-                            && are_kinds_of_one(signals.kind, others.kind))))
-        }
-        _ => false,
-    }
+    are_of_one(open_kind(a), open_kind(b))
 }
 
 /// Whether a declaration may be the second one of a signal, by the first one and the second one that there is.
@@ -82,7 +106,7 @@ fn first_declared<'a>(number: u32, sort: Sort<'a>) -> Declared<'a>
     ensures incomplete { shape_kept result ≡ None }
 {
     match sort {
-        Sort::Signal { .. } => Declared::Announced,
+        Sort::Signal { .. } | Sort::Variable => Declared::Announced,
         Sort::Parameter { .. } => Declared::Later,
         Sort::Function(_) => Declared::Function(None),
         Sort::Genvar => Declared::Genvar,

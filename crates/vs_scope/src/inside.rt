@@ -10,7 +10,7 @@ ghost use Rattle.vs_elaborated.specs.Environments.{inside_function, within};
 ghost use Rattle.vs_scope.specs.Complete.{KeepsShapes, complete};
 ghost use Rattle.vs_scope.specs.Frames.{around_env, view_env};
 ghost use Rattle.vs_scope.specs.Inside.{AreNumbered, AreSignalled, IsSaidLocals};
-ghost use Rattle.vs_scope.specs.Locals.{AreLocals, block_meaning, inside_names, local_at, own_meaning};
+ghost use Rattle.vs_scope.specs.Locals.{AreLocals, inside_names, local_at, own_meaning};
 
 use crate::local_signals::{LocalStart, Signalling};
 use crate::locals::{OwnNames, names_of, result_local};
@@ -77,17 +77,7 @@ impl<'a> Locals<'a> {
         }
     }
 
-    /// What a variable of a named block means that is declared at this place.
-    fn block_variable(&self, place: u32) -> Named
-        ensures { Means result (block_meaning (local_at self.now place)) }
-    {
-        match self.at(place) {
-            None => Named::Barred(Rule::WrongKind),
-            Some(s) => local_means(s),
-        }
-    }
-
-    /// What a name of the function's own means that is declared at this place; if it is no local signal it is an integer.
+    /// What a name of the function's own or of a named block in it means that is declared at this place; if it is no local signal it is an integer of loops.
     fn own(&self, place: u32) -> Named
         ensures { Means result (own_meaning (local_at self.now place)) }
     {
@@ -117,7 +107,7 @@ impl Surroundings for Inside<'_, '_> {
     ghost declared = { λ i. inside_declared i };
 
     fn declared(&self, place: u32) -> Named {
-        self.locals.block_variable(place)
+        self.locals.own(place)
     }
 }
 

@@ -15,6 +15,7 @@ mod frames;
 mod functions;
 mod header;
 mod inside;
+mod integers;
 mod laws;
 mod local_signals;
 mod locals;

@@ -1,10 +1,11 @@
 //! What a function declares in its own name space, and what the named blocks in it declare (IEEE 1364-2005, 9.8.2 and 10.4.1).
 
-ghost use Rattle.std.specs.Prelude.{◌≡◌, ◌++◌, ◌∷◌, [], ℕ, IfOk, OnOk, List, map, flat_map, if◌then◌else◌};
+ghost use Rattle.std.specs.Prelude.{◌≡◌, ◌&&◌, ◌++◌, ◌∷◌, [], ℕ, IfOk, OnOk, List, map, flat_map, not, if◌then◌else◌};
 ghost use Rattle.vs_ast.specs.Views as view;
 ghost use Rattle.vs_const.specs.Faults.{least};
 ghost use Rattle.vs_elaborated.specs.Statements as statements;
 ghost use Rattle.vs_elaborated.specs.Functions as spec;
+ghost use Rattle.vs_elaborated.specs.Uses.{is_variable_in, is_variable_among};
 ghost use Rattle.vs_maps.specs.Maps.{value_at};
 ghost use Rattle.vs_maps.specs.MapViews.{pairs};
 ghost use Rattle.vs_scope.specs.Locals.{local, place_of};
@@ -13,6 +14,7 @@ ghost use Rattle.vs_scope.specs.OwnNames.{ArePlaces};
 
 use std::alloc::{AllocError, Global};
 use vs_ast::{BlockScope, CaseArm, Function, Name, Statement, ValueType, Variables};
+use vs_bodies::{is_variable_among, is_variable_in};
 use vs_const::{Fault, Rule, fault_at, first_of};
 use vs_maps::NameMap;
 
@@ -46,67 +48,146 @@ fn push_declarations<'a>(list: &mut Vec<Local<'a>>, all: &'a [Variables]) -> Res
     Ok(())
 }
 
-/// What a named block declares by itself; one without a name declares nothing.
-fn push_scope<'a>(
-    list: &mut Vec<Local<'a>>,
-    scope: &'a Option<BlockScope>,
-) -> Result<(), AllocError>
-    ensures { OnOk result (map local list.new.items ≡ map local list.old.items ++ statements.scope_locals (view.option view.block_scope scope.now)) }
+/// Whether it declares an integer (4.8).
+fn is_integer(v: &Local<'_>) -> bool
+    ensures { result ≡ statements.is_integer (local v.now) }
 {
-    match scope {
-        None => Ok(()),
-        Some(scope) => push_declarations(list, &scope.variables),
-    }
+    matches!(v.value_type, ValueType::Integer)
 }
 
-/// What the named blocks of a statement declare, in the order of the text.
+/// One more, unless it is an integer that is no variable.
+fn push_variable<'a>(
+    list: &mut Vec<Local<'a>>,
+    v: Local<'a>,
+    is_variable: bool,
+) -> Result<(), AllocError>
+    ensures { OnOk result (map local list.new.items ≡ (if statements.is_integer (local v.entry) && not is_variable then map local list.old.items else map local list.old.items ++ local v.entry ∷ [])) }
+{
+    if is_integer(&v) && !is_variable {
+        return Ok(());
+    }
+    list.push(v)?;
+    Ok(())
+}
+
+/// The variables of these, which a statement may use.
+fn push_used_in<'a>(
+    list: &mut Vec<Local<'a>>,
+    all: &[Local<'a>],
+    s: &Statement,
+) -> Result<(), AllocError>
+    ensures { OnOk result (map local list.new.items ≡ map local list.old.items ++ spec.variables_of (is_variable_in (view.statement s.now)) (map local all.now)) }
+{
+    for v in all {
+        let used = is_variable_in(v.name.text.as_slice(), s);
+        push_variable(list, *v, used)?;
+    }
+    Ok(())
+}
+
+/// The variables of these, which several statements may use.
+fn push_used_among<'a>(
+    list: &mut Vec<Local<'a>>,
+    all: &[Local<'a>],
+    parts: &[Statement],
+) -> Result<(), AllocError>
+    ensures { OnOk result (map local list.new.items ≡ map local list.old.items ++ spec.variables_of (is_variable_among (view.statements parts.now)) (map local all.now)) }
+{
+    for v in all {
+        let used = is_variable_among(v.name.text.as_slice(), parts);
+        push_variable(list, *v, used)?;
+    }
+    Ok(())
+}
+
+/// What a named block declares by itself; one without a name declares nothing.
+fn scope_locals<'a>(
+    alloc: Global,
+    scope: &'a Option<BlockScope>,
+) -> Result<Vec<Local<'a>>, AllocError>
+    ensures { IfOk result (λ list. map local list.items ≡ statements.scope_locals (view.option view.block_scope scope.now)) }
+{
+    let mut list = Vec::new(alloc);
+    match scope {
+        None => {}
+        Some(scope) => push_declarations(&mut list, &scope.variables)?,
+    }
+    Ok(list)
+}
+
+/// The variables that a named block declares by itself: an integer is one where it heads no loop in these statements and is assigned.
+fn push_scope<'a>(
+    list: &mut Vec<Local<'a>>,
+    alloc: Global,
+    scope: &'a Option<BlockScope>,
+    parts: &[Statement],
+) -> Result<(), AllocError>
+    ensures { OnOk result (map local list.new.items ≡ map local list.old.items ++ spec.variables_of (is_variable_among (view.statements parts.now)) (statements.scope_locals (view.option view.block_scope scope.now))) }
+{
+    let all = scope_locals(alloc, scope)?;
+    push_used_among(list, all.as_slice(), parts)
+}
+
+/// The variables that the named blocks of a statement declare, in the order of the text.
 #[cycle(blocks)]
-fn push_blocks<'a>(list: &mut Vec<Local<'a>>, s: &'a Statement) -> Result<(), AllocError>
+fn push_blocks<'a>(
+    list: &mut Vec<Local<'a>>,
+    alloc: Global,
+    s: &'a Statement,
+) -> Result<(), AllocError>
     ensures { OnOk result (map local list.new.items ≡ map local list.old.items ++ spec.block_locals (view.statement s.now)) }
 {
     match s {
         Statement::Empty { .. } => Ok(()),
         Statement::Assignment { .. } => Ok(()),
         Statement::If { taken, other, .. } => {
-            push_blocks(list, taken)?;
+            push_blocks(list, alloc, taken)?;
             match other {
                 None => Ok(()),
-                Some(other) => push_blocks(list, other),
+                Some(other) => push_blocks(list, alloc, other),
             }
         }
         Statement::Case { arms, other, .. } => {
-            push_arms(list, arms)?;
+            push_arms(list, alloc, arms)?;
             match other {
                 None => Ok(()),
-                Some(other) => push_blocks(list, other),
+                Some(other) => push_blocks(list, alloc, other),
             }
         }
         Statement::Sequence { scope, parts, .. } => {
-            push_scope(list, scope)?;
-            push_sequence(list, parts)
+            push_scope(list, alloc, scope, parts)?;
+            push_sequence(list, alloc, parts)
         }
-        Statement::For { body, .. } => push_blocks(list, body),
+        Statement::For { body, .. } => push_blocks(list, alloc, body),
     }
 }
 
-/// What the named blocks of these statements declare.
+/// Those of these statements.
 #[cycle(blocks)]
-fn push_sequence<'a>(list: &mut Vec<Local<'a>>, parts: &'a [Statement]) -> Result<(), AllocError>
+fn push_sequence<'a>(
+    list: &mut Vec<Local<'a>>,
+    alloc: Global,
+    parts: &'a [Statement],
+) -> Result<(), AllocError>
     ensures { OnOk result (map local list.new.items ≡ map local list.old.items ++ spec.sequence_locals (view.statements parts.now)) }
 {
     for s in parts {
-        push_blocks(list, s)?;
+        push_blocks(list, alloc, s)?;
     }
     Ok(())
 }
 
-/// What the named blocks of the arms of a case declare.
+/// Those of the arms of a case.
 #[cycle(blocks)]
-fn push_arms<'a>(list: &mut Vec<Local<'a>>, arms: &'a [CaseArm]) -> Result<(), AllocError>
+fn push_arms<'a>(
+    list: &mut Vec<Local<'a>>,
+    alloc: Global,
+    arms: &'a [CaseArm],
+) -> Result<(), AllocError>
     ensures { OnOk result (map local list.new.items ≡ map local list.old.items ++ spec.arms_locals (view.arms arms.now)) }
 {
     for arm in arms {
-        push_blocks(list, &arm.statement)?;
+        push_blocks(list, alloc, &arm.statement)?;
     }
     Ok(())
 }
@@ -141,43 +222,23 @@ fn declared_locals<'a>(alloc: Global, f: &'a Function) -> Result<Vec<Local<'a>>,
     Ok(list)
 }
 
-/// Whether it declares an integer, which heads loops and is no local signal (4.8).
-fn is_integer(v: &Local<'_>) -> bool
-    ensures { result ≡ statements.is_integer (local v.now) }
+/// The variables of a function's own name space.
+fn push_own<'a>(list: &mut Vec<Local<'a>>, alloc: Global, f: &'a Function) -> Result<(), AllocError>
+    ensures { OnOk result (map local list.new.items ≡ map local list.old.items ++ spec.variables_of (is_variable_in (view.function f.now).statement) (flat_map statements.locals_of (view.function f.now).variables)) }
 {
-    matches!(v.value_type, ValueType::Integer)
-}
-
-/// One more, unless it is an integer.
-fn push_variable<'a>(list: &mut Vec<Local<'a>>, v: Local<'a>) -> Result<(), AllocError>
-    ensures { OnOk result (map local list.new.items ≡ (if statements.is_integer (local v.entry) then map local list.old.items else map local list.old.items ++ local v.entry ∷ [])) }
-{
-    if is_integer(&v) {
-        return Ok(());
-    }
-    list.push(v)?;
-    Ok(())
-}
-
-/// Those that are no integers.
-fn variables_of<'a>(alloc: Global, all: &[Local<'a>]) -> Result<Vec<Local<'a>>, AllocError>
-    ensures { IfOk result (λ list. map local list.items ≡ spec.variables_of (map local all.now)) }
-{
-    let mut list = Vec::new(alloc);
-    for v in all {
-        push_variable(&mut list, *v)?;
-    }
-    Ok(list)
+    let mut all = Vec::new(alloc);
+    push_declarations(&mut all, &f.variables)?;
+    push_used_in(list, all.as_slice(), &f.statement)
 }
 
 /// The variables of a function and of the named blocks in it.
 pub(crate) fn own_locals<'a>(alloc: Global, f: &'a Function) -> Result<Vec<Local<'a>>, AllocError>
     ensures { IfOk result (λ list. map local list.items ≡ spec.own_locals (view.function f.now)) }
 {
-    let mut all = Vec::new(alloc);
-    push_declarations(&mut all, &f.variables)?;
-    push_blocks(&mut all, &f.statement)?;
-    variables_of(alloc, all.as_slice())
+    let mut list = Vec::new(alloc);
+    push_own(&mut list, alloc, f)?;
+    push_blocks(&mut list, alloc, &f.statement)?;
+    Ok(list)
 }
 
 /// Where each name of a function's own is declared first, and the first declaration of a name that was declared before.

@@ -31,7 +31,9 @@ pub enum Sort<'a> {
     /// A function (10.4.1).
     Function(&'a Function),
     Genvar,
-    /// An integer (4.8).
+    /// An integer that is a variable (4.8).
+    Variable,
+    /// Another integer, which heads loops (9.6).
     Integer,
     /// An instance, or a named generate block.
     Scope,
@@ -46,8 +48,8 @@ pub struct Declaration<'a> {
 
 /// A signal of a scope (3.2, 3.3). `number` and `first` are the numbers of the signal and of its first bit in the design, `input` says whether
 /// it is an input of the top and `is_input` whether it is one of its own module, and `known` that no fault leaves its range undefined. A memory
-/// (4.9) has addresses in `words`, the greater bound on the left, at most 1,024; `range`, of at most 64 bits, is then that of each word. `place`
-/// is that of its first declaration.
+/// (4.9) has addresses in `words`, the greater bound on the left, at most 1,024; `range`, of at most 64 bits, is then that of each word. `integer`
+/// says that it is declared as an integer (4.8), and `place` is that of its first declaration.
 #[derive(Clone, Copy)]
 pub struct Signal<'a> {
     pub name: &'a [u8],
@@ -60,6 +62,7 @@ pub struct Signal<'a> {
     pub signed: bool,
     pub first: u64,
     pub words: Option<Range>,
+    pub integer: bool,
     pub is_input: bool,
     pub known: bool,
     ghost short: { ForSome range (λ r. range_length r ≤ 64) },
@@ -112,7 +115,7 @@ pub enum Declared<'a> {
     /// A function, with what a call needs to know of it once it is complete (10.4).
     Function(Option<FunctionShape>),
     Genvar,
-    /// An integer (4.8), and the number of the scope that declares it.
+    /// An integer that is no variable (4.8), and the number of the scope that declares it.
     Integer { scope: u32 },
     /// An instance or a named generate block.
     Scope,

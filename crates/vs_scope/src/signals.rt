@@ -1,19 +1,21 @@
 //! The signals of a scope, with their ranges and numbers (IEEE 1364-2005, 3.2, 3.3, 4.9 and 12.3.3).
 
-ghost use Rattle.std.specs.Prelude.{◌≡◌, ◌&&◌, ◌||◌, ◌∷◌, [], not, Bool, Option, IfOk, map, flat_map};
+ghost use Rattle.std.specs.Prelude.{◌≡◌, ◌≤◌, ◌&&◌, ◌||◌, ◌∷◌, [], not, Bool, Option, None, IfOk, IfSome, map, flat_map};
 ghost use Rattle.vs_design.specs.Expressions.{range_or_one, signal_length};
 ghost use Rattle.vs_design.specs.Elaborated.{same_range};
+ghost use Rattle.vs_four.specs.Selects.{range_length};
 ghost use Rattle.vs_grammar.specs.Trees as tree;
-ghost use Rattle.vs_grammar.specs.Shapes.{IsRange, Given};
+ghost use Rattle.vs_grammar.specs.Shapes.{IsValueType, Given};
 ghost use Rattle.vs_ast.specs.Views as view;
 ghost use Rattle.vs_const.specs.Faults.{least};
+ghost use Rattle.vs_elaborated.specs.Environments.{Env};
 ghost use Rattle.vs_elaborated.specs.Signals as spec;
 ghost use Rattle.vs_elaborated.specs.Parameters as parameters;
 ghost use Rattle.vs_scope.specs.Declares.{named_list};
 ghost use Rattle.vs_scope.specs.Frames.{view_env};
 ghost use Rattle.vs_scope.specs.Numbers.{IsSaidRange};
 ghost use Rattle.vs_scope.specs.Shaped.{IsShaped, AreShapedNames};
-ghost use Rattle.vs_scope.specs.Signalled.{start_of, signal_sort, second_faults, placed, placed_of, faults_of, start_after, IsSortOf, IsSaidSignal, IsSignalAt};
+ghost use Rattle.vs_scope.specs.Signalled.{start_of, form_kind, form_type, signal_sort, second_faults, placed, placed_of, faults_of, start_after, IsSortOf, IsSaidSignal, IsSignalAt};
 ghost use Rattle.vs_scope.specs.Views as scope;
 
 use crate::names::{Declaration, Entry, Names, Signal, Sort};
@@ -74,8 +76,8 @@ fn is_input_of(a: SignalKind, b: SignalKind) -> bool
     is_input(a) || is_input(b)
 }
 
-/// Whether one of two declarations of a signal says that it is signed.
-fn is_signed(a: bool, b: bool) -> bool
+/// Whether one of two declarations of a signal says so.
+fn is_said(a: bool, b: bool) -> bool
     ensures { result ≡ (a || b) }
 {
     a || b
@@ -86,6 +88,71 @@ fn is_input_of_top(is_input: bool, top: bool) -> bool
     ensures { result ≡ (is_input && top) }
 {
     is_input && top
+}
+
+/// What a declaration says of a signal, but for its addresses: one of signals, or that of an integer, which is a variable (4.8).
+#[derive(Clone, Copy)]
+pub(crate) enum Form<'a> {
+    Signals(&'a Signals),
+    Integer,
+}
+
+/// Its kind.
+fn kind_of(form: Form<'_>) -> SignalKind
+    ensures { view.signal_kind result ≡ form_kind form.entry }
+{
+    match form {
+        Form::Signals(signals) => signals.kind,
+        Form::Integer => SignalKind::Reg,
+    }
+}
+
+/// Whether it is signed, as an integer is.
+fn is_signed_form(form: Form<'_>) -> bool
+    ensures { result ≡ parameters.is_signed (form_type form.entry) }
+{
+    match form {
+        Form::Signals(signals) => signals.signed,
+        Form::Integer => true,
+    }
+}
+
+/// Whether it is that of an integer.
+fn is_integer(form: Form<'_>) -> bool
+    ensures { result ≡ parameters.is_integer_type (form_type form.entry) }
+{
+    match form {
+        Form::Signals(_) => false,
+        Form::Integer => true,
+    }
+}
+
+/// Its range: an integer has 32 bits.
+fn range_of(alloc: Global, form: Form<'_>, here: &View<'_, '_>) -> Result<SaidRange, AllocError>
+    requires { IsValueType (form_type form) }
+    ensures short { IfOk result (λ r. IfSome r.range (λ g. range_length g ≤ 64)) }
+    ensures is { IfOk result (λ r. IsSaidRange r (parameters.said_type (form_type form.entry) (view_env here.now))) }
+{
+    match form {
+        Form::Signals(signals) => said_range(alloc, &signals.range, here),
+        Form::Integer => Ok(SaidRange {
+            range: Some(Range { left: 31, right: 0 }),
+            known: true,
+            fault: None,
+        }),
+    }
+}
+
+/// The addresses of what is no memory.
+fn no_addresses() -> SaidRange
+    ensures none { result.range ≡ None }
+    ensures is { (env : Env) → IsSaidRange result (parameters.said_addresses None env) }
+{
+    SaidRange {
+        range: None,
+        known: true,
+        fault: None,
+    }
 }
 
 /// Whether two ranges are equal.
@@ -114,19 +181,16 @@ fn are_known(range: SaidRange, words: SaidRange) -> bool
 }
 
 /// The second declaration of a signal, or else the first one.
-fn second_of<'a>(signals: &'a Signals, second: Option<Declaration<'a>>) -> &'a Signals
-    ensures sort { (addresses : Option tree.RangeTree) (header : Bool) → IsSortOf result.now (spec.second_sort (signal_sort signals.now addresses header) (view.option scope.declaration second.entry)) }
-    ensures shaped { Given IsRange (view.option view.range signals.now.range) → Given IsShaped (view.option scope.declaration second.entry)
-        → Given IsRange (view.option view.range result.now.range) }
+fn second_of<'a>(form: Form<'a>, second: Option<Declaration<'a>>) -> Form<'a>
+    ensures sort { (addresses : Option tree.RangeTree) (header : Bool) → IsSortOf result (spec.second_sort (signal_sort form.entry addresses header) (view.option scope.declaration second.entry)) }
+    ensures shaped { IsValueType (form_type form.entry) → Given IsShaped (view.option scope.declaration second.entry) → IsValueType (form_type result) }
 {
     match second {
-        None => signals,
+        None => form,
         Some(d) => match d.sort {
-            Sort::Signal {
-                signals: others,
-                ..
-            } => others,
-            _ => signals,
+            Sort::Signal { signals, .. } => Form::Signals(signals),
+            Sort::Variable => Form::Integer,
+            _ => form,
         },
     }
 }
@@ -170,38 +234,41 @@ pub(crate) fn signal_length(s: &Signal<'_>) -> u64
     }
 }
 
-/// One signal, of its one or two declarations: a variable, an input, signed where one of them says so; a memory has one alone.
-pub(crate) fn said_signal<'a>(
+/// One signal, of its one or two declarations: a variable, an input, signed, an integer where one of them says so; a memory, with the addresses
+/// `words`, has one alone.
+fn said_signal<'a>(
     alloc: Global,
     here: &View<'_, 'a>,
     start: Start,
     first: Declaration<'a>,
     second: Option<Declaration<'a>>,
-    signals: &'a Signals,
-    addresses: &'a Option<vs_ast::Range>,
+    form: Form<'a>,
+    words: SaidRange,
 ) -> Result<SaidSignal<'a>, AllocError>
-    requires range { Given IsRange (view.option view.range signals.now.range) }
-    requires addresses { Given IsRange (view.option view.range addresses.now) }
+    requires form { IsValueType (form_type form) }
+    requires words { IfSome words.range (λ r. range_length r ≤ 1024) }
     requires second { Given IsShaped (view.option scope.declaration second) }
-    ensures { (header : Bool) → IfOk result (λ r. IsSaidSignal r (spec.said_signal (view_env here.now) (start_of start)
-        (record { first = scope.declaration first.entry; second = view.option scope.declaration second.entry }) (signal_sort signals.now (view.option view.range addresses.now) header))) }
+    ensures { (addresses : Option tree.RangeTree) (header : Bool) → IsSaidRange words (parameters.said_addresses addresses (view_env here.now)) → IfOk result (λ r. IsSaidSignal r (spec.said_signal (view_env here.now) (start_of start)
+        (record { first = scope.declaration first.entry; second = view.option scope.declaration second.entry }) (signal_sort form.entry addresses header))) }
 {
-    let other = second_of(signals, second);
-    let range = said_range(alloc, &signals.range, here)?;
-    let second_range = said_range(alloc, &other.range, here)?;
-    let words = said_addresses(alloc, addresses, here)?;
-    let is_input = is_input_of(signals.kind, other.kind);
+    let other = second_of(form, second);
+    let range = range_of(alloc, form, here)?;
+    let second_range = range_of(alloc, other, here)?;
+    let kind = kind_of(form);
+    let other_kind = kind_of(other);
+    let is_input = is_input_of(kind, other_kind);
     let signal = Signal {
         name: first.name.text.as_slice(),
         place: first.name.place,
         scope: start.scope,
         number: start.signal,
-        net: is_net(signals.kind, other.kind),
+        net: is_net(kind, other_kind),
         input: is_input_of_top(is_input, start.top),
         range: range.range,
-        signed: is_signed(signals.signed, other.signed),
+        signed: is_said(is_signed_form(form), is_signed_form(other)),
         first: start.bit,
         words: words.range,
+        integer: is_said(is_integer(form), is_integer(other)),
         is_input,
         known: are_known(range, words),
     };
@@ -237,7 +304,21 @@ fn signal_at<'a>(
             addresses,
             ..
         } => {
-            let one = said_signal(alloc, here, start, first, second, signals, addresses)?;
+            let words = said_addresses(alloc, addresses, here)?;
+            let one = said_signal(
+                alloc,
+                here,
+                start,
+                first,
+                second,
+                Form::Signals(signals),
+                words,
+            )?;
+            Ok(Some(one))
+        }
+        Sort::Variable => {
+            let none = no_addresses();
+            let one = said_signal(alloc, here, start, first, second, Form::Integer, none)?;
             Ok(Some(one))
         }
         _ => Ok(None),

@@ -166,7 +166,8 @@ found_few (t ∷ ss) zero s h i = same_ranges s.range t.range (ranges s t i) (an
   ranges : (s t : E.Signal) → same_signal s t ≡ true → same_range s.range t.range ≡ true
   ranges s t p =
       let one = same_name s.name t.name && (s.scope == t.scope) && (s.number == t.number) && same_flag s.net t.net && same_flag s.input t.input in
-      and_right one (same_range s.range t.range) (and_left (one && same_range s.range t.range) (same_flag s.signed t.signed) (and_left (one && same_range s.range t.range && same_flag s.signed t.signed) (s.first == t.first) (and_left (one && same_range s.range t.range && same_flag s.signed t.signed && (s.first == t.first)) (same_range s.words t.words) p)))
+      and_right one (same_range s.range t.range) (and_left (one && same_range s.range t.range) (same_flag s.signed t.signed) (and_left (one && same_range s.range t.range && same_flag s.signed t.signed) (s.first == t.first) (and_left (one && same_range s.range t.range && same_flag s.signed t.signed && (s.first == t.first)) (same_range s.words t.words)
+      (and_left (one && same_range s.range t.range && same_flag s.signed t.signed && (s.first == t.first) && same_range s.words t.words) (same_flag s.integer t.integer) p))))
 found_few (t ∷ ss) (suc k) s h i = found_few ss k s (and_right (is_lawful_range t.range) _ h) i
 
 -- a signal that an expression names is no memory, and has 1 to 64 bits

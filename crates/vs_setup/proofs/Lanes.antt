@@ -2,6 +2,7 @@
 use Rattle.std.proofs.Common.{◌≡◌, ℕ, ◌<◌, ◌≤◌, Bool, true, false, List, length, arith, IsTrue, sym, subst, ap, ◌∙◌}
 use Rattle.std.specs.Prelude.{sum}
 use Rattle.vs_desk.specs.Desk.{Contents}
+use Rattle.vs_design.specs.Clocks.{clock_bits}
 use Rattle.vs_design.specs.Designs.{Design}
 use Rattle.vs_net.specs.Solution.{beginning}
 use Rattle.vs_design.specs.Networks.{network_of}
@@ -75,23 +76,23 @@ have_next tells job old mid new a ports ks p t = record {
 -- ---- and the engine
 
 -- what is known of an engine that was made of a design's program: it runs no slot yet, and has in each of so many lanes the values before slot 0
-pub record IsMade {W : Type 0} (lane : W → ℕ → Bool) (lanes : ℕ) (d : Design) (clock : ℕ) (engine : Running W) : Type 0 where
-  pub program : IsProgramOf d clock engine.program
+pub record IsMade {W : Type 0} (lane : W → ℕ → Bool) (lanes : ℕ) (d : Design) (clocks : List ℕ) (engine : Running W) : Type 0 where
+  pub program : IsProgramOf d clocks engine.program
   pub begun : engine.begun ≡ false
-  pub begins : (i : ℕ) → i < lanes → state lane engine i ≡ beginning (network_of d clock)
+  pub begins : (i : ℕ) → i < lanes → state lane engine i ≡ beginning (network_of d clocks)
 
-pub made_same : {W : Type 0} (lane : W → ℕ → Bool) (lanes : ℕ) (d : Design) (clock : ℕ) (engine now : Running W) → now ≡ engine → IsMade lane lanes d clock engine → IsMade lane lanes d clock now
-made_same lane lanes d clock engine now is made = subst (λ (e : Running _). IsMade lane lanes d clock e) (sym is) made
+pub made_same : {W : Type 0} (lane : W → ℕ → Bool) (lanes : ℕ) (d : Design) (clocks : List ℕ) (engine now : Running W) → now ≡ engine → IsMade lane lanes d clocks engine → IsMade lane lanes d clocks now
+made_same lane lanes d clocks engine now is made = subst (λ (e : Running _). IsMade lane lanes d clocks e) (sym is) made
 
 -- the stimuli were opened, and this is an engine of the design, which has a lane for each of them
 pub record HasEngine {W : Type 0} (lane : W → ℕ → Bool) (lanes : ℕ) (tells : Bool) (job : Job) (old mid new : Contents) (a : Acceptance) (ports : PortLists) (engine : Running W) (ks : List Known) : Type 0 where
   pub behind : HasLanes tells job old mid new a ports ks
-  pub made : IsMade lane lanes (design_of a.flat) a.clocks.bit engine
+  pub made : IsMade lane lanes (design_of a.flat) a.clocks.bits engine
   pub few : length ks ≤ lanes
 
 pub program_is : {W : Type 0} (lane : W → ℕ → Bool) (lanes : ℕ) (tells : Bool) (job : Job) (old mid new : Contents) (a : Acceptance) (ports : PortLists) (engine : Running W) (ks : List Known)
-    → (p : HasEngine lane lanes tells job old mid new a ports engine ks) → IsProgramOf (design_of a.flat) p.behind.loaded.loaded.accepted.accepted.clock.first engine.program
-program_is lane lanes tells job old mid new a ports engine ks p = subst (λ n. IsProgramOf (design_of a.flat) n engine.program) (sym p.behind.loaded.loaded.bit_is) p.made.program
+    → (p : HasEngine lane lanes tells job old mid new a ports engine ks) → IsProgramOf (design_of a.flat) (clock_bits p.behind.loaded.loaded.accepted.accepted.clocks) engine.program
+program_is lane lanes tells job old mid new a ports engine ks p = subst (λ n. IsProgramOf (design_of a.flat) n engine.program) (sym p.behind.loaded.loaded.bits_are) p.made.program
 
 -- a vector has a bit for each that the engine is fed
 pub bits_are : {W : Type 0} (lane : W → ℕ → Bool) (lanes : ℕ) (tells : Bool) (job : Job) (old mid new : Contents) (a : Acceptance) (ports : PortLists) (engine : Running W) (ks : List Known)
@@ -100,13 +101,13 @@ bits_are lane lanes tells job old mid new a ports engine ks p = record {
   each = λ i h. ap (λ ns. sum ns) (p.behind.opened.each i h).sizes ∙ p.behind.loaded.loaded.bits ∙ ap length (sym ends.inputs);
 }
   where
-    ends : IsProgramOf (design_of a.flat) p.behind.loaded.loaded.accepted.accepted.clock.first engine.program
+    ends : IsProgramOf (design_of a.flat) (clock_bits p.behind.loaded.loaded.accepted.accepted.clocks) engine.program
     ends = program_is lane lanes tells job old mid new a ports engine ks p
 
 -- the engine has the values before slot 0 in each lane
 pub begins_is : {W : Type 0} (lane : W → ℕ → Bool) (lanes : ℕ) (tells : Bool) (job : Job) (old mid new : Contents) (a : Acceptance) (ports : PortLists) (engine : Running W) (ks : List Known)
-    → (p : HasEngine lane lanes tells job old mid new a ports engine ks) → (i : ℕ) → i < length ks → state lane engine i ≡ beginning (network_of (design_of a.flat) p.behind.loaded.loaded.accepted.accepted.clock.first)
+    → (p : HasEngine lane lanes tells job old mid new a ports engine ks) → (i : ℕ) → i < length ks → state lane engine i ≡ beginning (network_of (design_of a.flat) (clock_bits p.behind.loaded.loaded.accepted.accepted.clocks))
 begins_is lane lanes tells job old mid new a ports engine ks p i h =
     let few = p.few in
     let below : i < lanes = omega (arith, h, few) in
-    p.made.begins i below ∙ ap (λ n. beginning (network_of (design_of a.flat) n)) (sym p.behind.loaded.loaded.bit_is)
+    p.made.begins i below ∙ ap (λ n. beginning (network_of (design_of a.flat) n)) (sym p.behind.loaded.loaded.bits_are)

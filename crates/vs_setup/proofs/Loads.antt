@@ -1,78 +1,80 @@
 -- What is loaded of a text, put together.
 use Rattle.std.proofs.Common.{◌≡◌, ℕ, Bool, Some, List, sym, subst, ap, ◌∙◌, All, Option}
+use Rattle.vs_design.specs.Clocks.{clock_bits}
 use Rattle.vs_design.specs.Expressions.{Signal}
 use Rattle.vs_design.specs.Designs.{Design}
 use Rattle.vs_design.specs.Accepted.{IsAcceptedDesign}
 use Rattle.vs_flat.specs.DesignOf.{design_of}
-use Rattle.vs_clock.specs.Clocked.{Clocked, IsClockOf}
+use Rattle.vs_clock.specs.Clocked.{Clocked, AreClocksOf}
 use Rattle.vs_stim.specs.Header.{PortLists, IsInput, IsOutput}
 use Rattle.vs_accept.specs.Lent.{Acceptance, IsAcceptance}
 use Rattle.vs_grammar.specs.Trees.{Source}
-use Rattle.vs_accept.specs.Accepted.{IsAcceptedText}
+use Rattle.vs_accept.specs.Accepted.{IsAcceptedText, told_size}
 use Rattle.vs_accept.specs.Outputs.{top_outputs, HaveOutputs, OneReading}
 use Rattle.vs_rounds.specs.Inputs.{inputs_among, data_inputs, outputs_among, outputs, InputBitsFit}
 use Rattle.vs_setup.specs.Ports.{ports_with}
 use Rattle.vs_setup.specs.Loaded.{IsLoaded}
 use Rattle.vs_setup.proofs.Signals.{are_inputs, are_outputs}
 
-some_is : (x y : Signal) → Some x ≡ Some y → x ≡ y
+some_is : (x y : List Signal) → Some x ≡ Some y → x ≡ y
 some_is x y e = cc
 
--- what is told of the clock is told of the signal by which the design is accepted
-pub clock_first : (d : Design) (name : Option (List ℕ)) (c : Clocked) (a : IsAcceptedDesign d name) → IsClockOf d name c → a.clock.first ≡ c.bit
-clock_first d name c a h = ap (λ (s : Signal). s.first) (some_is a.clock h.signal (sym a.clock_found ∙ h.is)) ∙ sym h.bit_is
+-- what is told of the clocks is told of the signals by which the design is accepted
+pub clocks_told : (d : Design) (names : List (List ℕ)) (c : Clocked) (a : IsAcceptedDesign d names) → AreClocksOf d names c → clock_bits a.clocks ≡ c.bits
+clocks_told d names c a h = ap clock_bits (some_is a.clocks h.signals (sym a.clocks_found ∙ h.are)) ∙ sym h.bits_are
 
 -- the outputs of a text that was read are those of its tree
-outputs_named : OneReading → {text : List ℕ} {top clock : Option (List ℕ)} {d : Design} (accepted : IsAcceptedText text top clock d) (a : Acceptance) → HaveOutputs text top a → a.outputs ≡ top_outputs accepted.source top
+outputs_named : OneReading → {text : List ℕ} {top : Option (List ℕ)} {clocks : List (List ℕ)} {d : Design} (accepted : IsAcceptedText text top clocks d) (a : Acceptance) → HaveOutputs text top a → a.outputs ≡ top_outputs accepted.source top
 outputs_named one {text = text} {top = top} accepted a h =
     h.outputs_are ∙ ap (λ (s : Source). top_outputs s top) (one text h.tokens accepted.tokens h.source accepted.source h.read accepted.read)
 
 -- the ports of an accepted text
-pub ports_named : (demanded : Bool) (text : List ℕ) (top clock : Option (List ℕ)) (a : Acceptance) (ports : PortLists) → OneReading → (accepted : IsAcceptedText text top clock (design_of a.flat))
-    → HaveOutputs text top a → IsAcceptance clock a → ports.inputs ≡ inputs_among a.clocks.reset_inputs a.clocks.bit (design_of a.flat).signals
+pub ports_named : (demanded : Bool) (text : List ℕ) (top : Option (List ℕ)) (clocks : List (List ℕ)) (a : Acceptance) (ports : PortLists) → OneReading → (accepted : IsAcceptedText text top clocks (design_of a.flat))
+    → HaveOutputs text top a → IsAcceptance clocks a → ports.inputs ≡ inputs_among a.clocks.reset_inputs a.clocks.bits (design_of a.flat).signals
     → ports.outputs ≡ outputs_among a.outputs (design_of a.flat).signals → ports.demanded ≡ demanded → ports ≡ ports_with demanded accepted
-ports_named demanded text top clock a ports one accepted have lent inputs_are outputs_are demanded_is = λ i. record { inputs = named i; outputs = outputs_is i; demanded = demanded_is i }
+ports_named demanded text top clocks a ports one accepted have lent inputs_are outputs_are demanded_is = λ i. record { inputs = named i; outputs = outputs_is i; demanded = demanded_is i }
   where
     d : Design
     d = design_of a.flat
 
-    bit : ℕ
-    bit = a.clocks.bit
+    clocks_are : List ℕ
+    clocks_are = a.clocks.bits
 
-    named : ports.inputs ≡ data_inputs d accepted.accepted.clock.first
+    named : ports.inputs ≡ data_inputs d (clock_bits accepted.accepted.clocks)
     named =
         inputs_are
-        ∙ ap (λ (bits : List ℕ). inputs_among bits bit d.signals) lent.resets_are.inputs
-        ∙ ap (data_inputs d) (sym (clock_first d clock a.clocks accepted.accepted lent.clock_is))
+        ∙ ap (λ (resets : List ℕ). inputs_among resets clocks_are d.signals) lent.resets_are.inputs
+        ∙ ap (data_inputs d) (sym (clocks_told d clocks a.clocks accepted.accepted lent.clocks_are))
 
     outputs_is : ports.outputs ≡ outputs d (top_outputs accepted.source top)
     outputs_is = outputs_are ∙ ap (λ (names : List (List ℕ)). outputs_among names d.signals) (outputs_named one accepted a have)
 
-pub loaded : (demanded : Bool) (text : List ℕ) (top clock : Option (List ℕ)) (a : Acceptance) (ports : PortLists)
-    → InputBitsFit → OneReading → IsAcceptedText text top clock (design_of a.flat) → HaveOutputs text top a → IsAcceptance clock a
-    → ports.inputs ≡ inputs_among a.clocks.reset_inputs a.clocks.bit (design_of a.flat).signals → ports.outputs ≡ outputs_among a.outputs (design_of a.flat).signals
-    → ports.demanded ≡ demanded → IsLoaded demanded text top clock a ports
-loaded demanded text top clock a ports fit one accepted have lent inputs_are outputs_are demanded_is = record {
+pub loaded : (demanded : Bool) (text : List ℕ) (top : Option (List ℕ)) (clocks : List (List ℕ)) (a : Acceptance) (ports : PortLists)
+    → InputBitsFit → OneReading → (accepted : IsAcceptedText text top clocks (design_of a.flat)) → a.size ≡ told_size accepted.written → HaveOutputs text top a → IsAcceptance clocks a
+    → ports.inputs ≡ inputs_among a.clocks.reset_inputs a.clocks.bits (design_of a.flat).signals → ports.outputs ≡ outputs_among a.outputs (design_of a.flat).signals
+    → ports.demanded ≡ demanded → IsLoaded demanded text top clocks a ports
+loaded demanded text top clocks a ports fit one accepted size_is have lent inputs_are outputs_are demanded_is = record {
   accepted = accepted;
+  size_is = size_is;
   lent = lent;
-  bit_is = clock_first d clock a.clocks accepted.accepted lent.clock_is;
+  bits_are = clocks_told d clocks a.clocks accepted.accepted lent.clocks_are;
   ports_are = ports_is;
   names_are = outputs_named one accepted a have;
   are_ports = record { inputs = each; outputs = each_output };
-  bits = fit d clock accepted.accepted ports.inputs (record { each = each; inputs_are = named });
+  bits = fit d clocks accepted.accepted ports.inputs (record { each = each; inputs_are = named });
 }
   where
     d : Design
     d = design_of a.flat
 
     ports_is : ports ≡ ports_with demanded accepted
-    ports_is = ports_named demanded text top clock a ports one accepted have lent inputs_are outputs_are demanded_is
+    ports_is = ports_named demanded text top clocks a ports one accepted have lent inputs_are outputs_are demanded_is
 
-    named : ports.inputs ≡ data_inputs d accepted.accepted.clock.first
+    named : ports.inputs ≡ data_inputs d (clock_bits accepted.accepted.clocks)
     named = ap (λ (p : PortLists). p.inputs) ports_is
 
     each : All IsInput ports.inputs
-    each = subst (All IsInput) (sym inputs_are) (are_inputs a.clocks.reset_inputs a.flat a.clocks.bit lent.lawful)
+    each = subst (All IsInput) (sym inputs_are) (are_inputs a.clocks.reset_inputs a.flat a.clocks.bits lent.lawful)
 
     each_output : All IsOutput ports.outputs
     each_output = subst (All IsOutput) (sym outputs_are) (are_outputs a.outputs a.flat lent.lawful)

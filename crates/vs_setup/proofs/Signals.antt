@@ -13,7 +13,7 @@ use Rattle.vs_design.specs.Expressions.{Signal, range_or_one, words_length, sign
 use Rattle.vs_design.specs.Designs.{Design, bit_count}
 use Rattle.vs_design.specs.Elaborated.{is_lawful_range, is_declared, are_lawful_words, is_lawful_memory, have_bits_from, IsLawfulDesign}
 use Rattle.vs_design.specs.Clocks.{same_name}
-use Rattle.vs_design.specs.Footprints.{is_memory, is_variable}
+use Rattle.vs_design.specs.Footprints.{is_memory, is_variable, contains}
 use Rattle.vs_flat.specs.declared.processes.Signal as F
 use Rattle.vs_flat.specs.Arena.{Arena}
 use Rattle.vs_flat.specs.Trees.{signal_of, signals_from}
@@ -102,30 +102,30 @@ pub record HasFew (s : Signal) : Type 0 where
   pub some : 1 ≤ signal_length s
   pub at_most_64 : signal_length s ≤ 64
 
-has_few : (d : Design) (clock : ℕ) (s : Signal) → is_declared d s ≡ true → is_lawful_memory s ≡ true → is_data_input clock s ≡ true → HasFew s
-has_few d clock s declared memory input =
-    let long = plain_input s memory (and_parts s.input (not (s.first == clock)) input).0 in
+has_few : (d : Design) (clocks : List ℕ) (s : Signal) → is_declared d s ≡ true → is_lawful_memory s ≡ true → is_data_input clocks s ≡ true → HasFew s
+has_few d clocks s declared memory input =
+    let long = plain_input s memory (and_parts s.input (not (contains clocks s.first)) input).0 in
     record { some = omega (arith, long, one_or_more s.range); at_most_64 = omega (arith, long, few_bits d s declared) }
 
-pub few_bits_at : (a : Arena) (clock : ℕ) → IsLawful a → (n : ℕ) (s : F.Signal) → slice_get a.signals n ≡ Some s → is_data_input clock (signal_of n s) ≡ true → HasFew (signal_of n s)
-few_bits_at a clock lawful n s e input =
+pub few_bits_at : (a : Arena) (clocks : List ℕ) → IsLawful a → (n : ℕ) (s : F.Signal) → slice_get a.signals n ≡ Some s → is_data_input clocks (signal_of n s) ≡ true → HasFew (signal_of n s)
+few_bits_at a clocks lawful n s e input =
     let here = signal_there a n s e in
-    has_few (design_of a) clock (signal_of n s) (all_at (is_declared (design_of a)) (arena_signals a) n (signal_of n s) lawful.design.declared here) (all_at is_lawful_memory (arena_signals a) n (signal_of n s) lawful.design.memories here) input
+    has_few (design_of a) clocks (signal_of n s) (all_at (is_declared (design_of a)) (arena_signals a) n (signal_of n s) lawful.design.declared here) (all_at is_lawful_memory (arena_signals a) n (signal_of n s) lawful.design.memories here) input
 
-inputs_of : (d : Design) (resets : List ℕ) (clock : ℕ) (ss : List Signal) → list_all (is_declared d) ss ≡ true → list_all is_lawful_memory ss ≡ true → All IsInput (inputs_among resets clock ss)
-inputs_of d resets clock [] h m = All-nil IsInput
-inputs_of d resets clock (s ∷ ss) h m =
+inputs_of : (d : Design) (resets : List ℕ) (clocks : List ℕ) (ss : List Signal) → list_all (is_declared d) ss ≡ true → list_all is_lawful_memory ss ≡ true → All IsInput (inputs_among resets clocks ss)
+inputs_of d resets clocks [] h m = All-nil IsInput
+inputs_of d resets clocks (s ∷ ss) h m =
     let declared = and_parts (is_declared d s) (list_all (is_declared d) ss) h in
     let memories = and_parts (is_lawful_memory s) (list_all is_lawful_memory ss) m in
-    here (is_data_input clock s) (λ input. has_few d clock s declared.0 memories.0 input) (inputs_of d resets clock ss declared.1 memories.1)
+    here (is_data_input clocks s) (λ input. has_few d clocks s declared.0 memories.0 input) (inputs_of d resets clocks ss declared.1 memories.1)
   where
-    here : (c : Bool) → (c ≡ true → HasFew s) → All IsInput (inputs_among resets clock ss)
-        → All IsInput (map (input_of resets) (if c then (s ∷ filter (is_data_input clock) ss) else filter (is_data_input clock) ss))
-    here true few others = All-cons IsInput (input_of resets s) (inputs_among resets clock ss) (record { some = (few refl).some; at_most_64 = (few refl).at_most_64 }) others
+    here : (c : Bool) → (c ≡ true → HasFew s) → All IsInput (inputs_among resets clocks ss)
+        → All IsInput (map (input_of resets) (if c then (s ∷ filter (is_data_input clocks) ss) else filter (is_data_input clocks) ss))
+    here true few others = All-cons IsInput (input_of resets s) (inputs_among resets clocks ss) (record { some = (few refl).some; at_most_64 = (few refl).at_most_64 }) others
     here false few others = others
 
-pub are_inputs : (resets : List ℕ) (a : Arena) (clock : ℕ) → IsLawful a → All IsInput (inputs_among resets clock (design_of a).signals)
-are_inputs resets a clock lawful = inputs_of (design_of a) resets clock (design_of a).signals lawful.design.declared lawful.design.memories
+pub are_inputs : (resets : List ℕ) (a : Arena) (clocks : List ℕ) → IsLawful a → All IsInput (inputs_among resets clocks (design_of a).signals)
+are_inputs resets a clocks lawful = inputs_of (design_of a) resets clocks (design_of a).signals lawful.design.declared lawful.design.memories
 
 -- ---- the signals in order
 

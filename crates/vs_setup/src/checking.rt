@@ -1,9 +1,7 @@
 //! The set-up of a check.
 
-ghost use Rattle.std.specs.Prelude.{◌≡◌, ◌≤◌, ℕ, None, IsTrue, IfOk, IfErr, length};
-ghost use Rattle.vs_flat.specs.DesignOf.{design_of};
+ghost use Rattle.std.specs.Prelude.{◌≡◌, ◌≤◌, ℕ, None, IsTrue, IfOk, IfErr, length, List};
 ghost use Rattle.vs_design.specs.Designs.{Design};
-ghost use Rattle.vs_design.specs.Sizes.{size as size_of};
 ghost use Rattle.vs_misses.specs.Watch.{AllFit, found_at};
 ghost use Rattle.vs_rounds.specs.Checked.{AreCheckParts, IsCheckable};
 ghost use Rattle.vs_job.specs.Job.{IsJob};
@@ -29,7 +27,7 @@ use vs_rounds::{Checker, outputs_law};
 pub struct PreparedCheck<W: Lanes> {
     /// The stimuli, the engine, and what is found of the outputs.
     pub checker: Checker<W>,
-    /// The size of the design.
+    /// The size that is told of the design.
     pub size: u64,
 }
 
@@ -65,13 +63,13 @@ fn assemble_check<W: Lanes>(
     ensures engine { IfOk result (λ p. p.checker.engine ≡ engine) }
     ensures outputs { IfOk result (λ p. p.checker.misses.outputs ≡ watched opened.accepted) }
     ensures none { IfOk result (λ p. (i : ℕ) → found_at p.checker.misses.found i ≡ None) }
-    ensures ready { (d : Design) (clock : ℕ) → AreCheckParts d clock opened.drive engine.program (watched opened.accepted)
+    ensures ready { (d : Design) (clocks : List ℕ) → AreCheckParts d clocks opened.drive engine.program (watched opened.accepted)
         → IfOk result (λ p. IsCheckable p.checker) }
-    ensures size { IfOk result (λ p. p.size ≡ size_of (design_of opened.accepted.flat)) }
+    ensures size { IfOk result (λ p. p.size ≡ opened.accepted.size) }
 {
     let accepted = &opened.accepted;
     let typed = accepted.typed();
-    let size = typed.size();
+    let size = accepted.size();
     let outputs = output_spans(alloc, typed.flat(), accepted.outputs())?;
     let Opened { drive, .. } = opened;
     let checker = Checker::new(alloc, drive, engine, outputs)?;

@@ -18,31 +18,31 @@ use vs_flat::{Flat, Signal, bits_of};
 use vs_program::Span;
 use vs_stim::{Input, Name, Output};
 
-/// The data inputs of a design whose clock and whose reset inputs are these bits, in order of declaration.
+/// The data inputs of a design whose clocks and whose reset inputs are these bits, in order of declaration.
 pub(crate) fn data_inputs(
     alloc: Global,
     flat: &Flat,
-    clock: u32,
+    clocks: &[u32],
     resets: &[u32],
 ) -> Result<Vec<Input>, AllocError>
     requires { IsLawful flat.now }
-    ensures { IfOk result (λ inputs. inputs.items ≡ inputs_among resets.now clock (design_of flat.now).signals) }
+    ensures { IfOk result (λ inputs. inputs.items ≡ inputs_among resets.now clocks.now (design_of flat.now).signals) }
 {
     let mut inputs = Vec::new(alloc);
     for n in 0..flat.signal_count() {
         let signal = flat.signal(n);
-        if is_data_input(signal, clock) {
+        if is_data_input(signal, clocks) {
             inputs.push(input_of(alloc, signal, resets)?)?;
         }
     }
     Ok(inputs)
 }
 
-/// Whether a signal is an input of the top whose bit isn't the clock's.
-fn is_data_input(signal: &Signal, clock: u32) -> bool
-    ensures { (n : ℕ) → result ≡ is_data_input clock (signal_of n signal.now) }
+/// Whether a signal is an input of the top whose bit isn't a clock's.
+fn is_data_input(signal: &Signal, clocks: &[u32]) -> bool
+    ensures { (n : ℕ) → result ≡ is_data_input clocks.now (signal_of n signal.now) }
 {
-    signal.input && signal.first_bit != clock
+    signal.input && !contains(clocks, signal.first_bit)
 }
 
 /// A signal's name and length, and whether it is a reset input.

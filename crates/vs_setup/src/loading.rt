@@ -1,6 +1,6 @@
 //! The loading of a design text, and the engine of what is loaded.
 
-ghost use Rattle.std.specs.Prelude.{◌≡◌, ◌<◌, ◌≤◌, ℕ, false, true, IfOk, IfErr, length, option_map};
+ghost use Rattle.std.specs.Prelude.{◌≡◌, ◌<◌, ◌≤◌, ℕ, false, true, IfOk, IfErr, length, option_map, map};
 ghost use Rattle.vs_design.specs.Levels.{is_level_order};
 ghost use Rattle.vs_net.specs.Solution.{beginning};
 ghost use Rattle.vs_design.specs.Networks.{network_of};
@@ -30,11 +30,11 @@ use vs_stim::Ports;
 pub struct Loaded {
     /// The design.
     pub accepted: Accepted,
-    /// The inputs of the top but the clock, if there is one, and its outputs, in order of declaration.
+    /// The inputs of the top but the clocks, if there are any, and its outputs, in order of declaration.
     pub ports: Ports,
 }
 
-/// Loads the design of a text of at most 4,194,304 bytes whose top module and whose clock input have these names; where no top is named it is the one module that no instance names,
+/// Loads the design of a text of at most 4,194,304 bytes whose top module and whose clock inputs have these names; where no top is named it is the one module that no instance names,
 /// and where no clock is named there is none.
 /// Where outputs are demanded, the header of a stimulus has to name one at least.
 /// Otherwise the text is refused, by the first rule that it breaks, or there is no memory.
@@ -42,16 +42,16 @@ pub fn load(
     alloc: Global,
     text: &[u8],
     top: Option<&[u8]>,
-    clock: Option<&[u8]>,
+    clocks: &[&[u8]],
     demanded: bool,
 ) -> Result<Loaded, AcceptError>
     requires { length text.now ≤ most_bytes }
-    ensures loaded { IfOk result (λ l. IsLoaded demanded text.now (option_map (λ t. t.now) top.entry) (option_map (λ c. c.now) clock.entry) l.accepted l.ports) }
-    ensures refused { IfErr result (IsRefusalOf text.now (option_map (λ t. t.now) top.entry) (option_map (λ c. c.now) clock.entry)) }
+    ensures loaded { IfOk result (λ l. IsLoaded demanded text.now (option_map (λ t. t.now) top.entry) (map (λ c. c.now) clocks.now) l.accepted l.ports) }
+    ensures refused { IfErr result (IsRefusalOf text.now (option_map (λ t. t.now) top.entry) (map (λ c. c.now) clocks.now)) }
 {
     inputs_law();
     answer_law();
-    let accepted = accept(alloc, text, top, clock)?;
+    let accepted = accept(alloc, text, top, clocks)?;
     let ports = ports_of(alloc, &accepted, demanded)?;
     Ok(Loaded { accepted, ports })
 }
@@ -63,9 +63,9 @@ pub fn engine_of<W: Lanes>(alloc: Global, accepted: &Accepted) -> Result<Engine<
     requires footprints { accepted.now.footprints ≡ footprints_of (design_of accepted.now.flat) }
     requires resets { AreResets accepted.now.flat accepted.now.clocks }
     requires order { is_level_order (design_of accepted.now.flat) accepted.now.order ≡ true }
-    ensures program { IfOk result (λ e. IsProgramOf (design_of accepted.now.flat) accepted.now.clocks.bit e.program) }
+    ensures program { IfOk result (λ e. IsProgramOf (design_of accepted.now.flat) accepted.now.clocks.bits e.program) }
     ensures begun { IfOk result (λ e. e.begun ≡ false) }
-    ensures begins { IfOk result (λ e. (i : ℕ) → i < W.LANES → state W.lane e i ≡ beginning (network_of (design_of accepted.now.flat) accepted.now.clocks.bit)) }
+    ensures begins { IfOk result (λ e. (i : ℕ) → i < W.LANES → state W.lane e i ≡ beginning (network_of (design_of accepted.now.flat) accepted.now.clocks.bits)) }
 {
     let compiled = compile(
         alloc,
@@ -79,32 +79,32 @@ pub fn engine_of<W: Lanes>(alloc: Global, accepted: &Accepted) -> Result<Engine<
 
 /// What stimuli name of an accepted design.
 fn ports_of(alloc: Global, accepted: &Accepted, demanded: bool) -> Result<Ports, AllocError>
-    ensures inputs { IfOk result (λ p. p.inputs ≡ inputs_among accepted.now.clocks.reset_inputs accepted.now.clocks.bit (design_of accepted.now.flat).signals) }
+    ensures inputs { IfOk result (λ p. p.inputs ≡ inputs_among accepted.now.clocks.reset_inputs accepted.now.clocks.bits (design_of accepted.now.flat).signals) }
     ensures outputs { IfOk result (λ p. p.outputs ≡ outputs_among accepted.now.outputs (design_of accepted.now.flat).signals) }
     ensures demanded { IfOk result (λ p. p.demanded ≡ demanded) }
 {
     let flat = accepted.typed().flat();
     let clocks = accepted.clocks();
-    let inputs = data_inputs(alloc, flat, clocks.bit(), clocks.reset_inputs())?;
+    let inputs = data_inputs(alloc, flat, clocks.bits(), clocks.reset_inputs())?;
     let outputs = outputs_of(alloc, flat, accepted.outputs())?;
     Ok(Ports::of(inputs, outputs, demanded))
 }
 
-/// The data inputs and the outputs of the design of a text of at most 4,194,304 bytes whose top module and whose clock input have these names, as stimuli name them: with the text
+/// The data inputs and the outputs of the design of a text of at most 4,194,304 bytes whose top module and whose clock inputs have these names, as stimuli name them: with the text
 /// accepted, and nothing compiled. Where no top is named it is the one module that no instance names, and where no clock is named there is none. Where outputs are demanded, the
 /// header of a stimulus has to name one at least. None where the text is refused. The only error is that memory ran out.
 pub fn read_ports(
     alloc: Global,
     text: &[u8],
     top: Option<&[u8]>,
-    clock: Option<&[u8]>,
+    clocks: &[&[u8]],
     demanded: bool,
 ) -> Result<Option<Ports>, AllocError>
     requires { length text.now ≤ most_bytes }
-    ensures { IfOk result (TellsPorts demanded text.now (option_map (λ t. t.now) top.entry) (option_map (λ c. c.now) clock.entry)) }
+    ensures { IfOk result (TellsPorts demanded text.now (option_map (λ t. t.now) top.entry) (map (λ c. c.now) clocks.now)) }
 {
     answer_law();
-    match accept(alloc, text, top, clock) {
+    match accept(alloc, text, top, clocks) {
         Ok(accepted) => Ok(Some(ports_of(alloc, &accepted, demanded)?)),
         Err(AcceptError::Refused(_)) => Ok(None),
         Err(AcceptError::Memory) => Err(AllocError),

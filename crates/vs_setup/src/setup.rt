@@ -4,7 +4,6 @@ ghost use Rattle.std.specs.Prelude.{◌≡◌, ◌≤◌, ◌<◌, All, IsTrue, 
 ghost use Rattle.vs_desk.specs.Places.{most_lanes, most_others};
 ghost use Rattle.vs_flat.specs.DesignOf.{design_of};
 ghost use Rattle.vs_accept.specs.Accepted.{most_bytes};
-ghost use Rattle.vs_design.specs.Sizes.{size as size_of};
 ghost use Rattle.vs_setup.specs.Loaded.{IsLoaded};
 ghost use Rattle.vs_setup.specs.Ports.{demands};
 ghost use Rattle.vs_stim.specs.Header.{ArePorts};
@@ -37,7 +36,7 @@ use vs_waves::Waves;
 pub struct Prepared<W: Lanes> {
     /// The stimuli, the waveforms and the engine.
     pub machine: Machine<W>,
-    /// The size of the design.
+    /// The size that is told of the design.
     pub size: u64,
     /// The paths of the waveforms, by lane.
     pub wave_paths: Vec<String>,
@@ -48,7 +47,7 @@ pub struct Prepared<W: Lanes> {
 pub struct Opened {
     /// The design.
     pub accepted: Accepted,
-    /// The inputs of the top but the clock, if there is one, and its outputs, in order of declaration.
+    /// The inputs of the top but the clocks, if there are any, and its outputs, in order of declaration.
     pub ports: Ports,
     /// The stimuli by lane, each about to give its first vector.
     pub drive: Drive,
@@ -114,11 +113,12 @@ fn read_and_load<D: Desk>(alloc: Global, job: &Job, desk: &mut D) -> Result<Load
 fn load_text(alloc: Global, job: &Job, text: &[u8]) -> Result<Loaded, SetupError>
     requires text { length text.now ≤ most_bytes }
     requires head { length job.now.head ≤ most_head }
-    ensures loaded { IfOk result (λ l. IsLoaded (demands job.now.mode) text.now job.now.top job.now.clock l.accepted l.ports) }
-    ensures refused { IfErr result (IsLoadError (length job.now.head) text.now job.now.top job.now.clock) }
+    ensures loaded { IfOk result (λ l. IsLoaded (demands job.now.mode) text.now job.now.top job.now.clocks l.accepted l.ports) }
+    ensures refused { IfErr result (IsLoadError (length job.now.head) text.now job.now.top job.now.clocks) }
 {
     let demanded = demands(job.mode);
-    match load(alloc, text, job.top_bytes(), job.clock_bytes(), demanded) {
+    let names = job.clock_names(alloc)?;
+    match load(alloc, text, job.top_bytes(), names.as_slice(), demanded) {
         Ok(loaded) => Ok(loaded),
         Err(error) => Err(SetupError::unaccepted(error, job.head.as_bytes().len() as u32)),
     }
@@ -187,11 +187,11 @@ fn assemble<W: Lanes>(
     ensures engine { IfOk result (λ p. p.machine.engine ≡ engine) }
     ensures lanes { IfOk result (λ p. length p.machine.waves ≡ length opened.drive) }
     ensures waves { IfOk result (λ p. All (IsNewWave job.now.share (design_of opened.accepted.flat) job.now.half) p.machine.waves) }
-    ensures size { IfOk result (λ p. p.size ≡ size_of (design_of opened.accepted.flat)) }
+    ensures size { IfOk result (λ p. p.size ≡ opened.accepted.size) }
     ensures paths { IfOk result (λ p. map string_bytes p.wave_paths.items ≡ map vcd_path job.now.stimuli) }
 {
     let typed = opened.accepted.typed();
-    let size = typed.size();
+    let size = opened.accepted.size();
     let half = job.half as u64;
     let waves = Waves::new(alloc, typed.flat(), half, opened.drive.lanes(), job.share)?;
     let Opened { drive, .. } = opened;

@@ -52,6 +52,13 @@ impl Shapes {
         }
     }
 
+    /// The flat design alone.
+    pub fn into_flat(self) -> Flat
+        ensures { result ≡ self }
+    {
+        self.flat
+    }
+
     /// Notes the shapes of expressions up to this many, so that each is found in one step from then on. Want of memory leaves the design as it was.
     pub fn note(&mut self, count: u32) -> Result<(), AllocError>
         requires { count ≤ length self.old.nodes }

@@ -1,6 +1,7 @@
 -- How the rounds of a check end.
 use Rattle.std.proofs.Common.{◌≡◌, ℕ, ◌+◌, ◌*◌, ◌<◌, ◌≤◌, Bool, false, List, ◌++◌, length, IsTrue, Option, Some, refl, sym, ap, ◌∙◌, subst, arith}
 use Rattle.vs_desk.specs.Desk.{Register, Told, Contents}
+use Rattle.vs_design.specs.Clocks.{clock_bits}
 use Rattle.vs_design.specs.Designs.{Design}
 use Rattle.vs_design.specs.Sizes.{size as size_of}
 use Rattle.vs_program.specs.Compiled.{IsProgramOf}
@@ -30,7 +31,7 @@ use Rattle.vs_top.specs.Begun.{IsCheckBegun}
 use Rattle.vs_top.specs.Checked.{IsChecked}
 use Rattle.vs_top.specs.Ended.{IsEnd}
 use Rattle.vs_top.specs.Ended.IsEnd.{check_stopped, checked}
-use Rattle.vs_top.proofs.Lanes.{are_data_inputs, lane_checked, accepted_as, check_is}
+use Rattle.vs_top.proofs.Lanes.{are_data_inputs, lane_checked, accepted_as, sizes_within, check_is}
 use Rattle.vs_top.proofs.Stores.{has_vector, some_settling, are_stores}
 
 -- nothing but what is left to take has changed since the check was prepared
@@ -52,17 +53,17 @@ pub whole_checked : {W : Type 0} (lane : W → ℕ → Bool) {tells : Bool} → 
     → IsCheckBegun lane job old now m size → AreWhole lane m now new found s before after → IsTrue tells → IsChecked job old.contents new.contents found s
 whole_checked lane every_run some_run vectors job old now new m size found s before after some lanes_are size_is missed_are b r t =
     let p = b.prepared in
-    let clock = p.accepted.accepted.clock.first in
-    let run = run_of job old.contents.files p.design clock (ports_of job.mode p.accepted) in
+    let clocks = clock_bits p.accepted.accepted.clocks in
+    let run = run_of job old.contents.files p.design clocks (ports_of job.mode p.accepted) in
     let lanes : length m.stimuli ≡ length job.stimuli = b.lanes ∙ p.lanes in
-    let program : IsProgramOf p.design clock m.engine.program = subst (λ (e : Running _). IsProgramOf p.design clock e.program) (sym b.engine) p.program in
+    let program : IsProgramOf p.design clocks m.engine.program = subst (λ (e : Running _). IsProgramOf p.design clocks e.program) (sym b.engine) p.program in
     let idle : m.engine.begun ≡ false = ap (λ (e : Running _). e.begun) b.engine ∙ p.begun in
     let done : AreChecked run (length job.stimuli) found new.contents = subst (λ (n : ℕ). AreChecked run n found new.contents) lanes (r.done t run (b.in_round t)) in
     let counted : AreCounted run (length job.stimuli) s.vectors s.settlings = subst (λ (n : ℕ). AreCounted run n s.vectors s.settlings) lanes (r.counted t run (b.in_round t)) in
     record {
       design = p.design;
-      accepted = accepted_as job.top job.clock p.design (job.head ++ p.file) (design_text job old.contents) (ap (λ (file : List ℕ). job.head ++ file) (p.file_is t)) p.accepted;
-      lanes = λ i h. lane_checked every_run some_run vectors p.design job.clock p.accepted.accepted run.ports (are_data_inputs p.design clock p.all_ports.inputs) (run.texts i) (found_at found i) (done.valid i h) (done.found i h);
+      accepted = accepted_as job.top job.clocks p.design (job.head ++ p.file) (design_text job old.contents) (ap (λ (file : List ℕ). job.head ++ file) (p.file_is t)) p.accepted;
+      lanes = λ i h. lane_checked every_run some_run vectors p.design job.clocks p.accepted.accepted run.ports (are_data_inputs p.design clocks p.all_ports.inputs) (run.texts i) (found_at found i) (done.valid i h) (done.found i h);
       found_are = r.lanes ∙ lanes;
       design_taken = (r.others t).before 1 (omega arith) ∙ (b.others t).before 1 (omega arith) ∙ (p.taken t).design;
       stimuli_taken = λ i h. done.taken i h;
@@ -70,7 +71,7 @@ whole_checked lane every_run some_run vectors job old now new m size found s bef
       counted = counted;
       size_is = size_is ∙ p.size_is;
       missed_are = missed_are;
-      stored = are_stores p.design clock m.engine.program program m.engine.begun idle r.ticked.0 s.settlings s.operations before after r.ticked.1
+      stored = are_stores p.design clocks m.engine.program program m.engine.begun idle r.ticked.0 s.settlings s.operations before after r.ticked.1
           (some_settling run (length job.stimuli) s.vectors s.settlings some (has_vector vectors run 0 (done.valid 0 some)) counted) r.ticked.2 r.operations;
     }
 
@@ -92,15 +93,15 @@ whole_check lane every_run some_run vectors job old now new m size found s befor
 
 -- they made few operations
 pub few_operations : {W : Type 0} (lane : W → ℕ → Bool) {tells : Bool} (job : Job) (old now : Told tells) (m : Checking W) (size settlings operations before after : ℕ)
-    → IsCheckBegun lane job old now m size → ((d : Design) (clock : ℕ) → IsProgramOf d clock m.engine.program → after ≤ before + size_of d * settlings) → after ≡ before + operations
+    → IsCheckBegun lane job old now m size → ((d : Design) (clocks : List ℕ) → IsProgramOf d clocks m.engine.program → after ≤ before + size_of d * settlings) → after ≡ before + operations
     → operations ≤ size * settlings
 few_operations lane job old now m size settlings operations before after b within made =
     let p = b.prepared in
-    let clock = p.accepted.accepted.clock.first in
-    let program : IsProgramOf p.design clock m.engine.program = subst (λ (e : Running _). IsProgramOf p.design clock e.program) (sym b.engine) p.program in
-    let most = within p.design clock program in
-    let same : size_of p.design * settlings ≡ size * settlings = ap (λ (k : ℕ). k * settlings) (sym p.size_is) in
-    omega (arith, most, made, same)
+    let clocks = clock_bits p.accepted.accepted.clocks in
+    let program : IsProgramOf p.design clocks m.engine.program = subst (λ (e : Running _). IsProgramOf p.design clocks e.program) (sym b.engine) p.program in
+    let most = within p.design clocks program in
+    let more = sizes_within p.accepted size settlings p.size_is in
+    omega (arith, most, made, more)
 
 -- a stimulus stopped them
 pub stopped_check : {W : Type 0} (lane : W → ℕ → Bool) {tells : Bool} (job : Job) (old now new : Told tells) (m : Checking W) (size : ℕ) (found : List (Option Found)) (stop : Stop) (o : Outcome)
@@ -109,7 +110,7 @@ pub stopped_check : {W : Type 0} (lane : W → ℕ → Bool) {tells : Bool} (job
     → (IsTrue tells → OtherPlacesKept (length m.stimuli) now.contents new.contents) → IsEnd job old new (misses_text found) o
 stopped_check lane job old now new m size found stop o is mode b found_are is_lane of_stimulus cause stops others =
     let p = b.prepared in
-    let run = run_of job old.contents.files p.design p.accepted.accepted.clock.first (ports_of job.mode p.accepted) in
+    let run = run_of job old.contents.files p.design (clock_bits p.accepted.accepted.clocks) (ports_of job.mode p.accepted) in
     let lanes : length m.stimuli ≡ length job.stimuli = b.lanes ∙ p.lanes in
     check_stopped mode b.different (record {
       stop = stop;

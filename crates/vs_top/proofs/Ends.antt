@@ -16,6 +16,7 @@ use Rattle.vs_lexer.specs.declared.token.LexError.{LexError}
 use Rattle.vs_lexer.specs.declared.token.LexError.TheVariants as lexer
 use Rattle.vs_pre.specs.declared.error.PreError.{PreError}
 use Rattle.vs_pre.specs.declared.error.PreError.TheVariants as macro
+use Rattle.vs_design.specs.Clocks.{clock_bits}
 use Rattle.vs_design.specs.Designs.{Design}
 use Rattle.vs_design.specs.Answers.{DesignRefusal, OfWidth, OfBlock, OfDriver, OfClock, Cycle, OfRace, OfZero}
 use Rattle.vs_design.specs.Refusals as rule
@@ -50,7 +51,7 @@ written_still job old mid new r line s e w = record {
   accepted = w.accepted;
   design_taken = ap (λ (c : Contents). c.left 1) e ∙ w.design_taken;
   stimuli_taken = λ i h. ap (λ (c : Contents). c.left (stimulus_place i)) e ∙ w.stimuli_taken i h;
-  lanes = λ i h. subst (λ (put : List ℕ). IsLaneWritten job.share w.design w.accepted.accepted.clock.first job.half (ports_of job.mode w.accepted) (old.files (path_at job.stimuli i)) put) (sym (ap (λ (c : Contents). c.put (wave_place i)) e ∙ kept r mid line i)) (w.lanes i h);
+  lanes = λ i h. subst (λ (put : List ℕ). IsLaneWritten job.share w.design (clock_bits w.accepted.accepted.clocks) job.half (ports_of job.mode w.accepted) (old.files (path_at job.stimuli i)) put) (sym (ap (λ (c : Contents). c.put (wave_place i)) e ∙ kept r mid line i)) (w.lanes i h);
   lanes_are = w.lanes_are;
   counted = w.counted;
   size_is = w.size_is;
@@ -120,12 +121,12 @@ design_usage byte d (Cycle processes at) h = cc
 design_usage byte d (OfRace (rule.Race p bit at)) h = cc
 design_usage byte d (OfZero (rule.TimeZero p at)) h = cc
 
-text_usage : (text : List ℕ) (top clock : Option (List ℕ)) (r : Refusal) → IsRefusedText text top clock r → r ≡ Bare Usage → ⊥
-text_usage text top clock r (ByTokens e cut told) h = token_usage e (told ∙ ap (λ (q : Refusal). Some q) h)
-text_usage text top clock r (ByMacros written e cut faulty told) h = macro_usage e (told ∙ ap (λ (q : Refusal). Some q) h)
-text_usage text top clock r (ByTree tokens x reads fault told) h = tree_usage _ x (told ∙ h)
-text_usage text top clock r (ByElaboration tokens source f read fault told) h = told_usage (rule_name f.rule) _ (told ∙ h)
-text_usage text top clock r (ByRule tokens source d x read elaborates broken told) h = design_usage _ d x (told ∙ h)
+text_usage : (text : List ℕ) (top : Option (List ℕ)) (clocks : List (List ℕ)) (r : Refusal) → IsRefusedText text top clocks r → r ≡ Bare Usage → ⊥
+text_usage text top clocks r (ByTokens e cut told) h = token_usage e (told ∙ ap (λ (q : Refusal). Some q) h)
+text_usage text top clocks r (ByMacros written e cut faulty told) h = macro_usage e (told ∙ ap (λ (q : Refusal). Some q) h)
+text_usage text top clocks r (ByTree tokens x reads fault told) h = tree_usage _ x (told ∙ h)
+text_usage text top clocks r (ByElaboration tokens source f read fault told) h = told_usage (rule_name f.rule) _ (told ∙ h)
+text_usage text top clocks r (ByRule tokens source d e x read elaborates broken told) h = design_usage _ e x (told ∙ h)
 
 same_refusal : (r q : Refusal) → Refused r ≡ Refused q → r ≡ q
 same_refusal r q h = cc
@@ -134,7 +135,7 @@ setup_usage : {tells : Bool} (job : Job) (old new : Told tells) (e : SetupError)
 setup_usage job old new S.TooLong c h = cc
 setup_usage job old new (S.Refused r) c h =
     let t = c.1.1 in
-    text_usage (job.head ++ c.1.0) job.top job.clock t.refusal t.refused (bare_behind (length job.head) t.refusal Usage (sym t.told ∙ same_refusal r (Bare Usage) h))
+    text_usage (job.head ++ c.1.0) job.top job.clocks t.refusal t.refused (bare_behind (length job.head) t.refusal Usage (sym t.told ∙ same_refusal r (Bare Usage) h))
 setup_usage job old new (S.Stimulus i e) c h = stimulus_usage i e h
 setup_usage job old new (S.ReadFault place) c h = cc
 setup_usage job old new S.Memory c h = cc

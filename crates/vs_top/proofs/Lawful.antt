@@ -1,6 +1,7 @@
 -- On a desk without a fault a lawful job is done and a refused one is refused so, unless there was no memory.
 use Rattle.std.proofs.Common.{◌≡◌, ℕ, ◌<◌, Bool, true, false, IsTrue, List, [], ◌∷◌, length, Option, Some, None, refl, sym, ap, ◌∙◌, subst, inl, inr, arith}
 use Rattle.vs_desk.specs.Desk.{Told, Contents}
+use Rattle.vs_design.specs.Clocks.{clock_bits}
 use Rattle.vs_design.specs.Designs.{Design}
 use Rattle.vs_stim.specs.declared.wanted.Digit.{Digit}
 use Rattle.vs_stim.specs.Header.{PortLists, ColumnLists, lacks_output}
@@ -116,7 +117,7 @@ header_whole text is valid = go (header_refusal is text) refl
 
 lawful_line : (job : Job) (c : Contents) (l : IsLawful job c) (run : Run) → IsRunOf job c run → (i : ℕ) (e : StimError) → i < length job.stimuli → (reading_of run i).refusal ≡ Some e → ⊥
 lawful_line job c l run r i e lt h =
-    let none : (reading_of (run_of job c.files r.design r.accepted.accepted.clock.first (ports_of job.mode r.accepted)) i).refusal ≡ None = l.valid r.design r.accepted i lt in
+    let none : (reading_of (run_of job c.files r.design (clock_bits r.accepted.accepted.clocks) (ports_of job.mode r.accepted)) i).refusal ≡ None = l.valid r.design r.accepted i lt in
     some_none (reading_of run i).refusal e h (subst (λ (n : Run). (reading_of n i).refusal ≡ None) (sym r.run_is) none)
 
 lawful_header : (job : Job) (c : Contents) (l : IsLawful job c) (i : ℕ) (e : StimError) → i < length job.stimuli → IsHeaderRefusal job c i e → ⊥
@@ -127,14 +128,14 @@ no_refusal not_both job c l r (ByPaths x y two is) = some_none (same_paths job) 
 no_refusal not_both job c l r (ByLength d long is) =
     let short = l.accepted.short in
     omega (arith, long, short)
-no_refusal not_both job c l r (ByDesign d short t) = not_both (design_text job c) job.top job.clock l.design t.refusal l.accepted t.refused
+no_refusal not_both job c l r (ByDesign d short t) = not_both (design_text job c) job.top job.clocks l.design t.refusal l.accepted t.refused
 no_refusal not_both job c l r (ByHeader d i e lt h is) = lawful_header job c l i e lt h
 no_refusal not_both job c l r (ByLine d run k i e lt m h is) = lawful_line job c l run m i e lt h.refusal
 
 -- ---- what is done is lawful
 
 -- the ports of a run have to name no output
-pub run_free : (mode : Mode) {text : List ℕ} {top clock : Option (List ℕ)} {d : Design} (a : IsAcceptedText text top clock d) → mode ≡ modes.Run → (ports_of mode a).demanded ≡ false
+pub run_free : (mode : Mode) {text : List ℕ} {top : Option (List ℕ)} {clocks : List (List ℕ)} {d : Design} (a : IsAcceptedText text top clocks d) → mode ≡ modes.Run → (ports_of mode a).demanded ≡ false
 run_free mode a e = subst (λ (m : Mode). (ports_of m a).demanded ≡ false) (sym e) refl
 
 -- a valid stimulus by ports that aren't demanded is one by these
@@ -168,7 +169,7 @@ checked_lawful one job old new found s paths w = record {
 }
 
 -- the header of a run of the queue has to name no output either
-pub queue_free : (mode : Mode) (order : ℕ) {text : List ℕ} {top clock : Option (List ℕ)} {d : Design} (a : IsAcceptedText text top clock d) → mode ≡ modes.Queue order → (ports_of mode a).demanded ≡ false
+pub queue_free : (mode : Mode) (order : ℕ) {text : List ℕ} {top : Option (List ℕ)} {clocks : List (List ℕ)} {d : Design} (a : IsAcceptedText text top clocks d) → mode ≡ modes.Queue order → (ports_of mode a).demanded ≡ false
 queue_free mode order a e = subst (λ (m : Mode). (ports_of m a).demanded ≡ false) (sym e) refl
 
 -- the stimulus of a run of the queue is valid
@@ -183,7 +184,7 @@ pub ordered_run : (job : Job) (order : ℕ) (old : Contents) (text : List ℕ) �
 ordered_run job order old text lone mode w =
     let is = ports_of job.mode w.accepted in
     let whole = text_whole job order old text mode w in (
-      run_of job old.files w.design w.accepted.accepted.clock.first is,
+      run_of job old.files w.design (clock_bits w.accepted.accepted.clocks) is,
       record {
         design = w.design;
         accepted = w.accepted;

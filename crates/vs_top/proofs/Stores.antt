@@ -1,5 +1,5 @@
 -- How many operations a run that is done has made.
-use Rattle.std.proofs.Common.{◌≡◌, ℕ, zero, suc, ◌+◌, ◌*◌, ◌<◌, ◌≤◌, Bool, false, None, subst, arith}
+use Rattle.std.proofs.Common.{◌≡◌, ℕ, zero, suc, ◌+◌, ◌*◌, ◌<◌, ◌≤◌, Bool, false, None, subst, arith, List}
 use Rattle.vs_design.specs.Designs.{Design}
 use Rattle.vs_program.specs.Program.{Program, first_stores, fall_stores, rise_stores}
 use Rattle.vs_program.specs.Compiled.{IsProgramOf}
@@ -34,10 +34,10 @@ stores_of first fall rise k before after operations ticked made =
     let split : suc k * (fall + rise) ≡ fall + k * fall + (k + 1) * rise = grind arith in
     omega (arith, ticked, made, split)
 
-pub are_stores : (d : Design) (clock : ℕ) (p : Program) → IsProgramOf d clock p → (begun : Bool) → begun ≡ false → (rounds settlings operations before after : ℕ)
-    → settlings ≡ 2 * rounds → 0 < settlings → TicksRounds p begun rounds before after → after ≡ before + operations → AreStores d clock settlings operations
-are_stores d clock p is begun idle zero settlings operations before after two some ticked made = absurd (omega (arith, two, some))
-are_stores d clock p is begun idle (suc k) settlings operations before after two some ticked made =
+pub are_stores : (d : Design) (clocks : List ℕ) (p : Program) → IsProgramOf d clocks p → (begun : Bool) → begun ≡ false → (rounds settlings operations before after : ℕ)
+    → settlings ≡ 2 * rounds → 0 < settlings → TicksRounds p begun rounds before after → after ≡ before + operations → AreStores d clocks settlings operations
+are_stores d clocks p is begun idle zero settlings operations before after two some ticked made = absurd (omega (arith, two, some))
+are_stores d clocks p is begun idle (suc k) settlings operations before after two some ticked made =
     let made_by = subst (λ (b : Bool). after + fall_stores p ≡ before + settling_stores p b + suc k * (fall_stores p + rise_stores p)) idle (ticked.some (omega arith)) in
     record {
       program = p;

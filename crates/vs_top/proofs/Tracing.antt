@@ -1,6 +1,7 @@
 -- A run of the queue up to its waveform's text.
-use Rattle.std.proofs.Common.{◌≡◌, ℕ, suc, ◌*◌, ◌<◌, List, [], ◌∷◌, ◌++◌, length, Bool, true, false, IsTrue, All, None, Option, refl, sym, ap, ◌∙◌, subst, arith}
+use Rattle.std.proofs.Common.{◌≡◌, ℕ, suc, ◌*◌, ◌<◌, List, [], ◌∷◌, ◌++◌, length, Bool, true, false, IsTrue, All, None, refl, sym, ap, ◌∙◌, subst, arith}
 use Rattle.vs_net.specs.Network.{State}
+use Rattle.vs_design.specs.Clocks.{clock_bits}
 use Rattle.vs_design.specs.Designs.{Design}
 use Rattle.vs_design.specs.Accepted.{IsAcceptedDesign}
 use Rattle.vs_desk.specs.Desk.{Told, Register, Contents}
@@ -100,44 +101,44 @@ on_memory P u e f = f (subst IsMemory (sym e) tt)
 -- ---- the waveform of every run
 
 -- there is a run on the vectors of a valid stimulus
-some_on : SomeRun → WholeHasVector → (d : Design) (name : Option (List ℕ)) (a : IsAcceptedDesign d name) (ports : PortLists) → AreDataInputs d a.clock.first ports.inputs
-    → (text : List ℕ) → (reading ports text).refusal ≡ None → (values : List State) × IsRunOn d a.clock.first (reading ports text).vectors values
-some_on some_run has_vector d name a ports driven text whole = go (reading ports text).vectors refl
+some_on : SomeRun → WholeHasVector → (d : Design) (names : List (List ℕ)) (a : IsAcceptedDesign d names) (ports : PortLists) → AreDataInputs d (clock_bits a.clocks) ports.inputs
+    → (text : List ℕ) → (reading ports text).refusal ≡ None → (values : List State) × IsRunOn d (clock_bits a.clocks) (reading ports text).vectors values
+some_on some_run has_vector d names a ports driven text whole = go (reading ports text).vectors refl
   where
-    go : (vs : List Vector) → (reading ports text).vectors ≡ vs → (values : List State) × IsRunOn d a.clock.first vs values
+    go : (vs : List Vector) → (reading ports text).vectors ≡ vs → (values : List State) × IsRunOn d (clock_bits a.clocks) vs values
     go [] e = absurd (no_vectors has_vector ports text whole e)
-    go (v ∷ vs) e = run_on some_run d name ports text v vs (lawful d name a ports driven text whole v vs e)
+    go (v ∷ vs) e = run_on some_run d names ports text v vs (lawful d names a ports driven text whole v vs e)
 
-lane_ordered : SomeRun → WholeHasVector → (share : Bool) (d : Design) (name : Option (List ℕ)) (a : IsAcceptedDesign d name) (half : ℕ) (ports : PortLists) → ports.demanded ≡ false → AreDataInputs d a.clock.first ports.inputs
+lane_ordered : SomeRun → WholeHasVector → (share : Bool) (d : Design) (names : List (List ℕ)) (a : IsAcceptedDesign d names) (half : ℕ) (ports : PortLists) → ports.demanded ≡ false → AreDataInputs d (clock_bits a.clocks) ports.inputs
     → (text put : List ℕ) → (reading ports text).refusal ≡ None
-    → ((values : List State) → IsRunOn d a.clock.first (reading ports text).vectors values → put ≡ text_of share d half values) → IsLaneWritten share d a.clock.first half ports text put
-lane_ordered some_run has_vector share d name a half ports free driven text put whole every = record {
+    → ((values : List State) → IsRunOn d (clock_bits a.clocks) (reading ports text).vectors values → put ≡ text_of share d half values) → IsLaneWritten share d (clock_bits a.clocks) half ports text put
+lane_ordered some_run has_vector share d names a half ports free driven text put whole every = record {
   vectors = (reading ports text).vectors;
   wanted = (reading ports text).wanted;
   valid = subst (λ (is : PortLists). reading is text ≡ record { vectors = (reading ports text).vectors; wanted = (reading ports text).wanted; refusal = None }) (plain ports free) (gives ports text whole (reading ports text).vectors refl);
   every = every;
-  some = some_on some_run has_vector d name a ports driven text whole;
+  some = some_on some_run has_vector d names a ports driven text whole;
 }
 
 -- What became of the stimulus that was opened: all of its vectors were read, each run on them has this waveform, and the counts are theirs.
 pub record IsRunOut (run : Run) (order : ℕ) (new : Contents) (text : List ℕ) (c : Course) : Type 0 where
   pub whole : (reading_of run 0).refusal ≡ None
   pub taken : new.left (stimulus_place 0) ≡ []
-  pub every : (values : List State) → IsRunOn run.design run.clock (reading_of run 0).vectors values → text ≡ text_of run.share run.design run.half values
+  pub every : (values : List State) → IsRunOn run.design run.clocks (reading_of run 0).vectors values → text ≡ text_of run.share run.design run.half values
   pub vectors_are : c.vectors ≡ length (reading_of run 0).vectors
   pub slots_are : c.slots ≡ 2 * length (reading_of run 0).vectors
   pub order_is : c.order ≡ order
-  pub steps : IsStepped run.design run.clock order (reading_of run 0).vectors c.steps
+  pub steps : IsStepped run.design run.clocks order (reading_of run 0).vectors c.steps
 
--- by other names of the design and its clock
+-- by other names of the design and its clocks
 pub trace_of : (share : Bool) (half order : ℕ) (vectors : List Vector) (text : List ℕ) (count steps : ℕ) (a b : Arena) (k l : Clocked) → a ≡ b → k ≡ l
-    → ((first : Vector) (later : List Vector) → AreValid (design_of a) k.bit vectors first later → IsEveryDump share (design_of a) k.bit half first later text)
-    → ((first : Vector) (later : List Vector) → AreValid (design_of a) k.bit vectors first later → HasSteps (design_of a) k.bit order first later steps)
-    → count ≡ length vectors → IsTraceOf share (design_of b) l.bit half order vectors text (record { vectors = count; slots = 2 * count; order = order; steps = steps })
+    → ((first : Vector) (later : List Vector) → AreValid (design_of a) k.bits vectors first later → IsEveryDump share (design_of a) k.bits half first later text)
+    → ((first : Vector) (later : List Vector) → AreValid (design_of a) k.bits vectors first later → HasSteps (design_of a) k.bits order first later steps)
+    → count ≡ length vectors → IsTraceOf share (design_of b) l.bits half order vectors text (record { vectors = count; slots = 2 * count; order = order; steps = steps })
 trace_of share half order vectors text count steps a b k l flat_is clocks_are dumps has_steps counted =
     let c : Course = record { vectors = count; slots = 2 * count; order = order; steps = steps } in
-    subst (λ (x : Arena). IsTraceOf share (design_of x) l.bit half order vectors text c) flat_is
-    (subst (λ (x : Clocked). IsTraceOf share (design_of a) x.bit half order vectors text c) clocks_are (record {
+    subst (λ (x : Arena). IsTraceOf share (design_of x) l.bits half order vectors text c) flat_is
+    (subst (λ (x : Clocked). IsTraceOf share (design_of a) x.bits half order vectors text c) clocks_are (record {
       every = dumps;
       steps = has_steps;
       vectors_are = counted;
@@ -146,9 +147,9 @@ trace_of share half order vectors text count steps a b k l flat_is clocks_are du
     }))
 
 -- the vectors of a valid stimulus, as they begin
-valid_of : FirstIsKnown → ResetsAreKnown → (d : Design) (clock : ℕ) (ports : PortLists) (text : List ℕ) (vectors : List Vector) → All IsInput ports.inputs → ports.inputs ≡ data_inputs d clock → vectors ≡ (reading ports text).vectors
-    → (first : Vector) (later : List Vector) → (reading ports text).vectors ≡ first ∷ later → AreValid d clock vectors first later
-valid_of first_known resets_known d clock ports text vectors each inputs_are vectors_are first later e =
+valid_of : FirstIsKnown → ResetsAreKnown → (d : Design) (clocks : List ℕ) (ports : PortLists) (text : List ℕ) (vectors : List Vector) → All IsInput ports.inputs → ports.inputs ≡ data_inputs d clocks → vectors ≡ (reading ports text).vectors
+    → (first : Vector) (later : List Vector) → (reading ports text).vectors ≡ first ∷ later → AreValid d clocks vectors first later
+valid_of first_known resets_known d clocks ports text vectors each inputs_are vectors_are first later e =
     let all : All (λ (v : Vector). known_in_resets ports.inputs v ≡ true) (first ∷ later) = subst (All (λ (v : Vector). known_in_resets ports.inputs v ≡ true)) e (resets_known ports text each) in
     record {
       vectors_are = vectors_are ∙ e;
@@ -157,21 +158,21 @@ valid_of first_known resets_known d clock ports text vectors each inputs_are vec
     }
 
 -- so the run that the number chooses has its steps
-stepped : WholeHasVector → (d : Design) (clock order : ℕ) (ports : PortLists) (text : List ℕ) (steps : ℕ) → (reading ports text).refusal ≡ None
-    → ((first : Vector) (later : List Vector) → (reading ports text).vectors ≡ first ∷ later → HasSteps d clock order first later steps) → IsStepped d clock order (reading ports text).vectors steps
-stepped has_vector d clock order ports text steps whole has_steps = go (reading ports text).vectors refl
+stepped : WholeHasVector → (d : Design) (clocks : List ℕ) (order : ℕ) (ports : PortLists) (text : List ℕ) (steps : ℕ) → (reading ports text).refusal ≡ None
+    → ((first : Vector) (later : List Vector) → (reading ports text).vectors ≡ first ∷ later → HasSteps d clocks order first later steps) → IsStepped d clocks order (reading ports text).vectors steps
+stepped has_vector d clocks order ports text steps whole has_steps = go (reading ports text).vectors refl
   where
-    go : (vs : List Vector) → (reading ports text).vectors ≡ vs → IsStepped d clock order (reading ports text).vectors steps
+    go : (vs : List Vector) → (reading ports text).vectors ≡ vs → IsStepped d clocks order (reading ports text).vectors steps
     go [] e = absurd (no_vectors has_vector ports text whole e)
     go (v ∷ vs) e = record { first = v; later = vs; vectors_are = e; has_steps = has_steps v vs e }
 
 -- what is made of all vectors of a valid stimulus
-pub run_out : FirstIsKnown → ResetsAreKnown → WholeHasVector → (run : Run) (order bit : ℕ) (vectors : List Vector) (new : Contents) (text : List ℕ) (c : Course) → run.clock ≡ bit
-    → All IsInput run.ports.inputs → run.ports.inputs ≡ data_inputs run.design run.clock → IsWhole (reading_of run 0) vectors (new.left (stimulus_place 0))
-    → IsTraceOf run.share run.design bit run.half order vectors text c → IsRunOut run order new text c
-run_out first_known resets_known has_vector run order bit vectors new text c clock_is each inputs_are read traced =
-    let t : IsTraceOf run.share run.design run.clock run.half order vectors text c = subst (λ (n : ℕ). IsTraceOf run.share run.design n run.half order vectors text c) (sym clock_is) traced in
-    let valid = valid_of first_known resets_known run.design run.clock run.ports (run.texts 0) vectors each inputs_are read.vectors_are in
+pub run_out : FirstIsKnown → ResetsAreKnown → WholeHasVector → (run : Run) (order : ℕ) (bits : List ℕ) (vectors : List Vector) (new : Contents) (text : List ℕ) (c : Course) → run.clocks ≡ bits
+    → All IsInput run.ports.inputs → run.ports.inputs ≡ data_inputs run.design run.clocks → IsWhole (reading_of run 0) vectors (new.left (stimulus_place 0))
+    → IsTraceOf run.share run.design bits run.half order vectors text c → IsRunOut run order new text c
+run_out first_known resets_known has_vector run order bits vectors new text c clocks_are each inputs_are read traced =
+    let t : IsTraceOf run.share run.design run.clocks run.half order vectors text c = subst (λ (clocks : List ℕ). IsTraceOf run.share run.design clocks run.half order vectors text c) (sym clocks_are) traced in
+    let valid = valid_of first_known resets_known run.design run.clocks run.ports (run.texts 0) vectors each inputs_are read.vectors_are in
     record {
       whole = read.unrefused;
       taken = read.left_is;
@@ -180,7 +181,7 @@ run_out first_known resets_known has_vector run order bit vectors new text c clo
       vectors_are = t.vectors_are ∙ ap length read.vectors_are;
       slots_are = t.slots_are ∙ ap (λ (vs : List Vector). 2 * length vs) read.vectors_are;
       order_is = t.order_is;
-      steps = stepped has_vector run.design run.clock order run.ports (run.texts 0) c.steps read.unrefused (λ first later e. t.steps first later (valid first later e));
+      steps = stepped has_vector run.design run.clocks order run.ports (run.texts 0) c.steps read.unrefused (λ first later e. t.steps first later (valid first later e));
     }
 
 pub traced_end : {tells : Bool} → SomeRun → WholeHasVector → (job : Job) (order : ℕ) (old now new : Told tells) (a : Acceptance) (ports : PortLists) (ks : List Known) (text : List ℕ) (c : Course)
@@ -190,7 +191,7 @@ unfolding lane_ordered
 traced_end some_run has_vector job order old now new a ports ks text c mode is_open same others out =
     let l = is_open.opened.loaded in
     let d = design_of a.flat in
-    let clock = l.loaded.accepted.accepted.clock.first in
+    let clocks = clock_bits l.loaded.accepted.accepted.clocks in
     let run = runs l in
     record {
       register_is = same ∙ is_open.register_is;
@@ -200,15 +201,15 @@ traced_end some_run has_vector job order old now new a ports ks text c mode is_o
           record {
             whole = record {
               design = d;
-              accepted = accepted_as job.top job.clock d (job.head ++ l.file) (design_text job old.contents) (ap (λ (file : List ℕ). job.head ++ file) (l.file_is t)) l.loaded.accepted;
-              lane = lane_ordered some_run has_vector job.share d job.clock l.loaded.accepted.accepted job.half run.ports (queue_free job.mode order l.loaded.accepted mode)
-                  (are_data_inputs d clock (subst (λ (is : PortLists). All IsInput is.inputs) l.loaded.ports_are l.loaded.are_ports.inputs)) (run.texts 0) text r.whole r.every;
+              accepted = accepted_as job.top job.clocks d (job.head ++ l.file) (design_text job old.contents) (ap (λ (file : List ℕ). job.head ++ file) (l.file_is t)) l.loaded.accepted;
+              lane = lane_ordered some_run has_vector job.share d job.clocks l.loaded.accepted.accepted job.half run.ports (queue_free job.mode order l.loaded.accepted mode)
+                  (are_data_inputs d clocks (subst (λ (is : PortLists). All IsInput is.inputs) l.loaded.ports_are l.loaded.are_ports.inputs)) (run.texts 0) text r.whole r.every;
             };
             design_taken = (others t).before 1 (omega arith) ∙ (is_open.opened.taken t).design;
             stimulus_taken = r.taken;
             vectors_are = r.vectors_are;
             slots_are = r.slots_are;
-            steps = subst (λ (n : ℕ). IsStepped d clock n (reading_of run 0).vectors c.steps) (sym r.order_is) r.steps;
+            steps = subst (λ (n : ℕ). IsStepped d clocks n (reading_of run 0).vectors c.steps) (sym r.order_is) r.steps;
           };
     }
 
@@ -216,19 +217,19 @@ traced_end some_run has_vector job order old now new a ports ks text c mode is_o
 pub traced_job : {tells : Bool} → SomeRun → FirstIsKnown → ResetsAreKnown → WholeHasVector → (job : Job) (order : ℕ) (old now new : Told tells) (a : Acceptance) (ports : PortLists) (ks : List Known) (vectors : List Vector) (text : List ℕ) (c : Course)
     → job.mode ≡ modes.Queue order → IsOpen job old now a ports ks → new.register ≡ now.register → (IsTrue tells → OtherPlacesKept 1 now.contents new.contents)
     → (IsTrue tells → (run : Run) → HaveNext run 0 ks now.contents → IsWhole (reading_of run 0) vectors (new.contents.left (stimulus_place 0)))
-    → IsTraceOf job.share (design_of a.flat) a.clocks.bit job.half order vectors text c → IsTraced job old new text c
+    → IsTraceOf job.share (design_of a.flat) a.clocks.bits job.half order vectors text c → IsTraced job old new text c
 traced_job some_run first_known resets_known has_vector job order old now new a ports ks vectors text c mode is_open same others read traced =
     let l = is_open.opened.loaded in
     traced_end some_run has_vector job order old now new a ports ks text c mode is_open same others
-    (λ t. run_out first_known resets_known has_vector (runs l) order a.clocks.bit vectors new.contents text c l.loaded.bit_is
+    (λ t. run_out first_known resets_known has_vector (runs l) order a.clocks.bits vectors new.contents text c l.loaded.bits_are
     (subst (λ (is : PortLists). All IsInput is.inputs) l.loaded.ports_are l.loaded.are_ports.inputs) refl (read t (runs l) (is_open.opened.next t)) traced)
 
 -- vectors of the lengths of the stimulus' vector are of those of the data inputs
 pub sized_of : {tells : Bool} (job : Job) (old now : Told tells) (a : Acceptance) (ports : PortLists) (ks : List Known) (vectors : List Vector) → length job.stimuli ≡ 1 → IsOpen job old now a ports ks
-    → All (λ (v : Vector). sizes v ≡ sizes (lane_at ks 0).vector) vectors → AreSized (design_of a.flat) a.clocks.bit vectors
+    → All (λ (v : Vector). sizes v ≡ sizes (lane_at ks 0).vector) vectors → AreSized (design_of a.flat) a.clocks.bits vectors
 sized_of job old now a ports ks vectors lone is_open sized =
     let l = is_open.opened.loaded.loaded in
     let lanes = is_open.opened.opened.lanes in
     let there : 0 < length ks = omega (arith, lanes, lone) in
     subst (λ (s : List ℕ). All (λ (v : Vector). sizes v ≡ s) vectors)
-    ((is_open.opened.opened.each 0 there).sizes ∙ ap (λ (is : PortLists). lengths is.inputs) l.ports_are ∙ ap (λ (n : ℕ). lengths (data_inputs (design_of a.flat) n)) l.bit_is) sized
+    ((is_open.opened.opened.each 0 there).sizes ∙ ap (λ (is : PortLists). lengths is.inputs) l.ports_are ∙ ap (λ (clocks : List ℕ). lengths (data_inputs (design_of a.flat) clocks)) l.bits_are) sized

@@ -1,4 +1,5 @@
 -- A check whose rounds can begin.
+use Rattle.vs_design.specs.Clocks.{clock_bits}
 use Rattle.std.specs.Prelude.{◌≡◌, ℕ, Bool, IsTrue, length, None}
 use Rattle.vs_desk.specs.Desk.{Told}
 use Rattle.vs_feed.specs.Lanes.{OtherPlacesKept}
@@ -22,4 +23,4 @@ pub record IsCheckBegun {W : Type 0} (lane : W → ℕ → Bool) {tells : Bool} 
   pub register_is : new.register ≡ middle.register
   pub others : IsTrue tells → OtherPlacesKept (length before.stimuli) middle.contents new.contents
   pub in_round : IsTrue tells
-      → AreFoundIn lane (run_of job old.contents.files prepared.design prepared.accepted.accepted.clock.first (ports_of job.mode prepared.accepted)) 0 m new.contents
+      → AreFoundIn lane (run_of job old.contents.files prepared.design (clock_bits prepared.accepted.accepted.clocks) (ports_of job.mode prepared.accepted)) 0 m new.contents

@@ -3,6 +3,7 @@ use Rattle.std.specs.Prelude.{◌≡◌, ◌≢◌, ◌⊎◌, ℕ, ◌<◌, Boo
 use Rattle.vs_desk.specs.declared.desk.Way.TheVariants.{Write}
 use Rattle.vs_desk.specs.Desk.{Register, Contents, Told, Fails, FailsAlone}
 use Rattle.vs_desk.specs.Places.{with_places, design_place, stimulus_place, waveform_place}
+use Rattle.vs_design.specs.Clocks.{clock_bits}
 use Rattle.vs_design.specs.Designs.{Design}
 use Rattle.vs_feed.specs.Opened.{path_at, HaveHeaders}
 use Rattle.vs_misses.specs.Missed.{Found}
@@ -57,7 +58,7 @@ OnlyWavesPut lanes old new = (place : ℕ) → ((i : ℕ) → i < lanes → plac
 pub record IsRunOf (job : Job) (old : Contents) (run : Run) : Type 0 where
   pub design : Design
   pub accepted : IsDesignOf job old design
-  pub run_is : run ≡ run_of job old.files design accepted.accepted.clock.first (ports_of job.mode accepted)
+  pub run_is : run ≡ run_of job old.files design (clock_bits accepted.accepted.clocks) (ports_of job.mode accepted)
   pub headers : HaveHeaders run.ports old.files job.stimuli (length job.stimuli)
 
 -- Two places have one path. Nothing was called.

@@ -1,5 +1,6 @@
 -- What a run of the event queue has written, its steps in the order of a number (IEEE 1364-2005, 11.3 and 11.4).
 use Rattle.std.specs.Prelude.{◌≡◌, ℕ, ◌*◌, List, [], ◌∷◌, length}
+use Rattle.vs_design.specs.Clocks.{clock_bits}
 use Rattle.vs_design.specs.Designs.{Design}
 use Rattle.vs_desk.specs.Desk.{Contents}
 use Rattle.vs_desk.specs.Places.{stimulus_place, design_place}
@@ -18,15 +19,15 @@ use Rattle.vs_top.specs.Headline.{IsLaneWritten}
 -- of the event queue on it has.
 pub record IsOrderedText (job : Job) (old : Contents) (text : List ℕ) : Type 0 where
   pub design : Design
-  pub accepted : IsAcceptedText (design_text job old) job.top job.clock design
-  pub lane : IsLaneWritten job.share design accepted.accepted.clock.first job.half (ports_of job.mode accepted) (old.files (path_at job.stimuli 0)) text
+  pub accepted : IsAcceptedText (design_text job old) job.top job.clocks design
+  pub lane : IsLaneWritten job.share design (clock_bits accepted.accepted.clocks) job.half (ports_of job.mode accepted) (old.files (path_at job.stimuli 0)) text
 
 -- The run on these vectors that the number chooses has so many steps, as far as 64 bits can count.
-pub record IsStepped (d : Design) (clock order : ℕ) (vectors : List Vector) (steps : ℕ) : Type 0 where
+pub record IsStepped (d : Design) (clocks : List ℕ) (order : ℕ) (vectors : List Vector) (steps : ℕ) : Type 0 where
   pub first : Vector
   pub later : List Vector
   pub vectors_are : vectors ≡ first ∷ later
-  pub has_steps : HasSteps d clock order first later steps
+  pub has_steps : HasSteps d clocks order first later steps
 
 -- This is that text, the design's first file and the stimulus were taken to their end, and the counts are those of the stimulus and of the run that the number chooses, where the desk had
 -- these contents before and after.
@@ -36,7 +37,7 @@ pub record IsCourseOf (job : Job) (old new : Contents) (text : List ℕ) (c : Co
   pub stimulus_taken : new.left (stimulus_place 0) ≡ []
   pub vectors_are : c.vectors ≡ length whole.lane.vectors
   pub slots_are : c.slots ≡ 2 * length whole.lane.vectors
-  pub steps : IsStepped whole.design whole.accepted.accepted.clock.first c.order whole.lane.vectors c.steps
+  pub steps : IsStepped whole.design (clock_bits whole.accepted.accepted.clocks) c.order whole.lane.vectors c.steps
 
 -- and it is what was put
 abbrev pub IsOrdered : Job → Contents → Contents → Course → Type 0

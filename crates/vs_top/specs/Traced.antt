@@ -16,9 +16,9 @@ use Rattle.vs_top.specs.declared.outcome.Course.{Course}
 use Rattle.vs_top.specs.Ordered.{IsCourseOf}
 
 -- What is made of vectors: the waveform of every completed run on them, and the counts of the run that the number chooses.
-pub record IsTraceOf (share : Bool) (d : Design) (clock half order : ℕ) (vectors : List Vector) (text : List ℕ) (c : Course) : Type 0 where
-  pub every : (first : Vector) (later : List Vector) → AreValid d clock vectors first later → IsEveryDump share d clock half first later text
-  pub steps : (first : Vector) (later : List Vector) → AreValid d clock vectors first later → HasSteps d clock order first later c.steps
+pub record IsTraceOf (share : Bool) (d : Design) (clocks : List ℕ) (half order : ℕ) (vectors : List Vector) (text : List ℕ) (c : Course) : Type 0 where
+  pub every : (first : Vector) (later : List Vector) → AreValid d clocks vectors first later → IsEveryDump share d clocks half first later text
+  pub steps : (first : Vector) (later : List Vector) → AreValid d clocks vectors first later → HasSteps d clocks order first later c.steps
   pub vectors_are : c.vectors ≡ length vectors
   pub slots_are : c.slots ≡ 2 * length vectors
   pub order_is : c.order ≡ order

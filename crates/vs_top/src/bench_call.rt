@@ -44,6 +44,7 @@ pub fn bench<D: Desk, L: Ledger>(
 }
 
 /// Runs the job of a bench over a desk of its own.
+#[tactic(auto, using(crate::proofs::Benches::bench_ended))]
 fn run_bench<L: Ledger>(
     alloc: Global,
     sizes: Bench,

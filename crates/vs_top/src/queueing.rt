@@ -109,10 +109,10 @@ fn trace(
 ) -> Result<Traced, AllocError>
     requires accepted { IsAcceptedBy (design_of accepted.now.flat) accepted.now.clocks }
     requires footprints { accepted.now.footprints ≡ footprints_of (design_of accepted.now.flat) }
-    requires sized { AreSized (design_of accepted.now.flat) accepted.now.clocks.bit vectors.now }
+    requires sized { AreSized (design_of accepted.now.flat) accepted.now.clocks.bits vectors.now }
     requires few { length vectors.now ≤ 16777217 }
     requires half { job.now.half ≤ most_half }
-    ensures traced { IfOk result (λ t. IsTraceOf job.now.share (design_of accepted.now.flat) accepted.now.clocks.bit job.now.half order vectors.now t.text.items t.course) }
+    ensures traced { IfOk result (λ t. IsTraceOf job.now.share (design_of accepted.now.flat) accepted.now.clocks.bits job.now.half order vectors.now t.text.items t.course) }
     ensures paths { IfOk result (λ t. map string_bytes t.paths.items ≡ queue_paths job.now) }
 {
     let run = run_vectors(

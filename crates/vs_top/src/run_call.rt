@@ -153,7 +153,7 @@ fn run_and_report<D: Desk, L: Ledger>(
     }
 }
 
-/// Runs the job or the bench that the words of the command line call for, the program's own name first: `cyclesim run [--top T] [--clock C]
+/// Runs the job or the bench that the words of the command line call for, the program's own name first: `cyclesim run [--top T] [--clock C[,C]..]
 /// [--half H] [--define NAME[=TEXT]].. [--with PATH].. [--share] DESIGN STIM..`, the same with `check` for `run`, or `cyclesim bench N [L]`.
 ///
 /// Where the words call for a job, the design is accepted behind the lines of the macros and every stimulus is valid, a run that ends `Done`

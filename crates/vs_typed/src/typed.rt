@@ -78,6 +78,13 @@ impl Typed {
         self.shapes.flat()
     }
 
+    /// The flat design alone.
+    pub fn into_flat(self) -> Flat
+        ensures { result ≡ self }
+    {
+        self.shapes.into_flat()
+    }
+
     /// The shapes of its expressions, and what is gathered from them.
     pub fn shapes(&self) -> &Shapes
         ensures { result.now ≡ self.now }

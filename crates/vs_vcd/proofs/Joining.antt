@@ -16,7 +16,7 @@ use Rattle.vs_net.proofs.Basics.{write_all_other}
 use Rattle.vs_design.specs.Expressions.{Signal, signal_length, Expression, Literal, Name, Select, Word, Unary, Binary, Choice, Join, Repeat, At, Call, width, sign}
 use Rattle.vs_design.specs.Statements.{Target, Whole, PartOf, WordOf, Both}
 use Rattle.vs_design.specs.Designs.{Port, Written, InputPort, OutputPort, Process, Continuous, Always, Design}
-use Rattle.vs_design.specs.Clocks.{name_of}
+use Rattle.vs_design.specs.Clocks.{clock_bits, name_of}
 use Rattle.vs_design.specs.Values.{count_from, bits_of_signal, read, value, assigned_value}
 use Rattle.vs_design.specs.Effects.{pair_up, last_of_each}
 use Rattle.vs_design.specs.Bodies.{assignment_writes}
@@ -211,7 +211,7 @@ joined_bits s t e r named long settled =
 -- ---- the bits of a class
 
 none_signal : Signal
-none_signal = record { name = []; scope = 0; number = 0; net = true; input = false; range = None; signed = false; first = 0; words = None }
+none_signal = record { name = []; scope = 0; number = 0; net = true; input = false; range = None; signed = false; first = 0; words = None; integer = false }
 
 -- the value of the signal with this number
 value_at : Design → State → ℕ → BitList
@@ -239,18 +239,18 @@ class_values d r lawful settled m n (Joined p x a b at h) =
     value_at-is d r a j.from from ∙ joined_bits j.from j.to j.e r j.named j.long here ∙ sym (value_at-is d r b j.to to)
 
 -- at the end of each slot
-ends_settled : SlotValuesAre → (d : Design) (name : Option (List ℕ)) (a : IsAcceptedDesign d name) (before : State) (slots : List Slot) (ends : List State) → IsSolution (network_of d a.clock.first) before slots ends
+ends_settled : SlotValuesAre → (d : Design) (names : List (List ℕ)) (a : IsAcceptedDesign d names) (before : State) (slots : List Slot) (ends : List State) → IsSolution (network_of d (clock_bits a.clocks)) before slots ends
     → (k : ℕ) (end : State) → slice_get ends k ≡ Some end → AreSettled d end
-ends_settled law d name a before [] [] h k end at = absurd (no_some end at)
-ends_settled law d name a before [] (s ∷ ss) h k end at = absurd h
-ends_settled law d name a before (slot ∷ slots) [] h k end at = absurd h
-ends_settled law d name a before (slot ∷ slots) (s ∷ ss) h zero end at =
-    let values = (law d name a before slot s).0 h.0 in
+ends_settled law d names a before [] [] h k end at = absurd (no_some end at)
+ends_settled law d names a before [] (s ∷ ss) h k end at = absurd h
+ends_settled law d names a before (slot ∷ slots) [] h k end at = absurd h
+ends_settled law d names a before (slot ∷ slots) (s ∷ ss) h zero end at =
+    let values = (law d names a before slot s).0 h.0 in
     subst (AreSettled d) (some_same s end at) values.assign
-ends_settled law d name a before (slot ∷ slots) (s ∷ ss) h (suc k) end at = ends_settled law d name a s slots ss h.1 k end at
+ends_settled law d names a before (slot ∷ slots) (s ∷ ss) h (suc k) end at = ends_settled law d names a s slots ss h.1 k end at
 
 pub one_value : SlotValuesAre → ClassesHaveOneValue
-one_value law d name a before slots ends h k end at m n s t alike is_s is_t =
+one_value law d names a before slots ends h k end at m n s t alike is_s is_t =
     sym (value_at-is d end m s is_s)
-    ∙ class_values d end a.lawful (ends_settled law d name a before slots ends h k end at) m n alike
+    ∙ class_values d end a.lawful (ends_settled law d names a before slots ends h k end at) m n alike
     ∙ value_at-is d end n t is_t

@@ -9,6 +9,7 @@ use Rattle.vs_design.specs.Designs.{Scope, Design}
 use Rattle.vs_design.specs.ExampleParts.{input_of, wire_of, reg_of, to_zero, clk_signal}
 use Rattle.vs_vcd.specs.Numerals.{decimal, identifier}
 use Rattle.vs_vcd.specs.Values.{line, value_line}
+use Rattle.vs_vcd.specs.Scopes.{variable_line}
 use Rattle.vs_vcd.specs.Texts.{vcd}
 
 abbrev pub lines : List (List ℕ) → List ℕ
@@ -87,7 +88,7 @@ abbrev pub nested_scopes : List Scope
 nested_scopes = top ∷ record { name = codes "u"; parent = Some 0; instance = true } ∷ record { name = codes "g"; parent = Some 1; instance = false } ∷ record { name = codes "v"; parent = Some 0; instance = true } ∷ []
 
 abbrev pub reg_in : ℕ → ℕ → Signal
-reg_in scope number = record { name = codes "r"; scope = scope; number = number; net = false; input = false; range = None; signed = false; first = number; words = None }
+reg_in scope number = record { name = codes "r"; scope = scope; number = number; net = false; input = false; range = None; signed = false; first = number; words = None; integer = false }
 
 abbrev pub nested_design : Design
 nested_design = design_with nested_scopes (reg_in 0 0 ∷ reg_in 1 1 ∷ reg_in 2 2 ∷ reg_in 3 3 ∷ [])
@@ -119,10 +120,14 @@ memory_text = lines (
     codes "#0" ∷ codes "$dumpvars" ∷ codes "0!" ∷ codes "x#" ∷ codes "$end" ∷
     codes "#5" ∷ codes "1!" ∷ codes "#10" ∷ codes "1#" ∷ codes "#15" ∷ [])
 
+-- the line of an integer
+abbrev pub integer_of : ℕ → Signal
+integer_of number = record (reg_of (codes "n") number (to_zero 31) 0) { signed = true; integer = true }
+
 abbrev pub TextsComputed : Type 0
 TextsComputed = (vcd and_design 5 and_ends ≡ and_text) × (vcd register_design 5 register_ends ≡ register_text)
     × (vcd adder_design 5 adder_ends ≡ adder_text) × (vcd nested_design 7 (state_of (X ∷ Z ∷ X ∷ X ∷ []) ∷ []) ≡ nested_text)
-    × (vcd memory_design 5 memory_ends ≡ memory_text)
+    × (vcd memory_design 5 memory_ends ≡ memory_text) × (variable_line (integer_of 3) ≡ line (codes "$var integer 32 $ n $end"))
 
 -- bits least significant first, digits most significant first
 abbrev pub DigitsComputed : Type 0

@@ -8,9 +8,10 @@ pub use Rattle.vs_design.specs.Footprints.{shown_signals}
 use Rattle.vs_vcd.specs.Numerals.{decimal, identifier}
 use Rattle.vs_vcd.specs.Values.{line}
 
-abbrev pub variable_kind : Bool → List ℕ
-variable_kind true = codes "wire"
-variable_kind false = codes "reg"
+abbrev pub variable_kind : (net integer : Bool) → List ℕ
+variable_kind net true = codes "integer"
+variable_kind true false = codes "wire"
+variable_kind false false = codes "reg"
 
 abbrev pub range_text : Option Range → List ℕ
 range_text None = []
@@ -18,11 +19,16 @@ range_text (Some r) = codes " [" ++ decimal r.left ++ codes ":" ++ decimal r.rig
 
 -- `$var`, the kind, the length and the identifier code
 unfoldable pub variable_start : Signal → List ℕ
-variable_start s = codes "$var " ++ variable_kind s.net ++ codes " " ++ decimal (signal_length s) ++ codes " " ++ identifier s.number ++ codes " "
+variable_start s = codes "$var " ++ variable_kind s.net s.integer ++ codes " " ++ decimal (signal_length s) ++ codes " " ++ identifier s.number ++ codes " "
+
+-- an integer declares no range
+abbrev pub declared_range : (integer : Bool) → Option Range → Option Range
+declared_range true range = None
+declared_range false range = range
 
 -- then the name with its declared range
 unfoldable pub variable_line : Signal → List ℕ
-variable_line s = line (variable_start s ++ s.name ++ range_text s.range ++ codes " $end")
+variable_line s = line (variable_start s ++ s.name ++ range_text (declared_range s.integer s.range) ++ codes " $end")
 
 -- the variables of scope n, by number
 unfoldable pub variables : List Signal → ℕ → List ℕ

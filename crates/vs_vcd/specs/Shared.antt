@@ -7,7 +7,7 @@ use Rattle.vs_net.specs.Solution.{IsSolution}
 use Rattle.vs_design.specs.Expressions.{Signal, signal_length}
 use Rattle.vs_design.specs.Statements.{Whole}
 use Rattle.vs_design.specs.Designs.{Process, Continuous, Written, Design}
-use Rattle.vs_design.specs.Clocks.{name_of}
+use Rattle.vs_design.specs.Clocks.{clock_bits, name_of}
 use Rattle.vs_design.specs.Values.{bits_of_signal, read}
 use Rattle.vs_design.specs.Footprints.{contains}
 use Rattle.vs_design.specs.Elaborated.{IsLawfulDesign}
@@ -139,7 +139,7 @@ UnjoinedIsPlain = (d : Design) → ((p : ℕ) (process : Process) → slice_get 
 
 -- at the end of every slot of an accepted design the signals of a class have the same bits
 abbrev pub ClassesHaveOneValue : Type 0
-ClassesHaveOneValue = (d : Design) (name : Option (List ℕ)) (a : IsAcceptedDesign d name) (before : State) (slots : List Slot) (ends : List State) → IsSolution (network_of d a.clock.first) before slots ends
+ClassesHaveOneValue = (d : Design) (names : List (List ℕ)) (a : IsAcceptedDesign d names) (before : State) (slots : List Slot) (ends : List State) → IsSolution (network_of d (clock_bits a.clocks)) before slots ends
     → (k : ℕ) (end : State) → slice_get ends k ≡ Some end → (m n : ℕ) (s t : Signal) → IsAlike d m n → slice_get d.signals m ≡ Some s → slice_get d.signals n ≡ Some t
     → read end (bits_of_signal s) ≡ read end (bits_of_signal t)
 

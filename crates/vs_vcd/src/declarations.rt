@@ -6,7 +6,7 @@ ghost use Rattle.vs_flat.specs.DesignOf.{design_of, scope_of};
 ghost use Rattle.vs_flat.specs.Trees.{signal_of};
 ghost use Rattle.vs_vcd.specs.Groups.{AreLinked};
 ghost use Rattle.vs_vcd.specs.Shared.{code_at, coded_by};
-ghost use Rattle.vs_vcd.specs.Scopes.{variable_kind, range_text, variable_start, variable_line, variables, scope_kind, scope_line, scopes_in, shown_signals, head_text};
+ghost use Rattle.vs_vcd.specs.Scopes.{variable_kind, declared_range, range_text, variable_start, variable_line, variables, scope_kind, scope_line, scopes_in, shown_signals, head_text};
 ghost use Rattle.vs_vcd.specs.Steps.{scope_key, scope_keys, signal_key, signal_keys, step_text, steps_text, link_steps, IsStep, AreSteps};
 
 use crate::codes::Codes;
@@ -189,7 +189,7 @@ fn push_variable(text: &mut Vec<u8>, code: u32, signal: &Signal) -> Result<(), A
 {
     text.extend_from_slice(variable_start(code, signal).as_slice())?;
     text.extend_from_slice(signal.name.as_slice())?;
-    push_range(text, signal.range)?;
+    push_range(text, declared_range(signal.integer, signal.range))?;
     text.extend_from_slice(b" $end\n")?;
     Ok(())
 }
@@ -201,7 +201,7 @@ fn variable_start(code: u32, signal: &Signal) -> Line
 {
     let mut line = Line::new();
     line.push_text(b"$var ");
-    line.push_text(variable_kind(signal.net));
+    line.push_text(variable_kind(signal.net, signal.integer));
     line.push(b' ');
     line.push_decimal(range_bits(signal.range));
     line.push(b' ');
@@ -211,14 +211,25 @@ fn variable_start(code: u32, signal: &Signal) -> Line
 }
 
 /// How a net or a variable is declared.
-fn variable_kind(net: bool) -> &'static [u8]
-    ensures kind { result.now ≡ variable_kind net }
-    ensures short { length result.now ≤ 4 }
+fn variable_kind(net: bool, integer: bool) -> &'static [u8]
+    ensures kind { result.now ≡ variable_kind net integer }
+    ensures short { length result.now ≤ 7 }
 {
-    if net {
-        return b"wire";
+    match (net, integer) {
+        (_, true) => b"integer",
+        (true, false) => b"wire",
+        (false, false) => b"reg",
     }
-    b"reg"
+}
+
+/// The range that a declaration has: an integer's has none.
+fn declared_range(integer: bool, range: Option<Range>) -> Option<Range>
+    ensures { result ≡ declared_range integer range }
+{
+    if integer {
+        return None;
+    }
+    range
 }
 
 /// Adds a declared range.

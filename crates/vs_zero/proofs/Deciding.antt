@@ -9,7 +9,7 @@ use Rattle.vs_design.specs.Laws.{OneFamilies, OrderOrCycle}
 use Rattle.vs_design.specs.Levels.{is_level_order, has_no_cycle, level_order}
 use Rattle.vs_design.specs.Refusals.{otherwise, first_found, where_true, place_at, ZeroRefusal, TimeZero, zero_refusal_by, zero_refusal}
 use Rattle.vs_design.specs.TimeZero.{Families, families, is_uncertain}
-use Rattle.vs_clock.specs.Clocked.{Clocked, IsClockOf}
+use Rattle.vs_clock.specs.Clocked.{Clocked, AreClocksOf}
 use Rattle.vs_clock.specs.Tests.{IsFirst, NoneBefore}
 use Rattle.vs_reads.proofs.Numbered.{place_is}
 use Rattle.vs_sets.proofs.Families.{same_or_other}
@@ -31,12 +31,12 @@ order_found : OrderOrCycle → (d : Design) (order : List ℕ) → is_level_orde
 order_found law d order h = by_test (has_no_cycle d) (λ e. e) (λ e. let c = (law d).found e in absurd ((law d).none order h c.0 c.1))
 
 -- any level order gives the same families
-pub one_families : OneFamilies → OrderOrCycle → (d : Design) → IsOrderly d → (clock : ℕ) (order : List ℕ) → is_level_order d order ≡ true → families d clock order ≡ families d clock (level_order d)
-one_families law cycle d o clock order h =
-    let mine = law d o clock order h in
-    let theirs = law d o clock (level_order d) (order_found cycle d order h) in
-    let f = families d clock order in
-    let g = families d clock (level_order d) in
+pub one_families : OneFamilies → OrderOrCycle → (d : Design) → IsOrderly d → (clocks : List ℕ) (order : List ℕ) → is_level_order d order ≡ true → families d clocks order ≡ families d clocks (level_order d)
+one_families law cycle d o clocks order h =
+    let mine = law d o clocks order h in
+    let theirs = law d o clocks (level_order d) (order_found cycle d order h) in
+    let f = families d clocks order in
+    let g = families d clocks (level_order d) in
     both_same f g (fun_ext (λ b. (mine.1 f g mine.0 theirs.0 b).0)) (fun_ext (λ b. (mine.1 f g mine.0 theirs.0 b).1))
 
 -- ---- the first
@@ -83,22 +83,22 @@ found_none breaks k (y ∷ ps) h =
     ap (λ t. otherwise (where_true t (TimeZero k (process_place y))) (found breaks (suc k) ps)) (h 0 y refl)
     ∙ found_none breaks (suc k) ps (λ q z f. h (suc q) z f)
 
-pub refused : (d : Design) (name : Option (List ℕ)) (c : Clocked) → IsClockOf d name c → (p at : ℕ) → IsFirst d (is_uncertain d (families d c.bit (level_order d))) (Some p) → at ≡ place_at d.processes p → zero_refusal d name ≡ Some (TimeZero p at)
-refused d name c i p at h e =
-    ap (zero_refusal_by d) i.is
-    ∙ ap (λ b. found (is_uncertain d (families d b (level_order d))) 0 d.processes) (sym i.bit_is)
-    ∙ found_some (is_uncertain d (families d c.bit (level_order d))) 0 d.processes p h.0 h.1.is h.1.broken h.1.before
+pub refused : (d : Design) (names : List (List ℕ)) (c : Clocked) → AreClocksOf d names c → (p at : ℕ) → IsFirst d (is_uncertain d (families d c.bits (level_order d))) (Some p) → at ≡ place_at d.processes p → zero_refusal d names ≡ Some (TimeZero p at)
+refused d names c i p at h e =
+    ap (zero_refusal_by d) i.are
+    ∙ ap (λ b. found (is_uncertain d (families d b (level_order d))) 0 d.processes) (sym i.bits_are)
+    ∙ found_some (is_uncertain d (families d c.bits (level_order d))) 0 d.processes p h.0 h.1.is h.1.broken h.1.before
     ∙ ap (λ n. Some (TimeZero n (process_place h.0))) (zero_plus p)
     ∙ ap (λ n. Some (TimeZero p n)) (sym (place_is d.processes p h.0 h.1.is) ∙ sym e)
   where
     zero_plus : (p : ℕ) → 0 + p ≡ p
     zero_plus p = omega arith
 
-pub none_refused : (d : Design) (name : Option (List ℕ)) (c : Clocked) → IsClockOf d name c → IsFirst d (is_uncertain d (families d c.bit (level_order d))) None → zero_refusal d name ≡ None
-none_refused d name c i h =
-    ap (zero_refusal_by d) i.is
-    ∙ ap (λ b. found (is_uncertain d (families d b (level_order d))) 0 d.processes) (sym i.bit_is)
-    ∙ found_none (is_uncertain d (families d c.bit (level_order d))) 0 d.processes h
+pub none_refused : (d : Design) (names : List (List ℕ)) (c : Clocked) → AreClocksOf d names c → IsFirst d (is_uncertain d (families d c.bits (level_order d))) None → zero_refusal d names ≡ None
+none_refused d names c i h =
+    ap (zero_refusal_by d) i.are
+    ∙ ap (λ b. found (is_uncertain d (families d b (level_order d))) 0 d.processes) (sym i.bits_are)
+    ∙ found_none (is_uncertain d (families d c.bits (level_order d))) 0 d.processes h
 
 pub first_there : (d : Design) (breaks : Process → Bool) (p : ℕ) → IsFirst d breaks (Some p) → p < length d.processes
 first_there d breaks p h = slice_get_within d.processes p h.0 h.1.is

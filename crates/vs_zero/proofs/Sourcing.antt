@@ -1,9 +1,10 @@
 -- Tables whose bits get their sets signal by signal.
 use Rattle.std.proofs.Common.{◌≡◌, ℕ, zero, suc, ◌+◌, ◌<◌, ◌≤◌, Bool, true, false, List, [], ◌∷◌, ◌++◌, length, take, set, filter, refl, sym, ap, ◌∙◌, arith, inl, inr}
-use Rattle.std.specs.Prelude.{◌||◌, ◌==◌, nat_lt, if◌then◌else◌}
+use Rattle.std.specs.Prelude.{◌||◌, ◌==◌, nat_lt, if◌then◌else◌, slice_index_or}
 use mathlib.Core.Path.{fun_ext}
 use Rattle.std.proofs.lemmas.List.{take_more, get_or_past}
 use Rattle.std.proofs.Math.Seq.{take-append_seam}
+use Rattle.std.proofs.lemmas.List.Elements.{filter-append}
 use Rattle.std.proofs.lemmas.List.Folds.{list_any-append}
 use Rattle.std.proofs.lemmas.Bool.{cases_lt, cond-true, cond-false}
 use Rattle.vs_four.specs.declared.Bit4.TheVariants.{Zero, X, Z}
@@ -21,7 +22,7 @@ use Rattle.vs_flat.specs.Trees.{no_signal, signal_at}
 use Rattle.vs_sets.specs.Branches.{replaced}
 use Rattle.vs_sets.specs.Tables.{beyond, family_of}
 use Rattle.vs_zero.specs.declared.sources.SignalKind.TheVariants.{Net, Input}
-use Rattle.vs_zero.specs.Sources.{bits_of_kind, with_clock}
+use Rattle.vs_zero.specs.Sources.{bits_of_kind, with_clocks}
 use Rattle.vs_sets.proofs.Families.{put_family}
 use Rattle.vs_sets.proofs.BranchSteps.{or_false}
 
@@ -111,17 +112,29 @@ seam n xs ys h = ap {B = List Set4} (λ m. take m (xs ++ ys)) h ∙ take-append_
 
 -- ---- the late sets
 
-pub clock_put : (clock : ℕ) (t : List Set4) → clock < length t → family_of (set t clock (only Zero)) ≡ with_clock clock (length t) (family_of t)
+pub clock_put : (clock : ℕ) (t : List Set4) → clock < length t → family_of (set t clock (only Zero)) ≡ with_clocks (clock ∷ []) (length t) (family_of t)
 clock_put clock t l = put_family t clock (only Zero) l ∙ fun_ext (λ b. ap (λ k. if k then only Zero else family_of t b) (sym (or_false (b == clock)) ∙ ap (λ c. contains (if c then (clock ∷ []) else []) b) (sym (is_below clock (length t) l))))
   where
     is_below : (m n : ℕ) → m < n → nat_lt m n ≡ true
     is_below m n h = grind arith
 
-pub clock_left : (clock : ℕ) (t : List Set4) → length t ≤ clock → family_of t ≡ with_clock clock (length t) (family_of t)
+pub clock_left : (clock : ℕ) (t : List Set4) → length t ≤ clock → family_of t ≡ with_clocks (clock ∷ []) (length t) (family_of t)
 clock_left clock t l = fun_ext (λ b. ap (λ c. if contains (if c then (clock ∷ []) else []) b then only Zero else family_of t b) (sym (is_past clock (length t) l)))
   where
     is_past : (m n : ℕ) → n ≤ m → nat_lt m n ≡ false
     is_past m n h = grind arith
 
-pub late_made : (d : Design) (clock : ℕ) (f : Family) → f ≡ replaced (bits_of_kind Input d) (λ b. known_set) (λ b. with_resets d clock d.processes b (only (start_value d b))) → with_clock clock (bit_count d) f ≡ late_source d clock
-late_made d clock f h = ap (with_clock clock (bit_count d)) h
+-- no clock is set yet
+pub clocks_begun : (count : ℕ) (f : Family) → f ≡ with_clocks [] count f
+clocks_begun count f = refl
+
+-- and one clock more
+pub clocks_more : (cs : List ℕ) (k count : ℕ) (f g h : Family) → k < length cs → g ≡ with_clocks (take k cs) count f → h ≡ with_clocks (slice_index_or cs k 0 ∷ []) count g → h ≡ with_clocks (take (k + 1) cs) count f
+clocks_more cs k count f g h l e s =
+    s ∙ ap (with_clocks (slice_index_or cs k 0 ∷ []) count) e
+    ∙ replaced_more (filter (λ c. nat_lt c count) (take k cs)) (filter (λ c. nat_lt c count) (slice_index_or cs k 0 ∷ [])) (only Zero) f
+    ∙ ap (λ bs. replaced bs (λ b. only Zero) f) (sym (filter-append (λ c. nat_lt c count) (take k cs) (slice_index_or cs k 0 ∷ [])))
+    ∙ ap (λ bs. with_clocks bs count f) (sym (take_more cs k 0 l))
+
+pub late_made : (d : Design) (clocks : List ℕ) (f : Family) → f ≡ replaced (bits_of_kind Input d) (λ b. known_set) (λ b. with_resets d clocks d.processes b (only (start_value d b))) → with_clocks clocks (bit_count d) f ≡ late_source d clocks
+late_made d clocks f h = ap (with_clocks clocks (bit_count d)) h

@@ -1,5 +1,5 @@
 -- The sets that a table begins with.
-use Rattle.std.specs.Prelude.{ℕ, Bool, List, [], ◌∷◌, filter, nat_lt, if◌then◌else◌}
+use Rattle.std.specs.Prelude.{ℕ, Bool, List, filter, nat_lt, if◌then◌else◌}
 use Rattle.vs_four.specs.declared.Bit4.TheVariants.{Zero}
 use Rattle.vs_design.specs.Expressions.{Signal}
 use Rattle.vs_design.specs.Designs.{Design}
@@ -17,6 +17,6 @@ is_kind Input s = is_input s
 abbrev pub bits_of_kind : SignalKind → Design → List ℕ
 bits_of_kind kind d = signals_bits (filter (is_kind kind) d.signals)
 
--- these sets, but 0 alone in the clock, where it is one of so many bits
-abbrev pub with_clock : ℕ → ℕ → Family → Family
-with_clock clock count sets b = if contains (if nat_lt clock count then (clock ∷ []) else []) b then only Zero else sets b
+-- these sets, but 0 alone in each clock that is one of so many bits
+abbrev pub with_clocks : List ℕ → ℕ → Family → Family
+with_clocks clocks count sets b = if contains (filter (λ c. nat_lt c count) clocks) b then only Zero else sets b

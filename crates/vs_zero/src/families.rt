@@ -1,6 +1,6 @@
 //! The early and the late sets of all bits at time zero.
 
-ghost use Rattle.std.specs.Prelude.{◌≡◌, None, Some, true, length, IfOk};
+ghost use Rattle.std.specs.Prelude.{◌≡◌, [], ◌∷◌, None, Some, true, length, IfOk};
 ghost use Rattle.vs_design.specs.Designs.{bit_count};
 ghost use Rattle.vs_design.specs.Levels.{is_level_order};
 ghost use Rattle.vs_design.specs.Refusals.{block_refusal};
@@ -10,7 +10,7 @@ ghost use Rattle.vs_clock.specs.Clocked.{AreResets};
 ghost use Rattle.vs_flat.specs.DesignOf.{design_of};
 ghost use Rattle.vs_reads.specs.Footprint.{footprints_of};
 ghost use Rattle.vs_sets.specs.Tables.{family_of};
-ghost use Rattle.vs_zero.specs.Sources.{with_clock};
+ghost use Rattle.vs_zero.specs.Sources.{with_clocks};
 ghost use Rattle.vs_zero.specs.States.{state_of, unknown};
 ghost use Rattle.vs_zero.specs.Values.{IsZero};
 
@@ -51,7 +51,7 @@ fn add_resets(
     requires resets { AreResets typed.now clocks.now }
     requires x { state_of from_x.old ≡ unknown }
     requires zero { IsZero from_zero.old }
-    ensures { family_of table.new ≡ (λ b. with_resets (design_of typed.now) clocks.now.bit (design_of typed.now).processes b (family_of table.old b)) }
+    ensures { family_of table.new ≡ (λ b. with_resets (design_of typed.now) clocks.now.bits (design_of typed.now).processes b (family_of table.old b)) }
 {
     trees_law();
     fits_law();
@@ -69,16 +69,25 @@ fn add_resets(
     }
 }
 
-/// Gives the clock 0 alone, where it is one of the bits of the table.
+/// Gives a clock 0 alone, where it is one of the bits of the table.
 fn set_clock(clock: u32, table: &mut [Set4])
-    ensures { family_of table.new ≡ with_clock clock (length table.old) (family_of table.old) }
+    ensures { family_of table.new ≡ with_clocks (clock ∷ []) (length table.old) (family_of table.old) }
 {
     if (clock as usize) < table.len() {
         table[clock as usize] = Set4::only(Bit4::Zero);
     }
 }
 
-/// The late sets of bits that no assign and no combinational block writes: 0 in the clock, where there is one, 0 or 1 in any other input, else what initial processes leave in it, with the value that a reset gives it last.
+/// Gives each of these clocks 0 alone that is one of the bits of the table.
+fn set_clocks(clocks: &[u32], table: &mut [Set4])
+    ensures { family_of table.new ≡ with_clocks clocks.now (length table.old) (family_of table.old) }
+{
+    for k in 0..clocks.len() {
+        set_clock(clocks[k], table);
+    }
+}
+
+/// The late sets of bits that no assign and no combinational block writes: 0 in a clock, where there is one, 0 or 1 in any other input, else what initial processes leave in it, with the value that a reset gives it last.
 fn late_sources(
     alloc: Global,
     typed: &Typed,
@@ -89,7 +98,7 @@ fn late_sources(
     requires blocks { block_refusal (design_of typed.now) ≡ None }
     requires resets { AreResets typed.now clocks.now }
     ensures count { IfOk result (λ v. length v.items ≡ bit_count (design_of typed.now)) }
-    ensures sets { IfOk result (λ v. family_of v.items ≡ late_source (design_of typed.now) clocks.now.bit) }
+    ensures sets { IfOk result (λ v. family_of v.items ≡ late_source (design_of typed.now) clocks.now.bits) }
 {
     trees_law();
     let shapes = typed.shapes();
@@ -111,7 +120,7 @@ fn late_sources(
         Set4::known(),
         table.as_mut_slice(),
     );
-    set_clock(clocks.bit(), table.as_mut_slice());
+    set_clocks(clocks.bits(), table.as_mut_slice());
     Ok(table)
 }
 
@@ -130,7 +139,7 @@ impl Families {
         requires order { is_level_order (design_of typed.now) order.now ≡ true }
         ensures early_count { IfOk result (λ f. length f.early.items ≡ bit_count (design_of typed.now)) }
         ensures late_count { IfOk result (λ f. length f.late.items ≡ bit_count (design_of typed.now)) }
-        ensures sets { IfOk result (λ f. record { early = family_of f.early.items; late = family_of f.late.items } ≡ families (design_of typed.now) clocks.now.bit order.now) }
+        ensures sets { IfOk result (λ f. record { early = family_of f.early.items; late = family_of f.late.items } ≡ families (design_of typed.now) clocks.now.bits order.now) }
     {
         let mut early = early_sources(alloc, typed)?;
         let mut late = late_sources(alloc, typed, footprints, clocks)?;

@@ -1,7 +1,7 @@
 //! The rule of time zero.
 
-ghost use Rattle.std.specs.Prelude.{◌≡◌, ℕ, List, Option, None, true, IfErr, OnOk};
-ghost use Rattle.vs_clock.specs.Clocked.{AreResets, IsClockOf};
+ghost use Rattle.std.specs.Prelude.{◌≡◌, ℕ, List, None, true, IfErr, OnOk};
+ghost use Rattle.vs_clock.specs.Clocked.{AreResets, AreClocksOf};
 ghost use Rattle.vs_design.specs.Levels.{is_level_order};
 ghost use Rattle.vs_design.specs.Refusals.{block_refusal, driver_refusal, zero_refusal};
 ghost use Rattle.vs_flat.specs.DesignOf.{design_of};
@@ -28,13 +28,13 @@ pub fn check(
     order: &Order,
 ) -> Result<(), ZeroError>
     requires footprints { footprints.now ≡ footprints_of (design_of typed.now) }
-    requires clock { (name : Option (List ℕ)) × IsClockOf (design_of typed.now) name clocks.now }
+    requires clocks { (names : List (List ℕ)) × AreClocksOf (design_of typed.now) names clocks.now }
     requires resets { AreResets typed.now clocks.now }
     requires order { is_level_order (design_of typed.now) order.now ≡ true }
     requires blocks { block_refusal (design_of typed.now) ≡ None }
     requires drivers { driver_refusal (design_of typed.now) ≡ None }
-    ensures lawful { (name : Option (List ℕ)) → IsClockOf (design_of typed.now) name clocks.now → OnOk result (zero_refusal (design_of typed.now) name ≡ None) }
-    ensures refused { (name : Option (List ℕ)) → IsClockOf (design_of typed.now) name clocks.now → IfErr result (IsZeroError (design_of typed.now) name) }
+    ensures lawful { (names : List (List ℕ)) → AreClocksOf (design_of typed.now) names clocks.now → OnOk result (zero_refusal (design_of typed.now) names ≡ None) }
+    ensures refused { (names : List (List ℕ)) → AreClocksOf (design_of typed.now) names clocks.now → IfErr result (IsZeroError (design_of typed.now) names) }
 {
     trees_law();
     cycle_law();

@@ -1,13 +1,11 @@
-use Rattle.std.specs.Prelude.{option_map}
-use Rattle.vs_accept.specs.Lent.{Acceptance}
-use Rattle.vs_flat.specs.DesignOf.{design_of}
+use Rattle.std.specs.Prelude.{option_map, map}
 use Rattle.vs_accept.proofs.Judged.{kept, told}
 use Rattle.vs_accept.proofs.acceptance.accept.Goals as goal
 
 pub returns-clause-kept : goal.returns-clause-kept
 returns-clause-kept c d h =
-    kept c.answer_law.ensures.one c.answer_law.ensures.not_both (λ (a : Acceptance). design_of a.flat) c.args.text.now (option_map (λ t. t.now) c.args.top) (option_map (λ c. c.now) c.args.clock) d c.answer.result c.answer.ensures.accepted c.answer.ensures.refused h
+    kept c.answer_law.ensures.one c.answer_law.ensures.not_both c.args.text.now (option_map (λ t. t.now) c.args.top) (map (λ c. c.now) c.args.clocks.now) d c.answer.result c.answer.ensures.accepted c.answer.ensures.refused h
 
 pub returns-clause-refusal : goal.returns-clause-refusal
 returns-clause-refusal c q h =
-    told c.answer_law.ensures.not_both c.answer_law.ensures.alike (λ (a : Acceptance). design_of a.flat) c.args.text.now (option_map (λ t. t.now) c.args.top) (option_map (λ c. c.now) c.args.clock) q c.answer.result c.answer.ensures.accepted c.answer.ensures.refused h
+    told c.answer_law.ensures.not_both c.answer_law.ensures.alike c.args.text.now (option_map (λ t. t.now) c.args.top) (map (λ c. c.now) c.args.clocks.now) q c.answer.result c.answer.ensures.accepted c.answer.ensures.refused h

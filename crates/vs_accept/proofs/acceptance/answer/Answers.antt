@@ -1,5 +1,5 @@
 use Rattle.std.proofs.Common.{ap, sym, ◌∙◌}
-use Rattle.std.specs.Prelude.{option_map}
+use Rattle.std.specs.Prelude.{option_map, map}
 use Rattle.vs_ast.specs.Views as view
 use Rattle.vs_flat.specs.DesignOf.{design_of}
 use Rattle.vs_tops.specs.Designs.{elaborated_by}
@@ -11,32 +11,32 @@ use Rattle.vs_accept.proofs.acceptance.answer.Goals as goal
 pub returns-in_err-tokens-clause-refused : goal.returns-in_err-tokens-clause-refused
 returns-in_err-tokens-clause-refused c =
     let top = option_map (λ t. t.now) c.args.top in
-    let clock = option_map (λ c. c.now) c.args.clock in
-    passed_on (IsRefusalOf c.args.text.now top clock) c.from_residual.result c.in_err-tokens.field-0.0 c.from_residual.ensures.1 (c.in_err-tokens.ensures.refused top clock)
+    let clocks = map (λ c. c.now) c.args.clocks.now in
+    passed_on (IsRefusalOf c.args.text.now top clocks) c.from_residual.result c.in_err-tokens.field-0.0 c.from_residual.ensures.1 (c.in_err-tokens.ensures.refused top clocks)
 
 pub returns-in_err-source-clause-refused : goal.returns-in_err-source-clause-refused
 returns-in_err-source-clause-refused c =
     let top = option_map (λ t. t.now) c.args.top in
-    let clock = option_map (λ c. c.now) c.args.clock in
-    passed_on (IsRefusalOf c.args.text.now top clock) c.from_residual-in_err-source.result c.in_err-source.field-0.0 c.from_residual-in_err-source.ensures.1 (c.in_err-source.ensures.refused top clock)
+    let clocks = map (λ c. c.now) c.args.clocks.now in
+    passed_on (IsRefusalOf c.args.text.now top clocks) c.from_residual-in_err-source.result c.in_err-source.field-0.0 c.from_residual-in_err-source.ensures.1 (c.in_err-source.ensures.refused top clocks)
 
 pub returns-in_err-flat-clause-refused : goal.returns-in_err-flat-clause-refused
 returns-in_err-flat-clause-refused c =
     let top = option_map (λ t. t.now) c.args.top in
-    let clock = option_map (λ c. c.now) c.args.clock in
-    passed_on (IsRefusalOf c.args.text.now top clock) c.from_residual-in_err-flat.result c.in_err-flat.field-0.0 c.from_residual-in_err-flat.ensures.1
-    (c.in_err-flat.ensures.refused top clock c.in_ok-name.ensures)
+    let clocks = map (λ c. c.now) c.args.clocks.now in
+    passed_on (IsRefusalOf c.args.text.now top clocks) c.from_residual-in_err-flat.result c.in_err-flat.field-0.0 c.from_residual-in_err-flat.ensures.1
+    (c.in_err-flat.ensures.refused top clocks c.in_ok-name.ensures)
 
 pub returns-clause-accepted : goal.returns-clause-accepted
 returns-clause-accepted c =
     let source = view.source c.in_ok-source.source in
-    accepted_text c.args.text.now (option_map (λ t. t.now) c.args.top) (option_map (λ c. c.now) c.args.clock) _ source c.in_ok-flat.flat c.judge.result c.requires c.in_ok-source.ensures.read
-    (ap (elaborated_by source) (sym c.in_ok-name.ensures) ∙ c.in_ok-flat.ensures.elaborates) c.judge.ensures.same c.judge.ensures.accepted
+    accepted_text c.args.text.now (option_map (λ t. t.now) c.args.top) (map (λ c. c.now) c.args.clocks.now) _ source (design_of c.in_ok-flat.flat) c.judge.result c.requires c.in_ok-source.ensures.read
+    (ap (elaborated_by source) (sym c.in_ok-name.ensures) ∙ c.in_ok-flat.ensures.elaborates) c.judge.ensures.kept c.judge.ensures.left c.judge.ensures.size c.judge.ensures.accepted
 
 pub returns-clause-refused : goal.returns-clause-refused
 returns-clause-refused c =
     let source = view.source c.in_ok-source.source in
-    refused_text c.args.text.now (option_map (λ t. t.now) c.args.top) (option_map (λ c. c.now) c.args.clock) _ source (design_of c.in_ok-flat.flat) c.judge.result c.in_ok-source.ensures.read
+    refused_text c.args.text.now (option_map (λ t. t.now) c.args.top) (map (λ c. c.now) c.args.clocks.now) _ source (design_of c.in_ok-flat.flat) c.judge.result c.in_ok-source.ensures.read
     (ap (elaborated_by source) (sym c.in_ok-name.ensures) ∙ c.in_ok-flat.ensures.elaborates) c.judge.ensures.refused
 
 pub returns-clause-outputs : goal.returns-clause-outputs

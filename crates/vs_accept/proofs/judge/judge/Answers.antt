@@ -1,21 +1,48 @@
-use Rattle.std.proofs.Common.{subst, option_map}
-use Rattle.std.specs.Prelude.{IfOk, IfErr}
+use Rattle.std.proofs.Common.{◌≡◌, ℕ, subst, map}
+use Rattle.std.specs.Prelude.{IfOk, IfErr, OnOk}
 use Rattle.vs_design.specs.Accepted.{IsAcceptedDesign}
+use Rattle.vs_design.specs.Answers.{KeepsDrivers}
+use Rattle.vs_design.specs.Dead.{without_dead}
 use Rattle.vs_flat.specs.Arena.{Arena}
 use Rattle.vs_flat.specs.DesignOf.{design_of}
 use Rattle.vs_accept.specs.Refused.{byte_of}
-use Rattle.vs_accept.specs.Answers.{IsVerdict}
+use Rattle.vs_accept.specs.Accepted.{told_size}
+use Rattle.vs_accept.specs.Answers.{IsVerdict, IsAnswered}
 use Rattle.vs_accept.specs.Lent.{Acceptance}
+use Rattle.vs_accept.proofs.Judged.{passed_on, weakened, on_ok}
+use Rattle.vs_accept.proofs.Told.{as_answer, left_answer}
 use Rattle.vs_accept.proofs.judge.judge.Goals as goal
 
-pub returns-in-Ok-clause-accepted : goal.returns-in-Ok-clause-accepted
-returns-in-Ok-clause-accepted c =
-    subst (λ (a : Arena). IfOk c.judge_typed.result (λ (kept : Acceptance). IsAcceptedDesign (design_of a) (option_map (λ c. c.now) c.args.clock))) c.in-Ok.ensures.same c.judge_typed.ensures.accepted
-
-pub returns-in-Ok-clause-refused : goal.returns-in-Ok-clause-refused
-returns-in-Ok-clause-refused c =
-    subst (λ (a : Arena). IfErr c.judge_typed.result (IsVerdict (byte_of c.args.places.now.text.now c.args.places.now.tokens.now) (design_of a) (option_map (λ c. c.now) c.args.clock))) c.in-Ok.ensures.same
-    c.judge_typed.ensures.refused
-
 pub returns-in-Err-clause-refused : goal.returns-in-Err-clause-refused
-returns-in-Err-clause-refused c = c.width_error.ensures (design_of c.args.flat) (option_map (λ c. c.now) c.args.clock) c.in-Err.ensures.refused
+returns-in-Err-clause-refused c =
+    let clocks = map (λ c. c.now) c.args.clocks.now in
+    as_answer (byte_of c.args.places.now.text.now c.args.places.now.tokens.now) (design_of c.args.flat) clocks c.width_error.result (c.width_error.ensures (design_of c.args.flat) clocks c.in-Err.ensures.refused)
+
+pub returns-in_err-check_writers-clause-refused : goal.returns-in_err-check_writers-clause-refused
+returns-in_err-check_writers-clause-refused c =
+    let clocks = map (λ c. c.now) c.args.clocks.now in
+    let byte = byte_of c.args.places.now.text.now c.args.places.now.tokens.now in
+    subst (λ (a : Arena). IfErr c.from_residual-in_err-check_writers.result (IsAnswered byte (design_of a) clocks)) c.in-Ok.ensures.same
+    (passed_on (IsAnswered byte (design_of c.in-Ok.typed) clocks) c.from_residual-in_err-check_writers.result
+    c.in_err-check_writers.field-0.0 c.from_residual-in_err-check_writers.ensures.1 (as_answer byte (design_of c.in-Ok.typed) clocks c.in_err-check_writers.field-0.0 (c.in_err-check_writers.ensures.refused clocks)))
+
+pub returns-clause-kept : goal.returns-clause-kept
+returns-clause-kept c = subst (λ (a : Arena). OnOk c.judge_written.result (KeepsDrivers (design_of a))) c.in-Ok.ensures.same (on_ok c.judge_written.result c.in_ok-check_writers.ensures.kept)
+
+pub returns-clause-left : goal.returns-clause-left
+returns-clause-left c = subst (λ (b : Arena). IfOk c.judge_written.result (λ (a : Acceptance). design_of a.flat ≡ without_dead (design_of b))) c.in-Ok.ensures.same c.judge_written.ensures.left
+
+pub returns-clause-size : goal.returns-clause-size
+returns-clause-size c = subst (λ (b : Arena). IfOk c.judge_written.result (λ (a : Acceptance). a.size ≡ told_size (design_of b))) c.in-Ok.ensures.same c.judge_written.ensures.size
+
+pub returns-clause-accepted : goal.returns-clause-accepted
+returns-clause-accepted c =
+    subst (λ (a : Arena). IfOk c.judge_written.result (λ (kept : Acceptance). IsAcceptedDesign (without_dead (design_of a)) (map (λ c. c.now) c.args.clocks.now))) c.in-Ok.ensures.same c.judge_written.ensures.accepted
+
+pub returns-clause-refused : goal.returns-clause-refused
+returns-clause-refused c =
+    let clocks = map (λ c. c.now) c.args.clocks.now in
+    let byte = byte_of c.args.places.now.text.now c.args.places.now.tokens.now in
+    subst (λ (a : Arena). IfErr c.judge_written.result (IsAnswered byte (design_of a) clocks)) c.in-Ok.ensures.same
+    (weakened (IsVerdict byte (without_dead (design_of c.in-Ok.typed)) clocks) (IsAnswered byte (design_of c.in-Ok.typed) clocks) c.judge_written.result
+    (λ e v. left_answer byte (design_of c.in-Ok.typed) clocks e c.in_ok-check_writers.ensures.kept v) c.judge_written.ensures.refused)

@@ -11,15 +11,15 @@ padded-requires g c =
 
 pub of-requires-clause-in_range : goal.of-requires-clause-in_range
 of-requires-clause-in_range g c =
-    (finished_by c.program_law.ensures.made c.program_law.ensures.in_range (g.T.Processes.design c.args.lowering.now) c.args.clock c.requires.accepted c.args.order.now c.requires.order (g.T.Lowering.layout c.args.lowering.now) c.requires.layout c.args.plan.now.settling.items c.args.plan.now.blocks.items c.args.plan.now.registers.items c.args.plan.now.falling.items c.requires.plan c.args.lowered c.requires.lowered c.args.phases c.requires.phases
+    (finished_by c.program_law.ensures.made c.program_law.ensures.in_range (g.T.Processes.design c.args.lowering.now) c.args.clocks.now c.requires.accepted c.args.order.now c.requires.order (g.T.Lowering.layout c.args.lowering.now) c.requires.layout c.args.plan.now.settling.items c.args.plan.now.blocks.items c.args.plan.now.registers.items c.args.plan.now.falling.items c.requires.plan c.args.lowered c.requires.lowered c.args.phases c.requires.phases
     c.max-count.result c.slots.result c.from.result c.max-count.ensures (c.from.ensures ∙ c.first_temp.ensures) c.slots.ensures.enough c.slots.ensures.least c.args.frame.initial.items
-    (record { bits = c.args.frame.bits; clock = c.args.clock; inputs = c.args.frame.inputs.items; clocks = c.args.frame.clocks.items; initial = c.in_ok-initial.initial.items; signals = c.args.frame.signals.items; first = calls_of_runs c.args.lowered.program c.args.phases.first.items; fall = calls_of_runs c.args.lowered.program c.args.phases.fall.items; next = calls_of_runs c.args.lowered.program c.args.phases.next.items; rise = calls_of_runs c.args.lowered.program c.args.phases.rise.items })
-    refl c.requires.frame c.in_ok-initial.ensures refl refl refl refl).0
+    (record { bits = c.args.frame.bits; clocks = c.args.frame.clocks.items; inputs = c.args.frame.inputs.items; nets = c.args.frame.nets.items; initial = c.in_ok-initial.initial.items; signals = c.args.frame.signals.items; first = calls_of_runs c.args.lowered.program c.args.phases.first.items; fall = calls_of_runs c.args.lowered.program c.args.phases.fall.items; next = calls_of_runs c.args.lowered.program c.args.phases.next.items; rise = calls_of_runs c.args.lowered.program c.args.phases.rise.items })
+    c.requires.frame c.in_ok-initial.ensures refl refl refl refl).0
 
 pub returns : goal.returns
 returns g c =
-    subst (IsProgramOf (g.T.Processes.design c.args.lowering.now) c.args.clock) (sym c.of.ensures)
-    (finished_by c.program_law.ensures.made c.program_law.ensures.in_range (g.T.Processes.design c.args.lowering.now) c.args.clock c.requires.accepted c.args.order.now c.requires.order (g.T.Lowering.layout c.args.lowering.now) c.requires.layout c.args.plan.now.settling.items c.args.plan.now.blocks.items c.args.plan.now.registers.items c.args.plan.now.falling.items c.requires.plan c.args.lowered c.requires.lowered c.args.phases c.requires.phases
+    subst (IsProgramOf (g.T.Processes.design c.args.lowering.now) c.args.clocks.now) (sym c.of.ensures)
+    (finished_by c.program_law.ensures.made c.program_law.ensures.in_range (g.T.Processes.design c.args.lowering.now) c.args.clocks.now c.requires.accepted c.args.order.now c.requires.order (g.T.Lowering.layout c.args.lowering.now) c.requires.layout c.args.plan.now.settling.items c.args.plan.now.blocks.items c.args.plan.now.registers.items c.args.plan.now.falling.items c.requires.plan c.args.lowered c.requires.lowered c.args.phases c.requires.phases
     c.max-count.result c.slots.result c.from.result c.max-count.ensures (c.from.ensures ∙ c.first_temp.ensures) c.slots.ensures.enough c.slots.ensures.least c.args.frame.initial.items
-    (record { bits = c.args.frame.bits; clock = c.args.clock; inputs = c.args.frame.inputs.items; clocks = c.args.frame.clocks.items; initial = c.in_ok-initial.initial.items; signals = c.args.frame.signals.items; first = calls_of_runs c.args.lowered.program c.args.phases.first.items; fall = calls_of_runs c.args.lowered.program c.args.phases.fall.items; next = calls_of_runs c.args.lowered.program c.args.phases.next.items; rise = calls_of_runs c.args.lowered.program c.args.phases.rise.items })
-    refl c.requires.frame c.in_ok-initial.ensures refl refl refl refl).1
+    (record { bits = c.args.frame.bits; clocks = c.args.frame.clocks.items; inputs = c.args.frame.inputs.items; nets = c.args.frame.nets.items; initial = c.in_ok-initial.initial.items; signals = c.args.frame.signals.items; first = calls_of_runs c.args.lowered.program c.args.phases.first.items; fall = calls_of_runs c.args.lowered.program c.args.phases.fall.items; next = calls_of_runs c.args.lowered.program c.args.phases.next.items; rise = calls_of_runs c.args.lowered.program c.args.phases.rise.items })
+    c.requires.frame c.in_ok-initial.ensures refl refl refl refl).1

@@ -11,29 +11,29 @@ use Rattle.vs_assemble.proofs.assembling.lower_design.Goals as goal
 
 pub lower_resets-requires-clause-blocks : goal.lower_resets-requires-clause-blocks
 lower_resets-requires-clause-blocks g c =
-    subst (λ (ps : List ℕ). All (λ p. p < length (g.T.Processes.design c.args.lowering.now).processes) ps) (sym c.as_slice-blocks.ensures.value) (plan_fits c.stores_law.ensures c.cycle_law.ensures.order (g.T.Processes.design c.args.lowering.now) c.args.clock c.requires.accepted c.args.order.now c.requires.order c.args.plan.now.settling.items c.args.plan.now.blocks.items c.args.plan.now.registers.items c.args.plan.now.falling.items c.requires.plan).blocks_there
+    subst (λ (ps : List ℕ). All (λ p. p < length (g.T.Processes.design c.args.lowering.now).processes) ps) (sym c.as_slice-blocks.ensures.value) (plan_fits c.stores_law.ensures c.cycle_law.ensures.order (g.T.Processes.design c.args.lowering.now) c.args.clocks.now c.requires.accepted c.args.order.now c.requires.order c.args.plan.now.settling.items c.args.plan.now.blocks.items c.args.plan.now.registers.items c.args.plan.now.falling.items c.requires.plan).blocks_there
 
 pub lower_resets-requires-clause-few : goal.lower_resets-requires-clause-few
 lower_resets-requires-clause-few g c =
-    let fits = (plan_fits c.stores_law.ensures c.cycle_law.ensures.order (g.T.Processes.design c.args.lowering.now) c.args.clock c.requires.accepted c.args.order.now c.requires.order c.args.plan.now.settling.items c.args.plan.now.blocks.items c.args.plan.now.registers.items c.args.plan.now.falling.items c.requires.plan) in
+    let fits = (plan_fits c.stores_law.ensures c.cycle_law.ensures.order (g.T.Processes.design c.args.lowering.now) c.args.clocks.now c.requires.accepted c.args.order.now c.requires.order c.args.plan.now.settling.items c.args.plan.now.blocks.items c.args.plan.now.registers.items c.args.plan.now.falling.items c.requires.plan) in
     omega (arith, fits.few_rises, ap (sum_by (may_store (g.T.Processes.design c.args.lowering.now))) c.as_slice-blocks.ensures.value)
 
 pub lower_each-requires-clause-processes : goal.lower_each-requires-clause-processes
 lower_each-requires-clause-processes g c =
-    subst (λ (ps : List ℕ). All (λ p. p < length (g.T.Processes.design c.args.lowering.now).processes) ps) (sym c.as_slice.ensures.value) (plan_fits c.stores_law.ensures c.cycle_law.ensures.order (g.T.Processes.design c.args.lowering.now) c.args.clock c.requires.accepted c.args.order.now c.requires.order c.args.plan.now.settling.items c.args.plan.now.blocks.items c.args.plan.now.registers.items c.args.plan.now.falling.items c.requires.plan).settling_there
+    subst (λ (ps : List ℕ). All (λ p. p < length (g.T.Processes.design c.args.lowering.now).processes) ps) (sym c.as_slice.ensures.value) (plan_fits c.stores_law.ensures c.cycle_law.ensures.order (g.T.Processes.design c.args.lowering.now) c.args.clocks.now c.requires.accepted c.args.order.now c.requires.order c.args.plan.now.settling.items c.args.plan.now.blocks.items c.args.plan.now.registers.items c.args.plan.now.falling.items c.requires.plan).settling_there
 
 pub lower_each-requires-clause-few : goal.lower_each-requires-clause-few
 lower_each-requires-clause-few g c =
-    let fits = (plan_fits c.stores_law.ensures c.cycle_law.ensures.order (g.T.Processes.design c.args.lowering.now) c.args.clock c.requires.accepted c.args.order.now c.requires.order c.args.plan.now.settling.items c.args.plan.now.blocks.items c.args.plan.now.registers.items c.args.plan.now.falling.items c.requires.plan) in
+    let fits = (plan_fits c.stores_law.ensures c.cycle_law.ensures.order (g.T.Processes.design c.args.lowering.now) c.args.clocks.now c.requires.accepted c.args.order.now c.requires.order c.args.plan.now.settling.items c.args.plan.now.blocks.items c.args.plan.now.registers.items c.args.plan.now.falling.items c.requires.plan) in
     omega (arith, fits.few_falls, c.in_ok-lower_resets.ensures.few, ap (sum_by (may_store (g.T.Processes.design c.args.lowering.now))) c.as_slice-blocks.ensures.value, ap (sum_by (may_store (g.T.Processes.design c.args.lowering.now))) c.as_slice.ensures.value)
 
 pub lower_each-requires-2-clause-processes : goal.lower_each-requires-2-clause-processes
 lower_each-requires-2-clause-processes g c =
-    subst (λ (ps : List ℕ). All (λ p. p < length (g.T.Processes.design c.args.lowering.now).processes) ps) (sym c.as_slice-blocks.ensures.value) (plan_fits c.stores_law.ensures c.cycle_law.ensures.order (g.T.Processes.design c.args.lowering.now) c.args.clock c.requires.accepted c.args.order.now c.requires.order c.args.plan.now.settling.items c.args.plan.now.blocks.items c.args.plan.now.registers.items c.args.plan.now.falling.items c.requires.plan).blocks_there
+    subst (λ (ps : List ℕ). All (λ p. p < length (g.T.Processes.design c.args.lowering.now).processes) ps) (sym c.as_slice-blocks.ensures.value) (plan_fits c.stores_law.ensures c.cycle_law.ensures.order (g.T.Processes.design c.args.lowering.now) c.args.clocks.now c.requires.accepted c.args.order.now c.requires.order c.args.plan.now.settling.items c.args.plan.now.blocks.items c.args.plan.now.registers.items c.args.plan.now.falling.items c.requires.plan).blocks_there
 
 pub lower_each-requires-2-clause-few : goal.lower_each-requires-2-clause-few
 lower_each-requires-2-clause-few g c =
-    let fits = (plan_fits c.stores_law.ensures c.cycle_law.ensures.order (g.T.Processes.design c.args.lowering.now) c.args.clock c.requires.accepted c.args.order.now c.requires.order c.args.plan.now.settling.items c.args.plan.now.blocks.items c.args.plan.now.registers.items c.args.plan.now.falling.items c.requires.plan) in
+    let fits = (plan_fits c.stores_law.ensures c.cycle_law.ensures.order (g.T.Processes.design c.args.lowering.now) c.args.clocks.now c.requires.accepted c.args.order.now c.requires.order c.args.plan.now.settling.items c.args.plan.now.blocks.items c.args.plan.now.registers.items c.args.plan.now.falling.items c.requires.plan) in
     omega (arith, fits.few_falls, fits.few_rises, c.in_ok-lower_resets.ensures.few, c.in_ok-settling.ensures.few, ap (sum_by (may_store (g.T.Processes.design c.args.lowering.now))) c.as_slice-blocks.ensures.value, ap (sum_by (may_store (g.T.Processes.design c.args.lowering.now))) c.as_slice.ensures.value)
 
 pub lower_copy-requires-clause-call : goal.lower_copy-requires-clause-call
@@ -41,14 +41,14 @@ lower_copy-requires-clause-call g c =
     let d = g.T.Processes.design c.args.lowering.now in
     let lay = g.T.Lowering.layout c.args.lowering.now in
     let at = c.requires.accepted in
-    let fits = (plan_fits c.stores_law.ensures c.cycle_law.ensures.order (g.T.Processes.design c.args.lowering.now) c.args.clock c.requires.accepted c.args.order.now c.requires.order c.args.plan.now.settling.items c.args.plan.now.blocks.items c.args.plan.now.registers.items c.args.plan.now.falling.items c.requires.plan) in
-    let low = first_low d lay c.args.clock at c.requires.layout fits.few_registers in
+    let fits = (plan_fits c.stores_law.ensures c.cycle_law.ensures.order (g.T.Processes.design c.args.lowering.now) c.args.clocks.now c.requires.accepted c.args.order.now c.requires.order c.args.plan.now.settling.items c.args.plan.now.blocks.items c.args.plan.now.registers.items c.args.plan.now.falling.items c.requires.plan) in
+    let low = first_low d lay c.args.clocks.now at c.requires.layout fits.few_registers in
     subst (λ (regs : List ℕ). All IsCall (copy_shadows lay regs)) (sym c.as_slice-2.ensures.value)
-    (c.copy_law.ensures d at.name at.accepted lay c.requires.layout.layout (omega (arith, low)) c.args.plan.now.registers.items c.requires.plan.registers_are)
+    (c.copy_law.ensures d at.names at.accepted lay c.requires.layout.layout (omega (arith, low)) c.args.plan.now.registers.items c.requires.plan.registers_are)
 
 pub lower_copy-requires-clause-few : goal.lower_copy-requires-clause-few
 lower_copy-requires-clause-few g c =
-    let fits = (plan_fits c.stores_law.ensures c.cycle_law.ensures.order (g.T.Processes.design c.args.lowering.now) c.args.clock c.requires.accepted c.args.order.now c.requires.order c.args.plan.now.settling.items c.args.plan.now.blocks.items c.args.plan.now.registers.items c.args.plan.now.falling.items c.requires.plan) in
+    let fits = (plan_fits c.stores_law.ensures c.cycle_law.ensures.order (g.T.Processes.design c.args.lowering.now) c.args.clocks.now c.requires.accepted c.args.order.now c.requires.order c.args.plan.now.settling.items c.args.plan.now.blocks.items c.args.plan.now.registers.items c.args.plan.now.falling.items c.requires.plan) in
     let lay = g.T.Lowering.layout c.args.lowering.now in
     let copy = copy_small c.list_law.ensures.few (g.T.Processes.design c.args.lowering.now) lay c.args.plan.now.registers.items c.requires.plan.registers_are fits.few_registers in
     omega (
@@ -72,11 +72,11 @@ returns g c =
     let resets = c.in_ok-lower_resets.ensures in
     let settling = c.in_ok-settling.ensures in
     let stepping = c.in_ok-stepping.ensures in
-    whole d c.args.clock lay plan.settling.items plan.blocks.items plan.registers.items
+    whole d c.args.clocks.now lay plan.settling.items plan.blocks.items plan.registers.items
     (record { program = c.lower_copy.new.program; resets = record { from = 0; to = c.len.result }; settling = c.in_ok-settling.settling; blocks = c.in_ok-stepping.stepping; copy = c.in_ok-copy.copy })
     c.lower_resets.new.program c.lower_each.new.program c.lower_each-2.new.program settling.grown.0 stepping.grown.0 settling.grown.1 stepping.grown.1
     (c.in_ok-copy.ensures.calls ∙ ap (λ (regs : List ℕ). c.lower_each-2.new.program ++ copy_shadows lay regs) c.as_slice-2.ensures.value)
-    (subst (λ (ps : List ℕ). AreResetsOf d c.args.clock lay ps c.lower_resets.new.program) c.as_slice-blocks.ensures.value resets.calls)
+    (subst (λ (ps : List ℕ). AreResetsOf d c.args.clocks.now lay ps c.lower_resets.new.program) c.as_slice-blocks.ensures.value resets.calls)
     (ap (λ n. record { from = 0; to = n }) c.len.ensures)
     (subst (λ (ps : List ℕ). AreRunsOf d lay c.lower_each.new.program ps c.in_ok-settling.settling.items) c.as_slice.ensures.value settling.runs)
     (subst (λ (ps : List ℕ). AreRunsOf d lay c.lower_each-2.new.program ps c.in_ok-stepping.stepping.items) c.as_slice-blocks.ensures.value stepping.runs)

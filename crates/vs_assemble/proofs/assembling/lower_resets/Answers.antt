@@ -23,12 +23,12 @@ pub loop-process-preserved : goal.loop-process-preserved
 loop-process-preserved g c =
     let low = c.in_ok-lower_reset.ensures in
     let inv = c.loop-process.invariant in
-    let more = one_reset c.program_law.ensures.resets (g.T.Processes.design c.args.lowering.now) c.args.clock (g.T.Lowering.layout c.args.lowering.now) c.requires.room c.args.blocks.now c.loop-process.process-index
+    let more = one_reset c.program_law.ensures.resets (g.T.Processes.design c.args.lowering.now) c.args.clocks.now (g.T.Lowering.layout c.args.lowering.now) c.requires.room c.args.blocks.now c.loop-process.process-index
     c.loop-process.program c.lower_reset.new.program low.0 c.loop-process-test.true inv.calls inv.few inv.slots low.1 low.2 in
     record { calls = more.calls_are; few = more.few; slots = more.slots }
 
 pub returns-clause-calls : goal.returns-clause-calls
-returns-clause-calls g c = all_resets (g.T.Processes.design c.args.lowering.now) c.args.clock (g.T.Lowering.layout c.args.lowering.now) c.args.blocks.now c.loop-process.process-index c.loop-process.program c.loop-process-test.false c.loop-process.invariant.calls
+returns-clause-calls g c = all_resets (g.T.Processes.design c.args.lowering.now) c.args.clocks.now (g.T.Lowering.layout c.args.lowering.now) c.args.blocks.now c.loop-process.process-index c.loop-process.program c.loop-process-test.false c.loop-process.invariant.calls
 
 pub returns-clause-few : goal.returns-clause-few
 returns-clause-few g c =

@@ -18,7 +18,7 @@ pub cone_of-requires-clause-order : goal.cone_of-requires-clause-order
 cone_of-requires-clause-order g c =
     let d = g.T.Processes.design c.args.lowering.now in
     subst (λ (ps : List ℕ). All (λ p. p < length d.processes) ps) (sym c.as_slice.ensures.value)
-    (plan_there c.cycle_law.ensures.order d c.args.clock c.args.order.now c.requires.order c.args.plan.now.settling.items c.args.plan.now.blocks.items c.args.plan.now.registers.items c.args.plan.now.falling.items c.requires.plan)
+    (plan_there c.cycle_law.ensures.order d c.args.clocks.now c.args.order.now c.requires.order c.args.plan.now.settling.items c.args.plan.now.blocks.items c.args.plan.now.registers.items c.args.plan.now.falling.items c.requires.plan)
 
 pub cone_of-requires-2-clause-runs : goal.cone_of-requires-2-clause-runs
 cone_of-requires-2-clause-runs g c =
@@ -30,7 +30,7 @@ pub cone_of-requires-2-clause-order : goal.cone_of-requires-2-clause-order
 cone_of-requires-2-clause-order g c =
     let d = g.T.Processes.design c.args.lowering.now in
     subst (λ (ps : List ℕ). All (λ p. p < length d.processes) ps) (sym c.as_slice-3.ensures.value)
-    (plan_there c.cycle_law.ensures.order d c.args.clock c.args.order.now c.requires.order c.args.plan.now.settling.items c.args.plan.now.blocks.items c.args.plan.now.registers.items c.args.plan.now.falling.items c.requires.plan)
+    (plan_there c.cycle_law.ensures.order d c.args.clocks.now c.args.order.now c.requires.order c.args.plan.now.settling.items c.args.plan.now.blocks.items c.args.plan.now.registers.items c.args.plan.now.falling.items c.requires.plan)
 
 pub returns : goal.returns
 returns g c =
@@ -46,7 +46,7 @@ returns g c =
     let rises : AreRunsOf d lay lowered.program (cone d plan.registers.items plan.settling.items) c.in_ok-rising.rising.items =
     let P : List ℕ → List ℕ → Type 0 = λ changed order. AreRunsOf d lay lowered.program (cone d changed order) c.in_ok-rising.rising.items in
     subst (λ changed. P changed plan.settling.items) c.as_slice-4.ensures.value (subst (P c.as_slice-4.result.now) c.as_slice-3.ensures.value (c.in_ok-rising.ensures lowered.program (runs c.as_slice-3.result.now c.as_slice-3.ensures.value))) in
-    phased d c.args.clock lay c.args.order.now plan.settling.items plan.blocks.items plan.registers.items plan.falling.items c.requires.plan lowered c.requires.lowered
+    phased d c.args.clocks.now lay c.args.order.now plan.settling.items plan.blocks.items plan.registers.items plan.falling.items c.requires.plan lowered c.requires.lowered
     c.in_ok-falling.falling.items c.in_ok-rising.rising.items falls rises (record { first = c.in_ok-first.first; fall = c.in_ok-fall.fall; next = c.in_ok-next.next; rise = c.in_ok-rise.rise })
     (subst (λ rs. AreJoinedRuns (lowered.resets ∷ []) rs c.in_ok-first.first.items) c.as_slice-settling.ensures.value c.in_ok-first.ensures)
     (subst (λ rs. AreJoinedRuns (lowered.resets ∷ []) rs c.in_ok-fall.fall.items) c.as_slice-5.ensures.value c.in_ok-fall.ensures)

@@ -21,14 +21,14 @@ loop-n-preserved c =
     let n : ℕ = c.loop-n.n in
     let s = c.signal.result.now in
     let span : Span = get_or c.args.spans.now n (record { first = 0; length = 0 }) in
-    data_more c.args.clock a n s c.loop-n.bits.items c.if-signal.bits.items c.signal.ensures
+    data_more c.args.clocks.now a n s c.loop-n.bits.items c.if-signal.bits.items c.signal.ensures
     (elim c.if-signal.branch [
       | then-signal+in_ok-push_bits w ↦
-          added_input c.args.clock n s c.loop-n.bits.items c.if-signal.bits.items span w.if-signal.true (span_at a c.args.spans.now n s (record { first = 0; length = 0 }) c.requires.spans c.signal.ensures)
+          added_input c.args.clocks.now n s c.loop-n.bits.items c.if-signal.bits.items span w.if-signal.true (span_at a c.args.spans.now n s (record { first = 0; length = 0 }) c.requires.spans c.signal.ensures)
           (cc (w.bits-is, w.in_ok-push_bits.ensures))
-      | else-signal w ↦ cc (w.bits-is, added_none c.args.clock n s c.loop-n.bits.items w.if-signal.false)
+      | else-signal w ↦ cc (w.bits-is, added_none c.args.clocks.now n s c.loop-n.bits.items w.if-signal.false)
     ])
     c.loop-n.invariant
 
 pub returns : goal.returns
-returns c = data_all c.args.clock c.args.flat.now c.loop-n.n c.signal_count-n-end.result c.loop-n.bits.items c.signal_count-n-end.ensures.count c.loop-n-test.false c.loop-n.invariant
+returns c = data_all c.args.clocks.now c.args.flat.now c.loop-n.n c.signal_count-n-end.result c.loop-n.bits.items c.signal_count-n-end.ensures.count c.loop-n-test.false c.loop-n.invariant

@@ -8,7 +8,8 @@ pub returns : goal.returns
 returns c = record {
   bits_are = c.requires.starts.count;
   inputs_are = c.in_ok-inputs.ensures;
-  clocks_are = c.requires.clocks;
+  clocks_are = c.in_ok-clocks.ensures.items;
+  nets_are = c.requires.nets;
   initial_is = (c.args.starts.now, c.requires.starts, c.in_ok-initial.ensures);
   signals_are = c.in_ok-signals.ensures;
 }

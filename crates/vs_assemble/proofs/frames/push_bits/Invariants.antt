@@ -5,4 +5,4 @@ use Rattle.vs_assemble.proofs.frames.push_bits.Given as goal
 
 -- the first bits
 abbrev pub invariant-loop-k : goal.invariant-loop-k
-invariant-loop-k l = l.bits.items ≡ l.initial.bits.items ++ without (count_from l.span.first l.k) (l.clock ∷ [])
+invariant-loop-k l = l.bits.items ≡ l.initial.bits.items ++ without (count_from l.span.first l.k) l.clocks

@@ -4,4 +4,4 @@ use Rattle.vs_assemble.proofs.planning.but_ports.Given as goal
 
 -- those of the first processes
 abbrev pub invariant-loop-process : goal.invariant-loop-process
-invariant-loop-process g l = l.settling.items ≡ but_ports (g.T.Processes.design l.lowering) l.clock (take l.process-index l.order)
+invariant-loop-process g l = l.settling.items ≡ but_ports (g.T.Processes.design l.lowering) l.clocks (take l.process-index l.order)

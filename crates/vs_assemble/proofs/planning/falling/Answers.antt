@@ -10,6 +10,6 @@ loop-process-preserved g c =
     let d = g.T.Processes.design c.args.lowering.now in
     let there : c.loop-process.process < length d.processes = omega (arith, c.loop-process-test.true, c.process_count-process-end.ensures) in
     let more = c.in_ok-add_reset_bits.ensures in
-    subst (λ bits. HasBitsOf c.args.bits bits (c.args.inputs.now ++ bits_of_resets d c.args.clock (take (c.loop-process.process + 1) d.processes))) (sym more.1)
-    (resets_more d c.args.clock c.loop-process.process c.args.bits c.args.inputs.now c.loop-process.falling.items more.0 there c.loop-process.invariant
-    (subst (λ n. HasBitsOf n more.0 (reset_bits_or d c.args.clock (Rattle.std.proofs.Common.slice_get d.processes c.loop-process.process))) (sym c.requires.bits) more.2))
+    subst (λ bits. HasBitsOf c.args.bits bits (c.args.inputs.now ++ bits_of_resets d c.args.clocks.now (take (c.loop-process.process + 1) d.processes))) (sym more.1)
+    (resets_more d c.args.clocks.now c.loop-process.process c.args.bits c.args.inputs.now c.loop-process.falling.items more.0 there c.loop-process.invariant
+    (subst (λ n. HasBitsOf n more.0 (reset_bits_or d c.args.clocks.now (Rattle.std.proofs.Common.slice_get d.processes c.loop-process.process))) (sym c.requires.bits) more.2))

@@ -20,7 +20,7 @@ pub falling-requires-clause-below : goal.falling-requires-clause-below
 falling-requires-clause-below g c =
     let d = g.T.Processes.design c.args.lowering.now in
     let at = c.requires.accepted in
-    let sources : SourcesAre d c.args.clock = subst (SourcesAre d) at.clock_is (c.sources_law.ensures d at.name at.accepted) in
+    let sources : SourcesAre d c.args.clocks.now = subst (SourcesAre d) at.clocks_are (c.sources_law.ensures d at.names at.accepted) in
     all_from (λ b. b < c.args.bits) c.args.inputs.now
     (λ b h. subst (λ n. b < n) (sym c.requires.bits) (sources.data_below b (subst (λ bs. contains bs b ≡ true) c.requires.inputs h)))
 
@@ -28,7 +28,7 @@ pub returns : goal.returns
 returns g c =
     let d = g.T.Processes.design c.args.lowering.now in
     let at = c.requires.accepted in
-    let sources : SourcesAre d c.args.clock = subst (SourcesAre d) at.clock_is (c.sources_law.ensures d at.name at.accepted) in
+    let sources : SourcesAre d c.args.clocks.now = subst (SourcesAre d) at.clocks_are (c.sources_law.ensures d at.names at.accepted) in
     let items : c.in_ok-registers.registers.items ≡ ascending (bit_count d) (register_bits d.processes) =
     c.in_ok-registers.ensures ∙ ap (λ n. ascending n (register_bits d.processes)) c.requires.bits in
     let each : HasEachOnce (register_bits d.processes) c.in_ok-registers.registers.items =
@@ -38,5 +38,5 @@ returns g c =
       blocks_are = c.in_ok-blocks.ensures;
       registers_are = each;
       registers_below = all_from (λ b. b < bit_count d) c.in_ok-registers.registers.items (λ b h. sources.registers_below b (sym (each.has b) ∙ h));
-      falling_are = subst (λ n. HasBitsOf n c.in_ok-falling.falling.items (fall_bits d c.args.clock)) c.requires.bits c.in_ok-falling.ensures;
+      falling_are = subst (λ n. HasBitsOf n c.in_ok-falling.falling.items (fall_bits d c.args.clocks.now)) c.requires.bits c.in_ok-falling.ensures;
     }

@@ -7,8 +7,8 @@ loop-n-init c = none_added (view.value_type c.args.v.now.value_type) c.deref-n-i
 
 pub loop-n-preserved : goal.loop-n-preserved
 loop-n-preserved c =
-    name_added (view.value_type c.args.v.now.value_type) c.deref-n-items.result.now c.args.map.now c.loop-n.map c.add_local.new.map c.loop-n.n-index c.n-item.result c.is_integer-integers.result c.loop-n.fault c.in_ok-found.found c.first_of-fault.result
-    c.loop-n-test.true c.n-item.is (c.is_integer-integers.ensures c.n-item.result) c.in_ok-found.ensures.locals c.in_ok-found.ensures.fault c.first_of-fault.ensures c.loop-n.invariant
+    name_added (view.value_type c.args.v.now.value_type) c.deref-n-items.result.now c.args.map.now c.loop-n.map c.add_local.new.map c.loop-n.n-index c.n-item.result c.loop-n.fault c.in_ok-found.found c.first_of-fault.result
+    c.loop-n-test.true c.n-item.is c.in_ok-found.ensures.locals c.in_ok-found.ensures.fault c.first_of-fault.ensures c.loop-n.invariant
 
 pub returns-clause-locals : goal.returns-clause-locals
 returns-clause-locals c = (all_added c.args.v.now c.deref-n-items.result.now c.args.map.now c.loop-n.map c.loop-n.n-index c.loop-n.fault c.deref-n-items.ensures.value c.loop-n-test.false c.loop-n.invariant).0

@@ -212,6 +212,11 @@ pub selected-operand-requires-in-Upward : goal.selected-operand-requires-in-Upwa
 selected-operand-requires-in-Upward g t c κs within =
     (search (rules, the_lemmas), (within, child (home (draft c.args.builder.now)) (g.E.Env.names c.args.env.now) c.args.needed c.deref-in-Upward-2.result.now c.in-Slice.left.value c.deref-in-Upward-2.ensures (moving_is (home (draft c.args.builder.now)) (g.E.Env.names c.args.env.now) c.args.fixed c.args.needed true (view.name c.args.name.now) c.in-Slice.bracket tree.Upward (view.expr c.in-Slice.left.value) (view.expr c.in-Slice.right.value) (λ declared. refl) (subst (λ k. IsSelectable (home (draft c.args.builder.now)) (g.E.Env.names c.args.env.now) c.args.fixed c.args.needed (view.name c.args.name.now) (tree.Slice c.in-Slice.bracket (view.slice_kind k) (view.expr c.in-Slice.left.value) (view.expr c.in-Slice.right.value))) c.in-Upward.is (subst (λ x. IsSelectable (home (draft c.args.builder.now)) (g.E.Env.names c.args.env.now) c.args.fixed c.args.needed (view.name c.args.name.now) (view.select x)) c.in-Slice.is c.requires))).index))
 
+pub selected-source-requires-in-Upward : goal.selected-source-requires-in-Upward
+selected-source-requires-in-Upward g t c =
+    subst (λ d. HasBits d c.args.fixed c.args.name.now.place ((g.E.Env.names c.args.env.now) c.args.name.now.text)) (same_home (draft c.args.builder.now) (draft c.operand-in-Upward.new.builder) (typed (view.expr c.in-Slice.left.value) (g.E.Env.names c.args.env.now) c.args.needed).expression (1 + expr_depth (view.expr c.in-Slice.left.value)) (subst (λ x. AddsExpression (draft c.args.builder.now) (draft c.operand-in-Upward.new.builder) (typed (view.expr x) (g.E.Env.names c.args.env.now) c.args.needed).expression (1 + expr_depth (view.expr x))) c.deref-in-Upward-2.ensures c.in_ok-operand-in-Upward.ensures))
+    (moving_taken (home (draft c.args.builder.now)) (g.E.Env.names c.args.env.now) c.args.fixed c.args.needed true (view.name c.args.name.now) c.in-Slice.bracket tree.Upward (view.expr c.in-Slice.left.value) (view.expr c.in-Slice.right.value) c.in_ok-width-in-Upward.width (λ declared. refl) (subst (λ k. IsSelectable (home (draft c.args.builder.now)) (g.E.Env.names c.args.env.now) c.args.fixed c.args.needed (view.name c.args.name.now) (tree.Slice c.in-Slice.bracket (view.slice_kind k) (view.expr c.in-Slice.left.value) (view.expr c.in-Slice.right.value))) c.in-Upward.is (subst (λ x. IsSelectable (home (draft c.args.builder.now)) (g.E.Env.names c.args.env.now) c.args.fixed c.args.needed (view.name c.args.name.now) (view.select x)) c.in-Slice.is c.requires)) (subst (λ x. (natural 1 64 (expr_place (view.expr x)) (constant (view.expr x) (steady (g.E.Env.names c.args.env.now)))).number ≡ Some c.in_ok-width-in-Upward.width) c.deref-in-Upward.ensures c.in_ok-width-in-Upward.ensures)).bits
+
 pub selected-part-requires-in-Upward : goal.selected-part-requires-in-Upward
 selected-part-requires-in-Upward g t c =
     select_ends (home (draft c.args.builder.now)) (g.E.Env.names c.args.env.now) c.args.fixed c.args.needed (view.name c.args.name.now) (tree.Slice c.in-Slice.bracket tree.Upward (view.expr c.in-Slice.left.value) (view.expr c.in-Slice.right.value)) true c.in_ok-width-in-Upward.width (typed (view.expr c.in-Slice.left.value) (g.E.Env.names c.args.env.now) c.args.needed).expression (draft c.args.builder.now) (draft c.operand-in-Upward.new.builder) (draft c.source-in-Upward.new.builder) (1 + expr_depth (view.expr c.in-Slice.left.value)) c.in_ok-range-in-Upward.range (moving_taken (home (draft c.args.builder.now)) (g.E.Env.names c.args.env.now) c.args.fixed c.args.needed true (view.name c.args.name.now) c.in-Slice.bracket tree.Upward (view.expr c.in-Slice.left.value) (view.expr c.in-Slice.right.value) c.in_ok-width-in-Upward.width (λ declared. refl) (subst (λ k. IsSelectable (home (draft c.args.builder.now)) (g.E.Env.names c.args.env.now) c.args.fixed c.args.needed (view.name c.args.name.now) (tree.Slice c.in-Slice.bracket (view.slice_kind k) (view.expr c.in-Slice.left.value) (view.expr c.in-Slice.right.value))) c.in-Upward.is (subst (λ x. IsSelectable (home (draft c.args.builder.now)) (g.E.Env.names c.args.env.now) c.args.fixed c.args.needed (view.name c.args.name.now) (view.select x)) c.in-Slice.is c.requires)) (subst (λ x. (natural 1 64 (expr_place (view.expr x)) (constant (view.expr x) (steady (g.E.Env.names c.args.env.now)))).number ≡ Some c.in_ok-width-in-Upward.width) c.deref-in-Upward.ensures c.in_ok-width-in-Upward.ensures)) refl (subst (λ x. AddsExpression (draft c.args.builder.now) (draft c.operand-in-Upward.new.builder) (typed (view.expr x) (g.E.Env.names c.args.env.now) c.args.needed).expression (1 + expr_depth (view.expr x))) c.deref-in-Upward-2.ensures c.in_ok-operand-in-Upward.ensures) (omega (arith, (moving_is (home (draft c.args.builder.now)) (g.E.Env.names c.args.env.now) c.args.fixed c.args.needed true (view.name c.args.name.now) c.in-Slice.bracket tree.Upward (view.expr c.in-Slice.left.value) (view.expr c.in-Slice.right.value) (λ declared. refl) (subst (λ k. IsSelectable (home (draft c.args.builder.now)) (g.E.Env.names c.args.env.now) c.args.fixed c.args.needed (view.name c.args.name.now) (tree.Slice c.in-Slice.bracket (view.slice_kind k) (view.expr c.in-Slice.left.value) (view.expr c.in-Slice.right.value))) c.in-Upward.is (subst (λ x. IsSelectable (home (draft c.args.builder.now)) (g.E.Env.names c.args.env.now) c.args.fixed c.args.needed (view.name c.args.name.now) (view.select x)) c.in-Slice.is c.requires))).index.shallow)) c.in_ok-range-in-Upward.ensures
@@ -229,6 +234,11 @@ selected-number_within-requires-in-Downward g t c =
 pub selected-operand-requires-in-Downward : goal.selected-operand-requires-in-Downward
 selected-operand-requires-in-Downward g t c κs within =
     (search (rules, the_lemmas), (within, child (home (draft c.args.builder.now)) (g.E.Env.names c.args.env.now) c.args.needed c.deref-in-Downward-2.result.now c.in-Slice.left.value c.deref-in-Downward-2.ensures (moving_is (home (draft c.args.builder.now)) (g.E.Env.names c.args.env.now) c.args.fixed c.args.needed false (view.name c.args.name.now) c.in-Slice.bracket tree.Downward (view.expr c.in-Slice.left.value) (view.expr c.in-Slice.right.value) (λ declared. refl) (subst (λ k. IsSelectable (home (draft c.args.builder.now)) (g.E.Env.names c.args.env.now) c.args.fixed c.args.needed (view.name c.args.name.now) (tree.Slice c.in-Slice.bracket (view.slice_kind k) (view.expr c.in-Slice.left.value) (view.expr c.in-Slice.right.value))) c.in-Downward.is (subst (λ x. IsSelectable (home (draft c.args.builder.now)) (g.E.Env.names c.args.env.now) c.args.fixed c.args.needed (view.name c.args.name.now) (view.select x)) c.in-Slice.is c.requires))).index))
+
+pub selected-source-requires-in-Downward : goal.selected-source-requires-in-Downward
+selected-source-requires-in-Downward g t c =
+    subst (λ d. HasBits d c.args.fixed c.args.name.now.place ((g.E.Env.names c.args.env.now) c.args.name.now.text)) (same_home (draft c.args.builder.now) (draft c.operand-in-Downward.new.builder) (typed (view.expr c.in-Slice.left.value) (g.E.Env.names c.args.env.now) c.args.needed).expression (1 + expr_depth (view.expr c.in-Slice.left.value)) (subst (λ x. AddsExpression (draft c.args.builder.now) (draft c.operand-in-Downward.new.builder) (typed (view.expr x) (g.E.Env.names c.args.env.now) c.args.needed).expression (1 + expr_depth (view.expr x))) c.deref-in-Downward-2.ensures c.in_ok-operand-in-Downward.ensures))
+    (moving_taken (home (draft c.args.builder.now)) (g.E.Env.names c.args.env.now) c.args.fixed c.args.needed false (view.name c.args.name.now) c.in-Slice.bracket tree.Downward (view.expr c.in-Slice.left.value) (view.expr c.in-Slice.right.value) c.in_ok-width-in-Downward.width (λ declared. refl) (subst (λ k. IsSelectable (home (draft c.args.builder.now)) (g.E.Env.names c.args.env.now) c.args.fixed c.args.needed (view.name c.args.name.now) (tree.Slice c.in-Slice.bracket (view.slice_kind k) (view.expr c.in-Slice.left.value) (view.expr c.in-Slice.right.value))) c.in-Downward.is (subst (λ x. IsSelectable (home (draft c.args.builder.now)) (g.E.Env.names c.args.env.now) c.args.fixed c.args.needed (view.name c.args.name.now) (view.select x)) c.in-Slice.is c.requires)) (subst (λ x. (natural 1 64 (expr_place (view.expr x)) (constant (view.expr x) (steady (g.E.Env.names c.args.env.now)))).number ≡ Some c.in_ok-width-in-Downward.width) c.deref-in-Downward.ensures c.in_ok-width-in-Downward.ensures)).bits
 
 pub selected-part-requires-in-Downward : goal.selected-part-requires-in-Downward
 selected-part-requires-in-Downward g t c =

@@ -6,4 +6,4 @@ use Rattle.vs_clock.specs.Inputs.{reset_bit}
 use Rattle.vs_clock.proofs.inputs.reset_bits.Given as goal
 
 abbrev pub invariant-loop-signal : goal.invariant-loop-signal
-invariant-loop-signal l = l.bits.items ≡ filter_map (reset_bit l.clock) (map (signal_at (arena_signals l.flat)) (take l.signal-index l.signal-items))
+invariant-loop-signal l = l.bits.items ≡ filter_map (reset_bit l.clocks) (map (signal_at (arena_signals l.flat)) (take l.signal-index l.signal-items))

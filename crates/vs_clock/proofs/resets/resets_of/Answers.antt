@@ -24,7 +24,7 @@ loop-p-preserved c =
     let a = c.args.typed.now in
     let d = design_of a in
     let x = process_there d.processes c.loop-p.p (there (there c.loop-p-test.true c.process_count-p-end.ensures.count) (ap (λ (a : Arena). length a.processes) c.flat.ensures.same ∙ sym (c.trees_law.ensures.counts a).processes)) in
-    let P : List (Option Reset) → Type 0 = λ rs. (length rs ≡ c.loop-p.p + 1) × ((n : ℕ) → AreNets d n c.args.nets.now → AreBefore a n (c.loop-p.p + 1) rs) in
+    let P : List (Option Reset) → Type 0 = λ rs. (length rs ≡ c.loop-p.p + 1) × ((n : List ℕ) → AreNets d n c.args.nets.now → AreBefore a n (c.loop-p.p + 1) rs) in
     elim c.match-block_reset.branch [
       | in-Absent+in_ok-push-in-Absent w ↦
           subst P (sym (ap (λ (v : Vec (Option Reset) Global). v.items) w.resets-is ∙ w.in_ok-push-in-Absent.ensures.items)) (

@@ -16,5 +16,5 @@ returns c =
     let a = c.args.typed.now in
     let d = design_of a in
     let counted : c.count_bits.result ≡ bit_count d = c.count_bits.ensures ∙ ap (λ (z : Arena). A.bit_count z.signals) c.flat.ensures.same ∙ sym (c.trees_law.ensures.counts a).bits in
-    if_ok c.clock_bits.result (c.clock_bits.ensures d c.args.clocks.now.bit c.requires.nets)
-    (λ v is. are_clock_nets c.list_law.ensures.few c.list_law.ensures.ascending c.sources_law.ensures d c.args.clocks.now.bit c.requires.accepted c.count_bits.result counted v.items is)
+    if_ok c.net_bits.result (c.net_bits.ensures d c.args.clocks.now.bits c.requires.nets)
+    (λ v is. are_clock_nets c.list_law.ensures.few c.list_law.ensures.ascending c.sources_law.ensures d c.args.clocks.now.bits c.requires.accepted c.count_bits.result counted v.items is)

@@ -34,12 +34,12 @@ add_written-requires-clause-bits c =
 pub returns-in_ok-add_written-in-Some-clause-bits : goal.returns-in_ok-add_written-in-Some-clause-bits
 returns-in_ok-add_written-in-Some-clause-bits c =
     let can = can_set c.footprint_law.ensures.bits c.args.typed.now c.args.footprints.now c.args.clocks.now c.requires.facts c.args.p c.requires.there c.in-Some.reset c.in-Some.ensures c.writes-writes.result.now c.writes-writes.ensures in
-    are_set c.write_law.ensures.body c.args.typed.now c.args.clocks.now.bit c.args.p c.in-Some.reset c.writes-writes.result.now _ can
+    are_set c.write_law.ensures.body c.args.typed.now c.args.clocks.now.bits c.args.p c.in-Some.reset c.writes-writes.result.now _ can
     (c.in_ok-add_written-in-Some.ensures.written
     ∙ ap₂ (λ (bs : List ℕ) (z : Arena). bs ++ filter (is_written (flatten (branch_effects (statement_of z c.in-Some.reset.branch)))) c.writes-writes.result.now) c.new-bits.ensures.items c.shapes.ensures)
 
 pub returns-in-None-clause-bits : goal.returns-in-None-clause-bits
 returns-in-None-clause-bits c =
     let d = design_of c.args.typed.now in
-    subst (λ (bs : List ℕ). HasBitsOf (bit_count d) bs (reset_bits_or d c.args.clocks.now.bit (slice_get d.processes c.args.p))) (sym c.new.ensures.items)
+    subst (λ (bs : List ℕ). HasBitsOf (bit_count d) bs (reset_bits_or d c.args.clocks.now.bits (slice_get d.processes c.args.p))) (sym c.new.ensures.items)
     (none_set c.args.typed.now c.args.footprints.now c.args.clocks.now c.requires.facts c.args.p c.requires.there c.in-None.ensures)

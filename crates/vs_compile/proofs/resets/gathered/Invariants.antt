@@ -10,5 +10,5 @@ abbrev pub invariant-loop-p : goal.invariant-loop-p
 invariant-loop-p l = record {
   x : state_of l.from_x ≡ unknown;
   zero : IsZero l.from_zero;
-  set : AreSet (design_of l.typed) l.clocks.bit l.p l.all;
+  set : AreSet (design_of l.typed) l.clocks.bits l.p l.all;
 }

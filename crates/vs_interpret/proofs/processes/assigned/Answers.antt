@@ -41,9 +41,9 @@ assignment_writes-requires-clause-within c =
 pub returns-in-Assign : goal.returns-in-Assign
 returns-in-Assign c =
     let a = c.args.shapes.now in
-    if_ok c.assignment_writes.result c.assignment_writes.ensures (λ u h clock x at is.
-    h ∙ assign_made c.trees_law.ensures.processes c.lawful_law.ensures.design a (subst IsLawful c.flat.ensures.same c.flat.ensures.lawful) c.args.p c.fit_process.result.now c.fit_process.ensures.is clock x (state_of c.args.values.now) c.in-Assign.target c.in-Assign.expr c.in-Assign.port c.in-Assign.is at)
+    if_ok c.assignment_writes.result c.assignment_writes.ensures (λ u h clocks x at is.
+    h ∙ assign_made c.trees_law.ensures.processes c.lawful_law.ensures.design a (subst IsLawful c.flat.ensures.same c.flat.ensures.lawful) c.args.p c.fit_process.result.now c.fit_process.ensures.is clocks x (state_of c.args.values.now) c.in-Assign.target c.in-Assign.expr c.in-Assign.port c.in-Assign.is at)
 
 pub returns-in-Block : goal.returns-in-Block
-returns-in-Block c = λ clock x at is.
+returns-in-Block c = λ clocks x at is.
     absurd (not_block c.trees_law.ensures.processes c.lawful_law.ensures.design c.args.shapes.now (subst IsLawful c.flat.ensures.same c.flat.ensures.lawful) c.args.p c.fit_process.result.now c.fit_process.ensures.is x c.in-Block.star c.in-Block.events c.in-Block.statement c.in-Block.is at is)

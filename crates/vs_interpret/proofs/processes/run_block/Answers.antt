@@ -26,8 +26,8 @@ pub returns-in-Assign : goal.returns-in-Assign
 returns-in-Assign c =
     let no = not_assign c.trees_law.ensures.processes c.lawful_law.ensures.design c.args.shapes.now (subst IsLawful c.flat.ensures.same c.flat.ensures.lawful) c.args.p c.fit_process.result.now c.fit_process.ensures.is in
     record {
-      effect = λ clock x at is. absurd (no x c.in-Assign.target c.in-Assign.expr c.in-Assign.port c.in-Assign.is at is);
-      state = λ clock x at is. absurd (no x c.in-Assign.target c.in-Assign.expr c.in-Assign.port c.in-Assign.is at is);
+      effect = λ clocks x at is. absurd (no x c.in-Assign.target c.in-Assign.expr c.in-Assign.port c.in-Assign.is at is);
+      state = λ clocks x at is. absurd (no x c.in-Assign.target c.in-Assign.expr c.in-Assign.port c.in-Assign.is at is);
     }
 
 pub returns-in_ok-run-in-Block : goal.returns-in_ok-run-in-Block
@@ -38,6 +38,6 @@ returns-in_ok-run-in-Block c =
     let made = block_made c.trees_law.ensures.processes c.lawful_law.ensures.design a (subst IsLawful c.flat.ensures.same c.flat.ensures.lawful) c.args.p c.fit_process.result.now c.fit_process.ensures.is in
     let updated = block_updates c.trees_law.ensures.processes c.lawful_law.ensures.design a (subst IsLawful c.flat.ensures.same c.flat.ensures.lawful) c.args.p c.fit_process.result.now c.fit_process.ensures.is in
     record {
-      effect = λ clock x at is. (ap (λ (e : Effect). e.writes) did ∙ made clock x s c.in-Block.star c.in-Block.events c.in-Block.statement c.in-Block.is at, ap (λ (e : Effect). e.updates) did ∙ updated clock x s c.in-Block.star c.in-Block.events c.in-Block.statement c.in-Block.is at);
-      state = λ clock x at is. c.in_ok-run-in-Block.ensures.state ∙ ap (write_all s) (made clock x s c.in-Block.star c.in-Block.events c.in-Block.statement c.in-Block.is at);
+      effect = λ clocks x at is. (ap (λ (e : Effect). e.writes) did ∙ made clocks x s c.in-Block.star c.in-Block.events c.in-Block.statement c.in-Block.is at, ap (λ (e : Effect). e.updates) did ∙ updated clocks x s c.in-Block.star c.in-Block.events c.in-Block.statement c.in-Block.is at);
+      state = λ clocks x at is. c.in_ok-run-in-Block.ensures.state ∙ ap (write_all s) (made clocks x s c.in-Block.star c.in-Block.events c.in-Block.statement c.in-Block.is at);
     }

@@ -12,8 +12,8 @@ use Rattle.vs_ordered.proofs.traced.run_vectors.Goals as goal
 pub ordered_run-requires-clause-drive : goal.ordered_run-requires-clause-drive
 ordered_run-requires-clause-drive c =
     let d = design_of c.args.typed.now in
-    let clock = c.args.clocks.now.bit in
-    (map (vector_state d clock) c.args.vectors.now, all_given d c.args.clocks.now c.requires.accepted c.args.vectors.now c.requires.sized)
+    let clocks = c.args.clocks.now.bits in
+    (map (vector_state d clocks) c.args.vectors.now, all_given d c.args.clocks.now c.requires.accepted c.args.vectors.now c.requires.sized)
 
 pub dump-requires-clause-lawful : goal.dump-requires-clause-lawful
 dump-requires-clause-lawful c = subst IsLawful (sym c.flat.ensures.same) c.flat.ensures.lawful

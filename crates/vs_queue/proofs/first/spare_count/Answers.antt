@@ -1,10 +1,10 @@
-use Rattle.std.proofs.Common.{sym, ◌∙◌}
+use Rattle.std.proofs.Common.{length, sym, ap, ◌∙◌}
 use Rattle.vs_flat.specs.DesignOf.{design_of}
-use Rattle.vs_queue.proofs.Spares.{spare_one, spare_none}
+use Rattle.vs_queue.proofs.Spares.{spare_length}
 use Rattle.vs_queue.proofs.first.spare_count.Goals as goal
 
-pub returns-then-is_spare : goal.returns-then-is_spare
-returns-then-is_spare c = sym (spare_one (design_of c.args.flat.now) c.args.clock (sym c.is_spare.ensures ∙ c.if-is_spare.true))
+pub returns-in-Some : goal.returns-in-Some
+returns-in-Some c = sym (ap length c.in-Some.ensures) ∙ spare_length (design_of c.args.flat.now) c.args.clocks.now
 
-pub returns-else-is_spare : goal.returns-else-is_spare
-returns-else-is_spare c = sym (spare_none (design_of c.args.flat.now) c.args.clock (sym c.is_spare.ensures ∙ c.if-is_spare.false))
+pub returns-in-None : goal.returns-in-None
+returns-in-None c = sym (ap length c.in-None.ensures) ∙ spare_length (design_of c.args.flat.now) c.args.clocks.now

@@ -36,9 +36,9 @@ returns c =
     let k = c.args.clocks.now in
     let run = c.loop-k.run in
     let ends = c.in_ok-push.ensures ∙ ap (λ (vs : List Bit4). run.ends ++ vs ∷ []) c.values.ensures in
-    let whole = all_ordered d k.bit c.args.order c.args.vectors.now c.loop-k.k run.events run.seed run.ends c.push.new.self run.steps c.loop-k-test.false c.loop-k.invariant.come c.loop-k.invariant.ended ends in
+    let whole = all_ordered d k.bits c.args.order c.args.vectors.now c.loop-k.k run.events run.seed run.ends c.push.new.self run.steps c.loop-k-test.false c.loop-k.invariant.come c.loop-k.invariant.ended ends in
     let w = c.loop-k.invariant.whole in
-    let all = whole_more d k.bit w.0 run.ends c.push.new.self run.events.values w.2 c.loop-k.invariant.copied.running.inside.values ends in
+    let all = whole_more d k.bits w.0 run.ends c.push.new.self run.events.values w.2 c.loop-k.invariant.copied.running.inside.values ends in
     record {
       run = λ first later vs known resets. whole first later vs;
       solution = λ first later vs known resets.

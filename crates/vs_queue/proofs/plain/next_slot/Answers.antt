@@ -19,19 +19,19 @@ run_slot-requires-clause-copied c =
     let d = design_of c.args.machine.now.typed.now in
     let k = c.args.machine.now.clocks.now in
     let s = c.requires.slot in
-    subst (IsCopied d k.bit c.drive.new.events) (sym c.as_mut_slice.ensures.value)
+    subst (IsCopied d k.bits c.drive.new.events) (sym c.as_mut_slice.ensures.value)
     (next_copied d k c.requires.machine.accepted c.keeping_law.ensures.drives c.args.run.now.events c.drive.new.events c.args.run.now.shadow.items s.0 c.requires.copied (c.in_ok-drive.ensures s.0 s.1))
 
 pub run_slot-requires-clause-spent : goal.run_slot-requires-clause-spent
 run_slot-requires-clause-spent c =
     let d = design_of c.args.machine.now.typed.now in
     let s = c.requires.slot in
-    driven_spent (slot_drives d c.args.machine.now.clocks.now.bit s.0) c.args.run.now.events c.drive.new.events c.requires.calm.spent (c.in_ok-drive.ensures s.0 s.1)
+    driven_spent (slot_drives d c.args.machine.now.clocks.now.bits s.0) c.args.run.now.events c.drive.new.events c.requires.calm.spent (c.in_ok-drive.ensures s.0 s.1)
 
 pub returns-clause-copied : goal.returns-clause-copied
 returns-clause-copied c =
     on_ok c.run_slot.result c.run_slot.ensures.taken (λ t.
-    subst (IsCopied (design_of c.args.machine.now.typed.now) c.args.machine.now.clocks.now.bit c.run_slot.new.events) (sym (seam c.args.run.now.shadow.len c.run_slot.new.shadow _ (sym (c.run_slot.auto.shadow ∙ c.as_mut_slice.ensures.len)))) t.copied)
+    subst (IsCopied (design_of c.args.machine.now.typed.now) c.args.machine.now.clocks.now.bits c.run_slot.new.events) (sym (seam c.args.run.now.shadow.len c.run_slot.new.shadow _ (sym (c.run_slot.auto.shadow ∙ c.as_mut_slice.ensures.len)))) t.copied)
 
 pub returns-clause-levelled : goal.returns-clause-levelled
 returns-clause-levelled c =
@@ -41,10 +41,10 @@ returns-clause-levelled c =
     let e = c.args.run.now.events in
     let ends = c.args.run.now.ends in
     let next = next_is d k c.requires.machine.accepted c.slot_law.ensures.next e c.drive.new.events slot c.requires.copied.running c.requires.calm.rested (c.in_ok-drive.ensures slot is) slots in
-    slot_gone d k.bit c.args.order.now e c.drive.new.events c.run_slot.new.events c.run_slot.new.shadow from slot slots ends c.push.new.self next t (c.in_ok-push.ensures ∙ ap (λ (vs : List Bit4). ends ++ vs ∷ []) c.values.ensures))
+    slot_gone d k.bits c.args.order.now e c.drive.new.events c.run_slot.new.events c.run_slot.new.shadow from slot slots ends c.push.new.self next t (c.in_ok-push.ensures ∙ ap (λ (vs : List Bit4). ends ++ vs ∷ []) c.values.ensures))
 
 pub returns-clause-whole : goal.returns-clause-whole
 returns-clause-whole c = λ count w.
     let run = c.args.run.now in
     on_ok c.run_slot.result c.run_slot.ensures.taken (λ t.
-    whole_more (design_of c.args.machine.now.typed.now) c.args.machine.now.clocks.now.bit count run.ends c.push.new.self run.events.values w c.requires.copied.running.inside.values (c.in_ok-push.ensures ∙ ap (λ (vs : List Bit4). run.ends ++ vs ∷ []) c.values.ensures))
+    whole_more (design_of c.args.machine.now.typed.now) c.args.machine.now.clocks.now.bits count run.ends c.push.new.self run.events.values w c.requires.copied.running.inside.values (c.in_ok-push.ensures ∙ ap (λ (vs : List Bit4). run.ends ++ vs ∷ []) c.values.ensures))

@@ -33,9 +33,9 @@ returns c =
     let o = c.args.order.now in
     let run = c.loop-k.run in
     let ends = c.in_ok-push.ensures ∙ ap (λ (vs : List Bit4). run.ends ++ vs ∷ []) c.values.ensures in
-    let plain = all_gone d k.bit o c.args.vectors.now c.loop-k.k run.events run.ends c.push.new.self c.loop-k-test.false c.loop-k.invariant.goes ends in
+    let plain = all_gone d k.bits o c.args.vectors.now c.loop-k.k run.events run.ends c.push.new.self c.loop-k-test.false c.loop-k.invariant.goes ends in
     let w = c.loop-k.invariant.whole in
-    let all = whole_more d k.bit w.0 run.ends c.push.new.self run.events.values w.2 c.loop-k.invariant.copied.running.inside.values ends in
+    let all = whole_more d k.bits w.0 run.ends c.push.new.self run.events.values w.2 c.loop-k.invariant.copied.running.inside.values ends in
     record {
       run = plain;
       solution = λ first later vs known resets. plain_solved c.first_law.ensures c.exists_law.ensures d k c.requires.accepted o c.requires.order first later c.push.new.self known resets (plain first later vs);

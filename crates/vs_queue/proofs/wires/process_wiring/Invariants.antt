@@ -5,4 +5,4 @@ use Rattle.vs_queue.proofs.Listening.{AreWired}
 use Rattle.vs_queue.proofs.wires.process_wiring.Given as goal
 
 abbrev pub invariant-loop-p : goal.invariant-loop-p
-invariant-loop-p l = AreWired (value_count (design_of l.typed) l.clocks.bit) (bit_count (design_of l.typed)) (design_of l.typed).processes l.wiring l.p
+invariant-loop-p l = AreWired (value_count (design_of l.typed) l.clocks.bits) (bit_count (design_of l.typed)) (design_of l.typed).processes l.wiring l.p

@@ -1,14 +1,13 @@
 use Rattle.std.proofs.Common.{◌+◌, sym, ap₂, ◌∙◌, arith}
 use Rattle.vs_flat.specs.DesignOf.{design_of}
-use Rattle.vs_queue.proofs.Spares.{spare_small}
 use Rattle.vs_queue.proofs.wires.value_count.Goals as goal
 
 pub overflow_add-result : goal.overflow_add-result
 overflow_add-result c =
     let a = c.args.flat.now in
-    let few = (c.lawful_law.ensures.design a c.requires).few_bits in
+    let few = (c.lawful_law.ensures.design a c.requires.lawful).few_bits in
     let b = c.count_bits.ensures ∙ sym (c.trees_law.ensures.counts a).bits in
-    let s = spare_small (design_of a) c.args.clock in
+    let s = c.requires.one in
     let k = c.spare_count.ensures in
     omega (arith, few, b, s, k)
 

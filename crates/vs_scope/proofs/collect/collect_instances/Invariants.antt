@@ -1,7 +1,7 @@
 use Rattle.std.proofs.Common.{◌≡◌, ◌++◌, map, drop}
 use Rattle.vs_ast.specs.Views as view
 use Rattle.vs_scope.specs.Views.{declaration}
-use Rattle.vs_scope.proofs.Collected.{instance_declared}
+use Rattle.vs_scope.specs.Declares.{instance_declared}
 use Rattle.vs_scope.proofs.collect.collect_instances.Given as goal
 
 abbrev pub invariant-loop-i : goal.invariant-loop-i

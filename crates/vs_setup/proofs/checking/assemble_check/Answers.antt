@@ -1,7 +1,4 @@
-use Rattle.std.proofs.Common.{◌≡◌, List, sym, subst, ap, ◌∙◌}
-use Rattle.vs_flat.specs.Arena.{Arena}
-use Rattle.vs_flat.specs.DesignOf.{design_of}
-use Rattle.vs_design.specs.Sizes.{size as size_of}
+use Rattle.std.proofs.Common.{◌≡◌, List, sym, subst, ◌∙◌}
 use Rattle.vs_program.specs.declared.compiled.Span.{Span}
 use Rattle.vs_misses.specs.Watch.{AllFit}
 use Rattle.vs_rounds.specs.Checked.{AreCheckParts}
@@ -34,9 +31,9 @@ pub returns-clause-none : goal.returns-clause-none
 returns-clause-none g c = c.in_ok-checker.ensures.none
 
 pub returns-clause-ready : goal.returns-clause-ready
-returns-clause-ready g c = λ d clock parts.
+returns-clause-ready g c = λ d clocks parts.
     let outputs_are : c.in_ok-outputs.outputs.items ≡ watched c.args.opened.accepted = rw (c.outputs.ensures, c.flat.ensures.same, c.typed-typed.ensures) at c.in_ok-outputs.ensures.spans in
-    c.in_ok-checker.ensures.ready d clock (subst (λ (os : List Span). AreCheckParts d clock c.args.opened.drive c.args.engine.program os) (sym outputs_are) parts)
+    c.in_ok-checker.ensures.ready d clocks (subst (λ (os : List Span). AreCheckParts d clocks c.args.opened.drive c.args.engine.program os) (sym outputs_are) parts)
 
 pub returns-clause-size : goal.returns-clause-size
-returns-clause-size g c = c.size-size.ensures.is ∙ ap (λ (f : Arena). size_of (design_of f)) c.typed-typed.ensures
+returns-clause-size g c = c.size-size.ensures

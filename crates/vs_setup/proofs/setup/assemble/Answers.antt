@@ -2,7 +2,6 @@ use Rattle.std.proofs.Common.{List, All, length, sym, subst, ap, ◌∙◌}
 use Rattle.vs_flat.specs.Arena.{Arena}
 use Rattle.vs_flat.specs.DesignOf.{design_of}
 use Rattle.vs_flat.specs.Lawful.{IsLawful}
-use Rattle.vs_design.specs.Sizes.{size as size_of}
 use Rattle.vs_waves.specs.Wave.{Wave, IsNewWave}
 use Rattle.vs_rounds.specs.Lanes.{Simulation}
 use Rattle.vs_setup.proofs.setup.assemble.Goals as goal
@@ -25,7 +24,7 @@ returns-clause-waves g c =
     (subst (λ (f : Arena). All (IsNewWave c.args.job.now.share (design_of f) c.args.job.now.half) c.in_ok-waves.waves) (c.flat.ensures.same ∙ c.typed-typed.ensures) c.in_ok-waves.ensures.each)
 
 pub returns-clause-size : goal.returns-clause-size
-returns-clause-size g c = c.size-size.ensures.is ∙ ap (λ (f : Arena). size_of (design_of f)) c.typed-typed.ensures
+returns-clause-size g c = c.size-size.ensures
 
 pub returns-clause-paths : goal.returns-clause-paths
 returns-clause-paths g c = c.in_ok-wave_paths.ensures

@@ -13,7 +13,7 @@ use Rattle.vs_setup.proofs.setup.prepare.Goals as goal
 pub engine_of-requires-clause-accepted : goal.engine_of-requires-clause-accepted
 engine_of-requires-clause-accepted g c =
     let l = c.in_ok-opened.ensures.opened.loaded.loaded in
-    record { name = c.args.job.now.clock; accepted = l.accepted.accepted; clock = l.lent.clock_is }
+    record { names = c.args.job.now.clocks; accepted = l.accepted.accepted; clocks = l.lent.clocks_are }
 
 pub engine_of-requires-clause-footprints : goal.engine_of-requires-clause-footprints
 engine_of-requires-clause-footprints g c = c.in_ok-opened.ensures.opened.loaded.loaded.lent.footprints_are
@@ -35,7 +35,7 @@ returns-clause-prepared g c =
     let tells = g.D.Desk.tells in
     let m = c.in_ok-prepared.prepared.machine in
     let drive_is = c.in_ok-prepared.ensures.stimuli in
-    let made : IsMade g.W.Word.lane g.W.Word.LANES (design_of a.flat) a.clocks.bit c.in_ok-engine.engine = record {
+    let made : IsMade g.W.Word.lane g.W.Word.LANES (design_of a.flat) a.clocks.bits c.in_ok-engine.engine = record {
       program = c.in_ok-engine.ensures.program;
       begun = c.in_ok-engine.ensures.begun;
       begins = c.in_ok-engine.ensures.begins;
@@ -47,7 +47,7 @@ returns-clause-prepared g c =
         opened = subst (λ ks. AreOpened tells ports o.middle new job.stimuli ks) (sym drive_is) o.opened;
         numbered = subst AreLanes (sym drive_is) o.numbered;
       };
-      made = made_same g.W.Word.lane g.W.Word.LANES (design_of a.flat) a.clocks.bit c.in_ok-engine.engine m.engine c.in_ok-prepared.ensures.engine made;
+      made = made_same g.W.Word.lane g.W.Word.LANES (design_of a.flat) a.clocks.bits c.in_ok-engine.engine m.engine c.in_ok-prepared.ensures.engine made;
       few = subst (λ ks. length ks ≤ g.W.Word.LANES) (sym drive_is) (omega (arith, c.requires.lanes, o.opened.lanes));
     } in
     let parts : HasParts g.W.Word.lane g.W.Word.LANES tells job old o.middle new a ports m = record {
@@ -62,7 +62,7 @@ returns-clause-prepared g c =
       taken = o.taken;
       design = design_of a.flat;
       accepted = o.loaded.loaded.accepted;
-      size_is = c.in_ok-prepared.ensures.size;
+      size_is = c.in_ok-prepared.ensures.size ∙ o.loaded.loaded.size_is;
       program = program_is g.W.Word.lane g.W.Word.LANES tells job old o.middle new a ports m.engine m.stimuli lanes_are;
       begun = lanes_are.made.begun;
       all_ports = subst ArePorts o.loaded.loaded.ports_are o.loaded.loaded.are_ports;

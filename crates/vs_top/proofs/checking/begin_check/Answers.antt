@@ -1,3 +1,4 @@
+use Rattle.vs_design.specs.Clocks.{clock_bits}
 use Rattle.std.proofs.Common.{ℕ, refl, sym, subst, ◌∙◌}
 use Rattle.vs_desk.specs.Desk.{Register}
 use Rattle.vs_rounds.specs.Stops.{IsLaneOf, HasCause, ReadStops}
@@ -20,7 +21,7 @@ returns-in-Err-begin-clause-unbegun g c =
     let job = c.args.job.now in
     let p = c.in-Ok.ensures.prepared in
     let stop = c.in-Err-begin.stop in
-    let run = run_of job (g.D.Desk.told c.args.desk.now).contents.files p.design p.accepted.accepted.clock.first (ports_of job.mode p.accepted) in
+    let run = run_of job (g.D.Desk.told c.args.desk.now).contents.files p.design (clock_bits p.accepted.accepted.clocks) (ports_of job.mode p.accepted) in
     first refl (sym c.same_paths.ensures ∙ c.in_default.is) (record {
       stop = stop;
       outcome_is = c.stop_outcome.ensures.outcome;
@@ -34,7 +35,7 @@ pub returns-in-Ok-begin-clause-begun : goal.returns-in-Ok-begin-clause-begun
 returns-in-Ok-begin-clause-begun g c =
     let job = c.args.job.now in
     let p = c.in-Ok.ensures.prepared in
-    let run = run_of job (g.D.Desk.told c.args.desk.now).contents.files p.design p.accepted.accepted.clock.first (ports_of job.mode p.accepted) in
+    let run = run_of job (g.D.Desk.told c.args.desk.now).contents.files p.design (clock_bits p.accepted.accepted.clocks) (ports_of job.mode p.accepted) in
     record {
       different = sym c.same_paths.ensures ∙ c.in_default.is;
       middle = g.D.Desk.told c.prepare_check.new.desk;

@@ -1,10 +1,10 @@
-use Rattle.std.proofs.Common.{ℕ, ◌≡◌, ◌<◌, length, is_some, Some, refl, sym, ap, ◌∙◌, subst, arith}
+use Rattle.std.proofs.Common.{ℕ, ◌≡◌, ◌<◌, ◌≤◌, ◌*◌, length, is_some, Some, refl, sym, ap, ◌∙◌, subst, arith}
 use Rattle.std.specs.List.{count_by}
 use Rattle.vs_misses.specs.Watch.{Watch}
 use Rattle.vs_top.specs.declared.outcome.Summary.{Summary}
 use Rattle.vs_top.specs.Checked.{IsChecked}
 use Rattle.vs_top.specs.Verdicts.{missed_lanes}
-use Rattle.vs_top.proofs.Checks.{whole_check, whole_checked, stopped_check}
+use Rattle.vs_top.proofs.Checks.{whole_check, whole_checked, few_operations, stopped_check}
 use Rattle.vs_top.proofs.Ends.{same_summary}
 use Rattle.vs_top.proofs.checking.check_rounds.Goals as goal
 
@@ -53,6 +53,14 @@ returns-in-Ok-clause-missed g c = λ s is.
     let counts = c.in-Ok.counts in
     let summary : Summary = record { lanes = c.len.result; vectors = counts.vectors; settlings = counts.settlings; size = c.args.check.now.size; operations = counts.operations; missed = Some c.count.result } in
     ap (λ (u : Summary). u.missed) (sym (same_summary summary s is)) ∙ ap (λ (n : ℕ). Some n) (c.count.ensures ∙ ap (λ (w : Watch). count_by is_some w.found) c.misses.ensures)
+
+pub returns-in-Ok-clause-within : goal.returns-in-Ok-clause-within
+returns-in-Ok-clause-within g c = λ old b s is.
+    let counts = c.in-Ok.counts in
+    let summary : Summary = record { lanes = c.len.result; vectors = counts.vectors; settlings = counts.settlings; size = c.args.check.now.size; operations = counts.operations; missed = Some c.count.result } in
+    subst (λ (u : Summary). u.operations ≤ u.size * u.settlings) (same_summary summary s is)
+    (few_operations g.W.Word.lane c.args.job.now old (g.D.Desk.told c.args.desk.now) c.args.check.now.checker c.args.check.now.size counts.settlings counts.operations c.args.steps.now c.rounds.new.steps b
+    (λ d clocks program. c.in-Ok.ensures.within d clocks program) c.in-Ok.ensures.operations)
 
 pub returns-in-Err-clause-ended : goal.returns-in-Err-clause-ended
 returns-in-Err-clause-ended g c = λ old b.

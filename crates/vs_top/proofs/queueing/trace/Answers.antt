@@ -18,8 +18,8 @@ run_vectors-requires-clause-footprints c = c.footprints.ensures ∙ c.requires.f
 
 pub run_vectors-requires-clause-sized : goal.run_vectors-requires-clause-sized
 run_vectors-requires-clause-sized c =
-    subst (λ (a : Arena). AreSized (design_of a) c.clocks.result.now.bit c.args.vectors.now) (sym c.typed.ensures)
-    (subst (λ (k : Clocked). AreSized (design_of c.args.accepted.now.flat) k.bit c.args.vectors.now) (sym c.clocks.ensures) c.requires.sized)
+    subst (λ (a : Arena). AreSized (design_of a) c.clocks.result.now.bits c.args.vectors.now) (sym c.typed.ensures)
+    (subst (λ (k : Clocked). AreSized (design_of c.args.accepted.now.flat) k.bits c.args.vectors.now) (sym c.clocks.ensures) c.requires.sized)
 
 pub returns-clause-traced : goal.returns-clause-traced
 returns-clause-traced c =

@@ -10,6 +10,10 @@ returns-in-Ok-clause-refused g c = λ told j called q job_refused faultless.
     let same = some_same _ j c.in-Ok.job called c.in-Ok.ensures.ok in
     c.answer_job.ensures.refused told q (subst (λ (j : Job). IsRefusedJob j (g.D.Desk.told c.args.desk.now).contents q) same job_refused) faultless
 
+pub returns-in-Some-clause-written : goal.returns-in-Some-clause-written
+returns-in-Some-clause-written g c = λ told j called mode s is_done.
+    absurd (some_none _ _ (sym c.read_bench.ensures.answer ∙ c.in-Some.is) (c.apart_law.ensures _ j called))
+
 pub returns-in-Some-clause-checked : goal.returns-in-Some-clause-checked
 returns-in-Some-clause-checked g c = λ told j called mode s is_done.
     absurd (some_none _ _ (sym c.read_bench.ensures.answer ∙ c.in-Some.is) (c.apart_law.ensures _ j called))

@@ -1,4 +1,4 @@
-use Rattle.std.proofs.Common.{false, None, ◌≡◌, ◌*◌, ◌<◌, ℕ, List, ◌++◌, String, Global, IsTrue, IsNone, length, map, take, sym, subst, ap, ◌∙◌, refl, arith}
+use Rattle.std.proofs.Common.{false, None, ◌≡◌, ◌<◌, ℕ, List, ◌++◌, String, Global, IsTrue, IsNone, length, map, take, sym, subst, ap, ◌∙◌, refl, arith}
 use Rattle.std.specs.Prelude.{string_bytes, if◌then◌else◌, []}
 use Rattle.std.proofs.lemmas.List.{length-map, take-map}
 use Rattle.vs_desk.specs.declared.desk.Way.TheVariants.{Write}
@@ -6,7 +6,7 @@ use Rattle.vs_desk.specs.Desk.{Register, Contents, Fails, IsAttached}
 use Rattle.vs_desk.specs.Places.{with_places, waveform_place}
 use Rattle.vs_program.specs.Compiled.{IsProgramOf}
 use Rattle.vs_engine.specs.Lanes.{Running}
-use Rattle.vs_design.specs.Sizes.{size as size_of}
+use Rattle.vs_design.specs.Clocks.{clock_bits}
 use Rattle.vs_feed.specs.Lanes.{AreAttached}
 use Rattle.vs_feed.specs.Opened.{path_at}
 use Rattle.vs_waves.specs.Puts.{wave_place}
@@ -22,7 +22,7 @@ use Rattle.vs_top.specs.Ended.{wave_paths, with_waves}
 use Rattle.vs_top.specs.Ended.IsEnd.{setup, first, attached}
 use Rattle.vs_top.proofs.Places.{with_places-at, still_attached, still_free}
 use Rattle.vs_top.proofs.Flushing.{attached_writable, cause_attached, still_writable}
-use Rattle.vs_top.proofs.Lanes.{are_data_inputs, lane_written, accepted_as, run_is}
+use Rattle.vs_top.proofs.Lanes.{are_data_inputs, lane_written, accepted_as, sizes_within, run_is}
 use Rattle.vs_top.proofs.Lawful.{run_free}
 use Rattle.vs_top.proofs.Stores.{has_vector, some_settling, are_stores}
 use Rattle.vs_top.proofs.simulation.run_lanes.Goals as goal
@@ -32,7 +32,7 @@ returns-in-Err-begin-clause-unbegun g c =
     let job = c.args.job.now in
     let p = c.in-Ok.ensures.prepared in
     let stop = c.in-Err-begin.stop in
-    let run = run_of job (g.D.Desk.told c.args.desk.now).contents.files p.design p.accepted.accepted.clock.first (ports_of job.mode p.accepted) in
+    let run = run_of job (g.D.Desk.told c.args.desk.now).contents.files p.design (clock_bits p.accepted.accepted.clocks) (ports_of job.mode p.accepted) in
     first refl (sym c.same_paths.ensures ∙ c.in_default.is) (record {
       stop = stop;
       outcome_is = c.stop_outcome.ensures.outcome;
@@ -84,7 +84,7 @@ returns-in-Err-attach-clause-unbegun g c =
     let lane = c.in-Err-attach.fault.lane in
     let items : List (String Global) = c.in-Ok.prepared.wave_paths.items in
     let lanes : length items ≡ length job.stimuli = sym (length-map items (string_bytes {Z = Global})) ∙ ap length p.paths ∙ length-map job.stimuli vcd_path in
-    let run = run_of job (g.D.Desk.told c.args.desk.now).contents.files p.design p.accepted.accepted.clock.first (ports_of job.mode p.accepted) in
+    let run = run_of job (g.D.Desk.told c.args.desk.now).contents.files p.design (clock_bits p.accepted.accepted.clocks) (ports_of job.mode p.accepted) in
     let P : Register → List (List ℕ) → List (List ℕ) → Type 0 = λ r taken all. Fails (with_places r (waveform_place 0) Write taken) now (wave_place lane) (path_at all lane) in
     let begun = subst (λ (r : Register). P r (map string_bytes (take lane items)) (map string_bytes items)) (c.in_default-begin.ensures.same ∙ p.register_is) c.in-Err-attach.ensures.failed in
     let mapped = subst (λ (taken : List (List ℕ)). P (with_texts before job job.stimuli) taken (map string_bytes items)) (sym (take-map string_bytes lane items)) begun in
@@ -128,8 +128,8 @@ returns-in-Ok-rounds-clause-done g c =
     let new = (g.D.Desk.told c.rounds.new.desk).contents in
     let p = c.in-Ok.ensures.prepared in
     let counts = c.in-Ok-rounds.counts in
-    let clock = p.accepted.accepted.clock.first in
-    let run = run_of job old.files p.design clock (ports_of job.mode p.accepted) in
+    let clocks = clock_bits p.accepted.accepted.clocks in
+    let run = run_of job old.files p.design clocks (ports_of job.mode p.accepted) in
     let items : List (String Global) = c.in-Ok.prepared.wave_paths.items in
     let lanes : length c.begin.new.self.stimuli ≡ length job.stimuli = c.in_default-begin.ensures.lanes ∙ p.lanes in
     let paths : length items ≡ length job.stimuli = sym (length-map items (string_bytes {Z = Global})) ∙ ap length p.paths ∙ length-map job.stimuli vcd_path in
@@ -139,7 +139,7 @@ returns-in-Ok-rounds-clause-done g c =
     let counted : IsTrue g.D.Desk.tells → AreCounted run (length job.stimuli) counts.vectors counts.settlings =
     λ t. subst (λ (n : ℕ). AreCounted run n counts.vectors counts.settlings) lanes (c.in-Ok-rounds.ensures.counted t run (in_round t)) in
     let engine = c.begin.new.self.engine in
-    let program : IsProgramOf p.design clock engine.program = subst (λ (e : Running _). IsProgramOf p.design clock e.program) (sym c.begin.ensures.engine) p.program in
+    let program : IsProgramOf p.design clocks engine.program = subst (λ (e : Running _). IsProgramOf p.design clocks e.program) (sym c.begin.ensures.engine) p.program in
     let idle : engine.begun ≡ false = ap (λ (e : Running _). e.begun) c.begin.ensures.engine ∙ p.begun in
     let ticked = c.in-Ok-rounds.ensures.ticked in
     let some : 0 < length job.stimuli = omega (arith, c.requires.job.some) in
@@ -152,16 +152,16 @@ returns-in-Ok-rounds-clause-done g c =
           ∙ ap (λ (r : Register). with_places r (waveform_place 0) Write (wave_paths job)) (c.in_default-begin.ensures.same ∙ p.register_is);
       written = λ t. record {
         design = p.design;
-        accepted = accepted_as job.top job.clock p.design (job.head ++ p.file) (design_text job old) (ap (λ (file : List ℕ). job.head ++ file) (p.file_is t)) p.accepted;
+        accepted = accepted_as job.top job.clocks p.design (job.head ++ p.file) (design_text job old) (ap (λ (file : List ℕ). job.head ++ file) (p.file_is t)) p.accepted;
         stimuli_taken = λ i h. (done t).taken i h;
         design_taken = (c.rounds.ensures.others t).left 1 (omega arith) ∙ ap (λ (left : ℕ → List ℕ). left 1) (empty t).left ∙ (c.begin.ensures.others t).before 1 (omega arith) ∙ (p.taken t).design;
-        lanes = λ i h. lane_written c.headline_law.ensures.every c.headline_law.ensures.some c.known_law.ensures.some job.share p.design job.clock p.accepted.accepted job.half run.ports (run_free job.mode p.accepted c.requires.mode) (are_data_inputs p.design clock p.all_ports.inputs)
+        lanes = λ i h. lane_written c.headline_law.ensures.every c.headline_law.ensures.some c.known_law.ensures.some job.share p.design job.clocks p.accepted.accepted job.half run.ports (run_free job.mode p.accepted c.requires.mode) (are_data_inputs p.design clocks p.all_ports.inputs)
             (run.texts i) (new.put (wave_place i)) ((done t).valid i h) ((done t).given i h);
         lanes_are = c.len.ensures;
         counted = counted t;
         size_is = p.size_is;
         unchecked = refl;
-        stored = are_stores p.design clock engine.program program engine.begun idle ticked.0 counts.settlings counts.operations c.args.steps.now c.rounds.new.steps ticked.1
+        stored = are_stores p.design clocks engine.program program engine.begun idle ticked.0 counts.settlings counts.operations c.args.steps.now c.rounds.new.steps ticked.1
             (some_settling run (length job.stimuli) counts.vectors counts.settlings some (has_vector c.known_law.ensures.some run 0 ((done t).valid 0 some)) (counted t)) ticked.2 c.in-Ok-rounds.ensures.operations;
       };
       puts = λ t place other.
@@ -174,12 +174,12 @@ pub returns-in-Ok-rounds-clause-within : goal.returns-in-Ok-rounds-clause-within
 returns-in-Ok-rounds-clause-within g c =
     let p = c.in-Ok.ensures.prepared in
     let counts = c.in-Ok-rounds.counts in
-    let clock = p.accepted.accepted.clock.first in
-    let program : IsProgramOf p.design clock c.begin.new.self.engine.program = subst (λ (e : Running _). IsProgramOf p.design clock e.program) (sym c.begin.ensures.engine) p.program in
-    let within = c.in-Ok-rounds.ensures.within p.design clock program in
+    let clocks = clock_bits p.accepted.accepted.clocks in
+    let program : IsProgramOf p.design clocks c.begin.new.self.engine.program = subst (λ (e : Running _). IsProgramOf p.design clocks e.program) (sym c.begin.ensures.engine) p.program in
+    let within = c.in-Ok-rounds.ensures.within p.design clocks program in
     let steps = c.in-Ok-rounds.ensures.operations in
-    let size : size_of p.design * counts.settlings ≡ c.in-Ok.prepared.size * counts.settlings = ap (λ k. k * counts.settlings) (sym p.size_is) in
-    omega (arith, size, within, steps)
+    let more = sizes_within p.accepted c.in-Ok.prepared.size counts.settlings p.size_is in
+    omega (arith, more, within, steps)
 
 pub returns-clause-stopped : goal.returns-clause-stopped
 returns-clause-stopped g c =
@@ -189,7 +189,7 @@ returns-clause-stopped g c =
     let now = (g.D.Desk.told c.rounds.new.desk).register in
     let p = c.in-Ok.ensures.prepared in
     let stop = c.in-Err-rounds.stop in
-    let run = run_of job old.files p.design p.accepted.accepted.clock.first (ports_of job.mode p.accepted) in
+    let run = run_of job old.files p.design (clock_bits p.accepted.accepted.clocks) (ports_of job.mode p.accepted) in
     let items : List (String Global) = c.in-Ok.prepared.wave_paths.items in
     let lanes : length c.begin.new.self.stimuli ≡ length job.stimuli = c.in_default-begin.ensures.lanes ∙ p.lanes in
     let paths : length items ≡ length job.stimuli = sym (length-map items (string_bytes {Z = Global})) ∙ ap length p.paths ∙ length-map job.stimuli vcd_path in

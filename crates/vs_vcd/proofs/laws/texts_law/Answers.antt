@@ -7,7 +7,7 @@ use Rattle.vs_vcd.proofs.laws.texts_law.Goals as goal
 
 pub returns-clause-texts : goal.returns-clause-texts
 unfolding digits_up_to digits decimal identifier value_line variable_start variable_line variables scope_line time_line
-returns-clause-texts c = (refl, refl, refl, refl, refl)
+returns-clause-texts c = (refl, refl, refl, refl, refl, refl)
 
 pub returns-clause-digits : goal.returns-clause-digits
 unfolding digits_up_to digits identifier value_line

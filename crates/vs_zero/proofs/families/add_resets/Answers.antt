@@ -17,7 +17,7 @@ add_values-requires-clause-within c =
     let a = c.args.typed.now in
     let p = c.loop-p.p - 1 in
     let here : p < length (design_of a).processes = omega (arith, c.loop-p-test.true, c.loop-p.invariant.within, (c.trees_law.ensures.counts a).processes) in
-    let r = reset_there c.fits_law.ensures.fits c.footprint_law.ensures.bits a c.flat.ensures.lawful c.flat.ensures.fits c.requires.blocks c.args.clocks.now.bit c.args.clocks.now.resets c.requires.resets.resets p here c.in-Some.reset c.in-Some.ensures c.writes-bits.result.now (c.writes-bits.ensures ∙ ap (λ fs. writes_at fs p) c.requires.footprints) in
+    let r = reset_there c.fits_law.ensures.fits c.footprint_law.ensures.bits a c.flat.ensures.lawful c.flat.ensures.fits c.requires.blocks c.args.clocks.now.bits c.args.clocks.now.resets c.requires.resets.resets p here c.in-Some.reset c.in-Some.ensures c.writes-bits.result.now (c.writes-bits.ensures ∙ ap (λ fs. writes_at fs p) c.requires.footprints) in
     subst (λ n. All (λ b. b < n) c.writes-bits.result.now) (sym (c.loop-p.auto.table ∙ c.requires.covers)) r.within
 
 pub add_values-requires-clause-there : goal.add_values-requires-clause-there
@@ -25,7 +25,7 @@ add_values-requires-clause-there c =
     let a = c.args.typed.now in
     let p = c.loop-p.p - 1 in
     let here : p < length (design_of a).processes = omega (arith, c.loop-p-test.true, c.loop-p.invariant.within, (c.trees_law.ensures.counts a).processes) in
-    let r = reset_there c.fits_law.ensures.fits c.footprint_law.ensures.bits a c.flat.ensures.lawful c.flat.ensures.fits c.requires.blocks c.args.clocks.now.bit c.args.clocks.now.resets c.requires.resets.resets p here c.in-Some.reset c.in-Some.ensures c.writes-bits.result.now (c.writes-bits.ensures ∙ ap (λ fs. writes_at fs p) c.requires.footprints) in
+    let r = reset_there c.fits_law.ensures.fits c.footprint_law.ensures.bits a c.flat.ensures.lawful c.flat.ensures.fits c.requires.blocks c.args.clocks.now.bits c.args.clocks.now.resets c.requires.resets.resets p here c.in-Some.reset c.in-Some.ensures c.writes-bits.result.now (c.writes-bits.ensures ∙ ap (λ fs. writes_at fs p) c.requires.footprints) in
     subst (λ (b : Arena). c.in-Some.reset.branch < length b.statements) (sym c.shapes.ensures) r.there
 
 pub add_values-requires-clause-fixed : goal.add_values-requires-clause-fixed
@@ -33,7 +33,7 @@ add_values-requires-clause-fixed c =
     let a = c.args.typed.now in
     let p = c.loop-p.p - 1 in
     let here : p < length (design_of a).processes = omega (arith, c.loop-p-test.true, c.loop-p.invariant.within, (c.trees_law.ensures.counts a).processes) in
-    let r = reset_there c.fits_law.ensures.fits c.footprint_law.ensures.bits a c.flat.ensures.lawful c.flat.ensures.fits c.requires.blocks c.args.clocks.now.bit c.args.clocks.now.resets c.requires.resets.resets p here c.in-Some.reset c.in-Some.ensures c.writes-bits.result.now (c.writes-bits.ensures ∙ ap (λ fs. writes_at fs p) c.requires.footprints) in
+    let r = reset_there c.fits_law.ensures.fits c.footprint_law.ensures.bits a c.flat.ensures.lawful c.flat.ensures.fits c.requires.blocks c.args.clocks.now.bits c.args.clocks.now.resets c.requires.resets.resets p here c.in-Some.reset c.in-Some.ensures c.writes-bits.result.now (c.writes-bits.ensures ∙ ap (λ fs. writes_at fs p) c.requires.footprints) in
     subst (λ (b : Arena). IsFixed (statement_of b c.in-Some.reset.branch)) (sym c.shapes.ensures) r.fixed
 
 pub add_values-requires-clause-bits : goal.add_values-requires-clause-bits
@@ -41,7 +41,7 @@ add_values-requires-clause-bits c =
     let a = c.args.typed.now in
     let p = c.loop-p.p - 1 in
     let here : p < length (design_of a).processes = omega (arith, c.loop-p-test.true, c.loop-p.invariant.within, (c.trees_law.ensures.counts a).processes) in
-    let r = reset_there c.fits_law.ensures.fits c.footprint_law.ensures.bits a c.flat.ensures.lawful c.flat.ensures.fits c.requires.blocks c.args.clocks.now.bit c.args.clocks.now.resets c.requires.resets.resets p here c.in-Some.reset c.in-Some.ensures c.writes-bits.result.now (c.writes-bits.ensures ∙ ap (λ fs. writes_at fs p) c.requires.footprints) in
+    let r = reset_there c.fits_law.ensures.fits c.footprint_law.ensures.bits a c.flat.ensures.lawful c.flat.ensures.fits c.requires.blocks c.args.clocks.now.bits c.args.clocks.now.resets c.requires.resets.resets p here c.in-Some.reset c.in-Some.ensures c.writes-bits.result.now (c.writes-bits.ensures ∙ ap (λ fs. writes_at fs p) c.requires.footprints) in
     subst (λ (b : Arena). Covers c.writes-bits.result.now (statement_of b c.in-Some.reset.branch)) (sym c.shapes.ensures) r.covers
 
 pub loop-p-preserved-in-Some : goal.loop-p-preserved-in-Some
@@ -49,18 +49,18 @@ loop-p-preserved-in-Some c =
     let a = c.args.typed.now in
     let p = c.loop-p.p - 1 in
     let here : p < length (design_of a).processes = omega (arith, c.loop-p-test.true, c.loop-p.invariant.within, (c.trees_law.ensures.counts a).processes) in
-    let r = reset_there c.fits_law.ensures.fits c.footprint_law.ensures.bits a c.flat.ensures.lawful c.flat.ensures.fits c.requires.blocks c.args.clocks.now.bit c.args.clocks.now.resets c.requires.resets.resets p here c.in-Some.reset c.in-Some.ensures c.writes-bits.result.now (c.writes-bits.ensures ∙ ap (λ fs. writes_at fs p) c.requires.footprints) in
+    let r = reset_there c.fits_law.ensures.fits c.footprint_law.ensures.bits a c.flat.ensures.lawful c.flat.ensures.fits c.requires.blocks c.args.clocks.now.bits c.args.clocks.now.resets c.requires.resets.resets p here c.in-Some.reset c.in-Some.ensures c.writes-bits.result.now (c.writes-bits.ensures ∙ ap (λ fs. writes_at fs p) c.requires.footprints) in
     let f = family_of c.args.table.now in
     let g = family_of c.loop-p.table in
-    let clock = c.args.clocks.now.bit in
+    let clocks = c.args.clocks.now.bits in
     let last : c.loop-p.p ≡ p + 1 = omega (arith, c.loop-p-test.true) in
-    let before = subst (λ n. g ≡ (λ b. with_resets (design_of a) clock (drop n (design_of a).processes) b (f b))) last c.loop-p.invariant.sets in
+    let before = subst (λ n. g ≡ (λ b. with_resets (design_of a) clocks (drop n (design_of a).processes) b (f b))) last c.loop-p.invariant.sets in
     let after = subst (λ (b : Arena). family_of c.add_values.new.table ≡ (λ n. with_updates (flatten (branch_effects (statement_of b c.in-Some.reset.branch))) n (g n))) c.shapes.ensures c.add_values.ensures.table in
     record {
       within = omega (arith, c.loop-p.invariant.within);
       x = c.add_values.ensures.x;
       zeros = c.add_values.ensures.zero;
-      sets = reset_step a clock p r.process c.in-Some.reset f g (family_of c.add_values.new.table) r.is here r.reset before after;
+      sets = reset_step a clocks p r.process c.in-Some.reset f g (family_of c.add_values.new.table) r.is here r.reset before after;
     }
 
 pub loop-p-preserved : goal.loop-p-preserved
@@ -70,15 +70,15 @@ loop-p-preserved c =
     let here : p < length (design_of a).processes = omega (arith, c.loop-p-test.true, c.loop-p.invariant.within, (c.trees_law.ensures.counts a).processes) in
     let f = family_of c.args.table.now in
     let g = family_of c.loop-p.table in
-    let clock = c.args.clocks.now.bit in
-    let n = no_reset a clock c.args.clocks.now.resets c.requires.resets.resets p here c.in-None.ensures in
+    let clocks = c.args.clocks.now.bits in
+    let n = no_reset a clocks c.args.clocks.now.resets c.requires.resets.resets p here c.in-None.ensures in
     let last : c.loop-p.p ≡ p + 1 = omega (arith, c.loop-p-test.true) in
-    let before = subst (λ n. g ≡ (λ b. with_resets (design_of a) clock (drop n (design_of a).processes) b (f b))) last c.loop-p.invariant.sets in
+    let before = subst (λ n. g ≡ (λ b. with_resets (design_of a) clocks (drop n (design_of a).processes) b (f b))) last c.loop-p.invariant.sets in
     record {
       within = omega (arith, c.loop-p.invariant.within);
       x = c.loop-p.invariant.x;
       zeros = c.loop-p.invariant.zeros;
-      sets = no_reset_step a clock p n.0 f g n.1 here n.2 before;
+      sets = no_reset_step a clocks p n.0 f g n.1 here n.2 before;
     }
 
 pub returns : goal.returns
@@ -86,4 +86,4 @@ returns c =
     let a = c.args.typed.now in
     let f = family_of c.args.table.now in
     let done : c.loop-p.p ≡ 0 = omega (arith, c.loop-p-test.false) in
-    subst (λ n. family_of c.loop-p.table ≡ (λ b. with_resets (design_of a) c.args.clocks.now.bit (drop n (design_of a).processes) b (f b))) done c.loop-p.invariant.sets
+    subst (λ n. family_of c.loop-p.table ≡ (λ b. with_resets (design_of a) c.args.clocks.now.bits (drop n (design_of a).processes) b (f b))) done c.loop-p.invariant.sets

@@ -11,7 +11,7 @@ invariant-loop-p l = record {
   within : l.p ≤ length l.typed.processes;
   x : state_of l.from_x ≡ unknown;
   zeros : IsZero l.from_zero;
-  sets : family_of l.table ≡ (λ b. with_resets (design_of l.typed) l.clocks.bit (drop l.p (design_of l.typed).processes) b (family_of l.initial.table b));
+  sets : family_of l.table ≡ (λ b. with_resets (design_of l.typed) l.clocks.bits (drop l.p (design_of l.typed).processes) b (family_of l.initial.table b));
 }
 
 abbrev pub decreases-loop-p : goal.decreases-loop-p

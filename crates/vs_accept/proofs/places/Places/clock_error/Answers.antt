@@ -11,13 +11,13 @@ use Rattle.vs_accept.proofs.Told.{verdict}
 use Rattle.vs_accept.proofs.places.Places.clock_error.Goals as goal
 
 pub returns-in-NoClock : goal.returns-in-NoClock
-returns-in-NoClock c = λ clock k h. let d = design_of c.args.typed.now in verdict (byte_of c.args.self.now.text.now c.args.self.now.tokens.now) d clock (OfClock rule.NoClock) (Refused (refusal.Bare NoClock)) (k.0, k.1, k.2, subst (IsClockError d clock) c.in-NoClock.is h) refl
+returns-in-NoClock c = λ clocks k h. let d = design_of c.args.typed.now in verdict (byte_of c.args.self.now.text.now c.args.self.now.tokens.now) d clocks (OfClock rule.NoClock) (Refused (refusal.Bare NoClock)) (k.0, k.1, k.2, subst (IsClockError d clocks) c.in-NoClock.is h) refl
 
 pub returns-in-ClockRead : goal.returns-in-ClockRead
-returns-in-ClockRead c = λ clock k h. let d = design_of c.args.typed.now in let s = c.in-ClockRead in verdict (byte_of c.args.self.now.text.now c.args.self.now.tokens.now) d clock (OfClock (rule.ClockRead s.process s.at)) _ (k.0, k.1, k.2, subst (IsClockError d clock) s.is h) c.refused_process.ensures
+returns-in-ClockRead c = λ clocks k h. let d = design_of c.args.typed.now in let s = c.in-ClockRead in verdict (byte_of c.args.self.now.text.now c.args.self.now.tokens.now) d clocks (OfClock (rule.ClockRead s.process s.at)) _ (k.0, k.1, k.2, subst (IsClockError d clocks) s.is h) c.refused_process.ensures
 
 pub returns-in-NotTheClock : goal.returns-in-NotTheClock
-returns-in-NotTheClock c = λ clock k h. let d = design_of c.args.typed.now in let s = c.in-NotTheClock in verdict (byte_of c.args.self.now.text.now c.args.self.now.tokens.now) d clock (OfClock (rule.NotTheClock s.process s.at)) _ (k.0, k.1, k.2, subst (IsClockError d clock) s.is h) c.refused_process-in-NotTheClock.ensures
+returns-in-NotTheClock c = λ clocks k h. let d = design_of c.args.typed.now in let s = c.in-NotTheClock in verdict (byte_of c.args.self.now.text.now c.args.self.now.tokens.now) d clocks (OfClock (rule.NotTheClock s.process s.at)) _ (k.0, k.1, k.2, subst (IsClockError d clocks) s.is h) c.refused_process-in-NotTheClock.ensures
 
 pub returns-in-ResetForm : goal.returns-in-ResetForm
-returns-in-ResetForm c = λ clock k h. let d = design_of c.args.typed.now in let s = c.in-ResetForm in verdict (byte_of c.args.self.now.text.now c.args.self.now.tokens.now) d clock (OfClock (rule.ResetForm s.process s.at)) _ (k.0, k.1, k.2, subst (IsClockError d clock) s.is h) c.refused_process-in-ResetForm.ensures
+returns-in-ResetForm c = λ clocks k h. let d = design_of c.args.typed.now in let s = c.in-ResetForm in verdict (byte_of c.args.self.now.text.now c.args.self.now.tokens.now) d clocks (OfClock (rule.ResetForm s.process s.at)) _ (k.0, k.1, k.2, subst (IsClockError d clocks) s.is h) c.refused_process-in-ResetForm.ensures

@@ -8,4 +8,4 @@ use Rattle.vs_accept.proofs.Told.{verdict}
 use Rattle.vs_accept.proofs.places.Places.zero_error.Goals as goal
 
 pub returns-in-TimeZero : goal.returns-in-TimeZero
-returns-in-TimeZero c = λ clock k acyclic raceless h. let d = design_of c.args.typed.now in let s = c.in-TimeZero in verdict (byte_of c.args.self.now.text.now c.args.self.now.tokens.now) d clock (OfZero (rule.TimeZero s.process s.at)) _ (k.0, k.1, k.2, k.3, acyclic, raceless, subst (IsZeroError d clock) s.is h) c.refused_process.ensures
+returns-in-TimeZero c = λ clocks k acyclic raceless h. let d = design_of c.args.typed.now in let s = c.in-TimeZero in verdict (byte_of c.args.self.now.text.now c.args.self.now.tokens.now) d clocks (OfZero (rule.TimeZero s.process s.at)) _ (k.0, k.1, k.2, k.3, acyclic, raceless, subst (IsZeroError d clocks) s.is h) c.refused_process.ensures

@@ -11,5 +11,5 @@ invariant_of-result c =
     record {
       whole = c.in_ok-templates.ensures.whole ∙ ap (λ (a : Arena). length a.bodies) (sym same);
       facts = subst (λ (a : Arena). AreFacts a c.args.footprints.now c.args.clocks.now) (sym same) c.requires;
-      set = subst (λ (a : Arena). AreSet (design_of a) c.args.clocks.now.bit (length (design_of a).processes) c.in_ok-reset_bits.reset_bits) (sym same) c.in_ok-reset_bits.ensures;
+      set = subst (λ (a : Arena). AreSet (design_of a) c.args.clocks.now.bits (length (design_of a).processes) c.in_ok-reset_bits.reset_bits) (sym same) c.in_ok-reset_bits.ensures;
     }

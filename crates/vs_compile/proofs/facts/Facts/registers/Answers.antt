@@ -12,4 +12,4 @@ pub returns : goal.returns
 returns c =
     let k = c.args.self.now in
     if_ok c.registers.result c.registers.ensures
-    (λ v is. ascending_registers c.list_law.ensures.few c.list_law.ensures.ascending c.sources_law.ensures (design_of k.arena) k.clock c.typed-typed.ensures.accepted c.args.count c.requires v.items is)
+    (λ v is. ascending_registers c.list_law.ensures.few c.list_law.ensures.ascending c.sources_law.ensures (design_of k.arena) k.clocks c.typed-typed.ensures.accepted c.args.count c.requires v.items is)

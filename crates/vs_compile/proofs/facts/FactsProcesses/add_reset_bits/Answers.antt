@@ -14,5 +14,5 @@ returns c = (
   c.of.result.now,
   c.in_ok-extend_from_slice.ensures.items,
   set_known c.self.inside.templates c.self.inside.footprints.now c.self.inside.clocks.now c.self.inside.reset_bits c.args.self.now c.self.view_is c.self.invariant c.args.process c.requires.process
-      c.args._clock c.requires.clock c.of.result.now c.of.ensures,
+      c.args._clocks.now c.requires.clocks c.of.result.now c.of.ensures,
 )

@@ -5,4 +5,4 @@ pub returns : goal.returns
 returns c =
     let facts = known_facts c.self.inside.templates.arena c.self.inside.footprints.now c.self.inside.clocks.now c.args.self.now c.self.view_is c.self.invariant.facts in
     let has = needs_known c.args.self.now c.self.inside.footprints.now c.self.inside.clocks.now.nets facts c.args.process c.requires.process c.needs.result.now c.needs.ensures in
-    ports_known c.args.self.now c.self.inside.footprints.now c.self.inside.clocks.now.nets facts c.args.process c.requires.process c.args._clock c.requires.clock c.needs.result.now has c.has_clock.result c.has_clock.ensures
+    ports_known c.args.self.now c.self.inside.footprints.now c.self.inside.clocks.now.nets facts c.args.process c.requires.process c.args._clocks.now c.requires.clocks c.needs.result.now has c.has_clock.result c.has_clock.ensures

@@ -19,7 +19,7 @@ on_ok (Ok v) h k = k h
 on_ok (Err e) h k = h
 
 pub lower_sleeper-requires-clause-accepted : goal.lower_sleeper-requires-clause-accepted
-lower_sleeper-requires-clause-accepted c = rw c.templates-templates.ensures.same (c.templates-templates.ensures.accepted.name, c.templates-templates.ensures.accepted.accepted)
+lower_sleeper-requires-clause-accepted c = rw c.templates-templates.ensures.same (c.templates-templates.ensures.accepted.names, c.templates-templates.ensures.accepted.accepted)
 
 pub lower_sleeper-requires-clause-sleeps : goal.lower_sleeper-requires-clause-sleeps
 lower_sleeper-requires-clause-sleeps c = λ x at.
@@ -40,7 +40,7 @@ pub lower_sleeper-requires-clause-room : goal.lower_sleeper-requires-clause-room
 lower_sleeper-requires-clause-room c =
     let k = c.self.inside.facts in
     let at = c.templates-templates.ensures.accepted in
-    let low = first_low (design_of k.arena) _ k.clock at c.self.invariant.layout in
+    let low = first_low (design_of k.arena) _ k.clocks at c.self.invariant.layout in
     rw c.templates-templates.ensures.same (omega (arith, low, at.accepted.small))
 
 pub lower_sleeper-requires-clause-few : goal.lower_sleeper-requires-clause-few
@@ -60,7 +60,7 @@ lower_awake-requires-clause-layout c = rw (c.templates-templates.ensures.same, c
 pub lower_awake-requires-clause-slots : goal.lower_awake-requires-clause-slots
 lower_awake-requires-clause-slots c = λ x at.
     let k = c.self.inside.facts in
-    temps_fit c.list_law.ensures.few c.program_law.ensures.registers (design_of k.arena) k.clock c.templates-templates.ensures.accepted c.self.inside.count c.self.inside.shadows.items c.self.inside.first_temp c.self.invariant
+    temps_fit c.list_law.ensures.few c.program_law.ensures.registers (design_of k.arena) k.clocks c.templates-templates.ensures.accepted c.self.inside.count c.self.inside.shadows.items c.self.inside.first_temp c.self.invariant
     c.args.process x (rw c.templates-templates.ensures.same at at)
 
 pub lower_awake-requires-clause-few : goal.lower_awake-requires-clause-few

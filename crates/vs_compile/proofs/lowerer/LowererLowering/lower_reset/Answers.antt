@@ -46,12 +46,12 @@ returns-in-Some c =
     on_ok c.lower_branch.result c.lower_branch.ensures
     (λ done.
     added_by c.within_law.ensures.statements c.reads_law.ensures.body c.list_law.ensures.ascending c.list_law.ensures.few c.sources_law.ensures k c.templates-templates.ensures.accepted c.self.inside.count c.self.inside.shadows.items c.self.inside.first_temp
-    c.args.self.now c.self.view_is c.args.process c.requires.process c.args._clock c.requires.clock c.in-Some.reset c.in-Some.ensures c.args.program.now c.lower_branch.new.program c.templates-templates.result.now.arena c.templates-templates.ensures.same counted done)
+    c.args.self.now c.self.view_is c.args.process c.requires.process c.args._clocks.now c.requires.clocks c.in-Some.reset c.in-Some.ensures c.args.program.now c.lower_branch.new.program c.templates-templates.result.now.arena c.templates-templates.ensures.same counted done)
 
 pub returns-in-None : goal.returns-in-None
 returns-in-None c = (
   [],
   sym (append-nil c.args.program.now),
   none_by c.reset_law.ensures.none c.self.inside.facts c.self.inside.count c.self.inside.shadows.items c.self.inside.first_temp c.args.self.now c.self.view_is c.args.process c.requires.process c.in-None.ensures
-      c.args._clock c.requires.clock,
+      c.args._clocks.now c.requires.clocks,
 )

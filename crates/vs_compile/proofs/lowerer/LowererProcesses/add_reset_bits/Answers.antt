@@ -11,5 +11,5 @@ use Rattle.vs_compile.proofs.lowerer.LowererProcesses.add_reset_bits.Goals as go
 pub returns : goal.returns
 returns c =
     subst (λ (k : Known). OnOk c.add_reset_bits.result ((more : List ℕ) × (c.add_reset_bits.new.bits.items ≡ c.args.bits.now.items ++ more)
-    × HasBitsOf (bit_count (design_of k.arena)) more (reset_bits_or (design_of k.arena) c.args.clock (slice_get (design_of k.arena).processes c.args.process))))
+    × HasBitsOf (bit_count (design_of k.arena)) more (reset_bits_or (design_of k.arena) c.args.clocks.now (slice_get (design_of k.arena).processes c.args.process))))
     (ap (λ (l : Laid). l.known) c.self.view_is) c.add_reset_bits.ensures

@@ -8,5 +8,5 @@ use Rattle.vs_compile.proofs.lowerer.LowererProcesses.copies_clock.Goals as goal
 
 pub returns : goal.returns
 returns c =
-    subst (λ (k : Known). c.copies_clock.result ≡ is_port_or (clock_nets (design_of k.arena) c.args.clock) (slice_get (design_of k.arena).processes c.args.process))
+    subst (λ (k : Known). c.copies_clock.result ≡ is_port_or (clock_nets (design_of k.arena) c.args.clocks.now) (slice_get (design_of k.arena).processes c.args.process))
     (ap (λ (l : Laid). l.known) c.self.view_is) c.copies_clock.ensures

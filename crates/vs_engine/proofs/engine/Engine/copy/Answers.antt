@@ -31,5 +31,5 @@ returns-clause-planes g c = λ s k i.
     ∙ ap (λ (z : ℕ). slot_lane g.W.Word.lane c.self.inside.file (z + k) i) c.home.ensures
     ∙ ap (λ (x : Span). slot_lane g.W.Word.lane c.self.inside.file (4 + x.first + k) i)
     (get_or_from_slice_get c.signals.result.now c.args.signal s (record { first = 0; length = 0 }) (ap (λ (spans : List Span). slice_get spans c.args.signal) c.signals.ensures ∙ e))
-    ∙ signal_bit c.self.inside.compiled.bits c.self.inside.compiled.clock c.self.inside.level (lane_slots g.W.Word.lane c.self.inside.file i) c.self.inside.compiled.signals c.args.signal s k c.self.invariant.in_range.signals e l)
+    ∙ signal_bit c.self.inside.compiled.bits c.self.inside.compiled.clocks c.self.inside.level (lane_slots g.W.Word.lane c.self.inside.file i) c.self.inside.compiled.signals c.args.signal s k c.self.invariant.in_range.signals e l)
     c.requires.room

@@ -21,8 +21,8 @@ feed-requires-clause-room g c = λ b h.
 
 pub store_all-requires-clause-room : goal.store_all-requires-clause-room
 store_all-requires-clause-room g c = λ b h.
-    has_slot c.self.inside.compiled (length c.feed.new.file) c.self.inside.compiled.clocks c.self.invariant.in_range (c.feed.ensures.slots ∙ c.self.invariant.slots) c.self.invariant.in_range.clocks b
-    (subst (λ bits. contains bits b ≡ true) c.clocks.ensures h)
+    has_slot c.self.inside.compiled (length c.feed.new.file) c.self.inside.compiled.nets c.self.invariant.in_range (c.feed.ensures.slots ∙ c.self.invariant.slots) c.self.invariant.in_range.nets b
+    (subst (λ bits. contains bits b ≡ true) c.nets.ensures h)
 
 long : (g : _) (c : goal.After-self-2-1 g) → length c.self.inside.compiled.inputs ≡ length c.args.inputs.now
 long g c = let P : Running _ → Type 0 = λ e. length c.args.inputs.now ≡ length e.program.inputs in sym (subst P (sym c.self.view_is) c.requires)
@@ -33,35 +33,35 @@ settling_calls p true = refl
 settling_calls p false = refl
 
 -- each lane has come to the end of the slot
-ended : (g : _) (c : goal.After-self-2-1 g) (d : Design) (clock i : ℕ) → IsProgramOf d clock c.self.inside.compiled → i < g.W.Word.LANES
-    → IsEnd d clock c.self.inside.compiled c.self.inside.level (lane_slots g.W.Word.lane c.self.inside.file i) (Fall (vector g.W.Word.lane c.self.inside.compiled.inputs c.args.inputs.now i)) (lane_slots g.W.Word.lane c.execute.new.file i)
-ended g c d clock i is in_lanes =
-    fall_ends d clock c.self.inside.compiled is c.self.inside.begun c.self.inside.level (vector g.W.Word.lane c.self.inside.compiled.inputs c.args.inputs.now i)
+ended : (g : _) (c : goal.After-self-2-1 g) (d : Design) (clocks : List ℕ) (i : ℕ) → IsProgramOf d clocks c.self.inside.compiled → i < g.W.Word.LANES
+    → IsEnd d clocks c.self.inside.compiled c.self.inside.level (lane_slots g.W.Word.lane c.self.inside.file i) (Fall (vector g.W.Word.lane c.self.inside.compiled.inputs c.args.inputs.now i)) (lane_slots g.W.Word.lane c.execute.new.file i)
+ended g c d clocks i is in_lanes =
+    fall_ends d clocks c.self.inside.compiled is c.self.inside.begun c.self.inside.level (vector g.W.Word.lane c.self.inside.compiled.inputs c.args.inputs.now i)
     (lane_slots g.W.Word.lane c.self.inside.file i) (lane_slots g.W.Word.lane c.store_all.new.file i) (lane_slots g.W.Word.lane c.execute.new.file i)
-    (c.self.invariant.constants d clock i is in_lanes)
-    (c.self.invariant.masks d clock i is in_lanes)
-    (λ e. c.self.invariant.reached e d clock i is in_lanes)
+    (c.self.invariant.constants d clocks i is in_lanes)
+    (c.self.invariant.masks d clocks i is in_lanes)
+    (λ e. c.self.invariant.reached e d clocks i is in_lanes)
     (fallen_is c.write_law.ensures g.W.Word.lane c.self.inside.compiled c.args.inputs.now i (lane_slots g.W.Word.lane c.self.inside.file i) (lane_slots g.W.Word.lane c.feed.new.file i) (lane_slots g.W.Word.lane c.store_all.new.file i)
     c.self.invariant.in_range
     (long g c)
     (λ slot. c.feed.ensures.lanes i slot ∙ ap (λ (bits : List ℕ). write_all (lane_slots g.W.Word.lane c.self.inside.file i) (home_writes g.W.Word.lane bits c.args.inputs.now i) slot) c.inputs.ensures)
-    (λ b h. c.store_all.ensures.stored i b in_lanes (subst (λ bits. contains bits b ≡ true) (sym c.clocks.ensures) h))
-    (λ slot none. c.store_all.ensures.kept i slot (λ b h. none b (subst (λ bits. contains bits b ≡ true) c.clocks.ensures h))))
+    (λ b h. c.store_all.ensures.stored i b in_lanes (subst (λ bits. contains bits b ≡ true) (sym c.nets.ensures) h))
+    (λ slot none. c.store_all.ensures.kept i slot (λ b h. none b (subst (λ bits. contains bits b ≡ true) c.nets.ensures h))))
     (subst (λ (calls : List Call). AreCalled calls (lane_slots g.W.Word.lane c.store_all.new.file i) (lane_slots g.W.Word.lane c.execute.new.file i)) (ap (calls_at c.self.inside.compiled) c.settling.ensures ∙ settling_calls c.self.inside.compiled c.self.inside.begun) (c.execute.ensures.applied i in_lanes))
 
 pub invariant_of-self : goal.invariant_of-self
 invariant_of-self g c = record {
   in_range = c.self.invariant.in_range;
   slots = c.execute.ensures.slots ∙ c.store_all.ensures.slots ∙ c.feed.ensures.slots ∙ c.self.invariant.slots;
-  constants = λ d clock i is in_lanes. (ended g c d clock i is in_lanes).constants;
-  masks = λ d clock i is in_lanes. (ended g c d clock i is in_lanes).masks;
-  reached = λ e d clock i is in_lanes.
-      reached_at d clock c.self.inside.compiled c.self.inside.level (lane_slots g.W.Word.lane c.self.inside.file i) (lane_slots g.W.Word.lane c.execute.new.file i) (Fall (vector g.W.Word.lane c.self.inside.compiled.inputs c.args.inputs.now i)) (ended g c d clock i is in_lanes);
+  constants = λ d clocks i is in_lanes. (ended g c d clocks i is in_lanes).constants;
+  masks = λ d clocks i is in_lanes. (ended g c d clocks i is in_lanes).masks;
+  reached = λ e d clocks i is in_lanes.
+      reached_at d clocks c.self.inside.compiled c.self.inside.level (lane_slots g.W.Word.lane c.self.inside.file i) (lane_slots g.W.Word.lane c.execute.new.file i) (Fall (vector g.W.Word.lane c.self.inside.compiled.inputs c.args.inputs.now i)) (ended g c d clocks i is in_lanes);
 }
 
 pub returns-clause-ends : goal.returns-clause-ends
-returns-clause-ends g c = λ d clock i.
+returns-clause-ends g c = λ d clocks i.
     let P : Running _ → Type 0 = λ e.
-    IsProgramOf d clock e.program → i < g.W.Word.LANES
-    → IsSlotEnd (network_of d clock) (state g.W.Word.lane e i) (Fall (vector g.W.Word.lane e.program.inputs c.args.inputs.now i)) (values c.self.inside.compiled.bits c.self.inside.compiled.clock Zero (lane_slots g.W.Word.lane c.execute.new.file i)) in
-    subst P c.self.view_is (λ is in_lanes. end_at d clock c.self.inside.compiled is c.self.inside.level (lane_slots g.W.Word.lane c.self.inside.file i) (lane_slots g.W.Word.lane c.execute.new.file i) (Fall (vector g.W.Word.lane c.self.inside.compiled.inputs c.args.inputs.now i)) (ended g c d clock i is in_lanes))
+    IsProgramOf d clocks e.program → i < g.W.Word.LANES
+    → IsSlotEnd (network_of d clocks) (state g.W.Word.lane e i) (Fall (vector g.W.Word.lane e.program.inputs c.args.inputs.now i)) (values c.self.inside.compiled.bits c.self.inside.compiled.clocks Zero (lane_slots g.W.Word.lane c.execute.new.file i)) in
+    subst P c.self.view_is (λ is in_lanes. end_at d clocks c.self.inside.compiled is c.self.inside.level (lane_slots g.W.Word.lane c.self.inside.file i) (lane_slots g.W.Word.lane c.execute.new.file i) (Fall (vector g.W.Word.lane c.self.inside.compiled.inputs c.args.inputs.now i)) (ended g c d clocks i is in_lanes))

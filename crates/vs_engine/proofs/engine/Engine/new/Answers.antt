@@ -37,10 +37,10 @@ pub invariant_of-result : goal.invariant_of-result
 invariant_of-result g c = record {
   in_range = c.initial.ensures.in_range;
   slots = c.in_ok-file.ensures.slots ∙ ap length c.initial.ensures.initial;
-  constants = λ d clock i is in_lanes. subst HasConstants (sym (lane_is g c i in_lanes)) is.constants;
-  masks = λ d clock i is in_lanes. subst (HaveMasks d clock c.args.compiled.bits X) (sym (lane_is g c i in_lanes)) is.begins;
+  constants = λ d clocks i is in_lanes. subst HasConstants (sym (lane_is g c i in_lanes)) is.constants;
+  masks = λ d clocks i is in_lanes. subst (HaveMasks d clocks c.args.compiled.bits X) (sym (lane_is g c i in_lanes)) is.begins;
   reached = λ e. absurd (never e);
 }
 
 pub returns-clause-begins : goal.returns-clause-begins
-returns-clause-begins g c = λ d clock i is in_lanes. ap (values c.args.compiled.bits c.args.compiled.clock X) (lane_is g c i in_lanes) ∙ ap (λ (k : ℕ). values c.args.compiled.bits k X (initial_slots c.args.compiled)) is.clock_is ∙ is.starts
+returns-clause-begins g c = λ d clocks i is in_lanes. ap (values c.args.compiled.bits c.args.compiled.clocks X) (lane_is g c i in_lanes) ∙ ap (λ (k : List ℕ). values c.args.compiled.bits k X (initial_slots c.args.compiled)) is.clocks_are ∙ is.starts

@@ -9,7 +9,7 @@ pub returns-clause-bits : goal.returns-clause-bits
 returns-clause-bits g c =
     let lane = g.W.Word.lane in
     let P : Running _ → Type 0 = λ e. c.args.bits.first + c.args.bits.length ≤ e.program.bits → c.read.result ≡ read (state lane e c.args.lane) (span_bits c.args.bits) in
-    subst P c.self.view_is (λ inside. c.read.ensures ∙ span_value c.self.inside.compiled.bits c.self.inside.compiled.clock c.self.inside.level (lane_slots lane c.self.inside.file c.args.lane) c.args.bits inside) c.requires.inside
+    subst P c.self.view_is (λ inside. c.read.ensures ∙ span_value c.self.inside.compiled.bits c.self.inside.compiled.clocks c.self.inside.level (lane_slots lane c.self.inside.file c.args.lane) c.args.bits inside) c.requires.inside
 
 pub returns-clause-word : goal.returns-clause-word
 returns-clause-word g c = λ memory n first long.

@@ -8,7 +8,7 @@ use Rattle.vs_queue.proofs.machine.Machine.activate.Goals as goal
 pub returns-then-has_waiting : goal.returns-then-has_waiting
 returns-then-has_waiting c =
     let d = design_of c.args.self.now.typed.now in
-    let k = c.args.self.now.clocks.now.bit in
+    let k = c.args.self.now.clocks.now.bits in
     let e = c.args.events.now in
     let on = sym c.has_waiting.ensures ∙ c.if-has_waiting.true in
     record {
@@ -19,7 +19,7 @@ returns-then-has_waiting c =
 pub returns-else-has_waiting : goal.returns-else-has_waiting
 returns-else-has_waiting c =
     let d = design_of c.args.self.now.typed.now in
-    let k = c.args.self.now.clocks.now.bit in
+    let k = c.args.self.now.clocks.now.bits in
     let e = c.args.events.now in
     let off = sym c.has_waiting.ensures ∙ c.if-has_waiting.false in
     record {

@@ -20,11 +20,11 @@ returns-clause-reached c = λ from order slot slots is r.
     let d = design_of c.args.self.now.typed.now in
     let k = c.args.self.now.clocks.now in
     let run = c.args.run.now in
-    reached_as (network_of d k.bit) from order (queue_of c.drive.new.events slots) (next_seed run.seed) c.next_seed-run.result (run.ends ++ run.events.values ∷ []) c.push.new.self (counted (suc run.steps)) c.saturating_add-run.result c.next_seed-run.ensures
+    reached_as (network_of d k.bits) from order (queue_of c.drive.new.events slots) (next_seed run.seed) c.next_seed-run.result (run.ends ++ run.events.values ∷ []) c.push.new.self (counted (suc run.steps)) c.saturating_add-run.result c.next_seed-run.ensures
     (c.in_ok-push.ensures ∙ ap (λ (vs : List Bit4). run.ends ++ vs ∷ []) c.values.ensures) (counted_on c.saturating_add-run.result run.steps c.saturating_add-run.ensures)
     (next_reached d k c.requires.machine.accepted c.slot_law.ensures.next run.events c.drive.new.events run.shadow.items slot c.requires.copied c.requires.ended (c.in_ok-drive.ensures slot is) from order slots run.seed run.ends run.steps r)
 
 pub returns-clause-whole : goal.returns-clause-whole
 returns-clause-whole c = λ count w.
     let run = c.args.run.now in
-    whole_more (design_of c.args.self.now.typed.now) c.args.self.now.clocks.now.bit count run.ends c.push.new.self run.events.values w c.requires.copied.running.inside.values (c.in_ok-push.ensures ∙ ap (λ (vs : List Bit4). run.ends ++ vs ∷ []) c.values.ensures)
+    whole_more (design_of c.args.self.now.typed.now) c.args.self.now.clocks.now.bits count run.ends c.push.new.self run.events.values w c.requires.copied.running.inside.values (c.in_ok-push.ensures ∙ ap (λ (vs : List Bit4). run.ends ++ vs ∷ []) c.values.ensures)

@@ -14,6 +14,6 @@ drive_spare-requires-clause-held c = c.in_ok-drive_inputs.ensures.held ∙ c.req
 pub returns : goal.returns
 returns c = λ slot is.
     let d = design_of c.args.self.now.typed.now in
-    let clock = c.args.self.now.clocks.now.bit in
+    let clocks = c.args.self.now.clocks.now.bits in
     on_ok c.drive_spare.result (c.drive_spare.ensures slot is) (λ h.
-    h ∙ ap (λ (e : Events). after_drives e (spare_drives d clock slot)) (c.in_ok-drive_inputs.ensures.driven slot is) ∙ sym (both_drives (drives_from clock slot (length d.processes) (top_inputs d)) (spare_drives d clock slot) c.args.events.now))
+    h ∙ ap (λ (e : Events). after_drives e (spare_drives d clocks slot)) (c.in_ok-drive_inputs.ensures.driven slot is) ∙ sym (both_drives (drives_from clocks slot (length d.processes) (top_inputs d)) (spare_drives d clocks slot) c.args.events.now))

@@ -41,7 +41,7 @@ pub returns-then-is_clock : goal.returns-then-is_clock
 returns-then-is_clock c =
     let a = c.args.self.now.typed.now in
     let d = design_of a in
-    let clock = c.args.self.now.clocks.now.bit in
+    let clocks = c.args.self.now.clocks.now.bits in
     let vector = option_map (λ v. v.now) c.args.vector in
     let i = c.args.i in
     let n = get_or c.top_inputs.result.now i 0 in
@@ -55,7 +55,7 @@ returns-then-is_clock c =
     let given_here = c.in_ok-update.ensures ∙ ap (λ (v : Bit4). given s.first_bit (v ∷ [])) c.level_of.ensures in
     record {
       driven = λ first slot r.
-          clock_more clock vector (top_inputs d) (length d.processes) first c.args.events.now i c.args.taken slot (signal_of n s) here r c.drive.new.self (sym c.is_clock.ensures ∙ c.if-is_clock.true)
+          clock_more clocks vector (top_inputs d) (length d.processes) first c.args.events.now i c.args.taken slot (signal_of n s) here r c.drive.new.self (sym c.is_clock.ensures ∙ c.if-is_clock.true)
           (driven_as c.args.events.now c.drive.new.self (c.process_count.result + i) (length d.processes + i) c.in_ok-update.update (given s.first_bit (level_of vector ∷ [])) c.in_ok-drive.ensures writer given_here);
       held = ap (λ (e : Events). length e.assigns) c.in_ok-drive.ensures;
     }
@@ -64,7 +64,7 @@ pub returns-in-None : goal.returns-in-None
 returns-in-None c =
     let a = c.args.self.now.typed.now in
     let d = design_of a in
-    let clock = c.args.self.now.clocks.now.bit in
+    let clocks = c.args.self.now.clocks.now.bits in
     let i = c.args.i in
     let n = get_or c.top_inputs.result.now i 0 in
     let s = c.signal.result.now in
@@ -74,7 +74,7 @@ returns-in-None c =
     let at = subst (λ (z : Arena). slice_get z.signals n ≡ Some s) c.flat-flat.ensures.same c.signal.ensures in
     let here = input_here c.trees_law.ensures.inputs c.trees_law.ensures.signals a i n s (omega (arith, l, many)) (ap (λ (xs : List ℕ). get_or xs i 0) same) at in
     record {
-      driven = λ first slot r. none_next clock (option_map (λ v. v.now) c.args.vector) (ap (option_map (λ v. v.now)) c.in-None.is) (top_inputs d) (length d.processes) first c.args.events.now i c.args.taken slot (signal_of n s) here (sym c.is_clock.ensures ∙ c.if-is_clock.false) r;
+      driven = λ first slot r. none_next clocks (option_map (λ v. v.now) c.args.vector) (ap (option_map (λ v. v.now)) c.in-None.is) (top_inputs d) (length d.processes) first c.args.events.now i c.args.taken slot (signal_of n s) here (sym c.is_clock.ensures ∙ c.if-is_clock.false) r;
       held = refl;
     }
 
@@ -99,7 +99,7 @@ pub value_at-requires : goal.value_at-requires
 value_at-requires c =
     let a = c.args.self.now.typed.now in
     let d = design_of a in
-    let clock = c.args.self.now.clocks.now.bit in
+    let clocks = c.args.self.now.clocks.now.bits in
     let i = c.args.i in
     let n = get_or c.top_inputs.result.now i 0 in
     let s = c.signal.result.now in
@@ -111,14 +111,14 @@ value_at-requires c =
     let left = c.requires.left in
     let is = ap (option_map (λ v. v.now)) c.in-Some.is in
     let test = sym c.is_clock.ensures ∙ c.if-is_clock.false in
-    let value = value_there clock (option_map (λ v. v.now) c.args.vector) c.in-Some.vector.now is (D.top_inputs d) i c.args.taken left.0 (signal_of n s) here test left.1 in
+    let value = value_there clocks (option_map (λ v. v.now) c.args.vector) c.in-Some.vector.now is (D.top_inputs d) i c.args.taken left.0 (signal_of n s) here test left.1 in
     subst (λ (vs : Vector). c.args.taken < length vs) (sym c.values.ensures) (found_below c.in-Some.vector.now c.args.taken value.0 value.1)
 
 pub update_of-requires : goal.update_of-requires
 update_of-requires c =
     let a = c.args.self.now.typed.now in
     let d = design_of a in
-    let clock = c.args.self.now.clocks.now.bit in
+    let clocks = c.args.self.now.clocks.now.bits in
     let i = c.args.i in
     let n = get_or c.top_inputs.result.now i 0 in
     let s = c.signal.result.now in
@@ -131,7 +131,7 @@ update_of-requires c =
     let test = sym c.is_clock.ensures ∙ c.if-is_clock.false in
     let got = subst (λ (vs : Vector). slice_get vs c.args.taken ≡ Some c.value_at.result) c.values.ensures c.value_at.ensures.value in
     let left = c.requires.left in
-    let value = value_there clock (option_map (λ v. v.now) c.args.vector) c.in-Some.vector.now is (D.top_inputs d) i c.args.taken left.0 (signal_of n s) here test left.1 in
+    let value = value_there clocks (option_map (λ v. v.now) c.args.vector) c.in-Some.vector.now is (D.top_inputs d) i c.args.taken left.0 (signal_of n s) here test left.1 in
     let long = ap length (value_same c.value_at.result value.0 (sym got ∙ value.1)) ∙ value.2 in
     let lawful = c.lawful_law.ensures.design a c.flat-flat.ensures.lawful in
     let inside = signal_inside c.trees_law.ensures.signals c.trees_law.ensures.counts a n s at lawful in
@@ -142,7 +142,7 @@ pub returns-in_ok-drive-in-Some : goal.returns-in_ok-drive-in-Some
 returns-in_ok-drive-in-Some c =
     let a = c.args.self.now.typed.now in
     let d = design_of a in
-    let clock = c.args.self.now.clocks.now.bit in
+    let clocks = c.args.self.now.clocks.now.bits in
     let i = c.args.i in
     let n = get_or c.top_inputs.result.now i 0 in
     let s = c.signal.result.now in
@@ -158,7 +158,7 @@ returns-in_ok-drive-in-Some c =
     let next = c.drive-in-Some.new.self in
     record {
       driven = λ first slot r.
-          data_next clock (option_map (λ v. v.now) c.args.vector) c.in-Some.vector.now is (top_inputs d) (length d.processes) first c.args.events.now next i c.args.taken slot (signal_of n s) here test c.value_at.result got
+          data_next clocks (option_map (λ v. v.now) c.args.vector) c.in-Some.vector.now is (top_inputs d) (length d.processes) first c.args.events.now next i c.args.taken slot (signal_of n s) here test c.value_at.result got
           (driven_as c.args.events.now next (c.process_count.result + i) (length d.processes + i) c.in_ok-given-in-Some.given (given s.first_bit c.value_at.result) c.in_ok-drive-in-Some.ensures writer c.in_ok-given-in-Some.ensures) r;
       held = ap (λ (e : Events). length e.assigns) c.in_ok-drive-in-Some.ensures;
     }

@@ -11,7 +11,7 @@ use Rattle.vs_queue.proofs.machine.Machine.drive_inputs.Goals as goal
 
 pub loop-i-init : goal.loop-i-init
 loop-i-init c = record {
-  so_far = λ slot h. none_driven (design_of c.args.self.now.typed.now) c.args.self.now.clocks.now.bit (option_map (λ v. v.now) c.args.vector) c.args.events.now slot h;
+  so_far = λ slot h. none_driven (design_of c.args.self.now.typed.now) c.args.self.now.clocks.now.bits (option_map (λ v. v.now) c.args.vector) c.args.events.now slot h;
   held = refl;
 }
 
@@ -57,4 +57,4 @@ returns-clause-driven c = λ slot h.
     let l = c.loop-i-test.false in
     let m = ap length (c.top_inputs-count.ensures ∙ ap A.top_inputs c.flat.ensures.same) in
     let n = inputs_count c.trees_law.ensures.inputs a in
-    all_driven c.args.self.now.clocks.now.bit (option_map (λ v. v.now) c.args.vector) (top_inputs (design_of a)) (length (design_of a).processes) c.args.events.now c.loop-i.events c.loop-i.i c.loop-i.taken slot (omega (arith, l, m, n)) (c.loop-i.invariant.so_far slot h)
+    all_driven c.args.self.now.clocks.now.bits (option_map (λ v. v.now) c.args.vector) (top_inputs (design_of a)) (length (design_of a).processes) c.args.events.now c.loop-i.events c.loop-i.i c.loop-i.taken slot (omega (arith, l, m, n)) (c.loop-i.invariant.so_far slot h)

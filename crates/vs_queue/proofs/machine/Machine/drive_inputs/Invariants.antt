@@ -10,9 +10,9 @@ use Rattle.vs_queue.proofs.machine.Machine.drive_inputs.Given as goal
 abbrev pub invariant-loop-i : goal.invariant-loop-i
 invariant-loop-i l =
     let d = design_of l.self.typed.now in
-    let clock = l.self.clocks.now.bit in
+    let clocks = l.self.clocks.now.bits in
     let vector = option_map (λ v. v.now) l.vector in
     record {
-      so_far : (slot : Slot) → IsSlotOf d clock vector slot → AreSoFar clock vector (top_inputs d) (length d.processes) l.initial.events l.events l.i l.taken slot;
+      so_far : (slot : Slot) → IsSlotOf d clocks vector slot → AreSoFar clocks vector (top_inputs d) (length d.processes) l.initial.events l.events l.i l.taken slot;
       held : length l.events.assigns ≡ length l.initial.events.assigns;
     }

@@ -19,7 +19,7 @@ assigned-requires-clause-there c =
     let a = c.args.self.now.typed.now in
     let k = c.args.self.now.clocks.now in
     let e = c.args.events.now in
-    let x = evaluates (design_of a) k.bit e c.requires.running.sound c.args.p c.requires.possible.0 c.requires.possible.1 in
+    let x = evaluates (design_of a) k.bits e c.requires.running.sound c.args.p c.requires.possible.0 c.requires.possible.1 in
     let l = here (design_of a) k c.requires.machine.accepted e c.requires.running c.args.p true x in
     let n = (c.trees_law.ensures.counts a).processes in
     subst (λ (z : Arena). c.args.p < length z.processes) (sym c.shapes.ensures) (omega (arith, l, n))
@@ -39,7 +39,7 @@ evaluate-requires-clause-there c =
     let a = c.args.self.now.typed.now in
     let k = c.args.self.now.clocks.now in
     let e = c.args.events.now in
-    own (design_of a) k c.requires.machine.accepted e c.requires.running c.args.p true (evaluates (design_of a) k.bit e c.requires.running.sound c.args.p c.requires.possible.0 c.requires.possible.1)
+    own (design_of a) k c.requires.machine.accepted e c.requires.running c.args.p true (evaluates (design_of a) k.bits e c.requires.running.sound c.args.p c.requires.possible.0 c.requires.possible.1)
 
 pub evaluate-requires-clause-inside : goal.evaluate-requires-clause-inside
 evaluate-requires-clause-inside c =
@@ -47,14 +47,14 @@ evaluate-requires-clause-inside c =
     let k = c.args.self.now.clocks.now in
     let e = c.args.events.now in
     let b = c.requires.machine.accepted in
-    let x = evaluates (design_of a) k.bit e c.requires.running.sound c.args.p c.requires.possible.0 c.requires.possible.1 in
-    let is = told_update a c.shapes.result.now c.shapes.ensures c.values.result.now e.values c.values.ensures c.args.p c.in_ok-update.update c.in_ok-update.ensures k.bit x in
-    inside_values (design_of a) k b e c.requires.running c.in_ok-update.update (subst (AreInside (value_count (design_of a) k.bit)) (sym is) (made_in (design_of a) k b c.footprint_law.ensures.bits c.lawful_law.ensures.lawful c.args.p (state_of e.values)))
+    let x = evaluates (design_of a) k.bits e c.requires.running.sound c.args.p c.requires.possible.0 c.requires.possible.1 in
+    let is = told_update a c.shapes.result.now c.shapes.ensures c.values.result.now e.values c.values.ensures c.args.p c.in_ok-update.update c.in_ok-update.ensures k.bits x in
+    inside_values (design_of a) k b e c.requires.running c.in_ok-update.update (subst (AreInside (value_count (design_of a) k.bits)) (sym is) (made_in (design_of a) k b c.footprint_law.ensures.bits c.lawful_law.ensures.lawful c.args.p (state_of e.values)))
 
 pub returns : goal.returns
 returns c =
     let a = c.args.self.now.typed.now in
     let k = c.args.self.now.clocks.now in
     let e = c.args.events.now in
-    let x = evaluates (design_of a) k.bit e c.requires.running.sound c.args.p c.requires.possible.0 c.requires.possible.1 in
-    c.evaluate.ensures ∙ ap (λ (ws : List Write). after_evaluate e c.args.p (to_write (state_of e.values) ws)) (told_update a c.shapes.result.now c.shapes.ensures c.values.result.now e.values c.values.ensures c.args.p c.in_ok-update.update c.in_ok-update.ensures k.bit x)
+    let x = evaluates (design_of a) k.bits e c.requires.running.sound c.args.p c.requires.possible.0 c.requires.possible.1 in
+    c.evaluate.ensures ∙ ap (λ (ws : List Write). after_evaluate e c.args.p (to_write (state_of e.values) ws)) (told_update a c.shapes.result.now c.shapes.ensures c.values.result.now e.values c.values.ensures c.args.p c.in_ok-update.update c.in_ok-update.ensures k.bits x)

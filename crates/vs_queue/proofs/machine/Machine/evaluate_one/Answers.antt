@@ -17,7 +17,7 @@ take_step-requires-then-is_open-clause-possible c = sym c.is_open.ensures ∙ c.
 pub returns-then-is_open : goal.returns-then-is_open
 returns-then-is_open c =
     let d = design_of c.args.self.now.typed.now in
-    let k = c.args.self.now.clocks.now.bit in
+    let k = c.args.self.now.clocks.now.bits in
     let n = network_of d k in
     let p = c.args.p in
     let e = c.args.events.now in
@@ -32,7 +32,7 @@ returns-then-is_open c =
 pub returns : goal.returns
 returns c =
     let d = design_of c.args.self.now.typed.now in
-    let k = c.args.self.now.clocks.now.bit in
+    let k = c.args.self.now.clocks.now.bits in
     let n = network_of d k in
     let p = c.args.p in
     let e = c.args.events.now in

@@ -6,7 +6,7 @@ use Rattle.vs_queue.specs.Initially.{AreOwners}
 use Rattle.vs_queue.proofs.machine.Machine.give_initial.Goals as goal
 
 pub give_to-requires-clause-owners : goal.give_to-requires-clause-owners
-give_to-requires-clause-owners c = subst (AreOwners (design_of c.args.self.now.typed.now) c.args.self.now.clocks.now.bit) (sym c.as_slice.ensures.value) c.in_ok-owners.ensures
+give_to-requires-clause-owners c = subst (AreOwners (design_of c.args.self.now.typed.now) c.args.self.now.clocks.now.bits) (sym c.as_slice.ensures.value) c.in_ok-owners.ensures
 
 pub give_to-requires-clause-values : goal.give_to-requires-clause-values
 give_to-requires-clause-values c =

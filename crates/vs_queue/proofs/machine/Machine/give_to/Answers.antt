@@ -24,5 +24,5 @@ returns c =
     let d = design_of c.args.self.now.typed.now in
     let b = c.requires.machine.accepted in
     on_ok c.drive_lates.result c.drive_lates.ensures (λ h.
-    have_begun d b.name b.accepted c.args.self.now.clocks.now.bit c.args.owners.now c.requires.owners c.args.events.now c.drive_firsts.new.events c.drive_lates.new.events c.in_ok-drive_firsts.ensures
+    have_begun d b.names b.accepted c.args.self.now.clocks.now.bits c.args.owners.now c.requires.owners c.args.events.now c.drive_firsts.new.events c.drive_lates.new.events c.in_ok-drive_firsts.ensures
     (h ∙ ap (λ (e : Events). after_drives e (parts_of c.args.owners.now (flat_map initial_updates d.initials))) c.activate.ensures))

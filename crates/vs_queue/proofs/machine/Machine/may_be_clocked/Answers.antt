@@ -18,7 +18,7 @@ returns-then-p-process_count c =
     let n = ap (λ (z : Arena). length z.processes) c.flat-flat.ensures.same in
     let k = (c.trees_law.ensures.counts a).processes in
     let l = c.if-p-process_count.true in
-    past_may (is_clocked_kind (kind ((network_of d c.args.self.now.clocks.now.bit).process c.args.p))) (length d.processes) c.args.p (omega (arith, l, m, n, k))
+    past_may (is_clocked_kind (kind ((network_of d c.args.self.now.clocks.now.bits).process c.args.p))) (length d.processes) c.args.p (omega (arith, l, m, n, k))
 
 pub returns-in-Assign : goal.returns-in-Assign
 returns-in-Assign c =
@@ -29,8 +29,8 @@ returns-in-Assign c =
     let j = (c.trees_law.ensures.counts a).processes in
     let l = c.if-p-process_count.false in
     let at = subst (λ (z : Arena). slice_get z.processes c.args.p ≡ Some c.process.result.now) c.flat-flat.ensures.same c.process.ensures in
-    within_may (is_clocked_kind (kind ((network_of d c.args.self.now.clocks.now.bit).process c.args.p))) false (length d.processes) c.args.p
-    (assign_unclocked c.trees_law.ensures.processes a c.args.self.now.clocks.now.bit c.args.p c.process.result.now at c.in-Assign.target c.in-Assign.expr c.in-Assign.port c.in-Assign.is) (omega (arith, l, m, n, j))
+    within_may (is_clocked_kind (kind ((network_of d c.args.self.now.clocks.now.bits).process c.args.p))) false (length d.processes) c.args.p
+    (assign_unclocked c.trees_law.ensures.processes a c.args.self.now.clocks.now.bits c.args.p c.process.result.now at c.in-Assign.target c.in-Assign.expr c.in-Assign.port c.in-Assign.is) (omega (arith, l, m, n, j))
 
 pub returns-in-Block : goal.returns-in-Block
 returns-in-Block c =
@@ -41,6 +41,6 @@ returns-in-Block c =
     let j = (c.trees_law.ensures.counts a).processes in
     let l = c.if-p-process_count.false in
     let at = subst (λ (z : Arena). slice_get z.processes c.args.p ≡ Some c.process.result.now) c.flat-flat.ensures.same c.process.ensures in
-    within_may (is_clocked_kind (kind ((network_of d c.args.self.now.clocks.now.bit).process c.args.p))) c.has_edge.result (length d.processes) c.args.p
-    (block_clocked c.trees_law.ensures.processes a c.args.self.now.clocks.now.bit c.args.p c.process.result.now at c.in-Block.star c.in-Block.events c.in-Block.statement c.in-Block.is
+    within_may (is_clocked_kind (kind ((network_of d c.args.self.now.clocks.now.bits).process c.args.p))) c.has_edge.result (length d.processes) c.args.p
+    (block_clocked c.trees_law.ensures.processes a c.args.self.now.clocks.now.bits c.args.p c.process.result.now at c.in-Block.star c.in-Block.events c.in-Block.statement c.in-Block.is
     ∙ sym (c.has_edge.ensures ∙ ap (list_any is_edge_event) c.as_slice.ensures)) (omega (arith, l, m, n, j))

@@ -12,7 +12,7 @@ use Rattle.vs_queue.proofs.machine.Machine.pass.Goals as goal
 pub loop-k-init : goal.loop-k-init
 loop-k-init c =
     let d = design_of c.args.self.now.typed.now in
-    let k = c.args.self.now.clocks.now.bit in
+    let k = c.args.self.now.clocks.now.bits in
     let n = network_of d k in
     taken_none d k (λ q. each_in (settle_turn n) n q (take 0 c.args.order.now)) c.args.events.now c.args.shadow.now c.requires.copied (λ slots. ap (λ (ps : List ℕ). each_in (settle_turn n) n (queue_of c.args.events.now slots) ps) (take_zero c.args.order.now))
 
@@ -21,13 +21,13 @@ settle_one-requires-clause-copied c = c.loop-k.invariant.copied
 
 pub settle_one-requires-clause-settles : goal.settle_one-requires-clause-settles
 settle_one-requires-clause-settles c =
-    order_settles (design_of c.args.self.now.typed.now) c.args.self.now.clocks.now.bit c.args.order.now c.requires.order c.loop-k.k (get_or c.list-processes.result.now c.loop-k.k 0)
+    order_settles (design_of c.args.self.now.typed.now) c.args.self.now.clocks.now.bits c.args.order.now c.requires.order c.loop-k.k (get_or c.list-processes.result.now c.loop-k.k 0)
     (item_of c.list-processes.result.now c.args.order.now c.loop-k.k c.list-processes.ensures c.loop-k-test.true)
 
 pub loop-k-preserved : goal.loop-k-preserved
 loop-k-preserved c =
     let d = design_of c.args.self.now.typed.now in
-    let k = c.args.self.now.clocks.now.bit in
+    let k = c.args.self.now.clocks.now.bits in
     let n = network_of d k in
     taken_from d k (settle_turn n) c.args.order.now c.loop-k.k (get_or c.list-processes.result.now c.loop-k.k 0)
     (item_of c.list-processes.result.now c.args.order.now c.loop-k.k c.list-processes.ensures c.loop-k-test.true)
@@ -36,7 +36,7 @@ loop-k-preserved c =
 pub returns : goal.returns
 returns c =
     let d = design_of c.args.self.now.typed.now in
-    let k = c.args.self.now.clocks.now.bit in
+    let k = c.args.self.now.clocks.now.bits in
     let n = network_of d k in
     let l = c.loop-k-test.false in
     let m = ap length c.list-processes.ensures in

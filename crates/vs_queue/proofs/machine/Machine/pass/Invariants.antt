@@ -8,6 +8,6 @@ use Rattle.vs_queue.proofs.machine.Machine.pass.Given as goal
 abbrev pub invariant-loop-k : goal.invariant-loop-k
 invariant-loop-k l =
     let d = design_of l.self.typed.now in
-    let clock = l.self.clocks.now.bit in
-    let n = network_of d clock in
-    HasTaken d clock (λ q. each_in (settle_turn n) n q (take l.k l.order)) l.initial.events l.events l.shadow
+    let clocks = l.self.clocks.now.bits in
+    let n = network_of d clocks in
+    HasTaken d clocks (λ q. each_in (settle_turn n) n q (take l.k l.order)) l.initial.events l.events l.shadow

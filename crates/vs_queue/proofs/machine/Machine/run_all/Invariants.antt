@@ -7,6 +7,6 @@ use Rattle.vs_queue.proofs.machine.Machine.run_all.Given as goal
 abbrev pub invariant-loop-p : goal.invariant-loop-p
 invariant-loop-p l =
     let d = design_of l.self.typed.now in
-    let clock = l.self.clocks.now.bit in
-    let n = network_of d clock in
-    HasTaken d clock (λ q. each_in (run_turn n) n q (below l.p)) l.initial.events l.events l.shadow
+    let clocks = l.self.clocks.now.bits in
+    let n = network_of d clocks in
+    HasTaken d clocks (λ q. each_in (run_turn n) n q (below l.p)) l.initial.events l.events l.shadow

@@ -19,14 +19,14 @@ run_slot-requires-clause-copied c = c.in_ok-pass.ensures.copied
 pub run_slot-requires-clause-spent : goal.run_slot-requires-clause-spent
 run_slot-requires-clause-spent c =
     let d = design_of c.args.self.now.typed.now in
-    let k = c.args.self.now.clocks.now.bit in
+    let k = c.args.self.now.clocks.now.bits in
     let o = c.args.order.now in
     pass_calm d k o c.take_all.new.events c.pass.new.events c.pass.new.shadow (takes_calm d k o c.start_all.new.events c.take_all.new.events c.take_all.new.shadow (c.in_ok-start_all.ensures o).copied.running.sound (c.in_ok-take_all.ensures o)) c.in_ok-pass.ensures
 
 pub returns-clause-taken : goal.returns-clause-taken
 returns-clause-taken c =
     let d = design_of c.args.self.now.typed.now in
-    let k = c.args.self.now.clocks.now.bit in
+    let k = c.args.self.now.clocks.now.bits in
     let o = c.args.order.now in
     let e = c.args.events.now in
     let s = c.start_all.new.events in

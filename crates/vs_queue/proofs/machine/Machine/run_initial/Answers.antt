@@ -28,5 +28,5 @@ returns c =
     let b = c.requires.machine.accepted in
     if_ok c.run_initial.result c.run_initial.ensures.effect (λ f h i at.
     let done = h i (subst (λ (z : Arena). slice_get (design_of z).initials c.args.k ≡ Some i) (sym c.shapes.ensures) at) in
-    let body = initial_body d b.name b.accepted c.args.k i at (state_of c.args.values.now) in
+    let body = initial_body d b.names b.accepted c.args.k i at (state_of c.args.values.now) in
     (done.0 ∙ body.0, done.1 ∙ body.1))

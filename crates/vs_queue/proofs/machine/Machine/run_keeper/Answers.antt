@@ -15,7 +15,7 @@ unfolding is_written
 no_write b h = cc
 
 pub run-requires-clause-there : goal.run-requires-clause-there
-run-requires-clause-there c = step_below (design_of c.args.self.now.typed.now) c.args.self.now.clocks.now.bit c.args.events.now c.requires.running.sound c.requires.possible.0 (S.Run c.args.p) c.requires.possible.1
+run-requires-clause-there c = step_below (design_of c.args.self.now.typed.now) c.args.self.now.clocks.now.bits c.args.events.now c.requires.running.sound c.requires.possible.0 (S.Run c.args.p) c.requires.possible.1
 
 pub run-requires-clause-inside : goal.run-requires-clause-inside
 run-requires-clause-inside c = λ b w. absurd (no_write b w)
@@ -30,7 +30,7 @@ run-requires-clause-below c =
 pub returns : goal.returns
 returns c =
     let d = design_of c.args.self.now.typed.now in
-    let k = c.args.self.now.clocks.now.bit in
+    let k = c.args.self.now.clocks.now.bits in
     let e = c.args.events.now in
     let w = c.args.self.now.wiring.now in
     let idle = past_idle d k c.args.p (state_of e.values) c.requires.past (is_running d k e c.requires.running.sound c.args.p c.requires.possible.0 c.requires.possible.1) in

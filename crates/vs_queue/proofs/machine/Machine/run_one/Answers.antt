@@ -17,7 +17,7 @@ by_test false f g = g refl
 pub returns-then-not-may_be_clocked : goal.returns-then-not-may_be_clocked
 returns-then-not-may_be_clocked c =
     let d = design_of c.args.self.now.typed.now in
-    let k = c.args.self.now.clocks.now.bit in
+    let k = c.args.self.now.clocks.now.bits in
     let n = network_of d k in
     let e = c.args.events.now in
     let not = may_not (is_clocked_kind (kind (n.process c.args.p))) (nat_le (length d.processes) c.args.p) (sym c.may_be_clocked.ensures ∙ c.if-not-may_be_clocked.true) in
@@ -29,7 +29,7 @@ take_step-requires-clause-possible c = sym c.is_open.ensures ∙ c.if-is_open.tr
 pub returns-then-is_open : goal.returns-then-is_open
 returns-then-is_open c =
     let d = design_of c.args.self.now.typed.now in
-    let k = c.args.self.now.clocks.now.bit in
+    let k = c.args.self.now.clocks.now.bits in
     let n = network_of d k in
     let e = c.args.events.now in
     let on = sym c.is_open.ensures ∙ c.if-is_open.true in
@@ -41,7 +41,7 @@ returns-then-is_open c =
 pub returns : goal.returns
 returns c =
     let d = design_of c.args.self.now.typed.now in
-    let k = c.args.self.now.clocks.now.bit in
+    let k = c.args.self.now.clocks.now.bits in
     let n = network_of d k in
     let e = c.args.events.now in
     let off = sym c.is_open.ensures ∙ c.if-is_open.false in

@@ -37,7 +37,7 @@ run-requires-clause-there c =
     let a = c.args.self.now.typed.now in
     let k = c.args.self.now.clocks.now in
     let e = c.args.events.now in
-    own (design_of a) k c.requires.machine.accepted e c.requires.running c.args.p false (runs (design_of a) k.bit e c.requires.running.sound c.args.p c.requires.possible.0 c.requires.there c.requires.possible.1)
+    own (design_of a) k c.requires.machine.accepted e c.requires.running c.args.p false (runs (design_of a) k.bits e c.requires.running.sound c.args.p c.requires.possible.0 c.requires.there c.requires.possible.1)
 
 pub run-requires-clause-inside : goal.run-requires-clause-inside
 run-requires-clause-inside c =
@@ -45,10 +45,10 @@ run-requires-clause-inside c =
     let k = c.args.self.now.clocks.now in
     let e = c.args.events.now in
     let b = c.requires.machine.accepted in
-    let x = runs (design_of a) k.bit e c.requires.running.sound c.args.p c.requires.possible.0 c.requires.there c.requires.possible.1 in
-    let told = told_effect a c.shapes.result.now c.shapes.ensures (state_of c.args.shadow.now) (state_of e.values) c.requires.shadow c.args.p c.in_ok-done.done.writes c.in_ok-done.done.updates c.in_ok-done.ensures.effect k.bit x in
+    let x = runs (design_of a) k.bits e c.requires.running.sound c.args.p c.requires.possible.0 c.requires.there c.requires.possible.1 in
+    let told = told_effect a c.shapes.result.now c.shapes.ensures (state_of c.args.shadow.now) (state_of e.values) c.requires.shadow c.args.p c.in_ok-done.done.writes c.in_ok-done.done.updates c.in_ok-done.ensures.effect k.bits x in
     let is = c.as_slice.ensures.value ∙ c.into_parts-writes.ensures.writes ∙ told.0 in
-    inside_values (design_of a) k b e c.requires.running c.as_slice.result.now (subst (AreInside (value_count (design_of a) k.bit)) (sym is) (made_in (design_of a) k b c.footprint_law.ensures.bits c.lawful_law.ensures.lawful c.args.p (state_of e.values)))
+    inside_values (design_of a) k b e c.requires.running c.as_slice.result.now (subst (AreInside (value_count (design_of a) k.bits)) (sym is) (made_in (design_of a) k b c.footprint_law.ensures.bits c.lawful_law.ensures.lawful c.args.p (state_of e.values)))
 
 pub run-requires-clause-below : goal.run-requires-clause-below
 run-requires-clause-below c =
@@ -62,8 +62,8 @@ returns-clause-events c =
     let a = c.args.self.now.typed.now in
     let k = c.args.self.now.clocks.now in
     let e = c.args.events.now in
-    let x = runs (design_of a) k.bit e c.requires.running.sound c.args.p c.requires.possible.0 c.requires.there c.requires.possible.1 in
-    let told = told_effect a c.shapes.result.now c.shapes.ensures (state_of c.args.shadow.now) (state_of e.values) c.requires.shadow c.args.p c.in_ok-done.done.writes c.in_ok-done.done.updates c.in_ok-done.ensures.effect k.bit x in
+    let x = runs (design_of a) k.bits e c.requires.running.sound c.args.p c.requires.possible.0 c.requires.there c.requires.possible.1 in
+    let told = told_effect a c.shapes.result.now c.shapes.ensures (state_of c.args.shadow.now) (state_of e.values) c.requires.shadow c.args.p c.in_ok-done.done.writes c.in_ok-done.done.updates c.in_ok-done.ensures.effect k.bits x in
     on_ok c.run.result c.run.ensures (λ h. h ∙ ap₂ (λ ws us. after_run e c.args.self.now.wiring.now c.args.p ws us) (c.as_slice.ensures.value ∙ c.into_parts-writes.ensures.writes ∙ told.0) (c.into_parts-writes.ensures.updates ∙ told.1))
 
 pub returns-clause-shadow : goal.returns-clause-shadow
@@ -72,10 +72,10 @@ returns-clause-shadow c =
     let k = c.args.self.now.clocks.now in
     let e = c.args.events.now in
     let b = c.requires.machine.accepted in
-    let x = runs (design_of a) k.bit e c.requires.running.sound c.args.p c.requires.possible.0 c.requires.there c.requires.possible.1 in
-    let told = told_effect a c.shapes.result.now c.shapes.ensures (state_of c.args.shadow.now) (state_of e.values) c.requires.shadow c.args.p c.in_ok-done.done.writes c.in_ok-done.done.updates c.in_ok-done.ensures.effect k.bit x in
+    let x = runs (design_of a) k.bits e c.requires.running.sound c.args.p c.requires.possible.0 c.requires.there c.requires.possible.1 in
+    let told = told_effect a c.shapes.result.now c.shapes.ensures (state_of c.args.shadow.now) (state_of e.values) c.requires.shadow c.args.p c.in_ok-done.done.writes c.in_ok-done.done.updates c.in_ok-done.ensures.effect k.bits x in
     let is = c.as_slice.ensures.value ∙ c.into_parts-writes.ensures.writes ∙ told.0 in
-    let inside = inside_values (design_of a) k b e c.requires.running c.as_slice.result.now (subst (AreInside (value_count (design_of a) k.bit)) (sym is) (made_in (design_of a) k b c.footprint_law.ensures.bits c.lawful_law.ensures.lawful c.args.p (state_of e.values))) in
-    let next = told_state a c.shapes.result.now c.shapes.ensures (state_of c.args.shadow.now) (state_of e.values) c.requires.shadow c.args.p (state_of c.run_block.new.values) c.in_ok-done.ensures.state k.bit x in
+    let inside = inside_values (design_of a) k b e c.requires.running c.as_slice.result.now (subst (AreInside (value_count (design_of a) k.bits)) (sym is) (made_in (design_of a) k b c.footprint_law.ensures.bits c.lawful_law.ensures.lawful c.args.p (state_of e.values))) in
+    let next = told_state a c.shapes.result.now c.shapes.ensures (state_of c.args.shadow.now) (state_of e.values) c.requires.shadow c.args.p (state_of c.run_block.new.values) c.in_ok-done.ensures.state k.bits x in
     on_ok c.run.result c.run.ensures (λ h.
     next ∙ sym (ap (λ (y : Events). state_of y.values) h ∙ ran_state e c.args.self.now.wiring.now c.args.p c.as_slice.result.now c.into_parts-writes.result.1.items inside ∙ ap (write_all (state_of e.values)) is))

@@ -19,14 +19,14 @@ settle_waiting-requires-2-clause-copied c = c.in_ok-pass.ensures.copied
 pub settle_waiting-requires-2-clause-spent : goal.settle_waiting-requires-2-clause-spent
 settle_waiting-requires-2-clause-spent c =
     let d = design_of c.args.self.now.typed.now in
-    let k = c.args.self.now.clocks.now.bit in
+    let k = c.args.self.now.clocks.now.bits in
     let o = c.args.order.now in
     pass_calm d k o c.run_all.new.events c.pass.new.events c.pass.new.shadow (runs_calm d k o c.settle_waiting.new.events c.run_all.new.events c.run_all.new.shadow c.in_ok-settle_waiting.ensures.calm.spent (c.in_ok-run_all.ensures o)) c.in_ok-pass.ensures
 
 pub returns-clause-taken : goal.returns-clause-taken
 returns-clause-taken c =
     let d = design_of c.args.self.now.typed.now in
-    let k = c.args.self.now.clocks.now.bit in
+    let k = c.args.self.now.clocks.now.bits in
     let o = c.args.order.now in
     let e = c.args.events.now in
     let b = c.settle_waiting.new.events in

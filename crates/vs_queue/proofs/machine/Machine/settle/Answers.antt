@@ -30,15 +30,15 @@ turns-preserved c =
     let k = c.args.self.now.clocks.now in
     let i = c.turns.invariant in
     record {
-      copied = subst (IsCopied d k.bit c.turn.new.events) (sym (seam c.turns.run.shadow.len c.turn.new.shadow _ (sym (c.turn.auto.shadow ∙ c.as_mut_slice.ensures.len))))
-          (copied_on d k.bit c.turns.run.events c.turn.new.events c.turns.run.shadow.items c.turn.new.shadow i.copied c.in_ok-turn.ensures.running c.in_ok-turn.ensures.shadow (c.turn.auto.shadow ∙ ap length c.as_mut_slice.ensures.value));
-      few = few_turn d k c.turns.run.events c.turn.new.events c.turns.run.seed i.few (turn_is (network_of (design_of c.args.self.now.typed.now) c.args.self.now.clocks.now.bit) c.turns.run.events c.turn.new.events c.turns.run.seed c.in_ok-turn.field-0 true c.if-branch.true c.in_ok-turn.ensures.turn);
-      reached = turn_reached (network_of d k.bit) c.args.run.now.events c.turns.run.events c.turn.new.events c.args.run.now.seed c.turns.run.seed c.next_seed-run.result c.args.run.now.ends c.turns.run.ends c.args.run.now.steps c.turns.run.steps c.saturating_add-run.result i.reached (turn_is (network_of (design_of c.args.self.now.typed.now) c.args.self.now.clocks.now.bit) c.turns.run.events c.turn.new.events c.turns.run.seed c.in_ok-turn.field-0 true c.if-branch.true c.in_ok-turn.ensures.turn) c.next_seed-run.ensures (counted_on c.saturating_add-run.result c.turns.run.steps c.saturating_add-run.ensures);
+      copied = subst (IsCopied d k.bits c.turn.new.events) (sym (seam c.turns.run.shadow.len c.turn.new.shadow _ (sym (c.turn.auto.shadow ∙ c.as_mut_slice.ensures.len))))
+          (copied_on d k.bits c.turns.run.events c.turn.new.events c.turns.run.shadow.items c.turn.new.shadow i.copied c.in_ok-turn.ensures.running c.in_ok-turn.ensures.shadow (c.turn.auto.shadow ∙ ap length c.as_mut_slice.ensures.value));
+      few = few_turn d k c.turns.run.events c.turn.new.events c.turns.run.seed i.few (turn_is (network_of (design_of c.args.self.now.typed.now) c.args.self.now.clocks.now.bits) c.turns.run.events c.turn.new.events c.turns.run.seed c.in_ok-turn.field-0 true c.if-branch.true c.in_ok-turn.ensures.turn);
+      reached = turn_reached (network_of d k.bits) c.args.run.now.events c.turns.run.events c.turn.new.events c.args.run.now.seed c.turns.run.seed c.next_seed-run.result c.args.run.now.ends c.turns.run.ends c.args.run.now.steps c.turns.run.steps c.saturating_add-run.result i.reached (turn_is (network_of (design_of c.args.self.now.typed.now) c.args.self.now.clocks.now.bits) c.turns.run.events c.turn.new.events c.turns.run.seed c.in_ok-turn.field-0 true c.if-branch.true c.in_ok-turn.ensures.turn) c.next_seed-run.ensures (counted_on c.saturating_add-run.result c.turns.run.steps c.saturating_add-run.ensures);
       ends = i.ends;
     }
 
 pub turns-smaller : goal.turns-smaller
-turns-smaller c = turn_smaller (design_of c.args.self.now.typed.now) c.args.self.now.clocks.now c.turns.run.events c.turn.new.events c.turns.run.seed c.turns.invariant.few (turn_is (network_of (design_of c.args.self.now.typed.now) c.args.self.now.clocks.now.bit) c.turns.run.events c.turn.new.events c.turns.run.seed c.in_ok-turn.field-0 true c.if-branch.true c.in_ok-turn.ensures.turn)
+turns-smaller c = turn_smaller (design_of c.args.self.now.typed.now) c.args.self.now.clocks.now c.turns.run.events c.turn.new.events c.turns.run.seed c.turns.invariant.few (turn_is (network_of (design_of c.args.self.now.typed.now) c.args.self.now.clocks.now.bits) c.turns.run.events c.turn.new.events c.turns.run.seed c.in_ok-turn.field-0 true c.if-branch.true c.in_ok-turn.ensures.turn)
 
 pub returns : goal.returns
 returns c =
@@ -46,9 +46,9 @@ returns c =
     let k = c.args.self.now.clocks.now in
     let i = c.turns.invariant in
     record {
-      copied = subst (IsCopied d k.bit c.turn.new.events) (sym (seam c.turns.run.shadow.len c.turn.new.shadow _ (sym (c.turn.auto.shadow ∙ c.as_mut_slice.ensures.len))))
-          (copied_on d k.bit c.turns.run.events c.turn.new.events c.turns.run.shadow.items c.turn.new.shadow i.copied c.in_ok-turn.ensures.running c.in_ok-turn.ensures.shadow (c.turn.auto.shadow ∙ ap length c.as_mut_slice.ensures.value));
-      reached = over_reached (network_of d k.bit) c.args.run.now.events c.turns.run.events c.turn.new.events c.args.run.now.seed c.turns.run.seed c.args.run.now.ends c.turns.run.ends c.args.run.now.steps c.turns.run.steps i.reached (turn_is (network_of (design_of c.args.self.now.typed.now) c.args.self.now.clocks.now.bit) c.turns.run.events c.turn.new.events c.turns.run.seed c.in_ok-turn.field-0 false c.if-branch.false c.in_ok-turn.ensures.turn);
-      ended = over_ended d k.bit c.turns.run.events c.turn.new.events c.turns.run.seed (turn_is (network_of (design_of c.args.self.now.typed.now) c.args.self.now.clocks.now.bit) c.turns.run.events c.turn.new.events c.turns.run.seed c.in_ok-turn.field-0 false c.if-branch.false c.in_ok-turn.ensures.turn) (c.in_ok-turn.ensures.rested c.if-branch.false);
+      copied = subst (IsCopied d k.bits c.turn.new.events) (sym (seam c.turns.run.shadow.len c.turn.new.shadow _ (sym (c.turn.auto.shadow ∙ c.as_mut_slice.ensures.len))))
+          (copied_on d k.bits c.turns.run.events c.turn.new.events c.turns.run.shadow.items c.turn.new.shadow i.copied c.in_ok-turn.ensures.running c.in_ok-turn.ensures.shadow (c.turn.auto.shadow ∙ ap length c.as_mut_slice.ensures.value));
+      reached = over_reached (network_of d k.bits) c.args.run.now.events c.turns.run.events c.turn.new.events c.args.run.now.seed c.turns.run.seed c.args.run.now.ends c.turns.run.ends c.args.run.now.steps c.turns.run.steps i.reached (turn_is (network_of (design_of c.args.self.now.typed.now) c.args.self.now.clocks.now.bits) c.turns.run.events c.turn.new.events c.turns.run.seed c.in_ok-turn.field-0 false c.if-branch.false c.in_ok-turn.ensures.turn);
+      ended = over_ended d k.bits c.turns.run.events c.turn.new.events c.turns.run.seed (turn_is (network_of (design_of c.args.self.now.typed.now) c.args.self.now.clocks.now.bits) c.turns.run.events c.turn.new.events c.turns.run.seed c.in_ok-turn.field-0 false c.if-branch.false c.in_ok-turn.ensures.turn) (c.in_ok-turn.ensures.rested c.if-branch.false);
       ends = i.ends;
     }

@@ -13,10 +13,10 @@ use Rattle.vs_queue.proofs.machine.Machine.settle.Given as goal
 abbrev pub invariant-turns : goal.invariant-turns
 invariant-turns l =
     let d = design_of l.self.typed.now in
-    let clock = l.self.clocks.now.bit in
-    let n = network_of d clock in
+    let clocks = l.self.clocks.now.bits in
+    let n = network_of d clocks in
     record {
-      copied : IsCopied d clock l.run.events l.run.shadow.items;
+      copied : IsCopied d clocks l.run.events l.run.shadow.items;
       few : (slots : List Slot) × AreFew n (most_by d l.self.clocks.now) (queue_of l.run.events slots);
       reached : (from : Queue) (order : ℕ) (slots : List Slot) → IsReached n from order (queue_of l.initial.run.events slots) l.initial.run.seed l.initial.run.ends l.initial.run.steps → IsReached n from order (queue_of l.run.events slots) l.run.seed l.run.ends l.run.steps;
       ends : l.run.ends ≡ l.initial.run.ends;
@@ -24,4 +24,4 @@ invariant-turns l =
 
 abbrev pub decreases-turns : goal.decreases-turns
 decreases-turns l =
-    let d = design_of l.self.typed.now in longest (network_of d l.self.clocks.now.bit) (most_by d l.self.clocks.now) (queue_of l.run.events [])
+    let d = design_of l.self.typed.now in longest (network_of d l.self.clocks.now.bits) (most_by d l.self.clocks.now) (queue_of l.run.events [])

@@ -17,7 +17,7 @@ take_step-requires-clause-possible c = sym c.is_open-2.ensures ∙ c.if-is_open-
 pub returns-then-is_open-2 : goal.returns-then-is_open-2
 returns-then-is_open-2 c =
     let d = design_of c.args.self.now.typed.now in
-    let k = c.args.self.now.clocks.now.bit in
+    let k = c.args.self.now.clocks.now.bits in
     let n = network_of d k in
     let p = c.args.p in
     let e = c.args.events.now in
@@ -28,7 +28,7 @@ returns-then-is_open-2 c =
 pub returns : goal.returns
 returns c =
     let d = design_of c.args.self.now.typed.now in
-    let k = c.args.self.now.clocks.now.bit in
+    let k = c.args.self.now.clocks.now.bits in
     let n = network_of d k in
     let p = c.args.p in
     let e = c.args.events.now in

@@ -15,7 +15,7 @@ pass-requires-clause-copied c = (c.in_ok-take_all.ensures c.args.order.now).copi
 pub returns-clause-taken : goal.returns-clause-taken
 returns-clause-taken c =
     let d = design_of c.args.self.now.typed.now in
-    let k = c.args.self.now.clocks.now.bit in
+    let k = c.args.self.now.clocks.now.bits in
     let o = c.args.order.now in
     let e = c.args.events.now in
     let m = c.activate.new.events in
@@ -36,6 +36,6 @@ returns-clause-calm c =
     let before = (c.activate.ensures.taken o c.args.shadow.now c.requires.copied).copied in
     let taken = c.in_ok-take_all.ensures o in
     on_ok c.pass.result c.pass.ensures (λ p. record {
-      spent = pass_calm d k.bit o t now c.pass.new.shadow (takes_calm d k.bit o m t c.take_all.new.shadow before.running.sound taken) p;
-      rested = pass_rest d k.bit o t now c.pass.new.shadow (comb_none c.lawful_law.ensures.lawful d k c.requires.machine.accepted) (takes_rest d k.bit o m t c.take_all.new.shadow c.activate.ensures.rested taken) p;
+      spent = pass_calm d k.bits o t now c.pass.new.shadow (takes_calm d k.bits o m t c.take_all.new.shadow before.running.sound taken) p;
+      rested = pass_rest d k.bits o t now c.pass.new.shadow (comb_none c.lawful_law.ensures.lawful d k c.requires.machine.accepted) (takes_rest d k.bits o m t c.take_all.new.shadow c.activate.ensures.rested taken) p;
     })

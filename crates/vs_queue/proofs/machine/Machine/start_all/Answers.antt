@@ -9,7 +9,7 @@ use Rattle.vs_queue.proofs.machine.Machine.start_all.Goals as goal
 pub loop-p-init : goal.loop-p-init
 loop-p-init c =
     let d = design_of c.args.self.now.typed.now in
-    let k = c.args.self.now.clocks.now.bit in
+    let k = c.args.self.now.clocks.now.bits in
     let n = network_of d k in
     taken_none d k (λ q. each_in (start_turn) n q (below 0)) c.args.events.now c.args.shadow.now c.requires.copied (λ slots. refl)
 
@@ -19,14 +19,14 @@ start_one-requires-clause-copied c = c.loop-p.invariant.copied
 pub loop-p-preserved : goal.loop-p-preserved
 loop-p-preserved c =
     let d = design_of c.args.self.now.typed.now in
-    let k = c.args.self.now.clocks.now.bit in
+    let k = c.args.self.now.clocks.now.bits in
     let n = network_of d k in
     taken_next d k (start_turn) c.loop-p.p c.args.events.now c.loop-p.events c.start_one.new.events c.loop-p.shadow c.start_one.new.shadow c.loop-p.invariant c.in_ok-start_one.ensures
 
 pub returns : goal.returns
 returns c = λ order.
     let d = design_of c.args.self.now.typed.now in
-    let k = c.args.self.now.clocks.now.bit in
+    let k = c.args.self.now.clocks.now.bits in
     let n = network_of d k in
     let l = c.loop-p-test.false in
     let m = c.loop-p.auto.p-end in

@@ -16,7 +16,7 @@ take_step-requires-clause-possible c = sym c.is_open.ensures ∙ c.updates-test.
 
 pub updates-preserved : goal.updates-preserved
 updates-preserved c =
-    let n = network_of (design_of c.args.self.now.typed.now) c.args.self.now.clocks.now.bit in
+    let n = network_of (design_of c.args.self.now.typed.now) c.args.self.now.clocks.now.bits in
     let i = c.updates.invariant in
     let t = c.in_ok-take_step.ensures in
     record {
@@ -26,12 +26,12 @@ updates-preserved c =
 
 pub updates-smaller : goal.updates-smaller
 updates-smaller c =
-    let n = network_of (design_of c.args.self.now.typed.now) c.args.self.now.clocks.now.bit in
+    let n = network_of (design_of c.args.self.now.typed.now) c.args.self.now.clocks.now.bits in
     take_smaller n c.updates.events c.updates.invariant.copied.running.sound c.args.p c.take_step.new.events (sym c.is_open.ensures ∙ c.updates-test.true) (c.in_ok-take_step.ensures.swept [])
 
 pub returns : goal.returns
 returns c =
-    let n = network_of (design_of c.args.self.now.typed.now) c.args.self.now.clocks.now.bit in
+    let n = network_of (design_of c.args.self.now.typed.now) c.args.self.now.clocks.now.bits in
     let i = c.updates.invariant in
     record {
       copied = i.copied;

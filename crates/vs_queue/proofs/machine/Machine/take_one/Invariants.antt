@@ -10,10 +10,10 @@ use Rattle.vs_queue.proofs.machine.Machine.take_one.Given as goal
 abbrev pub invariant-updates : goal.invariant-updates
 invariant-updates l =
     let d = design_of l.self.typed.now in
-    let clock = l.self.clocks.now.bit in
+    let clocks = l.self.clocks.now.bits in
     record {
-      copied : IsCopied d clock l.events l.shadow;
-      left : (slots : List Slot) → AreLeft (network_of d clock) l.p (queue_of l.initial.events slots) (queue_of l.events slots);
+      copied : IsCopied d clocks l.events l.shadow;
+      left : (slots : List Slot) → AreLeft (network_of d clocks) l.p (queue_of l.initial.events slots) (queue_of l.events slots);
     }
 
 abbrev pub decreases-updates : goal.decreases-updates

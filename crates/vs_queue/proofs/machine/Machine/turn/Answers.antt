@@ -18,7 +18,7 @@ returns-then-count-gt0 c =
     let e = c.args.events.now in
     let t = is_taken c.running_law.ensures.steps d k c.requires.machine.accepted e c.step.new.events c.args.self.now.wiring.now c.requires.machine.wiring_is c.requires.running c.args.seed c.count-count.result c.place.result c.count-count.ensures c.place.ensures.value (choice_of c.choose-step.result) c.choose-step.ensures.is c.in_ok-step.ensures.events in
     record {
-      turn = λ slots. drawn_turn c.possible_law.ensures.drawn d k.bit e c.step.new.events c.args.seed (choice_of c.choose-step.result) c.requires.running t.drawn_is t.step_is slots;
+      turn = λ slots. drawn_turn c.possible_law.ensures.drawn d k.bits e c.step.new.events c.args.seed (choice_of c.choose-step.result) c.requires.running t.drawn_is t.step_is slots;
       running = t.step_is.running;
       shadow = c.in_ok-step.ensures.shadow;
       rested = λ h. (let z : ⊥ = cc in absurd z);
@@ -32,9 +32,9 @@ returns-then-has_waiting c =
     let f = c.if-count-gt0.false in
     let g = c.count-count.ensures in
     let none : length (steps_of e) ≡ 0 = omega (arith, f, g) in
-    let t = subst (IsStepped d k.bit e Activate) (sym c.activate.ensures) (c.running_law.ensures.activation d k.bit e c.requires.running (no_steps d k.bit e c.requires.running none)) in
+    let t = subst (IsStepped d k.bits e Activate) (sym c.activate.ensures) (c.running_law.ensures.activation d k.bits e c.requires.running (no_steps d k.bits e c.requires.running none)) in
     record {
-      turn = λ slots. activation_turn d k.bit e c.requires.running none c.activate.new.self c.args.seed (sym c.has_waiting.ensures ∙ c.if-has_waiting.true) t slots;
+      turn = λ slots. activation_turn d k.bits e c.requires.running none c.activate.new.self c.args.seed (sym c.has_waiting.ensures ∙ c.if-has_waiting.true) t slots;
       running = t.running;
       shadow = c.requires.shadow ∙ sym (ap (λ (y : Events). state_of y.values) c.activate.ensures);
       rested = λ h. (let z : ⊥ = cc in absurd z);
@@ -50,8 +50,8 @@ returns c =
     let none : length (steps_of e) ≡ 0 = omega (arith, f, g) in
     let still = sym c.has_waiting.ensures ∙ c.if-has_waiting.false in
     record {
-      turn = λ slots. over_turn d k.bit e c.requires.running none c.args.seed still slots;
+      turn = λ slots. over_turn d k.bits e c.requires.running none c.args.seed still slots;
       running = c.requires.running;
       shadow = c.requires.shadow;
-      rested = λ h. rests d k.bit e c.requires.running none still;
+      rested = λ h. rests d k.bits e c.requires.running none still;
     }

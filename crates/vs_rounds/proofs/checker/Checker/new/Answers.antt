@@ -13,6 +13,6 @@ returns-clause-ready g c =
     let m : Checking _ = record { stimuli = driven.stimuli; engine = driven.engine; misses = misses } in
     let stimuli_are = ap (λ (d : Driving _). d.stimuli) c.in_ok-driven.ensures in
     let engine_is = ap (λ (d : Driving _). d.engine) c.in_ok-driven.ensures in
-    λ d clock h.
-    parts_checkable m d clock c.args.drive c.args.engine c.args.outputs.items stimuli_are engine_is c.in_ok-misses.ensures.outputs
+    λ d clocks h.
+    parts_checkable m d clocks c.args.drive c.args.engine c.args.outputs.items stimuli_are engine_is c.in_ok-misses.ensures.outputs
     (subst (λ (ks : List Known). HasColumns misses (named ks)) (sym stimuli_are) c.in_ok-misses.ensures.columns) c.requires.fit h

@@ -66,8 +66,8 @@ returns-clause-done g c =
       stimuli = c.rise.ensures.stimuli ∙ c.fall-vectors.ensures.stimuli;
       program = c.rise.ensures.program ∙ c.fall-vectors.ensures.program;
       outputs = c.note.ensures.outputs;
-      falls = λ i lt live. c.fall-vectors.ensures.falls run.design run.clock i h.program lt live;
-      rises = λ i lt live. c.rise.ensures.rises run.design run.clock i (subst (λ (p : Program). IsProgramOf run.design run.clock p) (sym c.fall-vectors.ensures.program) h.program) (omega (arith, few, lt));
+      falls = λ i lt live. c.fall-vectors.ensures.falls run.design run.clocks i h.program lt live;
+      rises = λ i lt live. c.rise.ensures.rises run.design run.clocks i (subst (λ (p : Program). IsProgramOf run.design run.clocks p) (sym c.fall-vectors.ensures.program) h.program) (omega (arith, few, lt));
       found = found;
     } in
     compared c.line_law.ensures g.W.Word.lane run k m new contents made h

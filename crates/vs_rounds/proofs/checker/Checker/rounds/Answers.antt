@@ -65,7 +65,7 @@ pub returns-then-live-eq0-clause-within : goal.returns-then-live-eq0-clause-with
 returns-then-live-eq0-clause-within g c =
     let inv = c.loop-round.invariant in
     let e = c.round-live.ensures in
-    λ d clock is_program.
+    λ d clocks is_program.
     let p = c.args.self.now.engine.program in
     let small = rounds_within p c.args.self.now.engine.begun c.loop-round.round (size d) c.args.steps.now c.loop-round.steps is_program.first_small is_program.fall_small is_program.rise_small inv.ticked in
     omega (arith, small, e.ticked.none (sym e.count ∙ c.if-live-eq0.true))

@@ -1,4 +1,4 @@
-use Rattle.std.proofs.Common.{ℕ, ◌<◌, subst}
+use Rattle.std.proofs.Common.{List, ℕ, ◌<◌, subst}
 use Rattle.vs_net.specs.Queue.{Rise}
 use Rattle.vs_net.specs.Solution.{IsSlotEnd}
 use Rattle.vs_design.specs.Designs.{Design}
@@ -10,5 +10,5 @@ use Rattle.vs_rounds.proofs.driven.Driven.rise.Goals as goal
 
 pub returns-clause-rises : goal.returns-clause-rises
 returns-clause-rises g c =
-    subst (λ (s : Driving _). (d : Design) (clock i : ℕ) → IsProgramOf d clock s.engine.program → i < g.W.Word.LANES
-    → IsSlotEnd (network_of d clock) (state g.W.Word.lane s.engine i) Rise (state g.W.Word.lane c.rise.new.self i)) c.self.view_is c.rise.ensures.ends
+    subst (λ (s : Driving _). (d : Design) (clocks : List ℕ) (i : ℕ) → IsProgramOf d clocks s.engine.program → i < g.W.Word.LANES
+    → IsSlotEnd (network_of d clocks) (state g.W.Word.lane s.engine i) Rise (state g.W.Word.lane c.rise.new.self i)) c.self.view_is c.rise.ensures.ends
