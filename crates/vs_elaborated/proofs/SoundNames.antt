@@ -5,12 +5,12 @@ use Rattle.std.proofs.lemmas.Bool.{leb-true, leb-false, le-leb, ltb-false}
 use Rattle.vs_four.specs.declared.Bit4.TheVariants.{X}
 use Rattle.vs_four.specs.declared.Range.{Range}
 use Rattle.vs_four.specs.Selects.{Part, is_descending, range_length}
-use Rattle.vs_design.specs.Expressions.{Signal, range_or_one, words_length, signal_length, OfSignal as SignalSource, OfConstant, Expression, Literal, Name, Select, Word, Unary, Binary, Choice, Join, Repeat, At, Call, UnaryOp, Plus, Minus, BitNot, LogicalNot, ReduceAnd, ReduceNand, ReduceOr, ReduceNor, ReduceXor, ReduceXnor, Signed, Unsigned, unary_length, Way, InContext, Own, Compared, Shifted, Raised, way, binary_length, width, sign}
+use Rattle.vs_design.specs.Expressions.{Signal, range_or_one, words_length, signal_length, OfSignal as SignalSource, OfConstant, Expression, Literal, Name, Select, Word, WordPart, Unary, Binary, Choice, Join, Repeat, At, Call, UnaryOp, Plus, Minus, BitNot, LogicalNot, ReduceAnd, ReduceNand, ReduceOr, ReduceNor, ReduceXor, ReduceXnor, Signed, Unsigned, unary_length, Way, InContext, Own, Compared, Shifted, Raised, way, binary_length, width, sign}
 use Rattle.vs_design.specs.Values.{constant_value}
 use Rattle.vs_design.specs.Designs.{Design}
 use Rattle.vs_design.specs.Fits.{fits_64}
 use Rattle.vs_design.specs.Footprints.{is_memory}
-use Rattle.vs_design.specs.Elaborated.{is_signal, is_plain, is_lawful_range, are_lawful_words, same_range, is_formed, is_formed_select}
+use Rattle.vs_design.specs.Elaborated.{is_signal, is_plain, has_words, is_lawful_range, are_lawful_words, same_range, is_formed, is_formed_select, is_formed_word_part}
 use Rattle.vs_design.proofs.Lengths.{length_bits_of, length_value, length_assigned}
 use Rattle.vs_design.specs.Clocks.{same_name}
 use Rattle.vs_grammar.specs.Trees as tree
@@ -27,8 +27,9 @@ use Rattle.vs_const.proofs.Formed.{IsNumber, natural_fine, IsRange, both_nil, bo
 use Rattle.vs_elaborated.specs.Environments.{Declared, Later, OfSignal, OfParameter, OfGenvar, OfInteger, OfFunction, OfScope, Entry, Env, within, up_to, find_entry, find_name, turn_of, is_late, parameter_meaning, turn_meaning, with_words, signal_means, unless_outside, declared_meaning, entry_meaning, named}
 use Rattle.vs_elaborated.specs.Declarations.{SignalSort, has_addresses, ParameterSort, Sort, SignalOf, ParameterOf, FunctionOf, GenvarSort, IntegerSort, InstanceSort, Declaration, Named}
 use Rattle.vs_elaborated.specs.Parameters.{SaidRange, of_bounds, said_range, descending, of_addresses, said_addresses, said_type, is_signed, Override, override_of, chosen, converted, declared_if, said_parameter, valued, put_value, first_declared, first_entries, said_parameters}
-use Rattle.vs_elaborated.specs.Signals.{Start, said_signal, said_signals, after, SaidSignal, put_signal, put_signals, range_faults}
+use Rattle.vs_elaborated.specs.Signals.{Start, said_signal, said_signals, nets_of, after, SaidSignal, put_signal, put_signals, range_faults}
 use Rattle.vs_elaborated.specs.Sound.{IsSoundDeclared, AreSoundEntries, AreSoundFrames, IsConstantFine, AreFineOverrides}
+use Rattle.vs_elaborated.proofs.Nets.{length_is, no_array, has_all}
 
 -- ---- sound names mean sound things
 
@@ -166,11 +167,20 @@ select_width d (OfConstant bits) part h = last (is_lawful_range (Some part.range
     last true false c h = cc
     last false b c h = cc
 
+word_part_width : (d : Design) (s : Signal) (part : Part) → is_formed_word_part d s part ≡ true → fits_64 part.width ≡ true
+word_part_width d s part h = last (has_words d s) (same_range s.range (Some part.range)) (fits_64 part.width) h
+  where
+    last : (a b c : Bool) → (a && b && c) ≡ true → c ≡ true
+    last true true c h = h
+    last true false c h = cc
+    last false b c h = cc
+
 pub wide : (d : Design) (e : Expression) → is_formed d e ≡ true → 1 ≤ width e
 wide d (Literal bits signed sized) h = fits_some (length bits) (split (fits_64 (length bits)) (sized || (length bits == 32)) h).0
 wide d (Name s) h = signal_some s
 wide d (Select source part index) h = fits_some part.width (select_width d source part (split (is_formed_select d source part) (is_formed d index) h).0)
 wide d (Word signal index) h = range_some signal.range
+wide d (WordPart signal address part index) h = fits_some part.width (word_part_width d signal part (split (is_formed_word_part d signal part) (is_formed d address) (split (is_formed_word_part d signal part && is_formed d address) (is_formed d index) h).0).0)
 wide d (Unary op a) h = unary_some op (width a) (wide d a h)
 wide d (Binary op a b) h = binary_some (way op) (width a) (width b) (wide d a (split (is_formed d a) (is_formed d b) h).0)
 wide d (Choice c p q) h = let k = wide d p (middle (is_formed d c) (is_formed d p) (is_formed d q) h) in omega (arith, k)
@@ -234,13 +244,6 @@ record AreBounds (o : Option Range) : Type 0 where
   left : r.left ≤ 65535
   right : r.right ≤ 65535
   few : range_length r ≤ 1024
-
-length_is : (r : Range) → range_length r ≡ suc (max r.left r.right - min r.left r.right)
-length_is r = of (is_descending r) refl
-  where
-    of : (b : Bool) → is_descending r ≡ b → (if b then suc (r.left - r.right) else suc (r.right - r.left)) ≡ suc (max r.left r.right - min r.left r.right)
-    of true e = let h = leb-true r.right r.left e in omega (arith, h)
-    of false e = let h = leb-false r.right r.left e in omega (arith, h)
 
 descending_lawful : (r : Range) → r.left ≤ 65535 → r.right ≤ 65535 → range_length r ≤ 1024 → are_lawful_words (Some (descending r)) ≡ true
 descending_lawful r h k l =
@@ -539,18 +542,22 @@ all_settled d (s ∷ ss) es k g = all_settled d ss (put_signal s.meaning es) k.1
             rest true b i k = cc
 
 -- the signals of a scope whose ranges have no fault
-signal_sound : (d : Design) (m : SignalMeaning) (words : Option Range) → m.signal.words ≡ words → is_signal d m.signal ≡ true → m.known ≡ true → (m.signal.input ≡ true → m.input ≡ true) → IsSound d false (with_words words m)
-signal_sound d m None e h k i = (both (is_signal d m.signal) (not (is_memory m.signal)) h (ap (λ (w : Option Range). not (is_some w)) e), k, i)
-signal_sound d m (Some r) e h k i = (both (is_signal d m.signal) (is_memory m.signal) h (ap (λ (w : Option Range). is_some w) e), k, i)
+signal_sound : (d : Design) (m : SignalMeaning) (words : Option Range) → m.signal.words ≡ words → Each (λ x. is_signal d x ≡ true) (nets_of m.signal) → m.known ≡ true → (m.signal.input ≡ true → m.input ≡ true) → IsSound d false (with_words words m)
+signal_sound d m None e h k i = (both (is_signal d m.signal) (not (is_memory m.signal)) (no_array (λ x. is_signal d x ≡ true) m.signal (ap (λ (w : Option Range). m.signal.net && is_some w) e ∙ and_false m.signal.net) h) (ap (λ (w : Option Range). not (is_some w)) e), k, i)
+  where
+    and_false : (b : Bool) → (b && false) ≡ false
+    and_false true = refl
+    and_false false = refl
+signal_sound d m (Some r) e h k i = (has_all d m.signal r e h, k, i)
 
-pub signals_sound : (d : Design) (env : Env) → AreSoundFrames d true env.frames → (names : List Named) (start : Start) → Each (λ (s : SaidSignal). is_signal d s.meaning.signal ≡ true) (said_signals env start names)
+pub signals_sound : (d : Design) (env : Env) → AreSoundFrames d true env.frames → (names : List Named) (start : Start) → Each (λ (s : SaidSignal). Each (λ x. is_signal d x ≡ true) (nets_of s.meaning.signal)) (said_signals env start names)
     → Each (λ (n : Named). IsShapedSort n.first.sort) names → range_faults env (map (λ (n : Named). n.first) names) ≡ [] → Each (IsSoundSaid d) (said_signals env start names)
 signals_sound d env s [] start h x k = tt
 signals_sound d env s (n ∷ ns) start h x k = of n.first.name n.first.sort n.second h x.0 k (λ next g l. signals_sound d env s ns next g x.1 l)
   where
-    of : (w : tree.Name) (q : Sort) (second : Option Declaration) → Each (λ (s : SaidSignal). is_signal d s.meaning.signal ≡ true) (said_signals env start (record { first = record { name = w; sort = q }; second = second } ∷ ns)) → IsShapedSort q
+    of : (w : tree.Name) (q : Sort) (second : Option Declaration) → Each (λ (s : SaidSignal). Each (λ x. is_signal d x ≡ true) (nets_of s.meaning.signal)) (said_signals env start (record { first = record { name = w; sort = q }; second = second } ∷ ns)) → IsShapedSort q
         → range_faults env (record { name = w; sort = q } ∷ map (λ (n : Named). n.first) ns) ≡ []
-        → ((next : Start) → Each (λ (s : SaidSignal). is_signal d s.meaning.signal ≡ true) (said_signals env next ns) → range_faults env (map (λ (n : Named). n.first) ns) ≡ [] → Each (IsSoundSaid d) (said_signals env next ns))
+        → ((next : Start) → Each (λ (s : SaidSignal). Each (λ x. is_signal d x ≡ true) (nets_of s.meaning.signal)) (said_signals env next ns) → range_faults env (map (λ (n : Named). n.first) ns) ≡ [] → Each (IsSoundSaid d) (said_signals env next ns))
         → Each (IsSoundSaid d) (said_signals env start (record { first = record { name = w; sort = q }; second = second } ∷ ns))
     of w (SignalOf t) second h x k rest =
         let m : Named = record { first = record { name = w; sort = SignalOf t }; second = second } in
