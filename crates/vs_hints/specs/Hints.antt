@@ -9,7 +9,7 @@ use Rattle.vs_refusal.specs.declared.names.ProcessName.TheVariants.{InitialForm,
 use Rattle.vs_refusal.specs.declared.names.LaneName.{LaneName}
 use Rattle.vs_refusal.specs.declared.names.LaneName.TheVariants.{BadHeader, FirstUnknown, NoVector, TooManyVectors, StimulusTooLong, NoExpectation}
 use Rattle.vs_refusal.specs.declared.names.LineName.{LineName}
-use Rattle.vs_refusal.specs.declared.names.LineName.TheVariants.{BadVector, LineTooLong, UnknownReset}
+use Rattle.vs_refusal.specs.declared.names.LineName.TheVariants.{BadVector, LineTooLong, UnknownReset, UnknownSelect}
 use Rattle.vs_refusal.specs.declared.refusal.Refusal.{Refusal}
 use Rattle.vs_refusal.specs.declared.refusal.Refusal.TheVariants.{Bare, SamePath, At, TooLarge, Latch, Sensitivity, TwoDrivers, Process, Cycle, Race, Lane, Line}
 
@@ -133,11 +133,13 @@ abbrev pub line_sentence : LineName → List ℕ
 line_sentence BadVector = codes "the line isn't one field of digits for each input, and behind -> one for each output that the header names"
 line_sentence LineTooLong = codes "the line has more than 65,536 bytes"
 line_sentence UnknownReset = codes "a vector behind the first has an x or z digit of a reset input"
+line_sentence UnknownSelect = codes "a vector behind the first has an x or z digit of a select input"
 
 abbrev pub line_remedy : LineName → List ℕ
 line_remedy BadVector = codes "check the widths of the fields"
 line_remedy LineTooLong = codes "shorten it"
 line_remedy UnknownReset = codes "give resets 0 or 1 in every vector"
+line_remedy UnknownSelect = codes "give select inputs 0 or 1 in every vector"
 
 -- the sentence, up to the name or the number in it
 abbrev pub opening : Refusal → List ℕ

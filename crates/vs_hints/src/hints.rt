@@ -200,6 +200,8 @@ fn line_sentence(name: LineName) -> &'static str
             "the line isn't one field of digits for each input, and behind -> one for each output that the header names",
         LineName::LineTooLong => "the line has more than 65,536 bytes",
         LineName::UnknownReset => "a vector behind the first has an x or z digit of a reset input",
+        LineName::UnknownSelect =>
+            "a vector behind the first has an x or z digit of a select input",
     }
 }
 
@@ -211,6 +213,7 @@ fn line_remedy(name: LineName) -> &'static str
         LineName::BadVector => "check the widths of the fields",
         LineName::LineTooLong => "shorten it",
         LineName::UnknownReset => "give resets 0 or 1 in every vector",
+        LineName::UnknownSelect => "give select inputs 0 or 1 in every vector",
     }
 }
 
