@@ -1,15 +1,17 @@
 -- A target as the concatenation of its parts.
-use Rattle.std.proofs.Common.{◌≡◌, ℕ, zero, suc, ◌+◌, ◌-◌, ◌<◌, ◌≤◌, true, List, [], ◌∷◌, ◌++◌, map, length, take, drop, get_or, sum_by, sym, ap, ◌∙◌, subst, refl, arith}
+use Rattle.std.proofs.Common.{◌≡◌, ℕ, zero, suc, ◌+◌, ◌-◌, ◌<◌, ◌≤◌, true, List, [], ◌∷◌, ◌++◌, map, length, take, drop, get_or, sum_by, sym, ap, ◌∙◌, subst, refl, arith, length-append}
 use Rattle.std.specs.List.{All, Contains}
 use Rattle.std.proofs.lemmas.List.{length-take}
-use Rattle.std.proofs.lemmas.List.Sums.{sum_by-cons}
+use Rattle.std.proofs.lemmas.List.Sums.{sum_by-append, sum_by-cons}
 use Rattle.std.proofs.lemmas.List.Elements.{All-tail, All-take, All-weaker, Contains-append_right}
 use Rattle.vs_net.specs.Network as N
 use Rattle.vs_design.specs.Fits.{fits_target}
+use Rattle.vs_design.specs.Footprints.{target_bits}
 use Rattle.vs_design.specs.Statements.{Target, Both, target_width}
 use Rattle.vs_flat.specs.Arena.{Arena}
 use Rattle.vs_lower.specs.declared.leaves.Leaf.{Leaf}
 use Rattle.vs_lower.specs.declared.leaves.Leaf.TheVariants as L
+use Rattle.vs_code.specs.Calls.{call_cost}
 use Rattle.vs_values.specs.Coded.{Coding}
 use Rattle.vs_lower.specs.Done.{index_values, IsWritten}
 use Rattle.vs_lower.specs.Leaves.{joined_target, leaf_target, IsInside}
@@ -63,6 +65,7 @@ writes_more a env env1 env2 code code1 code2 (x ∷ y ∷ ls) (ti ∷ tis) value
       calls = p.calls ++ q.calls;
       is = two_added code.calls p.calls q.calls code1.calls code2.calls p.is q.is;
       written = subst (λ (n : ℕ). IsWritten env code.next (Both (g x) rest) (ti ∷ tis) value n (p.calls ++ q.calls) env2 code2.next) (sym (sum_by-cons write_weight (g x) (map g (y ∷ ls)))) both;
+      few = omega (arith, p.few, q.few, sum_by-append call_cost p.calls q.calls, length-append (target_bits (g x)) (target_bits rest), sum_by-cons write_weight (g x) (map g (y ∷ ls)));
     }
 
 -- what the others need, for these lists

@@ -64,7 +64,7 @@ in_either xs ys b h f g =
     let both : contains (xs ++ ys) b ≡ (contains xs b || contains ys b) = list_any-append _ xs ys in
     by_test (contains xs b) f (λ e. g (sym (both ∙ ap (λ q. q || contains ys b) e) ∙ h))
 
-target_inside : (n : ℕ) (t : Target) → fits_target t ≡ true → target_within n t ≡ true → (b : ℕ) → contains (target_bits t) b ≡ true → b < n
+pub target_inside : (n : ℕ) (t : Target) → fits_target t ≡ true → target_within n t ≡ true → (b : ℕ) → contains (target_bits t) b ≡ true → b < n
 target_inside n (Whole s) f w b h = signal_inside n s w b h
 target_inside n (PartOf s part index) f w b h =
     let p = fit_part s part index f in

@@ -6,6 +6,7 @@ use Rattle.vs_design.specs.Expressions.{Expression, width, is_constant}
 use Rattle.vs_design.specs.Values.{constant_value}
 use Rattle.vs_design.specs.Statements.{Target, PartOf, WordOf, target_width}
 use Rattle.vs_design.specs.Fits.{fits_target}
+use Rattle.vs_design.specs.Footprints.{target_bits}
 use Rattle.vs_design.specs.Sizes.{weight, address_weight}
 use Rattle.vs_design.specs.Within.{target_within}
 use Rattle.vs_code.specs.Calls.{Call, length_of}
@@ -87,3 +88,5 @@ pub record AddsWrites (env env_after : List ℕ) (old new : Coding) (target : Ta
   pub calls : List Call
   pub is : new.calls ≡ old.calls ++ calls
   pub written : IsWritten env old.next target tis tv most calls env_after new.next
+  -- a store more for each bit of the target is no more than its length and this weight
+  pub few : length_of calls + length (target_bits target) ≤ target_width target + most

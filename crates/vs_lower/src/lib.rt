@@ -18,6 +18,7 @@ mod reach;
 mod resets;
 mod sleepers;
 mod statements;
+mod unless;
 mod writes;
 
 pub use functions::templates;
