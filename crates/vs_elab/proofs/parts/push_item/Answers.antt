@@ -9,7 +9,7 @@ use Rattle.vs_elaborated.specs.Surveys.{assign_said, nested_piece}
 use Rattle.vs_scope.specs.Made as code
 use Rattle.vs_elab.specs.Fine.{IsFineAssign, AreFineInside, IsFineItem, plain_said}
 use Rattle.vs_elab.specs.Pending.{parts_pieces}
-use Rattle.vs_elab.proofs.FineItems.{declared_fine, assigns_fine, block_fine, initial_fine, instances_fine}
+use Rattle.vs_elab.proofs.FineItems.{declared_fine, assigns_fine, initial_fine, instances_fine}
 use Rattle.vs_elab.proofs.FineParts.{part_fine}
 use Rattle.vs_elab.proofs.PartItems.{other_pieces}
 use Rattle.vs_elab.proofs.parts.push_item.Goals as goal
@@ -38,7 +38,7 @@ returns-in-Assigns c = record {
 pub returns-in_ok-push-in-Always-clause-fine : goal.returns-in_ok-push-in-Always-clause-fine
 returns-in_ok-push-in-Always-clause-fine c = λ source around m same f old.
     part_fine source around.env c.args.parts.now.items c.push.new.self.items _ c.in_ok-push-in-Always.ensures.items old
-    (block_fine source around (view.always_block c.in-Always.b) m (subst (λ (x : Item). IsFineItem source around (view.item x) m) c.in-Always.is f))
+    (let g = subst (λ (x : Item). IsFineItem source around (view.item x) m) c.in-Always.is f in c.in_ok-part.ensures.fine source around g.stated g.shallow g.clean)
 
 pub returns-in_ok-push-in-Initial-clause-fine : goal.returns-in_ok-push-in-Initial-clause-fine
 returns-in_ok-push-in-Initial-clause-fine c = λ source around m same f old.
