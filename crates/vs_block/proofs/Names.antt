@@ -7,7 +7,7 @@ use Rattle.vs_design.specs.Expressions.{items_of}
 use Rattle.vs_design.specs.Fits.{fits, divides_constants, is_fit, fit_items, fits_target, fits_statement, fits_arms}
 use Rattle.vs_flat.specs.declared.placed.Placed.{Placed}
 use Rattle.vs_flat.specs.declared.expressions.Node.{Node}
-use Rattle.vs_flat.specs.declared.expressions.Node.TheVariants.{Literal, Name, Bit, Part, Word, Unary, Binary, Choice, Join, Local, Call}
+use Rattle.vs_flat.specs.declared.expressions.Node.TheVariants.{Literal, Name, Bit, Part, Word, WordPart, Unary, Binary, Choice, Join, Local, Call}
 use Rattle.vs_flat.specs.declared.statements.Arm.{Arm}
 use Rattle.vs_flat.specs.declared.statements.Statement.{Statement}
 use Rattle.vs_flat.specs.declared.statements.Statement.TheVariants as S
@@ -34,6 +34,9 @@ has_names signals e (Part of range base up width) h = (first_below e of (base �
 has_names signals e (Word signal index) h =
     let p = and_both (all_below signals (signal ∷ [])) (all_below e (index ∷ [])) h in
     (first_below signals signal [] p.0, first_below e index [] p.1)
+has_names signals e (WordPart signal address range base up width) h =
+    let p = and_both (all_below signals (signal ∷ [])) (all_below e (address ∷ base ∷ [])) h in
+    (first_below signals signal [] p.0, first_below e address (base ∷ []) p.1, first_below e base [] (rest_below e address (base ∷ []) p.1))
 has_names signals e (Unary op a) h = first_below e a [] h
 has_names signals e (Binary op a b) h = (first_below e a (b ∷ []) h, first_below e b [] (rest_below e a (b ∷ []) h))
 has_names signals e (Choice c p q) h =

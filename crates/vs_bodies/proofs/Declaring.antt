@@ -244,10 +244,10 @@ untaken_append true xs ys = refl
 untaken_append false xs ys = flat_map-append (λ (v : Local). fault_if (not (is_integer v)) WrongKind v.name.place) xs ys
 
 -- what was found of the first declarations
-pub record AreDeclared (in_function : Bool) (vs : List Variables) (m : NameMap Kept) (i : ℕ) (repeated untaken : Option Fault) : Type 0 where
+pub record AreDeclared (takes_variables : Bool) (vs : List Variables) (m : NameMap Kept) (i : ℕ) (repeated untaken : Option Fault) : Type 0 where
   pub locals : AreLocals m (declared_in (take i vs))
   pub repeated_is : repeated ≡ least (later_faults [] (declared_in (take i vs)))
-  pub untaken_is : untaken ≡ least (untaken_locals in_function (declared_in (take i vs)))
+  pub untaken_is : untaken ≡ least (untaken_locals takes_variables (declared_in (take i vs)))
 
 nothing_untaken : (b : Bool) → untaken_locals b [] ≡ []
 nothing_untaken true = refl

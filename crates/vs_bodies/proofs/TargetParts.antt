@@ -1,5 +1,5 @@
 -- What is told of a name as a target, with what is selected of it.
-use Rattle.std.proofs.Common.{◌≡◌, ℕ, Bool, true, List, ◌++◌, is_some, if◌then◌else◌, Option, Some, None, refl, sym, ap, ◌∙◌, subst, arith}
+use Rattle.std.proofs.Common.{◌≡◌, ℕ, max, Bool, true, List, ◌++◌, is_some, if◌then◌else◌, Option, Some, None, refl, sym, ap, ◌∙◌, subst, arith}
 use Rattle.vs_four.specs.declared.Range.{Range}
 use Rattle.vs_design.specs.Expressions.{Signal}
 use Rattle.vs_const.specs.declared.faults.Fault.{Fault}
@@ -11,13 +11,13 @@ use Rattle.vs_const.specs.declared.names.Named.TheVariants.{Value, Undefined as 
 use Rattle.vs_const.specs.declared.names.SignalShape.{SignalShape}
 use Rattle.vs_const.specs.declared.rules.Rule.TheVariants.{WrongKind}
 use Rattle.vs_const.specs.CallDepths.{call_depth}
-use Rattle.vs_const.specs.Faults.{least, better, fault_if}
+use Rattle.vs_const.specs.Faults.{least, better, fault, fault_if}
 use Rattle.vs_const.specs.Meanings.{SignalMeaning, FunctionMeaning, Meaning, AValue, Undefined, ASignal, AMemory, AFunction, Incomplete, Another, Barred, Unknown, Means}
 use Rattle.vs_const.specs.Typed.{Typed}
-use Rattle.vs_const.specs.Selects.{Base, Taken, taken}
+use Rattle.vs_const.specs.Selects.{Base, is_scalar, Taken, taken, word_range}
 use Rattle.vs_const.specs.Checks.{Checks, ChecksTaken}
 use Rattle.vs_const.proofs.Least.{least_append}
-use Rattle.vs_elaborated.specs.Targets.{is_wrong_target, meant_signal, target_base, part_target, bit_target}
+use Rattle.vs_elaborated.specs.Targets.{is_wrong_target, meant_signal, unwritten_rule, target_base, part_target, bit_target, further_target}
 use Rattle.vs_bodies.specs.declared.targets.Base.{Base as BaseOf}
 use Rattle.vs_bodies.specs.declared.told.Told.{Told}
 use Rattle.vs_bodies.specs.Told.{broken, joined, told_target}
@@ -70,6 +70,33 @@ bit_told_of p place Other (AMemory m) i x other h f = cc
 bit_told_of p place (BarredName rule) (AMemory m) i x other h f = cc
 bit_told_of p place UnknownName (AMemory m) i x other h f = cc
 
+-- nor is there a word to take bits of
+pub further_told_of : (p : Bool) (place : ℕ) (named : Named) (m : Meaning) (a : Typed) (t : Taken) (x : Told) → ((s : SignalShape) → named ≡ MemoryNamed s → ⊥) → Means named m
+    → x ≡ broken (least (fault (unwritten_rule m) place)) 0 → x ≡ told_target (further_target p place m a t)
+further_told_of p place named (AValue v q turns) a t x other h f = f
+further_told_of p place named (Undefined q) a t x other h f = f
+further_told_of p place named (ASignal s) a t x other h f = f
+further_told_of p place named (AFunction g) a t x other h f = f
+further_told_of p place named Incomplete a t x other h f = f
+further_told_of p place named Another a t x other h f = f
+further_told_of p place named (Barred rule) a t x other h f = f
+further_told_of p place named Unknown a t x other h f = f
+further_told_of p place (Value v q turns) (AMemory m) a t x other h f = cc
+further_told_of p place (UndefinedValue q) (AMemory m) a t x other h f = cc
+further_told_of p place (SignalNamed s) (AMemory m) a t x other h f = absurd (differ h.1)
+  where
+    differ : {k : SignalMeaning} → AMemory m ≡ ASignal k → ⊥
+    differ e = cc
+further_told_of p place (MemoryNamed s) (AMemory m) a t x other h f = absurd (other s refl)
+further_told_of p place (FunctionNamed g) (AMemory m) a t x other h f = absurd (differ h.1)
+  where
+    differ : {k : FunctionMeaning} → AMemory m ≡ AFunction k → ⊥
+    differ e = cc
+further_told_of p place IncompleteNamed (AMemory m) a t x other h f = cc
+further_told_of p place Other (AMemory m) a t x other h f = cc
+further_told_of p place (BarredName rule) (AMemory m) a t x other h f = cc
+further_told_of p place UnknownName (AMemory m) a t x other h f = cc
+
 -- ---- a word of a memory
 
 pub word_told : (p : Bool) (place : ℕ) (named : Named) (s : SignalShape) (m : Meaning) (i : Typed) (index : Checked) (f : Option Fault) → named ≡ MemoryNamed s → Means named m
@@ -81,3 +108,28 @@ word_told p place named s m i index f e h w k = of (subst (λ n. Means n m) e h)
     of h =
         both_faults f index.flaws.first (fault_if (is_wrong_target p h.0) WrongKind place) i.faults index.depth (call_depth i.expression) (w h.0 h.8 h.9) (ap (λ (z : Flaws). z.first) k.flaws) k.depth
         ∙ ap (λ (n : Meaning). told_target (bit_target p place n i)) (sym h.1)
+
+-- bits of it
+pub part_of_word_told : (p : Bool) (place : ℕ) (named : Named) (s : SignalShape) (m : Meaning) (a : Typed) (take : Option Range → Taken) (address : Checked) (bits : TakenOf) (f g : Option Fault) (scalar : Bool) → named ≡ MemoryNamed s → Means named m
+    → ((t : SignalMeaning) → s.net ≡ t.signal.net → s.input ≡ t.input → f ≡ least (fault_if (is_wrong_target p t) WrongKind place))
+    → ((t : SignalMeaning) → s.known ≡ t.known → s.range ≡ t.signal.range → scalar ≡ is_scalar t) → g ≡ least (fault_if scalar WrongKind place) → Checks address a → ChecksTaken bits (take s.range)
+    → joined (broken f 0) (joined (broken g 0) (joined (broken address.flaws.first address.depth) (broken bits.flaws.first bits.depth))) ≡ told_target (further_target p place m a (take (word_range m)))
+part_of_word_told p place named s m a take address bits f g scalar e h w v u k b = of (subst (λ n. Means n m) e h)
+  where
+    of : Means (MemoryNamed s) m → joined (broken f 0) (joined (broken g 0) (joined (broken address.flaws.first address.depth) (broken bits.flaws.first bits.depth))) ≡ told_target (further_target p place m a (take (word_range m)))
+    of h =
+        let t = take h.0.signal.range in
+        let c : ChecksTaken bits t = subst (λ r. ChecksTaken bits (take r)) h.3 b in
+        let wrong = fault_if (is_wrong_target p h.0) WrongKind place in
+        let none = fault_if (is_scalar h.0) WrongKind place in
+        let x = joined (broken address.flaws.first address.depth) (broken bits.flaws.first bits.depth) in
+        let inner : x ≡ broken (least (a.faults ++ t.faults)) (max (call_depth a.expression) (call_depth t.index)) =
+        same _ _ _ _ _ _ (ap (λ z. better z bits.flaws.first) (ap (λ (z : Flaws). z.first) k.flaws) ∙ ap (better (least a.faults)) (ap (λ (z : Flaws). z.first) c.flaws) ∙ sym (least_append a.faults t.faults)) refl
+        (ap (λ z. max z bits.depth) k.depth ∙ ap (max (call_depth a.expression)) c.depth)
+        in
+        let second : joined (broken g 0) x ≡ broken (least (none ++ (a.faults ++ t.faults))) (max (call_depth a.expression) (call_depth t.index)) =
+        ap (joined (broken g 0)) inner ∙ both_faults g (least (a.faults ++ t.faults)) none (a.faults ++ t.faults) (max (call_depth a.expression) (call_depth t.index)) (max (call_depth a.expression) (call_depth t.index)) (u ∙ ap (λ c. least (fault_if c WrongKind place)) (v h.0 h.6 h.3)) refl refl
+        in
+        ap (joined (broken f 0)) second
+        ∙ both_faults f (least (none ++ (a.faults ++ t.faults))) wrong (none ++ (a.faults ++ t.faults)) (max (call_depth a.expression) (call_depth t.index)) (max (call_depth a.expression) (call_depth t.index)) (w h.0 h.8 h.9) refl refl
+        ∙ ap (λ (n : Meaning). told_target (further_target p place n a (take (word_range n)))) (sym h.1)

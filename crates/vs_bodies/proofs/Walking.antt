@@ -99,7 +99,7 @@ nothing_else b body find = not_there_told b
 -- ---- sequences
 
 pub plain_told : (b : Bool) (body : Body) (find : Find) (place : ℕ) (parts : tree.Statements) → told b (typed_statement (tree.Sequence place None parts) body find) ≡ told b (typed_sequence parts body find)
-plain_told b body find place parts = by body.in_function
+plain_told b body find place parts = by body.takes_variables
   where
     by : (f : Bool) → told b (in_block (repeated_locals [] [] ++ untaken_locals f []) (typed_sequence parts body find)) ≡ told b (typed_sequence parts body find)
     by true = refl

@@ -56,19 +56,19 @@ fn add_variables<'a>(
     Ok(fault)
 }
 
-/// Whether all are taken: in a function all are, and integers everywhere.
-fn are_taken(in_function: bool, integers: bool) -> bool
-    ensures { result ≡ (in_function || integers) }
+/// Whether all are taken: in an initial block integers alone are.
+fn are_taken(takes_variables: bool, integers: bool) -> bool
+    ensures { result ≡ (takes_variables || integers) }
 {
-    in_function || integers
+    takes_variables || integers
 }
 
 /// The first variable of a declaration where none is taken.
-fn untaken_variable(in_function: bool, v: &Variables) -> Option<Fault>
-    ensures { result ≡ least (spec.untaken_locals in_function (locals v.now)) }
+fn untaken_variable(takes_variables: bool, v: &Variables) -> Option<Fault>
+    ensures { result ≡ least (spec.untaken_locals takes_variables (locals v.now)) }
 {
     let integers = is_integer(&v.value_type);
-    if are_taken(in_function, integers) {
+    if are_taken(takes_variables, integers) {
         return None;
     }
     let mut fault = None;
@@ -83,10 +83,10 @@ fn untaken_variable(in_function: bool, v: &Variables) -> Option<Fault>
 pub fn block_of<'a>(
     alloc: Global,
     scope: &'a BlockScope,
-    in_function: bool,
+    takes_variables: bool,
 ) -> Result<Block<'a>, AllocError>
     ensures locals { IfOk result (λ b. AreLocals b.locals (spec.scope_locals (Some (view.block_scope scope.now)))) }
-    ensures fault { IfOk result (λ b. b.fault ≡ least (spec.repeated_locals [] (spec.scope_locals (Some (view.block_scope scope.now))) ++ spec.untaken_locals in_function (spec.scope_locals (Some (view.block_scope scope.now))))) }
+    ensures fault { IfOk result (λ b. b.fault ≡ least (spec.repeated_locals [] (spec.scope_locals (Some (view.block_scope scope.now))) ++ spec.untaken_locals takes_variables (spec.scope_locals (Some (view.block_scope scope.now))))) }
 {
     let mut map = NameMap::new(alloc);
     let mut repeated = None;
@@ -94,7 +94,7 @@ pub fn block_of<'a>(
     for v in &scope.variables {
         let found = add_variables(&mut map, v)?;
         repeated = first_of(repeated, found);
-        untaken = first_of(untaken, untaken_variable(in_function, v));
+        untaken = first_of(untaken, untaken_variable(takes_variables, v));
     }
     Ok(Block {
         locals: map,

@@ -19,10 +19,12 @@ use std::alloc::{AllocError, Global};
 use vs_ast::{Expr, Target};
 use vs_const::{Env, Fault, Rule, fault_if};
 
-/// What a statement stands in: whether it is a function (10.4), and whether it is a clocked block, which alone writes words of memories (4.9).
+/// What a statement stands in: whether it is a function (10.4), whether variables of named blocks are taken, as they are but in initial blocks (9.8.2), and
+/// whether it is a clocked block or an initial one, which alone write words of memories (4.9).
 #[derive(Clone, Copy, PartialEq, Eq, Debug)]
 pub struct BodyKind {
     pub in_function: bool,
+    pub takes_variables: bool,
     pub clocked: bool,
 }
 

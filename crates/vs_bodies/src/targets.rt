@@ -5,7 +5,7 @@ ghost use Rattle.std.specs.Prelude.{◌≡◌, Bool, not, IfOk, is_some, if◌th
 ghost use Rattle.vs_grammar.specs.Shapes.{IsExpr, IsSelect, IsTarget, AreTargets};
 ghost use Rattle.vs_ast.specs.Views as view;
 ghost use Rattle.vs_const.specs.Meanings.{IsFair, Meaning, Means, SignalMeaning};
-ghost use Rattle.vs_const.specs.Expressions.{typed};
+ghost use Rattle.vs_const.specs.Expressions.{typed, taken_by};
 ghost use Rattle.vs_const.specs.Faults.{least};
 ghost use Rattle.vs_const.specs.Faults as faults;
 ghost use Rattle.vs_const.specs.declared.rules.Rule.TheVariants.{WrongKind};
@@ -17,8 +17,8 @@ use crate::told::{Told, behind, broken, with};
 use std::alloc::{AllocError, Global};
 use vs_ast::{Expr, Name, Select, Target};
 use vs_const::{
-    Env, Fault, Named, Role, Rule, SignalShape, check, check_slice, fault_at, fault_if, first_of,
-    wrong_rule,
+    Env, Fault, Named, Role, Rule, SignalShape, check, check_part, check_slice, fault_at, fault_if,
+    first_of, wrong_rule,
 };
 use vs_four::Range;
 
@@ -137,6 +137,38 @@ fn bit_told<E: Env>(
     }
 }
 
+/// What `name[address]` with a further select says: bits of a word of a memory (5.2.2). Of any other name what stands in the brackets comes behind it.
+fn further_told<E: Env>(
+    alloc: Global,
+    name: &Name,
+    address: &Expr,
+    part: &Select,
+    env: &E,
+    procedural: bool,
+) -> Result<Told, AllocError>
+    requires address { IsExpr (view.expr address.now) }
+    requires part { IsSelect (view.select part.now) }
+    requires fair { IsFair (E.names env.now) }
+    ensures { IfOk result (λ w. w ≡ spec.told_target (target.further_target procedural name.now.place (E.names env.now name.now.text) (typed (view.expr address.now) (E.names env.now) (not procedural))
+        (taken_by (selects.word_range (E.names env.now name.now.text)) (view.select part.now) (E.names env.now) (not procedural)))) }
+{
+    let named = env.find(name.text.as_slice());
+    match named {
+        Named::Memory(s) => {
+            let a = check(alloc, address, env, !procedural)?;
+            let bits = check_part(alloc, s.range, part, env, !procedural)?;
+            let written = word_fault(s, name.place, procedural);
+            let scalar = fault_if(is_scalar(s), Rule::WrongKind, name.place);
+            let indices = with(
+                broken(a.said.flaws.first, a.said.depth),
+                broken(bits.flaws.first, bits.depth),
+            );
+            Ok(behind(written, behind(scalar, indices)))
+        }
+        _ => Ok(broken(fault_at(unwritten_rule(&named), name.place), 0)),
+    }
+}
+
 /// What a name says as a target, with what is selected of it.
 fn selected_told<E: Env>(
     alloc: Global,
@@ -153,10 +185,6 @@ fn selected_told<E: Env>(
         Select::Whole => {
             let named = env.find(name.text.as_slice());
             Ok(broken(base_of(&named, name.place, procedural, false).fault, 0))
-        }
-        Select::Word { .. } => {
-            let named = env.find(name.text.as_slice());
-            Ok(broken(fault_at(unwritten_rule(&named), name.place), 0))
         }
         Select::Bit { index, .. } => bit_told(alloc, name, index, env, procedural),
         Select::Slice {
@@ -178,6 +206,9 @@ fn selected_told<E: Env>(
                 !procedural,
             )?;
             Ok(behind(base.fault, broken(bits.flaws.first, bits.depth)))
+        }
+        Select::Word { address, part, .. } => {
+            further_told(alloc, name, address, part, env, procedural)
         }
     }
 }

@@ -105,7 +105,7 @@ pub(crate) fn walk<'b, S: Surroundings>(
         Statement::Sequence { scope, parts, .. } => match scope {
             None => walk_sequence(alloc, parts, how, left, here),
             Some(scope) => {
-                let block = block_of(alloc, scope, how.kind.in_function)?;
+                let block = block_of(alloc, scope, how.kind.takes_variables)?;
                 let layers = in_block(&*here.layers, &block.locals);
                 let inner = Inner {
                     around: &*here.around,

@@ -25,6 +25,7 @@ begins_twice p q (E.Literal bits signed sized) = refl
 begins_twice p q (E.Name signal) = refl
 begins_twice p q (E.Select source part index) = refl
 begins_twice p q (E.Word signal index) = refl
+begins_twice p q (E.WordPart signal address part index) = refl
 begins_twice p q (E.Unary op a) = refl
 begins_twice p q (E.Binary op a b) = refl
 begins_twice p q (E.Choice c a b) = refl

@@ -20,8 +20,7 @@ use Rattle.vs_flat.specs.Trees.{signal_at}
 use Rattle.vs_flat.specs.DesignOf.{event_of}
 use Rattle.vs_elaborated.specs.Targets.{meant_signal}
 use Rattle.vs_elaborated.specs.Statements.{Body, event_faults, typed_events, typed_control, typed_statement, is_clocked_by}
-use Rattle.vs_elaborated.specs.Surveys.{block_body}
-use Rattle.vs_const.specs.declared.rules.Rule.TheVariants.{LoopVariable}
+use Rattle.vs_elaborated.specs.Surveys.{body_with}
 use Rattle.vs_build.specs.Drafts.{Draft, home, and_process, AddsStatement, EndsInParts}
 use Rattle.vs_build.specs.Executable.{IsExecutable, IsRunnable, Awaited, awaited_of, awaited, block_process}
 use Rattle.vs_build.proofs.SignalNames.{signal_is, signal_within, plain_signal}
@@ -127,29 +126,29 @@ not_star (e ∷ es) find = refl
 -- ---- the block
 
 -- what it stands in
-abbrev pub alone : (clocked : Bool) → Body
-alone clocked = record { declared = λ place. Barred LoopVariable; in_function = false; clocked = clocked; unrolls = true }
+abbrev pub stands : (declared : ℕ → Meaning) (clocked : Bool) → Body
+stands declared clocked = record { declared = declared; in_function = false; takes_variables = true; clocked = clocked; unrolls = true }
 
-alone_is : (b : tree.AlwaysBlock) (clocked : Bool) → clocked ≡ is_clocked_by b.control → alone clocked ≡ block_body b
-alone_is b clocked e = ap alone e
+stands_is : (declared : ℕ → Meaning) (b : tree.AlwaysBlock) (clocked : Bool) → clocked ≡ is_clocked_by b.control → stands declared clocked ≡ body_with declared b
+stands_is declared b clocked e = ap (stands declared) e
 
-pub body_executable : (d : Design) (find : Find) (b : tree.AlwaysBlock) (clocked : Bool) → clocked ≡ is_clocked_by b.control → IsRunnable d find b → IsExecutable d (alone clocked) find b.statement
-body_executable d find b clocked e r =
-    subst (λ body. IsExecutable d body find b.statement) (sym (alone_is b clocked e))
-    (record { shaped = r.shaped; around = record { unrolls = refl; sound = λ place. tt; numbered = λ place. tt }; sound = r.sound; numbered = r.numbered; clean = r.clean; shallow = r.shallow })
+pub body_executable : (d : Design) (declared : ℕ → Meaning) (find : Find) (b : tree.AlwaysBlock) (clocked : Bool) → clocked ≡ is_clocked_by b.control → IsRunnable d declared find b → IsExecutable d (stands declared clocked) find b.statement
+body_executable d declared find b clocked e r =
+    subst (λ body. IsExecutable d body find b.statement) (sym (stands_is declared b clocked e))
+    (record { shaped = r.shaped; around = r.around; sound = r.sound; numbered = r.numbered; clean = r.clean; shallow = r.shallow })
 
-pub body_added : (s v : Draft) (find : Find) (b : tree.AlwaysBlock) (clocked : Bool) (m : ℕ) → clocked ≡ is_clocked_by b.control → AddsStatement s v (typed_statement b.statement (alone clocked) find).statement m
-    → AddsStatement s v (typed_statement b.statement (block_body b) find).statement m
-body_added s v find b clocked m e h = subst (λ body. AddsStatement s v (typed_statement b.statement body find).statement m) (alone_is b clocked e) h
+pub body_added : (s v : Draft) (declared : ℕ → Meaning) (find : Find) (b : tree.AlwaysBlock) (clocked : Bool) (m : ℕ) → clocked ≡ is_clocked_by b.control → AddsStatement s v (typed_statement b.statement (stands declared clocked) find).statement m
+    → AddsStatement s v (typed_statement b.statement (body_with declared b) find).statement m
+body_added s v declared find b clocked m e h = subst (λ body. AddsStatement s v (typed_statement b.statement body find).statement m) (stands_is declared b clocked e) h
 
-pub runs_outside : (s : Draft) (find : Find) (b : tree.AlwaysBlock) → s.function ≡ None → IsRunnable (home s) find b → IsRunnable s.design find b
-runs_outside s find b e r = subst (λ d. IsRunnable d find b) (home_outside s e) r
+pub runs_outside : (s : Draft) (declared : ℕ → Meaning) (find : Find) (b : tree.AlwaysBlock) → s.function ≡ None → IsRunnable (home s) declared find b → IsRunnable s.design declared find b
+runs_outside s declared find b e r = subst (λ d. IsRunnable d declared find b) (home_outside s e) r
 
 pub still_outside : (s v : Draft) (t : T.Statement) (m : ℕ) → AddsStatement s v t m → s.function ≡ None → v.function ≡ None
 still_outside s v t m h e = ap (λ (z : Draft). z.function) h.is ∙ e
 
-pub control_clean : (d : Design) (find : Find) (b : tree.AlwaysBlock) (c : tree.EventControl) → b.control ≡ c → IsRunnable d find b → (typed_control c find).faults ≡ []
-control_clean d find b c e r = subst (λ x. (typed_control x find).faults ≡ []) e r.control
+pub control_clean : (d : Design) (declared : ℕ → Meaning) (find : Find) (b : tree.AlwaysBlock) (c : tree.EventControl) → b.control ≡ c → IsRunnable d declared find b → (typed_control c find).faults ≡ []
+control_clean d declared find b c e r = subst (λ x. (typed_control x find).faults ≡ []) e r.control
 
 pub block_ends : (s v : Draft) (t : T.Statement) (m : ℕ) → AddsStatement s v t m → m ≤ 255 → EndsInParts 0 1 v
 block_ends s v t m h le = ends_in_parts s v [] (t ∷ []) m 0 1 (one_statement s v t m h) le refl refl
@@ -160,19 +159,19 @@ same_signals s v t m h = sym (ap (λ (d : Draft). d.design) h.is)
 pub few_initials : (s v : Draft) (t : T.Statement) (m : ℕ) → AddsStatement s v t m → length s.design.initials < 2 ^ 16 → length v.design.initials < 2 ^ 16
 few_initials s v t m h few = subst (λ (d : Design). length d.initials < 2 ^ 16) (same_signals s v t m h) few
 
-pub star_block : (s : Draft) (find : Find) (b : tree.AlwaysBlock) (at : ℕ) (vs : List Event) (signal : ℕ → _) → vs ≡ [] → b.control ≡ tree.Star → at ≡ b.place
-    → and_process s (D.Always at true (map (event_of signal) vs) (typed_statement b.statement (block_body b) find).statement) ≡ and_process s (block_process b find)
-star_block s find b at vs signal e f p =
-    ap (λ xs. and_process s (D.Always at true (map (event_of signal) xs) (typed_statement b.statement (block_body b) find).statement)) e
-    ∙ ap (λ n. and_process s (D.Always n true [] (typed_statement b.statement (block_body b) find).statement)) p
-    ∙ ap (λ c. and_process s (D.Always b.place (typed_control c find).star (typed_control c find).events (typed_statement b.statement (block_body b) find).statement)) (sym f)
+pub star_block : (s : Draft) (declared : ℕ → Meaning) (find : Find) (b : tree.AlwaysBlock) (at : ℕ) (vs : List Event) (signal : ℕ → _) → vs ≡ [] → b.control ≡ tree.Star → at ≡ b.place
+    → and_process s (D.Always at true (map (event_of signal) vs) (typed_statement b.statement (body_with declared b) find).statement) ≡ and_process s (block_process declared b find)
+star_block s declared find b at vs signal e f p =
+    ap (λ xs. and_process s (D.Always at true (map (event_of signal) xs) (typed_statement b.statement (body_with declared b) find).statement)) e
+    ∙ ap (λ n. and_process s (D.Always n true [] (typed_statement b.statement (body_with declared b) find).statement)) p
+    ∙ ap (λ c. and_process s (D.Always b.place (typed_control c find).star (typed_control c find).events (typed_statement b.statement (body_with declared b) find).statement)) (sym f)
 
-pub listed_block : (s v : Draft) (find : Find) (b : tree.AlwaysBlock) (at : ℕ) (es : List tree.Event) (vs : List Event) → IsRunnable s.design find b → s.design ≡ v.design → map awaited_of vs ≡ map (awaited find) es → b.control ≡ tree.Listed es → at ≡ b.place
-    → and_process s (D.Always at false (map (event_of (signal_at v.design.signals)) vs) (typed_statement b.statement (block_body b) find).statement) ≡ and_process s (block_process b find)
-listed_block s v find b at es vs r same e f p =
-    let body = (typed_statement b.statement (block_body b) find).statement in
+pub listed_block : (s v : Draft) (declared : ℕ → Meaning) (find : Find) (b : tree.AlwaysBlock) (at : ℕ) (es : List tree.Event) (vs : List Event) → IsRunnable s.design declared find b → s.design ≡ v.design → map awaited_of vs ≡ map (awaited find) es → b.control ≡ tree.Listed es → at ≡ b.place
+    → and_process s (D.Always at false (map (event_of (signal_at v.design.signals)) vs) (typed_statement b.statement (body_with declared b) find).statement) ≡ and_process s (block_process declared b find)
+listed_block s v declared find b at es vs r same e f p =
+    let body = (typed_statement b.statement (body_with declared b) find).statement in
     ap (λ (d : Design). and_process s (D.Always at false (map (event_of (signal_at d.signals)) vs) body)) (sym same)
-    ∙ ap (λ xs. and_process s (D.Always at false xs body)) (events_are s.design find es vs r.sound (control_clean s.design find b (tree.Listed es) f r) e)
+    ∙ ap (λ xs. and_process s (D.Always at false xs body)) (events_are s.design find es vs r.sound (control_clean s.design declared find b (tree.Listed es) f r) e)
     ∙ ap (λ x. and_process s (D.Always at x (typed_events es find).events body)) (sym (not_star es find))
     ∙ ap (λ n. and_process s (D.Always n (typed_events es find).star (typed_events es find).events body)) p
     ∙ ap (λ c. and_process s (D.Always b.place (typed_control c find).star (typed_control c find).events body)) (sym f)

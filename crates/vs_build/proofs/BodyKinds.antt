@@ -10,7 +10,7 @@ use Rattle.vs_design.specs.Designs as D
 use Rattle.vs_design.specs.Designs.{Design}
 use Rattle.vs_design.specs.Footprints.{is_variable}
 use Rattle.vs_design.specs.Fits.{fits_64}
-use Rattle.vs_design.specs.Elaborated.{is_plain, is_formed, is_formed_select, is_formed_target, is_formed_statement, are_formed_arms, has_words}
+use Rattle.vs_design.specs.Elaborated.{is_plain, is_formed, is_formed_select, is_formed_word_part, is_formed_target, is_formed_statement, are_formed_arms, has_words}
 use Rattle.vs_flat.specs.declared.statements.Arm.{Arm}
 use Rattle.vs_base.specs.declared.events.CaseKind.{CaseKind}
 use Rattle.vs_flat.specs.declared.statements.Statement.TheVariants as S
@@ -99,6 +99,15 @@ variable_target d (E.Word s i) t e h w =
     (and_true (has_words d s && is_variable s) (is_formed d i) (and_true (has_words d s) (is_variable s) b.0 (subst (λ x. writes_variables x ≡ true) (sym (same e)) w)) b.1)
   where
     same : Some (T.WordOf s i) ≡ Some t → T.WordOf s i ≡ t
+    same k = cc
+variable_target d (E.WordPart s a p i) t e h w =
+    let b = and_both (is_formed_word_part d s p && is_formed d a) (is_formed d i) h in
+    let f = and_both (is_formed_word_part d s p) (is_formed d a) b.0 in
+    let v = and_true (is_formed_word_part d s p) (is_variable s) f.0 (subst (λ x. writes_variables x ≡ true) (sym (same e)) w) in
+    subst (λ x. is_formed_target d is_variable x ≡ true) (same e)
+    (and_true (is_formed_word_part d s p && is_variable s && is_formed d a) (is_formed d i) (and_true (is_formed_word_part d s p && is_variable s) (is_formed d a) v f.1) b.1)
+  where
+    same : Some (T.WordPartOf s a p i) ≡ Some t → T.WordPartOf s a p i ≡ t
     same k = cc
 variable_target d (E.Unary op a) t e h w = cc
 variable_target d (E.Binary op a b) t e h w = cc

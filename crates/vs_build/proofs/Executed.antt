@@ -28,13 +28,13 @@ use Rattle.vs_ast.specs.Views as view
 use Rattle.vs_const.specs.Meanings.{SignalMeaning, Meaning, AValue, Undefined, ASignal, AMemory, AFunction, Incomplete, Another, Barred, Unknown, Find, steady}
 use Rattle.vs_const.specs.Sound.{IsSound, AreSound}
 use Rattle.vs_const.specs.Typed.{Typed}
-use Rattle.vs_const.specs.Selects.{is_scalar, taken, slice_taken, first_needed, first_names}
-use Rattle.vs_const.specs.Expressions.{typed}
+use Rattle.vs_const.specs.Selects.{is_scalar, Taken, taken, slice_taken, first_needed, first_names, word_range}
+use Rattle.vs_const.specs.Expressions.{typed, taken_by}
 use Rattle.vs_const.proofs.Formed.{both_nil, no_fault}
 use Rattle.vs_const.specs.Faults.{fault_if}
 use Rattle.vs_flat.specs.Trees.{no_signal, target_tree, sequence}
 use Rattle.vs_elaborated.specs.Numbers.{IsNumbered, AreNumbered}
-use Rattle.vs_elaborated.specs.Targets.{meant_signal, TypedTarget, is_wrong_target, target_rule, target_base, word_target, bit_target, selected_target, typed_target, typed_targets}
+use Rattle.vs_elaborated.specs.Targets.{meant_signal, TypedTarget, is_wrong_target, target_rule, target_base, word_target, bit_target, word_part_target, further_target, selected_target, typed_target, typed_targets}
 use Rattle.vs_elaborated.specs.Statements.{Body as Within, TypedStatement, Local, find_local, local_or, delayed_faults, word_faults, scope_locals, local_faults, scoped, not_there, typed_list, typed_fallback, typed_statement, typed_sequence, typed_arms}
 use Rattle.vs_build.specs.Drafts.{Root, Body, Draft, home, and_roots, and_bodies, most_body_levels, AddsExpression, AddsParts, AddsStatement, Adds, EndsInParts, EndsInAssignment, writes_variables, Labelled, total, arms_with, EndsInCase}
 use Rattle.vs_build.specs.Cut.{label_counts}
@@ -43,7 +43,7 @@ use Rattle.vs_build.specs.Writable.{target_expression, IsWritable}
 use Rattle.vs_build.specs.Executable.{IsSoundBody, IsExecutable, AreExecutable, AreLabels, AreChoosable, part_statements, labelled}
 use Rattle.vs_build.proofs.Lists.{levels-append, taken_more}
 use Rattle.vs_build.proofs.Selects.{memory_is}
-use Rattle.vs_build.proofs.TargetFacts.{written, named_target, bit_target_is}
+use Rattle.vs_build.proofs.TargetFacts.{written, named_target, bit_target_is, no_memory_part}
 use Rattle.vs_const.specs.declared.rules.Rule.TheVariants.{WrongKind}
 
 -- ---- what was added one after the other
@@ -165,13 +165,28 @@ variable_bit d place m i sound h = of (memory_of m) refl
         ap (λ x. writes_variables (bit_target true place x i).target) w.1
         ∙ memory_written d place w.0 i (subst (IsSound d false) w.1 sound) (subst (λ x. (bit_target true place x i).faults ≡ []) w.1 h)
 
+-- bits of a word
+variable_part : (d : Design) (place : ℕ) (m : Meaning) (a : Typed) (t : Taken) → IsSound d false m → (further_target true place m a t).faults ≡ [] → writes_variables (further_target true place m a t).target ≡ true
+variable_part d place m a t sound h = of (memory_of m) refl
+  where
+    of : (o : Option ℕ) → memory_of m ≡ o → writes_variables (further_target true place m a t).target ≡ true
+    of None e = absurd (no_memory_part true place m a t e h)
+    of (Some n) e =
+        let w = memory_is m n e in
+        let s = w.0 in
+        let clean : (word_part_target true place s a t).faults ≡ [] = subst (λ x. (further_target true place x a t).faults ≡ []) w.1 h in
+        ap (λ x. writes_variables (further_target true place x a t).target) w.1
+        ∙ variable_kind s.input s.signal.net s.signal.input (no_fault (is_wrong_target true s) WrongKind place (both_nil (fault_if (is_wrong_target true s) WrongKind place) (fault_if (is_scalar s) WrongKind place ++ (a.faults ++ t.faults)) clean).0)
+        (subst (IsSound d false) w.1 sound).2
+
 variable_selected : (d : Design) (find : Find) (select : tree.Select) (name : tree.Name) → AreSound d false find → (selected_target select name find true).faults ≡ [] → writes_variables (selected_target select name find true).target ≡ true
 variable_selected d find tree.Whole name sound h = variable_named d name.place false (find name.bytes) (sound name.bytes) h
 variable_selected d find (tree.BitAt bracket index) name sound h = variable_bit d name.place (find name.bytes) (typed index find false) (sound name.bytes) h
 variable_selected d find (tree.Slice bracket kind e f) name sound h =
     let b = target_base true name.place true (find name.bytes) in
     variable_named d name.place true (find name.bytes) (sound name.bytes) (both_nil b.faults (slice_taken b.range bracket kind (tree.expr_place e) (typed e (first_names kind find) (first_needed kind false)) (tree.expr_place f) (typed f (steady find) true)).faults h).0
-variable_selected d find (tree.OfWord bracket address part) name sound h = cc
+variable_selected d find (tree.OfWord bracket address part) name sound h =
+    variable_part d name.place (find name.bytes) (typed address find false) (taken_by (word_range (find name.bytes)) part find false) (sound name.bytes) h
 
 both_true : (a b : Bool) → a ≡ true → b ≡ true → (a && b) ≡ true
 both_true true true h k = refl

@@ -19,10 +19,10 @@ use Rattle.vs_elaborated.specs.Statements.{TypedStatement, repeated_locals, type
 use Rattle.vs_elaborated.specs.Heads.{shared_heads}
 use Rattle.vs_elaborated.specs.Functions.{declared_locals, LocalSignal, function_locals, all_locals, header_of, meaning_or, function_names, function_body, size_faults}
 use Rattle.vs_elaborated.specs.Functions.{signal_at as local_at}
-use Rattle.vs_elaborated.specs.Surveys.{assign_said, declarator_said, block_body, block_statement, block_heads, initial_body, initial_statement, initial_heads}
+use Rattle.vs_elaborated.specs.Surveys.{assign_said, declarator_said, body_with, block_body, scoped_signals, scoped_statement, block_statement, block_heads, initial_body, initial_statement, initial_heads}
 use Rattle.vs_build.specs.Drafts.{Draft, home_in, home}
 use Rattle.vs_build.specs.Writable.{IsAssignable, wire_assign, assign_process}
-use Rattle.vs_build.specs.Items.{and_processes, value_processes, wire_processes, IsAssigned, IsDeclared, AssignsAreFine, WiresAreFine, BlocksAreFine, InitialsAreFine, FunctionsAreFine}
+use Rattle.vs_build.specs.Items.{and_processes, value_processes, wire_processes, IsAssigned, IsDeclared, AssignsAreFine, WiresAreFine, BlocksAreFine, scoped_declared, ScopedBlocksAreFine, InitialsAreFine, FunctionsAreFine}
 use Rattle.vs_build.proofs.Homes.{inside_home}
 use Rattle.vs_build.proofs.Sounder.{sound_wider, names_wider, numbers_stay, processes_wider, processes_functions}
 use Rattle.vs_build.proofs.Unrolled.{unrolled_is}
@@ -133,6 +133,11 @@ wires_fine d env place (n ∷ rest) x sound numbered le h =
           ∙ sym (map-append Own (value_processes place n.name n.value (named env)) (wire_processes place rest (named env))),
     )
 
+-- the variables of its named blocks are no functions
+blocks_numbered : (d : Design) (o : Option LocalSignal) → IsNumbered d (meaning_or o)
+blocks_numbered d None = tt
+blocks_numbered d (Some s) = tt
+
 pub blocks_fine : BlocksAreFine
 blocks_fine d env limits loops b x sound numbered le h =
     let c = typed_control b.control (named env) in
@@ -140,8 +145,35 @@ blocks_fine d env limits loops b x sound numbered le h =
     let heads = shared_heads loops.headed (block_heads env b) in
     let n = both_nil c.faults (s.faults ++ heads) h in
     let clean = (both_nil s.faults heads n.1).0 in
-    let is : s ≡ typed_statement b.statement (block_body b) (named env) = unrolled_is (limits.copies - loops.copies) b.statement (block_body b) (named env) clean in
-    (record { shaped = x; sound = sound; numbered = numbered; control = n.0; clean = sym (ap (λ (t : TypedStatement). t.faults) is) ∙ clean; shallow = le }, ap (λ (t : TypedStatement). Own (Always b.place c.star c.events t.statement) ∷ []) is)
+    let is : s ≡ typed_statement b.statement (block_body b) (named env) = unrolled_is (limits.copies - loops.copies) b.statement (block_body b) (named env) clean in (
+      record {
+        shaped = x;
+        around = record { unrolls = refl; sound = λ place. tt; numbered = λ place. tt };
+        sound = sound;
+        numbered = numbered;
+        control = n.0;
+        clean = sym (ap (λ (t : TypedStatement). t.faults) is) ∙ clean;
+        shallow = le;
+      },
+      ap (λ (t : TypedStatement). Own (Always b.place c.star c.events t.statement) ∷ []) is,
+    )
+
+pub scoped_blocks_fine : ScopedBlocksAreFine
+scoped_blocks_fine d limits b t x sound numbered declared le control h =
+    let body = body_with (scoped_declared b t) b.block in
+    let c = typed_control b.block.control (named b.env) in
+    let is : scoped_statement limits b t ≡ typed_statement b.block.statement body (named b.env) = unrolled_is (limits.copies - t.loops.copies) b.block.statement body (named b.env) h in (
+      record {
+        shaped = x;
+        around = record { unrolls = refl; sound = declared; numbered = λ place. blocks_numbered d (local_at (scoped_signals b t) place) };
+        sound = sound;
+        numbered = numbered;
+        control = control;
+        clean = sym (ap (λ (s : TypedStatement). s.faults) is) ∙ h;
+        shallow = le;
+      },
+      ap (λ (s : TypedStatement). Always b.block.place c.star c.events s.statement ∷ []) is,
+    )
 
 pub initials_fine : InitialsAreFine
 initials_fine d env limits loops b x sound numbered le h =
@@ -151,11 +183,6 @@ initials_fine d env limits loops b x sound numbered le h =
       record { shaped = x; around = record { unrolls = refl; sound = λ place. tt; numbered = λ place. tt }; sound = sound; numbered = numbered; clean = sym (ap (λ (t : TypedStatement). t.faults) is) ∙ clean; shallow = le },
       ap (λ (t : TypedStatement). Initially b.place t.statement ∷ []) is,
     )
-
--- the variables of its named blocks are no functions
-blocks_numbered : (d : Design) (o : Option LocalSignal) → IsNumbered d (meaning_or o)
-blocks_numbered d None = tt
-blocks_numbered d (Some s) = tt
 
 pub functions_fine : FunctionsAreFine
 functions_fine d number most scope env f x sees numbered le h =

@@ -15,6 +15,7 @@ pub mod SignalNames
 pub mod Arms
 pub mod Lists
 pub mod Selects
+pub mod Further
 pub mod Whole
 pub mod TargetFacts
 pub mod AssignFacts

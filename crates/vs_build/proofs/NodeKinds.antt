@@ -8,7 +8,8 @@ use Rattle.vs_four.specs.Selects.{one_bit, Part}
 use Rattle.vs_design.specs.Expressions as E
 use Rattle.vs_design.specs.Designs.{Design}
 use Rattle.vs_design.specs.Footprints.{is_input, is_variable, is_memory}
-use Rattle.vs_design.specs.Elaborated.{is_nil, are_numbered, have_bits_from, is_lawful_range, is_signal, is_this, has_words, is_formed, is_formed_select, is_local, is_formed_header}
+use Rattle.vs_design.specs.Fits.{fits_64}
+use Rattle.vs_design.specs.Elaborated.{is_nil, are_numbered, have_bits_from, is_lawful_range, is_signal, is_this, has_words, same_range, is_formed, is_formed_select, is_formed_word_part, is_local, is_formed_header}
 use Rattle.vs_flat.specs.declared.expressions.Node.{Node}
 use Rattle.vs_flat.specs.declared.functions.Declared.{Declared}
 use Rattle.vs_flat.specs.declared.functions.Function.{Function}
@@ -164,6 +165,36 @@ binary_adds r a b rs after rest bs op x y at s q t u m n p d h k =
     let w = two_are a rs rest bs x y s q t u m n p.is h k in
     step_adds r a b rs after bs rest (x ∷ y ∷ []) (N.Binary op x y) at s (E.At at (E.Binary op t u)) (max m n) p d w.before
     (ap (λ z. E.At at (E.Binary op z (tree_at (arena_trees a) y))) w.first ∙ ap (λ z. E.At at (E.Binary op t z)) w.second) w.few
+
+pub word_part_step : (a : Arena) (rs rest bs : List ℕ) (n : ℕ) (range : Range) (up : Bool) (width x y at : ℕ) → IsGrowing a rs bs → rs ≡ rest ++ x ∷ y ∷ [] → n < length a.signals → open_header a ≡ None
+    → is_formed_word_part (design_of a) (signal_at (arena_signals a) n) (record { range = range; up = up; width = width }) ≡ true → EndsWith 2 (draft_of a rs bs) → IsStep a rs bs rest (x ∷ y ∷ []) (N.WordPart n x range y up width) at
+word_part_step a rs rest bs n range up width x y at g e there outside words ends =
+    let part : Part = record { range = range; up = up; width = width } in
+    let below = used_below a rs rest (x ∷ y ∷ []) bs g e in
+    let f = used_formed a rs rest (x ∷ y ∷ []) bs g e in
+    let s = signal_at (arena_signals a) n in
+    record {
+      growing = g;
+      is = e;
+      names = λ k. refl;
+      covers =
+          covered ((nat_lt n (length a.signals) && true) && all_below (length a.nodes) (x ∷ y ∷ []))
+          (and_true (nat_lt n (length a.signals) && true) (all_below (length a.nodes) (x ∷ y ∷ [])) (covered (nat_lt n (length a.signals)) (lt-ltb n (length a.signals) there)) below);
+      copies = refl;
+      formed =
+          and_true (is_formed_word_part (current a) s part && is_formed (current a) (tree_at (arena_trees a) x)) (is_formed (current a) (tree_at (arena_trees a) y))
+          (and_true (is_formed_word_part (current a) s part) (is_formed (current a) (tree_at (arena_trees a) x)) (subst (λ o. is_formed_word_part (home_in (design_of a) o) s part ≡ true) (sym outside) words) f.0) f.1.0;
+      few = omega (arith, few_used 2 a rs rest (x ∷ y ∷ []) bs e refl ends);
+    }
+
+pub word_part_adds : {U F : Type 0} (r : Result U F) (a b : Arena) (rs after rest bs : List ℕ) (n : ℕ) (range : Range) (up : Bool) (width x y at : ℕ) (memory : E.Signal) (s q : Draft) (t u : E.Expression) (m k : ℕ) → signal_at (arena_signals a) n ≡ memory
+    → IsStep a rs bs rest (x ∷ y ∷ []) (N.WordPart n x range y up width) at → IsAdded r a b rs after rest (N.WordPart n x range y up width) at → AddsExpression s q t m → AddsExpression q (draft_of a rs bs) u k
+    → OnOk r (AddsExpression s (draft_of b after bs) (E.At at (E.WordPart memory t (record { range = range; up = up; width = width }) u)) (1 + max m k))
+word_part_adds r a b rs after rest bs n range up width x y at memory s q t u m k e p d h j =
+    let part : Part = record { range = range; up = up; width = width } in
+    let w = two_are a rs rest bs x y s q t u m k p.is h j in
+    step_adds r a b rs after bs rest (x ∷ y ∷ []) (N.WordPart n x range y up width) at s (E.At at (E.WordPart memory t part u)) (max m k) p d w.before
+    (ap (λ z. E.At at (E.WordPart z (tree_at (arena_trees a) x) part (tree_at (arena_trees a) y))) e ∙ ap (λ z. E.At at (E.WordPart memory z part (tree_at (arena_trees a) y))) w.first ∙ ap (λ z. E.At at (E.WordPart memory t part z)) w.second) w.few
 
 -- ---- selects: the index, and then what bits are taken of
 
@@ -335,6 +366,9 @@ outside_function a rs bs m g h = by (open_header a) refl h
         let b = and_both (is_signal (home_in (design_of a) (Some l)) m) (is_memory m) k in
         absurd (clash b.1 (local_plain (design_of a) l m (E.local_signals l) m.number (locals_of_header (design_of a) l (g.header l e)) b.0))
 
+pub words_of_part : (d : Design) (s : E.Signal) (part : Part) → is_formed_word_part d s part ≡ true → has_words d s ≡ true
+words_of_part d s part h = (and_both (has_words d s) (same_range s.range (Some part.range)) (and_both (has_words d s && same_range s.range (Some part.range)) (fits_64 part.width) h).0).0
+
 -- a memory of the design
 pub record IsMemory (a : Arena) (v : Growing) (n : ℕ) : Type 0 where
   pub outside : open_header a ≡ None
@@ -361,6 +395,17 @@ word_found a rs bs v n len x at g view there words h e f =
     let ends = ends_in 1 a rs bs v view h in
     let m = memory_is a rs bs v n g view there words in
     word_step a rs (take (length rs - 1) rs) bs n x at g (last_one rs x (ends_enough 1 a rs bs ends) (at_last rs len 1 x e f)) m.there m.outside m.words ends
+
+pub word_part_found : (a : Arena) (rs bs : List ℕ) (v : Growing) (n : ℕ) (range : Range) (up : Bool) (width len x y at : ℕ) → IsGrowing a rs bs → (let w : Growing = record { arena = a; roots = rs; bodies = bs } in w) ≡ v → n < length (home (draft v)).signals
+    → is_formed_word_part (home (draft v)) (signal_at (home (draft v)).signals n) (record { range = range; up = up; width = width }) ≡ true → EndsWith 2 (draft v) → len ≡ length rs → x ≡ get_or rs (len - 2) x → y ≡ get_or rs (len - 1) y
+    → IsStep a rs bs (take (length rs - 2) rs) (x ∷ y ∷ []) (N.WordPart n x range y up width) at
+word_part_found a rs bs v n range up width len x y at g view there formed h e f k =
+    let part : Part = record { range = range; up = up; width = width } in
+    let ends = ends_in 2 a rs bs v view h in
+    let m = memory_is a rs bs v n g view there (words_of_part (home (draft v)) (signal_at (home (draft v)).signals n) part formed) in
+    let here : is_formed_word_part (current a) (signal_at (current a).signals n) part ≡ true = subst (λ (w : Growing). is_formed_word_part (home (draft w)) (signal_at (home (draft w)).signals n) part ≡ true) (sym view) formed in
+    word_part_step a rs (take (length rs - 2) rs) bs n range up width x y at g (last_two rs x y (ends_enough 2 a rs bs ends) (at_last rs len 2 x e f) (at_last rs len 1 y e k)) m.there m.outside
+    (subst (λ o. is_formed_word_part (home_in (design_of a) o) (signal_at (home_in (design_of a) o).signals n) part ≡ true) m.outside here) ends
 
 -- ---- names: of the design's signals, and in a function of its local ones
 

@@ -120,7 +120,7 @@ select_faults : (b : Base) (t : Taken) (c : Bool) → (select_if c b t).faults �
 select_faults b t true h = both_nil b.faults t.faults h
 select_faults b t false h = both_nil b.faults t.faults h
 
-width_faults : (declared : Option Range) (up : Bool) (n : Option ℕ) (t : Typed) (fs : List Fault) → (if_width declared up n t fs).faults ≡ fs
+pub width_faults : (declared : Option Range) (up : Bool) (n : Option ℕ) (t : Typed) (fs : List Fault) → (if_width declared up n t fs).faults ≡ fs
 width_faults declared up None t fs = refl
 width_faults None up (Some n) t fs = refl
 width_faults (Some r) up (Some n) t fs = refl
@@ -234,7 +234,7 @@ bit_word d find fixed needed name bracket index n e s =
 
 -- ---- `[a:b]`
 
-between_faults : (declared : Option Range) (bracket place : ℕ) (range : Option Range) (fs : List Fault) → (between declared bracket place range fs).faults ≡ [] → fs ≡ []
+pub between_faults : (declared : Option Range) (bracket place : ℕ) (range : Option Range) (fs : List Fault) → (between declared bracket place range fs).faults ≡ [] → fs ≡ []
 between_faults declared bracket place None fs h = h
 between_faults declared bracket place (Some q) fs h = of (is_against declared q) declared h
   where
@@ -252,7 +252,7 @@ pub record IsBetween (d : Design) (find : Find) (needed : Bool) (bracket : ℕ) 
   pub range : (l r : ℕ) → (natural 0 65535 (expr_place a) (constant a (steady find))).number ≡ Some l → (natural 0 65535 (expr_place b) (constant b (steady find))).number ≡ Some r
       → (bounds bracket (expr_place a) (typed a (steady find) true) (expr_place b) (typed b (steady find) true)).range ≡ Some (record { left = l; right = r })
 
-between_range : (bracket : ℕ) (m n : Option ℕ) (l r : ℕ) → m ≡ Some l → n ≡ Some r → (range_of 64 bracket m n).faults ≡ []
+pub between_range : (bracket : ℕ) (m n : Option ℕ) (l r : ℕ) → m ≡ Some l → n ≡ Some r → (range_of 64 bracket m n).faults ≡ []
     → (range_length (record { left = l; right = r }) ≤ 64) × ((range_of 64 bracket m n).range ≡ Some (record { left = l; right = r }))
 between_range bracket m n l r e f h =
     let is : range_of 64 bracket m n ≡ up_to 64 bracket (record { left = l; right = r }) = ap (λ o. range_of 64 bracket o n) e ∙ ap (range_of 64 bracket (Some l)) f in

@@ -8,7 +8,8 @@ use Rattle.vs_design.specs.Expressions as E
 use Rattle.vs_design.specs.Expressions.{Expression}
 use Rattle.vs_design.specs.Statements.{Whole, PartOf}
 use Rattle.vs_design.specs.Designs.{Design}
-use Rattle.vs_design.specs.Elaborated.{is_plain, has_words, is_formed, is_formed_select}
+use Rattle.vs_design.specs.Fits.{fits_64}
+use Rattle.vs_design.specs.Elaborated.{is_plain, has_words, same_range, is_formed, is_formed_select, is_formed_word_part}
 use Rattle.vs_grammar.specs.Trees as tree
 use Rattle.vs_grammar.specs.Trees.{expr_place, target_place}
 use Rattle.vs_grammar.specs.Shapes.{IsExpr, IsSelect, IsTarget, ArePartsOfTarget, AreTargets}
@@ -22,13 +23,13 @@ use Rattle.vs_const.specs.declared.rules.Rule.TheVariants.{WrongKind}
 use Rattle.vs_const.specs.Meanings.{SignalMeaning, Meaning, AValue, Undefined, ASignal, AMemory, AFunction, Incomplete, Another, Barred, Unknown, Find, steady}
 use Rattle.vs_const.specs.Sound.{IsSound, AreSound}
 use Rattle.vs_const.specs.Typed.{Typed, begins_at, fine}
-use Rattle.vs_const.specs.Selects.{Base, signal_base, base_of, is_scalar, name_typed, known_signal, Taken, taken, slice_taken, first_needed, first_names, select_if, select_typed, word_if, bit_typed}
-use Rattle.vs_const.specs.Expressions.{typed}
+use Rattle.vs_const.specs.Selects.{Base, signal_base, base_of, is_scalar, name_typed, known_signal, Taken, taken, slice_taken, first_needed, first_names, select_if, select_typed, word_if, bit_typed, word_range, word_part_if, further_typed}
+use Rattle.vs_const.specs.Expressions.{typed, taken_by}
 use Rattle.vs_const.proofs.Steady.{sound_needed, steady_sound, first_sound}
-use Rattle.vs_const.proofs.Formed.{both_nil, both, no_fault, signal_base_fine, IsFineTaken, bit_fine, slice_fine, taken_faults, typed_fine}
+use Rattle.vs_const.proofs.Formed.{both_nil, both, no_fault, signal_base_fine, IsFineTaken, bit_fine, slice_fine, taken_faults, typed_fine, taken_by_fine, word_ranged, same_itself}
 use Rattle.vs_flat.specs.Targets.{target_of, both_of, place_of}
 use Rattle.vs_flat.specs.Trees.{joined}
-use Rattle.vs_elaborated.specs.Targets.{meant_signal, TypedTarget, is_wrong_target, target_rule, target_base, part_target, word_target, bit_target, selected_target, typed_target, typed_targets}
+use Rattle.vs_elaborated.specs.Targets.{meant_signal, TypedTarget, is_wrong_target, target_rule, target_base, part_target, word_target, bit_target, word_part_target, further_target, selected_target, typed_target, typed_targets}
 use Rattle.vs_build.specs.Drafts.{Draft, home, AddsExpression, AddsParts}
 use Rattle.vs_build.specs.Buildable.{selected_by, memory_of, IsSelectable}
 use Rattle.vs_build.specs.Writable.{target_expression, targets_expression, IsWritable, AreWritable, target_expressions}
@@ -153,6 +154,55 @@ bit_case d find procedural name bracket index e x sound h =
     part_case d find procedural name (tree.BitAt bracket index) (λ o. taken o true 1 i i.faults) (sound name.bytes) (bit_is false name.place m i e) (bit_target_is procedural name.place m i e)
     (λ r o q f. bit_fine d (not procedural) o r i q (typed_fine d find index (not procedural) (needed_sound d (not procedural) find sound) x (sym (taken_faults o true 1 i i.faults) ∙ f))) h
 
+-- bits of a word
+word_part_case : (d : Design) (find : Find) (procedural : Bool) (name : tree.Name) (bracket : ℕ) (address : tree.Expr) (part : tree.Select) (m : SignalMeaning) → find name.bytes ≡ AMemory m → IsSelect (tree.OfWord bracket address part) → AreSound d false find
+    → (selected_target (tree.OfWord bracket address part) name find procedural).faults ≡ [] → IsNamedTarget d find procedural name (tree.OfWord bracket address part)
+word_part_case d find procedural name bracket address part m e x sound h =
+    let needed = not procedural in
+    let a = typed address find needed in
+    let take = λ (y : Meaning). taken_by (word_range y) part find needed in
+    let t = take (AMemory m) in
+    let wrong = fault_if (is_wrong_target procedural m) WrongKind name.place in
+    let scalar = fault_if (is_scalar m) WrongKind name.place in
+    let by_target : selected_target (tree.OfWord bracket address part) name find procedural ≡ word_part_target procedural name.place m a t = ap (λ y. further_target procedural name.place y a (take y)) e in
+    let k = both_nil wrong (scalar ++ (a.faults ++ t.faults)) (sym (ap (λ (u : TypedTarget). u.faults) by_target) ∙ h) in
+    let l = both_nil scalar (a.faults ++ t.faults) k.1 in
+    let n = both_nil a.faults t.faults l.1 in
+    let s = subst (IsSound d false) e (sound name.bytes) in
+    let r = word_ranged m name.place s.1 l.0 in
+    let all = needed_sound d needed find sound in
+    let f = typed_fine d find address needed all x.0 n.0 in
+    let g = taken_by_fine d part find needed m.signal.range r.0 all x.1 x.2 r.1 n.1 in
+    let is : selected_by (tree.OfWord bracket address part) name find false needed ≡ (let y : Typed = record { expression = E.WordPart m.signal a.expression t.part t.index; length = t.length; good = true; faults = scalar ++ (a.faults ++ t.faults) } in y) =
+    ap (λ y. further_typed false name.place y a (take y)) e ∙ ap (λ b. word_part_if b m scalar a t) (both (m.known && a.good) t.good (both m.known a.good s.1 f.good) g.good)
+    in
+    record {
+      good = ap (λ (u : Typed). u.good) is;
+      clean = ap (λ (u : Typed). u.faults) is ∙ k.1;
+      formed = ap (λ (u : Typed). is_formed d u.expression) is
+          ∙ both (is_formed_word_part d m.signal t.part && is_formed d a.expression) (is_formed d t.index) (both (is_formed_word_part d m.signal t.part) (is_formed d a.expression) (of_words r.0 r.1 g) f.formed) g.formed;
+      written = ap (λ (u : Typed). target_of u.expression) is ∙ ap (λ (u : TypedTarget). Some u.target) (sym by_target);
+    }
+  where
+    of_words : (r : Range) → m.signal.range ≡ Some r → IsFineTaken d (not procedural) r (taken_by m.signal.range part find (not procedural)) → is_formed_word_part d m.signal (taken_by m.signal.range part find (not procedural)).part ≡ true
+    of_words r i g =
+        let p = (taken_by m.signal.range part find (not procedural)).part in
+        both (has_words d m.signal && same_range m.signal.range (Some p.range)) (fits_64 p.width)
+        (both (has_words d m.signal) (same_range m.signal.range (Some p.range)) (subst (IsSound d false) e (sound name.bytes)).0
+        (subst (λ q. same_range q (Some p.range) ≡ true) (sym i) (subst (λ q. same_range (Some r) (Some q) ≡ true) (sym g.range) (same_itself r)))) g.fits
+
+-- of what is no memory
+pub no_memory_part : (procedural : Bool) (place : ℕ) (m : Meaning) (a : Typed) (t : Taken) → memory_of m ≡ None → (further_target procedural place m a t).faults ≡ [] → ⊥
+no_memory_part procedural place (AValue v r turns) a t e h = cc
+no_memory_part procedural place (Undefined r) a t e h = cc
+no_memory_part procedural place (ASignal s) a t e h = cc
+no_memory_part procedural place (AMemory s) a t e h = cc
+no_memory_part procedural place (AFunction g) a t e h = cc
+no_memory_part procedural place Incomplete a t e h = cc
+no_memory_part procedural place Another a t e h = cc
+no_memory_part procedural place (Barred rule) a t e h = cc
+no_memory_part procedural place Unknown a t e h = cc
+
 pub named_target : (d : Design) (find : Find) (procedural : Bool) (name : tree.Name) (select : tree.Select) → IsSelect select → AreSound d false find → (selected_target select name find procedural).faults ≡ [] → IsNamedTarget d find procedural name select
 named_target d find procedural name tree.Whole x sound h = whole_target d find procedural name (sound name.bytes) h
 named_target d find procedural name (tree.BitAt bracket index) x sound h = of (memory_of (find name.bytes)) refl
@@ -160,7 +210,11 @@ named_target d find procedural name (tree.BitAt bracket index) x sound h = of (m
     of : (o : Option ℕ) → memory_of (find name.bytes) ≡ o → IsNamedTarget d find procedural name (tree.BitAt bracket index)
     of None e = bit_case d find procedural name bracket index e x sound h
     of (Some n) e = let w = memory_is (find name.bytes) n e in word_case d find procedural name bracket index w.0 w.1 x sound h
-named_target d find procedural name (tree.OfWord bracket address part) x sound h = cc
+named_target d find procedural name (tree.OfWord bracket address part) x sound h = of (memory_of (find name.bytes)) refl
+  where
+    of : (o : Option ℕ) → memory_of (find name.bytes) ≡ o → IsNamedTarget d find procedural name (tree.OfWord bracket address part)
+    of None e = absurd (no_memory_part procedural name.place (find name.bytes) (typed address find (not procedural)) (taken_by (word_range (find name.bytes)) part find (not procedural)) e h)
+    of (Some n) e = let w = memory_is (find name.bytes) n e in word_part_case d find procedural name bracket address part w.0 w.1 x sound h
 named_target d find procedural name (tree.Slice bracket kind a b) x sound h =
     let needed = not procedural in
     let all = needed_sound d needed find sound in
@@ -180,6 +234,7 @@ begins_target p (E.Literal bits signed sized) = refl
 begins_target p (E.Name signal) = refl
 begins_target p (E.Select source part index) = refl
 begins_target p (E.Word signal index) = refl
+begins_target p (E.WordPart signal address part index) = refl
 begins_target p (E.Unary op a) = refl
 begins_target p (E.Binary op a b) = refl
 begins_target p (E.Choice c a b) = refl
@@ -193,6 +248,7 @@ begins_place p (E.Literal bits signed sized) = refl
 begins_place p (E.Name signal) = refl
 begins_place p (E.Select source part index) = refl
 begins_place p (E.Word signal index) = refl
+begins_place p (E.WordPart signal address part index) = refl
 begins_place p (E.Unary op a) = refl
 begins_place p (E.Binary op a b) = refl
 begins_place p (E.Choice c a b) = refl

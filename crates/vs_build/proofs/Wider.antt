@@ -4,13 +4,13 @@ use Rattle.std.specs.Prelude.{slice_get, Some}
 use Rattle.std.specs.List.{list_all}
 use Rattle.std.proofs.lemmas.Bool.{ltb-true, lt-ltb}
 use Rattle.vs_four.specs.Selects.{Part}
-use Rattle.vs_design.specs.Expressions.{Signal, Source, OfSignal, OfConstant, Header, local_signals, Expression, Literal, Name, Select, Word, Unary, Binary, Choice, Join, Repeat, At, Call, Items, NoItem, Item}
-use Rattle.vs_design.specs.Statements.{Function, Target, Whole, PartOf, WordOf, Both, Statement, Empty, Assignment, Then, If, Case, Arms, Arm, Default}
+use Rattle.vs_design.specs.Expressions.{Signal, Source, OfSignal, OfConstant, Header, local_signals, Expression, Literal, Name, Select, Word, WordPart, Unary, Binary, Choice, Join, Repeat, At, Call, Items, NoItem, Item}
+use Rattle.vs_design.specs.Statements.{Function, Target, Whole, PartOf, WordOf, WordPartOf, Both, Statement, Empty, Assignment, Then, If, Case, Arms, Arm, Default}
 use Rattle.vs_design.specs.Designs.{Design}
 use Rattle.vs_design.specs.Footprints.{is_input, is_variable, is_memory}
 use Rattle.vs_design.specs.Fits.{fits_64}
 use Rattle.vs_design.specs.Rules.{mixed_in}
-use Rattle.vs_design.specs.Elaborated.{is_nil, are_numbered, have_bits_from, is_lawful_range, is_signal, is_this, is_plain, has_words, same_range, is_formed_select, is_local, is_formed_header, inside, has_items, are_as_many, is_formed, are_formed, is_formed_target, is_formed_statement, is_formed_function, are_formed_arms}
+use Rattle.vs_design.specs.Elaborated.{is_nil, are_numbered, have_bits_from, is_lawful_range, is_signal, is_this, is_plain, has_words, same_range, is_formed_select, is_formed_word_part, is_local, is_formed_header, inside, has_items, are_as_many, is_formed, are_formed, is_formed_target, is_formed_statement, is_formed_function, are_formed_arms}
 use Rattle.vs_flat.proofs.Agreeing.{and_both, and_true}
 
 pub record IsWider (c d : Design) : Type 0 where
@@ -29,6 +29,11 @@ plain_wider c d w s h = both_wider (is_signal c s) (not (is_memory s)) (is_signa
 
 pub words_wider : (c d : Design) → IsWider c d → (s : Signal) → has_words c s ≡ true → has_words d s ≡ true
 words_wider c d w s h = both_wider (is_signal c s) (is_memory s) (is_signal d s) (is_memory s) (w.signals s) (λ k. k) h
+
+word_part_wider : (c d : Design) → IsWider c d → (s : Signal) (p : Part) → is_formed_word_part c s p ≡ true → is_formed_word_part d s p ≡ true
+word_part_wider c d w s p h =
+    both_wider (has_words c s && same_range s.range (Some p.range)) (fits_64 p.width) (has_words d s && same_range s.range (Some p.range)) (fits_64 p.width)
+    (both_wider (has_words c s) (same_range s.range (Some p.range)) (has_words d s) (same_range s.range (Some p.range)) (words_wider c d w s) (λ k. k)) (λ k. k) h
 
 select_wider : (c d : Design) → IsWider c d → (s : Source) (p : Part) → is_formed_select c s p ≡ true → is_formed_select d s p ≡ true
 select_wider c d w (OfSignal s) p h =
@@ -67,6 +72,9 @@ mutual
   expression_wider c d w (Name s) h = plain_wider c d w s h
   expression_wider c d w (Select s p i) h = both_wider (is_formed_select c s p) (is_formed c i) (is_formed_select d s p) (is_formed d i) (select_wider c d w s p) (λ k. expression_wider c d w i k) h
   expression_wider c d w (Word s i) h = both_wider (has_words c s) (is_formed c i) (has_words d s) (is_formed d i) (words_wider c d w s) (λ k. expression_wider c d w i k) h
+  expression_wider c d w (WordPart s a p i) h =
+      both_wider (is_formed_word_part c s p && is_formed c a) (is_formed c i) (is_formed_word_part d s p && is_formed d a) (is_formed d i)
+      (both_wider (is_formed_word_part c s p) (is_formed c a) (is_formed_word_part d s p) (is_formed d a) (word_part_wider c d w s p) (λ k. expression_wider c d w a k)) (λ k. expression_wider c d w i k) h
   expression_wider c d w (Unary op a) h = expression_wider c d w a h
   expression_wider c d w (Binary op a b) h = both_wider (is_formed c a) (is_formed c b) (is_formed d a) (is_formed d b) (λ k. expression_wider c d w a k) (λ k. expression_wider c d w b k) h
   expression_wider c d w (Choice e p q) h =
@@ -95,6 +103,10 @@ mutual
   target_wider c d w (WordOf s i) h =
       both_wider (has_words c s && is_variable s) (is_formed c i) (has_words d s && is_variable s) (is_formed d i)
       (both_wider (has_words c s) (is_variable s) (has_words d s) (is_variable s) (words_wider c d w s) (λ k. k)) (λ k. expression_wider c d w i k) h
+  target_wider c d w (WordPartOf s a p i) h =
+      both_wider (is_formed_word_part c s p && is_variable s && is_formed c a) (is_formed c i) (is_formed_word_part d s p && is_variable s && is_formed d a) (is_formed d i)
+      (both_wider (is_formed_word_part c s p && is_variable s) (is_formed c a) (is_formed_word_part d s p && is_variable s) (is_formed d a)
+      (both_wider (is_formed_word_part c s p) (is_variable s) (is_formed_word_part d s p) (is_variable s) (word_part_wider c d w s p) (λ k. k)) (λ k. expression_wider c d w a k)) (λ k. expression_wider c d w i k) h
   target_wider c d w (Both a b) h =
       both_wider (is_formed_target c is_variable a) (is_formed_target c is_variable b) (is_formed_target d is_variable a) (is_formed_target d is_variable b) (λ k. target_wider c d w a k) (λ k. target_wider c d w b k) h
 

@@ -9,13 +9,13 @@ use Rattle.vs_design.specs.Designs.{Design}
 use Rattle.vs_design.specs.Elaborated.{is_formed}
 use Rattle.vs_grammar.specs.Trees as tree
 use Rattle.vs_grammar.specs.Trees.{expr_place}
-use Rattle.vs_grammar.specs.Shapes.{IsExpr, AreExprs, IsSelect, AreParts}
+use Rattle.vs_grammar.specs.Shapes.{IsExpr, AreExprs, IsSelect, is_part, AreParts}
 use Rattle.vs_grammar.specs.Depths.{expr_depth, exprs_depth, select_depth}
-use Rattle.vs_const.specs.Meanings.{FunctionMeaning, Meaning, AMemory, AFunction, Find, steady, IsFair}
+use Rattle.vs_const.specs.Meanings.{FunctionMeaning, SignalMeaning, Meaning, AMemory, AFunction, Find, steady, IsFair}
 use Rattle.vs_const.specs.Sound.{IsSound, AreSound}
 use Rattle.vs_const.specs.Typed.{Typed, natural}
-use Rattle.vs_const.specs.Selects.{name_typed, Base, base_of, slice_taken, first_needed, first_names, select_typed, bit_typed, further_typed}
-use Rattle.vs_const.specs.Expressions.{constant, typed, typed_parts, typed_arguments}
+use Rattle.vs_const.specs.Selects.{name_typed, Base, base_of, slice_taken, first_needed, first_names, select_typed, bit_typed, word_range, further_typed}
+use Rattle.vs_const.specs.Expressions.{constant, typed, taken_by, typed_parts, typed_arguments}
 use Rattle.vs_elaborated.specs.Numbers.{AreNumbered}
 use Rattle.vs_flat.specs.Targets.{source_of}
 use Rattle.vs_build.specs.Drafts.{Draft, AddsExpression}
@@ -35,7 +35,9 @@ selected_by (tree.BitAt bracket index) name find fixed needed = bit_typed fixed 
 selected_by (tree.Slice bracket kind e f) name find fixed needed =
     let b = base_of fixed name.place (find name.bytes) in
     select_typed b (slice_taken b.range bracket kind (expr_place e) (typed e (first_names kind find) (first_needed kind needed)) (expr_place f) (typed f (steady find) true))
-selected_by (tree.OfWord bracket address part) name find fixed needed = further_typed fixed name.place (find name.bytes)
+selected_by (tree.OfWord bracket address part) name find fixed needed =
+    let m = find name.bytes in
+    further_typed fixed name.place m (typed address find needed) (taken_by (word_range m) part find needed)
 
 pub record IsSelectable (d : Design) (find : Find) (fixed needed : Bool) (name : tree.Name) (select : tree.Select) : Type 0 where
   pub shaped : IsSelect select
@@ -46,6 +48,15 @@ pub record IsSelectable (d : Design) (find : Find) (fixed needed : Bool) (name :
   pub good : (selected_by select name find fixed needed).good ≡ true
   pub formed : is_formed d (selected_by select name find fixed needed).expression ≡ true
   pub shallow : select_depth select ≤ 253
+
+-- a select of one or several bits of something with this range
+pub record IsTakable (d : Design) (find : Find) (needed : Bool) (declared : Range) (part : tree.Select) : Type 0 where
+  pub shaped : IsSelect part
+  pub one_or_several : is_part part ≡ true
+  pub sound : AreSound d needed find
+  pub numbered : AreNumbered d find
+  pub clean : (taken_by (Some declared) part find needed).faults ≡ []
+  pub shallow : select_depth part ≤ 253
 
 -- the parts of a concatenation
 pub record AreBuildable (d : Design) (find : Find) (needed : Bool) (parts : tree.Exprs) : Type 0 where
@@ -114,6 +125,13 @@ pub record HasBits (d : Design) (needed : Bool) (place : ℕ) (m : Meaning) : Ty
   pub good : (base_of needed place m).good ≡ true
   pub range : Range
   pub has_range : (base_of needed place m).range ≡ Some range
+
+-- a memory whose words have a range
+pub record HasWords (m : Meaning) : Type 0 where
+  pub memory : SignalMeaning
+  pub is : m ≡ AMemory memory
+  pub range : Range
+  pub has_range : memory.signal.range ≡ Some range
 
 -- what bits are selected of is the last expression
 pub record AddsSource (old new : Draft) (base : Base) (range : Range) : Type 0 where

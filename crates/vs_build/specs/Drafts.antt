@@ -2,7 +2,7 @@
 use Rattle.std.specs.Prelude.{◌≡◌, ◌≤◌, ◌+◌, ℕ, Bool, true, false, ◌&&◌, List, [], ◌∷◌, ◌++◌, map, length, max, nat_lt, is_some, Option, None, Some}
 use Rattle.std.specs.List.{list_all}
 use Rattle.vs_design.specs.Expressions.{Signal, Header, Expression, items_of}
-use Rattle.vs_design.specs.Statements.{Target, Whole, PartOf, WordOf, Both, Statement, Arms, Arm, Default}
+use Rattle.vs_design.specs.Statements.{Target, Whole, PartOf, WordOf, WordPartOf, Both, Statement, Arms, Arm, Default}
 use Rattle.vs_design.specs.Designs.{Scope, Process, Design}
 use Rattle.vs_design.specs.Elaborated.{inside, is_nil, is_formed_select}
 use Rattle.vs_design.specs.Rules.{mixed_in}
@@ -171,6 +171,7 @@ abbrev pub writes_variables : Target → Bool
 writes_variables (Whole signal) = is_variable signal
 writes_variables (PartOf signal part index) = is_variable signal
 writes_variables (WordOf signal index) = is_variable signal
+writes_variables (WordPartOf signal address part index) = is_variable signal
 writes_variables (Both high low) = writes_variables high && writes_variables low
 
 -- the last ones are what an assignment writes, and its expression (9.2)

@@ -9,13 +9,14 @@ use Rattle.vs_ast.specs.Views as view
 use Rattle.vs_grammar.specs.Trees as tree
 use Rattle.vs_grammar.specs.Shapes.{IsExpr, IsStatement, AreStatements, AreArms, Each}
 use Rattle.vs_grammar.specs.Depths.{deepest, expr_depth, statement_depth, statements_depth, arms_depth}
-use Rattle.vs_const.specs.Meanings.{Find, turning, IsFair}
+use Rattle.vs_const.specs.Meanings.{Meaning, Barred, Find, turning, IsFair}
+use Rattle.vs_const.specs.declared.rules.Rule.TheVariants.{LoopVariable}
 use Rattle.vs_const.specs.Expressions.{constant}
 use Rattle.vs_const.specs.Sound.{IsSound, AreSound}
 use Rattle.vs_elaborated.specs.Numbers.{IsNumbered, AreNumbered}
 use Rattle.vs_elaborated.specs.Targets.{meant_signal}
 use Rattle.vs_elaborated.specs.Statements.{Body, TypedStatement, typed_list, typed_statement, typed_sequence, typed_arms, not_there, typed_control, given, goes_on}
-use Rattle.vs_elaborated.specs.Surveys.{block_body, initial_body}
+use Rattle.vs_elaborated.specs.Surveys.{body_with, initial_body}
 use Rattle.vs_build.specs.Drafts.{Labelled}
 
 -- the variables of named blocks mean something
@@ -85,18 +86,23 @@ pub record IsNext (head : tree.LoopHead) (inner : Find) : Type 0 where
 
 -- ---- always blocks (9.9.2)
 
--- a block, whose loops are unrolled; a clocked one alone writes words of memories
-pub record IsRunnable (d : Design) (find : Find) (b : tree.AlwaysBlock) : Type 0 where
+-- what is declared in the named blocks of one of which none is a scope
+abbrev pub barred : ℕ → Meaning
+barred place = Barred LoopVariable
+
+-- a block, whose loops are unrolled, and in whose named blocks the variables mean this; a clocked one alone writes words of memories
+pub record IsRunnable (d : Design) (declared : ℕ → Meaning) (find : Find) (b : tree.AlwaysBlock) : Type 0 where
   pub shaped : IsStatement b.statement
+  pub around : IsSoundBody d (body_with declared b)
   pub sound : AreSound d false find
   pub numbered : AreNumbered d find
   pub control : (typed_control b.control find).faults ≡ []
-  pub clean : (typed_statement b.statement (block_body b) find).faults ≡ []
+  pub clean : (typed_statement b.statement (body_with declared b) find).faults ≡ []
   pub shallow : statement_depth b.statement ≤ 253
 
 -- the process of a design that it is
-abbrev pub block_process : tree.AlwaysBlock → Find → Process
-block_process b find = Always b.place (typed_control b.control find).star (typed_control b.control find).events (typed_statement b.statement (block_body b) find).statement
+abbrev pub block_process : (declared : ℕ → Meaning) → tree.AlwaysBlock → Find → Process
+block_process declared b find = Always b.place (typed_control b.control find).star (typed_control b.control find).events (typed_statement b.statement (body_with declared b) find).statement
 
 -- ---- initial blocks (9.9.1)
 

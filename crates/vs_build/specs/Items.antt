@@ -5,19 +5,20 @@ use Rattle.vs_grammar.specs.Trees as tree
 use Rattle.vs_grammar.specs.Trees.{Wire}
 use Rattle.vs_grammar.specs.Shapes.{IsAssign, IsDeclarator, IsStatement, IsFunction, Each}
 use Rattle.vs_grammar.specs.Depths.{deepest, assign_depth, declarator_depth, statement_depth}
-use Rattle.vs_const.specs.Meanings.{Find}
-use Rattle.vs_const.specs.Sound.{AreSound}
+use Rattle.vs_const.specs.Meanings.{Meaning, Find}
+use Rattle.vs_const.specs.Sound.{IsSound, AreSound}
 use Rattle.vs_elaborated.specs.Numbers.{AreNumbered}
 use Rattle.vs_elaborated.specs.Sound.{SeesSound}
 use Rattle.vs_elaborated.specs.Limits.{Limits}
 use Rattle.vs_elaborated.specs.Environments.{Env, inside_function, named}
-use Rattle.vs_elaborated.specs.Statements.{typed_statement}
-use Rattle.vs_elaborated.specs.Functions.{function_locals, header_of, function_names, function_body, said_function}
-use Rattle.vs_elaborated.specs.Pieces.{Own, Initially, all_said}
-use Rattle.vs_elaborated.specs.Surveys.{Loops, assign_said, declarator_said, block_said, initial_body, initial_said}
+use Rattle.vs_elaborated.specs.Statements.{typed_control, typed_statement}
+use Rattle.vs_elaborated.specs.Functions.{function_locals, header_of, function_names, function_body, said_function, meaning_or, signal_at}
+use Rattle.vs_elaborated.specs.Pieces.{ScopedBlock, Own, Initially, all_said}
+use Rattle.vs_elaborated.specs.Surveys.{Loops, Totals, assign_said, declarator_said, plain_block_said, scoped_signals, scoped_statement, initial_body, initial_said}
+use Rattle.vs_elaborated.specs.Elaborated.{scoped_design}
 use Rattle.vs_build.specs.Drafts.{Draft, home_in}
 use Rattle.vs_build.specs.Writable.{IsAssignable, wire_assign, assign_process}
-use Rattle.vs_build.specs.Executable.{IsExecutable, IsRunnable, block_process, begun}
+use Rattle.vs_build.specs.Executable.{IsExecutable, IsRunnable, barred, block_process, begun}
 
 abbrev pub and_processes : Draft → List Process → Draft
 and_processes s ps = record s { design = record s.design { processes = s.design.processes ++ ps } }
@@ -58,7 +59,17 @@ WiresAreFine = (d : Design) (env : Env) (place : ℕ) (names : List tree.Declara
 -- of an always block: its loops are unrolled
 abbrev pub BlocksAreFine : Type 0
 BlocksAreFine = (d : Design) (env : Env) (limits : Limits) (loops : Loops) (b : tree.AlwaysBlock) → IsStatement b.statement → AreSound d false (named env) → AreNumbered d (named env) → statement_depth b.statement ≤ 253
-    → (block_said limits env loops b).faults ≡ [] → IsRunnable d (named env) b × ((block_said limits env loops b).pieces ≡ Own (block_process b (named env)) ∷ [])
+    → (plain_block_said limits env loops b).faults ≡ [] → IsRunnable d barred (named env) b × ((plain_block_said limits env loops b).pieces ≡ Own (block_process barred b (named env)) ∷ [])
+
+-- what the variables of its named blocks mean where these are scopes
+abbrev pub scoped_declared : ScopedBlock → Totals → ℕ → Meaning
+scoped_declared b t place = meaning_or (signal_at (scoped_signals b t) place)
+
+-- and of one whose named blocks are scopes, behind all that was read
+abbrev pub ScopedBlocksAreFine : Type 0
+ScopedBlocksAreFine = (d : Design) (limits : Limits) (b : ScopedBlock) (t : Totals) → IsStatement b.block.statement → AreSound d false (named b.env) → AreNumbered d (named b.env) → ((place : ℕ) → IsSound d false (scoped_declared b t place))
+    → statement_depth b.block.statement ≤ 253 → (typed_control b.block.control (named b.env)).faults ≡ [] → (scoped_statement limits b t).faults ≡ []
+    → IsRunnable d (scoped_declared b t) (named b.env) b.block × ((scoped_design b t (scoped_signals b t) (scoped_statement limits b t)).processes ≡ block_process (scoped_declared b t) b.block (named b.env) ∷ [])
 
 -- and of an initial block
 abbrev pub InitialsAreFine : Type 0

@@ -8,7 +8,7 @@ ghost use Rattle.vs_const.specs.declared.rules.Rule.TheVariants.{LoopVariable};
 ghost use Rattle.vs_elaborated.specs.Surveys.{initial_body};
 ghost use Rattle.vs_build.specs.Drafts.{and_initial, and_process, home};
 ghost use Rattle.vs_build.specs.Growth.{draft};
-ghost use Rattle.vs_build.specs.Executable.{IsExecutable, IsRunnable, awaited_of, awaited, begun, block_process};
+ghost use Rattle.vs_build.specs.Executable.{IsExecutable, IsRunnable, awaited_of, awaited, barred, begun, block_process};
 
 use crate::builder::Builder;
 use crate::statements::statement;
@@ -68,7 +68,41 @@ fn events<E: Env>(alloc: Global, list: &[ast::Event], env: &E) -> Result<Vec<Eve
     Ok(made)
 }
 
-/// Builds an always block that breaks no rule, with its loops unrolled (IEEE 1364-2005, 9.6). An error is want of memory; the builder is of no use then.
+/// Builds an always block that breaks no rule, with its loops unrolled (IEEE 1364-2005, 9.6), where `around` says what the variables of its named blocks
+/// mean. An error is want of memory; the builder is of no use then.
+pub fn always_within<S: Surroundings>(
+    builder: &mut Builder,
+    alloc: Global,
+    block: &AlwaysBlock,
+    around: &S,
+) -> Result<(), AllocError>
+    requires room { length (draft builder.old).design.processes < 2 ^ 16 }
+    requires outside { (draft builder.old).function ≡ None }
+    requires fine { IsRunnable (home (draft builder.old)) (S.declared around.now) (S.names around.now) (view.always_block block.now) }
+    ensures { OnOk result (draft builder.new ≡ and_process (draft builder.old) (block_process (S.declared around.now) (view.always_block block.now) (S.names around.now))) }
+{
+    let layers = Layers::End;
+    let here = Inner {
+        around: &*around,
+        layers: &layers,
+    };
+    let kind = BodyKind {
+        in_function: false,
+        takes_variables: true,
+        clocked: is_clocked(&block.control),
+    };
+    statement(builder, alloc, &block.statement, kind, &here)?;
+    match &block.control {
+        EventControl::Star => builder.always(true, Vec::new(alloc), block.place),
+        EventControl::Listed(list) => {
+            let waited = events(alloc, list, around)?;
+            builder.always(false, waited, block.place)
+        }
+    }
+}
+
+/// Builds an always block that breaks no rule, with its loops unrolled (IEEE 1364-2005, 9.6), of whose named blocks none is a scope. An error is want of
+/// memory; the builder is of no use then.
 pub fn always<E: Env>(
     builder: &mut Builder,
     alloc: Global,
@@ -77,27 +111,11 @@ pub fn always<E: Env>(
 ) -> Result<(), AllocError>
     requires room { length (draft builder.old).design.processes < 2 ^ 16 }
     requires outside { (draft builder.old).function ≡ None }
-    requires fine { IsRunnable (home (draft builder.old)) (E.names env.now) (view.always_block block.now) }
-    ensures { OnOk result (draft builder.new ≡ and_process (draft builder.old) (block_process (view.always_block block.now) (E.names env.now))) }
+    requires fine { IsRunnable (home (draft builder.old)) barred (E.names env.now) (view.always_block block.now) }
+    ensures { OnOk result (draft builder.new ≡ and_process (draft builder.old) (block_process barred (view.always_block block.now) (E.names env.now))) }
 {
     let around = Alone { env: &*env };
-    let layers = Layers::End;
-    let here = Inner {
-        around: &around,
-        layers: &layers,
-    };
-    let kind = BodyKind {
-        in_function: false,
-        clocked: is_clocked(&block.control),
-    };
-    statement(builder, alloc, &block.statement, kind, &here)?;
-    match &block.control {
-        EventControl::Star => builder.always(true, Vec::new(alloc), block.place),
-        EventControl::Listed(list) => {
-            let waited = events(alloc, list, env)?;
-            builder.always(false, waited, block.place)
-        }
-    }
+    always_within(builder, alloc, block, &around)
 }
 
 /// Builds an initial block that breaks no rule, with its loops unrolled, behind the processes so far (IEEE 1364-2005, 9.6 and 9.9.1). An error is want of
@@ -121,6 +139,7 @@ pub fn initial<E: Env>(
     };
     let kind = BodyKind {
         in_function: false,
+        takes_variables: false,
         clocked: true,
     };
     statement(builder, alloc, &block.statement, kind, &here)?;

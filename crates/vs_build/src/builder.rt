@@ -43,7 +43,7 @@ impl Builder {
     ghost use Rattle.vs_design.specs.Expressions as E;
     ghost use Rattle.vs_design.specs.Statements as T;
     ghost use Rattle.vs_design.specs.Designs.{Continuous, Always, bit_count as design_bits};
-    ghost use Rattle.vs_design.specs.Elaborated.{has_words, is_formed, is_formed_header, IsLawfulDesign};
+    ghost use Rattle.vs_design.specs.Elaborated.{has_words, is_formed_word_part, is_formed, is_formed_header, IsLawfulDesign};
     ghost use Rattle.vs_flat.specs.Ports.{port_of};
     ghost use Rattle.vs_flat.specs.DesignOf.{scope_of, event_of, header_of, design_of};
     ghost use Rattle.vs_flat.specs.Lawful.{has_locals, IsLawful};
@@ -246,6 +246,41 @@ impl Builder {
             &mut self.roots,
             1,
             Node::Word { signal, index },
+            at,
+        )
+    }
+
+    /// Builds `width` bits of a word of a memory, upwards or downwards from an index on (IEEE 1364-2005, 5.2.2): the last expression is the index, and the
+    /// one before it the word's address.
+    pub fn word_part(
+        &mut self,
+        signal: u32,
+        range: Range,
+        up: bool,
+        width: u32,
+        at: u32,
+    ) -> Result<(), AllocError>
+        requires there { signal < length (home (draft self.old)).signals }
+        requires formed { is_formed_word_part (home (draft self.old)) (signal_at (home (draft self.old)).signals signal) (record { range = range; up = up; width = width }) ≡ true }
+        requires ends { EndsWith 2 (draft self.old) }
+        ensures { (s r : Draft) (t u : E.Expression) (m n : ℕ) → AddsExpression s r t m → AddsExpression r (draft self.old) u n
+            → OnOk result (AddsExpression s (draft self.new) (E.At at (E.WordPart (signal_at (home (draft self.old)).signals signal) t (record { range = range; up = up; width = width }) u)) (1 + max m n)) }
+    {
+        let n = self.roots.len();
+        let address = self.roots[n - 2];
+        let base = self.roots[n - 1];
+        add_over(
+            &mut self.flat,
+            &mut self.roots,
+            2,
+            Node::WordPart {
+                signal,
+                address,
+                range,
+                base,
+                up,
+                width,
+            },
             at,
         )
     }

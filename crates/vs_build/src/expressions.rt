@@ -1,19 +1,20 @@
 //! Expressions of the text (IEEE 1364-2005, clause 5).
 
-ghost use Rattle.std.specs.Prelude.{◌≡◌, ◌≤◌, ◌+◌, ℕ, Bool, true, max, min, length, map, IfOk, OnOk};
+ghost use Rattle.std.specs.Prelude.{◌≡◌, ◌≤◌, ◌+◌, ℕ, Bool, true, max, min, length, map, Some, IfOk, OnOk};
+ghost use Rattle.vs_four.specs.declared.Range.{Range};
 ghost use Rattle.vs_grammar.specs.Trees.{expr_place};
 ghost use Rattle.vs_grammar.specs.Depths.{expr_depth, exprs_depth, select_depth};
 ghost use Rattle.vs_ast.specs.Views as view;
 ghost use Rattle.vs_const.specs.Typed.{begins_at};
-ghost use Rattle.vs_const.specs.Expressions.{typed};
+ghost use Rattle.vs_const.specs.Expressions.{typed, taken_by};
 ghost use Rattle.vs_build.specs.Drafts.{home, AddsExpression, AddsParts};
 ghost use Rattle.vs_build.specs.Growth.{draft};
-ghost use Rattle.vs_build.specs.Buildable.{IsBuildable, IsSelectable, AreArguments, AreBuildable, part_expressions, selected_by};
+ghost use Rattle.vs_build.specs.Buildable.{IsBuildable, IsSelectable, IsTakable, AreArguments, AreBuildable, part_expressions, selected_by};
 
 use crate::builder::Builder;
 use crate::names::{
     bounds_of, called, constant_bits, lesser, memory, name_alone, number_within, range_length,
-    source,
+    source, words,
 };
 use crate::steady::Steady;
 use std::alloc::{AllocError, Global};
@@ -149,8 +150,8 @@ fn arguments<E: Env>(
     Ok(())
 }
 
-/// Builds a name, with what is selected of it: `name[i]` is a word of a memory (IEEE 1364-2005, 4.9.3), a bit of anything else. `fixed` is where
-/// the name has to be a constant, `needed` where its index has to be one.
+/// Builds a name, with what is selected of it: `name[i]` is a word of a memory (IEEE 1364-2005, 4.9.3), a bit of anything else, and a further select is one
+/// of the word. `fixed` is where the name has to be a constant, `needed` where its index has to be one.
 #[cycle(expressions)]
 pub(crate) fn selected<E: Env>(
     builder: &mut Builder,
@@ -207,6 +208,62 @@ pub(crate) fn selected<E: Env>(
                 builder.part(range, false, width, at)
             }
         },
-        Select::Word { .. } => unreachable!(),
+        Select::Word { address, part, .. } => {
+            operand(builder, alloc, address, env, needed)?;
+            let bits = bits_taken(builder, alloc, part, env, needed)?;
+            let m = words(name, env);
+            builder.word_part(m.0, m.1, bits.0, bits.1, at)
+        }
+    }
+}
+
+/// Builds the index of a select of one or several bits (IEEE 1364-2005, 5.2.1), and answers whether they go upwards from it, and how many they are.
+#[cycle(expressions)]
+fn bits_taken<E: Env>(
+    builder: &mut Builder,
+    alloc: Global,
+    part: &Select,
+    env: &E,
+    needed: bool,
+) -> Result<(bool, u32), AllocError>
+    requires { (r : Range) × IsTakable (home (draft builder.old)) (E.names env.now) needed r (view.select part.now) }
+    ensures adds { (r : Range) → IsTakable (home (draft builder.old)) (E.names env.now) needed r (view.select part.now)
+        → OnOk result (AddsExpression (draft builder.old) (draft builder.new) (taken_by (Some r) (view.select part.now) (E.names env.now) needed).index (select_depth (view.select part.now))) }
+    ensures part { (r : Range) → IsTakable (home (draft builder.old)) (E.names env.now) needed r (view.select part.now)
+        → IfOk result (λ bits. (taken_by (Some r) (view.select part.now) (E.names env.now) needed).part ≡ record { range = r; up = bits.0; width = bits.1 }) }
+{
+    match part {
+        Select::Bit { index, .. } => {
+            operand(builder, alloc, index, env, needed)?;
+            Ok((true, 1))
+        }
+        Select::Slice {
+            kind,
+            left,
+            right,
+            ..
+        } => match kind {
+            SliceKind::Between => {
+                let bounds = bounds_of(alloc, left, right, &Steady { env: &*env })?;
+                builder.literal(
+                    of_number(32, lesser(bounds) as u64),
+                    true,
+                    true,
+                    place_of(left),
+                )?;
+                Ok((true, range_length(bounds)))
+            }
+            SliceKind::Upward => {
+                let width = number_within(alloc, 1, 64, right, &Steady { env: &*env })?;
+                operand(builder, alloc, left, env, needed)?;
+                Ok((true, width))
+            }
+            SliceKind::Downward => {
+                let width = number_within(alloc, 1, 64, right, &Steady { env: &*env })?;
+                operand(builder, alloc, left, env, needed)?;
+                Ok((false, width))
+            }
+        },
+        Select::Whole | Select::Word { .. } => unreachable!(),
     }
 }

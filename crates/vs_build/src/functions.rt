@@ -32,8 +32,8 @@ pub fn function<S: Surroundings>(
     requires statements { (draft builder.old).statements ≡ [] }
     requires locals { IsTrue (has_locals header) }
     requires header { is_formed_header (draft builder.old).design (header_of header) ≡ true }
-    requires fine { IsExecutable (home_in (draft builder.old).design (Some (header_of header))) (body_of (record { in_function = true; clocked = false }) true (S.declared around.now)) (S.names around.now) (view.statement s.now) }
-    ensures { OnOk result (draft builder.new ≡ and_function (draft builder.old) (header_of header) (typed_statement (view.statement s.now) (body_of (record { in_function = true; clocked = false }) true (S.declared around.now)) (S.names around.now)).statement) }
+    requires fine { IsExecutable (home_in (draft builder.old).design (Some (header_of header))) (body_of (record { in_function = true; takes_variables = true; clocked = false }) true (S.declared around.now)) (S.names around.now) (view.statement s.now) }
+    ensures { OnOk result (draft builder.new ≡ and_function (draft builder.old) (header_of header) (typed_statement (view.statement s.now) (body_of (record { in_function = true; takes_variables = true; clocked = false }) true (S.declared around.now)) (S.names around.now)).statement) }
 {
     builder.begin_function(header)?;
     let layers = Layers::End;
@@ -43,6 +43,7 @@ pub fn function<S: Surroundings>(
     };
     let kind = BodyKind {
         in_function: true,
+        takes_variables: true,
         clocked: false,
     };
     statement(builder, alloc, s, kind, &here)?;

@@ -17,7 +17,7 @@ mod targets;
 mod values;
 
 pub use assigns::{assign, input_port, wire};
-pub use blocks::{always, initial};
+pub use blocks::{always, always_within, initial};
 pub use builder::Builder;
 pub use functions::function;
 pub use items::{assign_each, wire_each};

@@ -4,14 +4,14 @@ ghost use Rattle.std.specs.Prelude.{◌≡◌, ◌≤◌, ◌+◌, ◌-◌, ℕ,
 ghost use Rattle.vs_four.specs.Selects as four;
 ghost use Rattle.vs_grammar.specs.Trees.{expr_place};
 ghost use Rattle.vs_ast.specs.Views as view;
-ghost use Rattle.vs_const.specs.Meanings.{FunctionMeaning, AFunction};
+ghost use Rattle.vs_const.specs.Meanings.{FunctionMeaning, SignalMeaning, AFunction, AMemory};
 ghost use Rattle.vs_const.specs.Typed.{begins_at, natural};
 ghost use Rattle.vs_const.specs.Selects.{name_typed, base_of};
 ghost use Rattle.vs_design.specs.Values.{constant_value};
 ghost use Rattle.vs_const.specs.Expressions.{constant};
 ghost use Rattle.vs_build.specs.Drafts.{home, AddsExpression};
 ghost use Rattle.vs_build.specs.Growth.{draft};
-ghost use Rattle.vs_build.specs.Buildable.{memory_of, IsNameable, HasBits, AddsSource, IsCallable, IsWithin, AreBounds, IsRangeOf, IsConstant};
+ghost use Rattle.vs_build.specs.Buildable.{memory_of, IsNameable, HasBits, HasWords, AddsSource, IsCallable, IsWithin, AreBounds, IsRangeOf, IsConstant};
 
 use crate::builder::Builder;
 use std::alloc::{AllocError, Global};
@@ -44,6 +44,21 @@ pub(crate) fn memory<E: Env>(name: &Name, env: &E) -> Option<u32>
     match env.find(name.text.as_slice()) {
         Named::Memory(m) => Some(m.number),
         _ => None,
+    }
+}
+
+/// The number of a memory that a name means, and the range of its words, of which there are bits to select (IEEE 1364-2005, 5.2.2).
+pub(crate) fn words<E: Env>(name: &Name, env: &E) -> (u32, Range)
+    requires { HasWords (E.names env.now name.now.text) }
+    ensures number { (m : SignalMeaning) → E.names env.now name.now.text ≡ AMemory m → result.0 ≡ m.signal.number }
+    ensures range { (m : SignalMeaning) → E.names env.now name.now.text ≡ AMemory m → m.signal.range ≡ Some result.1 }
+{
+    match env.find(name.text.as_slice()) {
+        Named::Memory(m) => match m.range {
+            Some(range) => (m.number, range),
+            None => unreachable!(),
+        },
+        _ => unreachable!(),
     }
 }
 

@@ -179,7 +179,7 @@ fn named_parts<'b, S: Surroundings>(
     requires { AreExecutable (home (draft builder.old)) (body_of kind true (S.declared here.now.around.now)) (spec.scoped (S.declared here.now.around.now) (spec.scope_locals (Some (view.block_scope scope.now))) (within (S.declared here.now.around.now) here.now.layers.now (S.names here.now.around.now))) (view.statements list.now) }
     ensures { OnOk result (Adds (draft builder.old) (draft builder.new) [] (part_statements (body_of kind true (S.declared here.now.around.now)) (spec.scoped (S.declared here.now.around.now) (spec.scope_locals (Some (view.block_scope scope.now))) (within (S.declared here.now.around.now) here.now.layers.now (S.names here.now.around.now))) list.now) (1 + statements_depth (view.statements list.now))) }
 {
-    let block = block_of(alloc, scope, kind.in_function)?;
+    let block = block_of(alloc, scope, kind.takes_variables)?;
     let layers = in_block(&*here.layers, &block.locals);
     let inner = Inner {
         around: &*here.around,

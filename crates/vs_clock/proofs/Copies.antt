@@ -8,7 +8,7 @@ use Rattle.std.proofs.lemmas.Option.{slice_get_within, get_or_from_slice_get}
 use Rattle.vs_design.specs.Expressions as E
 use Rattle.vs_design.specs.Expressions.{Signal, signal_length, Expression, Name, At}
 use Rattle.vs_design.specs.Values.{count_from, bits_of_signal}
-use Rattle.vs_design.specs.Statements.{Target, Whole, PartOf, WordOf, Both}
+use Rattle.vs_design.specs.Statements.{Target, Whole, PartOf, WordOf, WordPartOf, Both}
 use Rattle.vs_design.specs.Designs.{Port, Process, Continuous, Always, Design, bit_count}
 use Rattle.vs_design.specs.Footprints.{contains, all_reads, read_bits, writes_of, waits_of}
 use Rattle.vs_design.specs.Clocks.{name_of}
@@ -36,6 +36,7 @@ pub whole_port : (place target_place : ℕ) (port : Port) (t : Target) (e : Expr
 whole_port place target_place port (Whole signal) e = refl
 whole_port place target_place port (PartOf signal part index) e = none_right (bit_of (name_of e))
 whole_port place target_place port (WordOf signal index) e = none_right (bit_of (name_of e))
+whole_port place target_place port (WordPartOf signal address part index) e = none_right (bit_of (name_of e))
 whole_port place target_place port (Both high low) e = none_right (bit_of (name_of e))
 
 -- ---- the bits that are copied are bits of the design
@@ -57,6 +58,7 @@ name_read (E.Select source part index) b h = cc
 name_read (E.Unary op a) b h = cc
 name_read (E.Binary op a c) b h = cc
 name_read (E.Word signal index) b h = cc
+name_read (E.WordPart signal address part index) b h = cc
 name_read (E.Call header statement arguments) b h = cc
 name_read (E.Choice c p q) b h = cc
 name_read (E.Join high low) b h = cc
@@ -75,6 +77,7 @@ copy_in : (x : Process) (b t : ℕ) → port_bits x ≡ Some (b, t) → (contain
 copy_in (Continuous place port target_place (Whole signal) e) b t h = let p = both_are (bit_of (name_of e)) (one_bit signal) b t h in (name_read e b p.0, one_is signal t p.1)
 copy_in (Continuous place port target_place (PartOf signal part index) e) b t h = cc
 copy_in (Continuous place port target_place (WordOf signal index) e) b t h = cc
+copy_in (Continuous place port target_place (WordPartOf signal address part index) e) b t h = cc
 copy_in (Continuous place port target_place (Both high low) e) b t h = cc
 copy_in (Always place star events statement) b t h = cc
 

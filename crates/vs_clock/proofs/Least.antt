@@ -7,7 +7,7 @@ use Rattle.std.proofs.Math.ListN.{get_or-eq_default}
 use Rattle.std.proofs.Math.Seq.{take-append_seam}
 use Rattle.std.proofs.Math.Nat.{le_refl}
 use Rattle.vs_design.specs.Expressions.{Signal, signal_length}
-use Rattle.vs_design.specs.Statements.{Whole, PartOf, WordOf, Both}
+use Rattle.vs_design.specs.Statements.{Whole, PartOf, WordOf, WordPartOf, Both}
 use Rattle.vs_design.specs.Designs.{Process, Continuous, Always, Design, bit_count}
 use Rattle.vs_design.specs.Footprints.{contains}
 use Rattle.vs_design.specs.Clocks.{name_of, is_one_of, port_target, port_targets, nets_within, clock_nets}
@@ -93,6 +93,7 @@ target_hits nets (Continuous place port target_place (Whole signal) e) t = go (n
         step false k = refl
 target_hits nets (Continuous place port target_place (PartOf signal part index) e) t = refl
 target_hits nets (Continuous place port target_place (WordOf signal index) e) t = refl
+target_hits nets (Continuous place port target_place (WordPartOf signal address part index) e) t = refl
 target_hits nets (Continuous place port target_place (Both high low) e) t = refl
 target_hits nets (Always place star events statement) t = refl
 

@@ -11,7 +11,7 @@ use Rattle.vs_design.specs.Clocks.{name_of}
 use Rattle.vs_flat.specs.Targets.{source_of, target_of, both_of}
 use Rattle.vs_flat.specs.Trees.{Names, node_tree, first_copy, copy_count, joined}
 use Rattle.vs_flat.specs.declared.expressions.Node.{Node}
-use Rattle.vs_flat.specs.declared.expressions.Node.TheVariants.{Literal, Name, Bit, Part, Word, Unary, Binary, Choice, Join, Local, Call}
+use Rattle.vs_flat.specs.declared.expressions.Node.TheVariants.{Literal, Name, Bit, Part, Word, WordPart, Unary, Binary, Choice, Join, Local, Call}
 use Rattle.vs_shape.specs.Nodes.{HasNames}
 use Rattle.vs_reads.proofs.Tests.{by_test}
 use Rattle.vs_clock.specs.Ports.{bit_of, whole_bit, target_bit, only_part}
@@ -61,6 +61,7 @@ no_part names tree (Name n) h = refl
 no_part names tree (Bit of range index) h = selected (source_of (tree of)) _ (tree index)
 no_part names tree (Part of range base up width) h = selected (source_of (tree of)) _ (tree base)
 no_part names tree (Word n index) h = refl
+no_part names tree (WordPart n address range base up width) h = refl
 no_part names tree (Unary op x) h = refl
 no_part names tree (Binary op x y) h = refl
 no_part names tree (Choice c p q) h = refl
@@ -86,6 +87,7 @@ one_part names tree (Name n) part h = cc
 one_part names tree (Bit of range index) part h = cc
 one_part names tree (Part of range base up width) part h = cc
 one_part names tree (Word n index) part h = cc
+one_part names tree (WordPart n address range base up width) part h = cc
 one_part names tree (Unary op x) part h = cc
 one_part names tree (Binary op x y) part h = cc
 one_part names tree (Choice c p q) part h = cc
@@ -105,6 +107,7 @@ part_of (Name n) part h = cc
 part_of (Bit of range index) part h = cc
 part_of (Part of range base up width) part h = cc
 part_of (Word n index) part h = cc
+part_of (WordPart n address range base up width) part h = cc
 part_of (Unary op x) part h = cc
 part_of (Binary op x y) part h = cc
 part_of (Choice c p q) part h = cc

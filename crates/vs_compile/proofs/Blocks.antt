@@ -4,7 +4,7 @@ use Rattle.std.specs.List.{list_any}
 use Rattle.vs_four.specs.declared.Bit4.{Bit4}
 use Rattle.vs_four.specs.declared.Bit4.TheVariants.{Zero, One}
 use Rattle.vs_net.specs.Network as N
-use Rattle.vs_design.specs.Expressions.{Signal, signal_length, BitNot, LogicalNot, BinaryOp, Equal, CaseEqual, Expression, Literal, Name, Select, Word, Unary, Binary, Choice, Join, Repeat, At, Call, is_constant, width, unary_way}
+use Rattle.vs_design.specs.Expressions.{Signal, signal_length, BitNot, LogicalNot, BinaryOp, Equal, CaseEqual, Expression, Literal, Name, Select, Word, WordPart, Unary, Binary, Choice, Join, Repeat, At, Call, is_constant, width, unary_way}
 use Rattle.vs_design.specs.Values.{left_width}
 use Rattle.vs_design.specs.Statements.{Statement, Empty, Assignment, Then, If, Case}
 use Rattle.vs_design.specs.Designs.{Edge, Any, Posedge, Negedge, Event, Process, Continuous, Always, has_edge, is_clocked, Design}
@@ -67,6 +67,7 @@ named_wide (At place e) s is one = named_wide e s is one
 named_wide (Literal bits signed sized) s is one = cc
 named_wide (Select source part index) s is one = cc
 named_wide (Word signal index) s is one = cc
+named_wide (WordPart signal address part index) s is one = cc
 named_wide (Unary op a) s is one = cc
 named_wide (Binary op a b) s is one = cc
 named_wide (Choice c p q) s is one = cc
@@ -91,6 +92,7 @@ inverted_heavy (Name x) s is one = cc
 inverted_heavy (Literal bits signed sized) s is one = cc
 inverted_heavy (Select source part index) s is one = cc
 inverted_heavy (Word signal index) s is one = cc
+inverted_heavy (WordPart signal address part index) s is one = cc
 inverted_heavy (Binary op a b) s is one = cc
 inverted_heavy (Choice c p q) s is one = cc
 inverted_heavy (Join high low) s is one = cc
@@ -137,6 +139,7 @@ compared_heavy (Name x) s is one = cc
 compared_heavy (Literal bits signed sized) s is one = cc
 compared_heavy (Select source part index) s is one = cc
 compared_heavy (Word signal index) s is one = cc
+compared_heavy (WordPart signal address part index) s is one = cc
 compared_heavy (Choice c p q) s is one = cc
 compared_heavy (Join high low) s is one = cc
 compared_heavy (Repeat count a) s is one = cc

@@ -2,8 +2,8 @@
 use Rattle.std.proofs.Common.{◌≡◌, ℕ, true, not, ◌&&◌, List, [], ◌∷◌, ◌++◌, refl, ap, ◌∙◌, subst}
 use Rattle.vs_four.specs.declared.Bit4.TheVariants.{X}
 use Rattle.vs_net.specs.Network.{State, Effect, Write, Update}
-use Rattle.vs_design.specs.Expressions.{Signal, OfSignal, OfConstant, Expression, Literal, Name, Select, Word, Unary, Binary, Choice, Join, Repeat, At, Call, Items, NoItem, Item}
-use Rattle.vs_design.specs.Statements.{Target, Whole, PartOf, WordOf, Both, Statement, Empty, Assignment, Then, If, Case, Arms, Arm, Default}
+use Rattle.vs_design.specs.Expressions.{Signal, OfSignal, OfConstant, Expression, Literal, Name, Select, Word, WordPart, Unary, Binary, Choice, Join, Repeat, At, Call, Items, NoItem, Item}
+use Rattle.vs_design.specs.Statements.{Target, Whole, PartOf, WordOf, WordPartOf, Both, Statement, Empty, Assignment, Then, If, Case, Arms, Arm, Default}
 use Rattle.vs_design.specs.Bodies.{body}
 use Rattle.vs_design.specs.Footprints.{contains, read_bits, read_signals, target_reads, target_signals, items_reads, items_signals, statement_reads, statement_signals, arms_reads, arms_signals}
 use Rattle.vs_design.specs.Calls.{statement_calls}
@@ -29,6 +29,7 @@ mutual
   expression_reads (Select (OfSignal signal) part index) h = absurd (let z : ⊥ = cc in z)
   expression_reads (Select (OfConstant bits) part index) h = expression_reads index h
   expression_reads (Word signal index) h = absurd (let z : ⊥ = cc in z)
+  expression_reads (WordPart signal address part index) h = absurd (let z : ⊥ = cc in z)
   expression_reads (Unary op a) h = expression_reads a h
   expression_reads (Binary op a b) h =
       both_empty (read_bits a) (read_bits b) (expression_reads a (none_left (read_signals a) (read_signals b) h)) (expression_reads b (none_right (read_signals a) (read_signals b) h))
@@ -51,6 +52,8 @@ indices_read : (t : Target) → has_none (target_signals t) ≡ true → target_
 indices_read (Whole signal) h = refl
 indices_read (PartOf signal part index) h = expression_reads index h
 indices_read (WordOf signal index) h = expression_reads index h
+indices_read (WordPartOf signal address part index) h =
+    both_empty (read_bits address) (read_bits index) (expression_reads address (none_left (read_signals address) (read_signals index) h)) (expression_reads index (none_right (read_signals address) (read_signals index) h))
 indices_read (Both high low) h =
     both_empty (target_reads high) (target_reads low) (indices_read high (none_left (target_signals high) (target_signals low) h)) (indices_read low (none_right (target_signals high) (target_signals low) h))
 

@@ -2,8 +2,8 @@
 use Rattle.std.proofs.Common.{◌≡◌, ℕ, Bool, true, false, not, ◌&&◌, ◌||◌, ◌==◌, List, [], ◌∷◌, ◌++◌, length, Option, Some, None, if◌then◌else◌, sym, ap, ◌∙◌, refl, eqb-true, eq-eqb}
 use Rattle.std.specs.List.{list_any}
 use Rattle.std.proofs.lemmas.Bool.{both_ways}
-use Rattle.vs_design.specs.Expressions.{Expression, Signal, signal_length, Literal, Name, Select, Word, Unary, Binary, Choice, Join, Repeat, At, Call}
-use Rattle.vs_design.specs.Statements.{Whole, PartOf, WordOf, Both}
+use Rattle.vs_design.specs.Expressions.{Expression, Signal, signal_length, Literal, Name, Select, Word, WordPart, Unary, Binary, Choice, Join, Repeat, At, Call}
+use Rattle.vs_design.specs.Statements.{Whole, PartOf, WordOf, WordPartOf, Both}
 use Rattle.vs_design.specs.Values.{bits_of_signal, count_from}
 use Rattle.vs_design.specs.Designs.{Process, Continuous, Always}
 use Rattle.vs_design.specs.Footprints.{contains, read_bits}
@@ -21,6 +21,7 @@ name_reads (At place e) s h = name_reads e s h
 name_reads (Literal bits signed sized) s h = cc
 name_reads (Select source part index) s h = cc
 name_reads (Word signal index) s h = cc
+name_reads (WordPart signal address part index) s h = cc
 name_reads (Unary op a) s h = cc
 name_reads (Binary op a b) s h = cc
 name_reads (Choice c p q) s h = cc
@@ -56,6 +57,7 @@ port_needs nets (Continuous place way target_place (Whole signal) e) h = of_name
         (λ k. absurd (both_ways (is_clock_port nets (Continuous place way target_place (Whole signal) e)) (none_left (Some source) k is) h))
 port_needs nets (Continuous place way target_place (PartOf signal part index) e) h = cc
 port_needs nets (Continuous place way target_place (WordOf signal index) e) h = cc
+port_needs nets (Continuous place way target_place (WordPartOf signal address part index) e) h = cc
 port_needs nets (Continuous place way target_place (Both high low) e) h = cc
 port_needs nets (Always place star events statement) h = cc
 

@@ -8,7 +8,7 @@ use Rattle.vs_net.specs.Lawful.{IsLawful}
 use Rattle.vs_net.specs.Network.{writes}
 use Rattle.vs_design.specs.Expressions.{Signal, signal_length}
 use Rattle.vs_design.specs.Values.{count_from, bits_of_signal}
-use Rattle.vs_design.specs.Statements.{Whole, PartOf, WordOf, Both}
+use Rattle.vs_design.specs.Statements.{Whole, PartOf, WordOf, WordPartOf, Both}
 use Rattle.vs_design.specs.Designs.{Process, Continuous, Always, is_clocked, Design, top_inputs, bit_count}
 use Rattle.vs_design.specs.Footprints.{contains, without, signals_bits, input_bits, memory_bits, writes_of}
 use Rattle.vs_design.specs.Elaborated.{have_bits_from}
@@ -126,6 +126,7 @@ target_same nets more sub (Continuous place way target_place (Whole signal) e) =
     (λ h. inl (ap (λ (c : Bool). if c then (signal.first ∷ []) else []) h))
 target_same nets more sub (Continuous place way target_place (PartOf signal part index) e) = inl refl
 target_same nets more sub (Continuous place way target_place (WordOf signal index) e) = inl refl
+target_same nets more sub (Continuous place way target_place (WordPartOf signal address part index) e) = inl refl
 target_same nets more sub (Continuous place way target_place (Both high low) e) = inl refl
 target_same nets more sub (Always place star events statement) = inl refl
 
@@ -199,6 +200,7 @@ each_weighs d nets (Continuous place way target_place (Whole signal) e) =
     (λ h. rw h (omega arith))
 each_weighs d nets (Continuous place way target_place (PartOf signal part index) e) = omega arith
 each_weighs d nets (Continuous place way target_place (WordOf signal index) e) = omega arith
+each_weighs d nets (Continuous place way target_place (WordPartOf signal address part index) e) = omega arith
 each_weighs d nets (Continuous place way target_place (Both high low) e) = omega arith
 each_weighs d nets (Always place star events statement) =
     by_test (is_clocked (Always place star events statement))

@@ -4,7 +4,7 @@ use Rattle.std.specs.List.{list_any}
 use Rattle.std.proofs.lemmas.Bool.{and_parts, both_ways}
 use Rattle.vs_design.specs.Expressions.{Signal, signal_length, Expression}
 use Rattle.vs_design.specs.Values.{count_from, bits_of_signal}
-use Rattle.vs_design.specs.Statements.{Whole, PartOf, WordOf, Both}
+use Rattle.vs_design.specs.Statements.{Whole, PartOf, WordOf, WordPartOf, Both}
 use Rattle.vs_design.specs.Designs.{Process, Continuous, Always, Design, top_inputs, bit_count}
 use Rattle.vs_design.specs.Footprints.{contains, input_bits, without}
 use Rattle.vs_design.specs.Elaborated.{have_bits_from}
@@ -58,6 +58,7 @@ no_target : (x : Process) → port_target [] x ≡ []
 no_target (Continuous place port target_place (Whole signal) e) = ap (λ (b : Bool). if b && (signal_length signal == 1) then (signal.first ∷ []) else []) (no_one (name_of e))
 no_target (Continuous place port target_place (PartOf signal part index) e) = refl
 no_target (Continuous place port target_place (WordOf signal index) e) = refl
+no_target (Continuous place port target_place (WordPartOf signal address part index) e) = refl
 no_target (Continuous place port target_place (Both high low) e) = refl
 no_target (Always place star events statement) = refl
 

@@ -5,22 +5,22 @@ use Rattle.vs_four.specs.declared.Range.{Range}
 use Rattle.vs_four.specs.Logic.{BitList, all_known}
 use Rattle.vs_four.specs.Numbers.{integer, clog2}
 use Rattle.vs_four.specs.Selects.{Part, range_length, is_descending}
-use Rattle.vs_design.specs.Expressions.{OfSignal, OfConstant, Expression, Literal, Name, Select, Word, Unary, Binary, Choice, Join, Repeat, At, Call, Items, NoItem, Item, UnaryOp, Signed, Unsigned, BinaryOp, Way, InContext, Own, Compared, Shifted, Raised, way, binary_length, width, sign, is_constant}
+use Rattle.vs_design.specs.Expressions.{OfSignal, OfConstant, Expression, Literal, Name, Select, Word, WordPart, Unary, Binary, Choice, Join, Repeat, At, Call, Items, NoItem, Item, UnaryOp, Signed, Unsigned, BinaryOp, Way, InContext, Own, Compared, Shifted, Raised, way, binary_length, width, sign, is_constant}
 use Rattle.vs_design.specs.Values.{constant_value}
 use Rattle.vs_design.specs.Designs.{Design}
 use Rattle.vs_design.specs.Fits.{fits_64}
-use Rattle.vs_design.specs.Elaborated.{is_plain, has_words, is_lawful_range, same_range, is_formed, is_formed_select, is_formed_header, is_formed_statement, is_nil, inside, are_as_many, are_formed}
+use Rattle.vs_design.specs.Elaborated.{is_plain, has_words, is_lawful_range, same_range, is_formed, is_formed_select, is_formed_word_part, is_formed_header, is_formed_statement, is_nil, inside, are_as_many, are_formed}
 use Rattle.vs_design.specs.Rules.{mixed_in}
 use Rattle.vs_grammar.specs.Trees as tree
 use Rattle.vs_grammar.specs.Trees.{expr_place}
-use Rattle.vs_grammar.specs.Shapes.{IsExpr, AreParts, AreExprs, IsSelect, IsLiteral}
+use Rattle.vs_grammar.specs.Shapes.{IsExpr, AreParts, AreExprs, IsSelect, IsLiteral, is_part}
 use Rattle.vs_const.specs.declared.faults.Fault.{Fault}
-use Rattle.vs_const.specs.Faults.{Rule, fault, fault_if, names_signal, BadRange, UnknownConstant, WrongKind, FunctionRule}
+use Rattle.vs_const.specs.Faults.{Rule, fault, fault_if, names_signal, BadRange, UnknownConstant, UnknownName, WrongKind, FunctionRule}
 use Rattle.vs_const.specs.Meanings.{SignalMeaning, FunctionMeaning, Meaning, AValue, Undefined, ASignal, AMemory, AFunction, Incomplete, Another, Barred, Unknown, Find, ConstantValue, IsFairValue, steady}
 use Rattle.vs_const.specs.Sound.{IsSoundMemory, IsFormedFunction, IsSoundFunction, IsSound, AreSound, IsFine}
 use Rattle.vs_const.specs.Typed.{Typed, begins_at, is_over, noted, known_number, number_known, number_if, number_of, natural_if, natural_within, natural, both_lengths, length_map, unary_op_length, unary_typed, binary_way_length, binary_typed, choice_typed, join_typed, copies_typed, fine}
-use Rattle.vs_const.specs.Selects.{range_if, range_of, bounds, known_signal, name_typed, Base, is_scalar, signal_base, base_of, Taken, taken, if_width, moving, is_against, lesser_bound, along, between, slice_taken, first_needed, first_names, select_if, select_typed, wrong_rule, word_if, word_typed, bit_typed, further_typed}
-use Rattle.vs_const.specs.Expressions.{unsized_faults, is_clean, part_typed, replicated, replication_typed, clog2_of, clog2_typed, call_typed, argument_needed, TypedItems, and_argument, call_rule, call_if, called, applied, typed, selected, typed_parts, typed_arguments}
+use Rattle.vs_const.specs.Selects.{range_if, range_of, bounds, known_signal, name_typed, Base, is_scalar, signal_base, base_of, Taken, taken, if_width, moving, is_against, lesser_bound, along, between, slice_taken, first_needed, first_names, select_if, select_typed, wrong_rule, word_if, word_typed, bit_typed, word_range, word_part_if, word_part_typed, further_typed}
+use Rattle.vs_const.specs.Expressions.{unsized_faults, is_clean, part_typed, replicated, replication_typed, clog2_of, clog2_typed, call_typed, argument_needed, TypedItems, and_argument, call_rule, call_if, called, applied, typed, selected, taken_by, typed_parts, typed_arguments}
 use Rattle.vs_const.proofs.Steady.{sound_needed, steady_sound, first_sound}
 
 argument_sound : (d : Design) (function : tree.SystemFunction) (needed : Bool) (find : Find) → AreSound d needed find → AreSound d (argument_needed function needed) find
@@ -64,6 +64,7 @@ begins_same f h p (Literal bits signed sized) = h p (Literal bits signed sized)
 begins_same f h p (Name signal) = h p (Name signal)
 begins_same f h p (Select source part index) = h p (Select source part index)
 begins_same f h p (Word signal index) = h p (Word signal index)
+begins_same f h p (WordPart signal address part index) = h p (WordPart signal address part index)
 begins_same f h p (Unary op a) = h p (Unary op a)
 begins_same f h p (Binary op a b) = h p (Binary op a b)
 begins_same f h p (Choice c a b) = h p (Choice c a b)
@@ -526,6 +527,75 @@ misnamed_fine d needed t rule place h = absurd (no h)
     no : fault rule place ≡ [] → ⊥
     no k = cc
 
+-- ---- parts of words
+
+-- a memory has a range of its words where a part is taken without a fault
+pub word_ranged : (m : SignalMeaning) (place : ℕ) → m.known ≡ true → fault_if (is_scalar m) WrongKind place ≡ [] → (r : Range) × (m.signal.range ≡ Some r)
+word_ranged m place k f = of m.signal.range refl
+  where
+    scalar : (b : Bool) (r : Option Range) → b ≡ true → r ≡ None → (b && is_none r) ≡ true
+    scalar true None g i = refl
+    scalar true (Some r) g i = cc
+    scalar false r g i = cc
+
+    no : is_scalar m ≡ true → is_scalar m ≡ false → ⊥
+    no g i = cc
+
+    of : (o : Option Range) → m.signal.range ≡ o → (r : Range) × (m.signal.range ≡ Some r)
+    of (Some r) e = (r, e)
+    of None e = absurd (no (scalar m.known m.signal.range k e) (no_fault (is_scalar m) WrongKind place f))
+
+pub part_faults : (good : Bool) (m : SignalMeaning) (fs : List Fault) (a : Typed) (t : Taken) → (word_part_if good m fs a t).faults ≡ fs ++ (a.faults ++ t.faults)
+part_faults true m fs a t = refl
+part_faults false m fs a t = refl
+
+word_part_fine : (d : Design) (place : ℕ) (m : SignalMeaning) (a : Typed) (t : Taken) → IsSoundMemory d false m → (a.faults ≡ [] → IsFine d false a) → ((r : Range) → m.signal.range ≡ Some r → t.faults ≡ [] → IsFineTaken d false r t)
+    → (word_part_typed place m a t).faults ≡ [] → IsFine d false (word_part_typed place m a t)
+word_part_fine d place m a t s a_if t_if h =
+    let k = both_nil fs (a.faults ++ t.faults) (sym (part_faults (m.known && a.good && t.good) m fs a t) ∙ h) in
+    let n = both_nil a.faults t.faults k.1 in
+    let w = word_ranged m place s.1 k.0 in
+    let f = a_if n.0 in
+    let g = t_if w.0 w.1 n.1 in
+    of (m.known && a.good && t.good) (both (m.known && a.good) t.good (both m.known a.good s.1 f.good) g.good) w.0 w.1 f g
+  where
+    fs : List Fault
+    fs = fault_if (is_scalar m) WrongKind place
+
+    no : false ≡ true → is_constant (WordPart m.signal a.expression t.part t.index) ≡ true
+    no c = cc
+
+    three : (a b c : Bool) → a ≡ true → b ≡ true → c ≡ true → (a && b && c) ≡ true
+    three true true true h k l = refl
+    three true true false h k l = cc
+    three true false c h k l = cc
+    three false b c h k l = cc
+
+    of : (c : Bool) → c ≡ true → (r : Range) → m.signal.range ≡ Some r → IsFine d false a → IsFineTaken d false r t → IsFine d false (word_part_if c m fs a t)
+    of true e r ranged f g = record {
+      good = refl;
+      formed = three (is_formed_word_part d m.signal t.part) (is_formed d a.expression) (is_formed d t.index)
+          (three (has_words d m.signal) (same_range m.signal.range (Some t.part.range)) (fits_64 t.part.width) s.0
+          (subst (λ q. same_range q (Some t.part.range) ≡ true) (sym ranged) (subst (λ q. same_range (Some r) (Some q) ≡ true) (sym g.range) (same_itself r))) g.fits)
+          f.formed g.formed;
+      length = g.length;
+      constant = λ k. no k;
+    }
+    of false e r ranged f g = cc
+
+further_fine : (d : Design) (needed : Bool) (place : ℕ) (m : Meaning) (a : Typed) (t : Taken) → IsSound d needed m → (a.faults ≡ [] → IsFine d needed a) → ((r : Range) → word_range m ≡ Some r → t.faults ≡ [] → IsFineTaken d needed r t)
+    → (further_typed needed place m a t).faults ≡ [] → IsFine d needed (further_typed needed place m a t)
+further_fine d true place m a t s a_if t_if h = misnamed_fine d true (further_typed true place m a t) (wrong_rule true m) place h
+further_fine d false place (AMemory m) a t s a_if t_if h = word_part_fine d place m a t s a_if t_if h
+further_fine d false place (AValue v r turns) a t s a_if t_if h = misnamed_fine d false (further_typed false place (AValue v r turns) a t) WrongKind place h
+further_fine d false place (Undefined r) a t s a_if t_if h = misnamed_fine d false (further_typed false place (Undefined r) a t) WrongKind place h
+further_fine d false place (ASignal m) a t s a_if t_if h = misnamed_fine d false (further_typed false place (ASignal m) a t) WrongKind place h
+further_fine d false place (AFunction f) a t s a_if t_if h = misnamed_fine d false (further_typed false place (AFunction f) a t) WrongKind place h
+further_fine d false place Incomplete a t s a_if t_if h = misnamed_fine d false (further_typed false place Incomplete a t) WrongKind place h
+further_fine d false place Another a t s a_if t_if h = misnamed_fine d false (further_typed false place Another a t) WrongKind place h
+further_fine d false place (Barred rule) a t s a_if t_if h = misnamed_fine d false (further_typed false place (Barred rule) a t) rule place h
+further_fine d false place Unknown a t s a_if t_if h = misnamed_fine d false (further_typed false place Unknown a t) UnknownName place h
+
 -- ---- calls of functions
 
 -- the arguments of a call, where no fault was met
@@ -644,7 +714,21 @@ module _ (d : Design) where
         let k = select_faults b t h in
         let f = base_fine d needed name.place (find name.bytes) (s name.bytes) k.0 in
         select_fine d needed b t f (slice_fine d needed b.range f.r bracket kind (expr_place e) first (expr_place g) second f.range (every_fine e (first_names kind find) (first_needed kind needed) (first_sound d kind needed find s) x.0) (every_fine g (steady find) true (steady_sound d needed find s) x.1) k.1)
-    selected_fine (tree.OfWord bracket address part) name find needed s x h = misnamed_fine d needed (further_typed needed name.place (find name.bytes)) (wrong_rule needed (find name.bytes)) name.place h
+    selected_fine (tree.OfWord bracket address part) name find needed s x h =
+        let m = find name.bytes in
+        further_fine d needed name.place m (typed address find needed) (taken_by (word_range m) part find needed) (s name.bytes) (λ k. every_fine address find needed s x.0 k)
+        (λ r e k. taken_by_fine part find needed (word_range m) r s x.1 x.2 e k) h
+
+    pub taken_by_fine : (part : tree.Select) (find : Find) (needed : Bool) (declared : Option Range) (r : Range) → AreSound d needed find → IsSelect part → is_part part ≡ true → declared ≡ Some r
+        → (taken_by declared part find needed).faults ≡ [] → IsFineTaken d needed r (taken_by declared part find needed)
+    taken_by_fine (tree.BitAt bracket index) find needed declared r s x p e h =
+        let i = typed index find needed in bit_fine d needed declared r i e (every_fine index find needed s x (sym (taken_faults declared true 1 i i.faults) ∙ h))
+    taken_by_fine (tree.Slice bracket kind e g) find needed declared r s x p known h =
+        let first = typed e (first_names kind find) (first_needed kind needed) in
+        let second = typed g (steady find) true in
+        slice_fine d needed declared r bracket kind (expr_place e) first (expr_place g) second known (every_fine e (first_names kind find) (first_needed kind needed) (first_sound d kind needed find s) x.0) (every_fine g (steady find) true (steady_sound d needed find s) x.1) h
+    taken_by_fine tree.Whole find needed declared r s x p e h = cc
+    taken_by_fine (tree.OfWord bracket address part) find needed declared r s x p e h = cc
 
     parts_fine : (parts : tree.Exprs) (find : Find) (needed : Bool) → AreSound d needed find → AreParts parts → (typed_parts parts find needed).faults ≡ [] → IsFine d needed (typed_parts parts find needed)
     parts_fine tree.NoExpr find needed s x h = absurd x

@@ -13,8 +13,8 @@ use Rattle.vs_grammar.specs.Shapes.{IsExpr, AreParts, IsSelect}
 use Rattle.vs_const.specs.declared.faults.Fault.{Fault}
 use Rattle.vs_const.specs.Meanings.{Meaning, AValue, Undefined, ASignal, AMemory, AFunction, Incomplete, Another, Barred, Unknown, Find, IsFairMeaning, IsFair, steady}
 use Rattle.vs_const.specs.Typed.{Typed, is_over, noted, number_of, natural_if, natural_within, natural, both_lengths, length_map, unary_op_length, unary_typed, binary_way_length, binary_typed, choice_typed, join_typed, copies_typed, fine}
-use Rattle.vs_const.specs.Selects.{bounds, name_typed, Base, base_of, Taken, taken, if_width, is_against, along, between, slice_taken, first_needed, first_names, select_if, select_typed, bit_typed, further_typed}
-use Rattle.vs_const.specs.Expressions.{unsized_faults, is_clean, part_typed, replicated, replication_typed, clog2_of, clog2_typed, TypedItems, applied, typed, selected, typed_parts, typed_arguments}
+use Rattle.vs_const.specs.Selects.{bounds, name_typed, Base, base_of, Taken, taken, if_width, is_against, along, between, slice_taken, first_needed, first_names, select_if, select_typed, bit_typed, word_range, further_typed}
+use Rattle.vs_const.specs.Expressions.{unsized_faults, is_clean, part_typed, replicated, replication_typed, clog2_of, clog2_typed, TypedItems, applied, typed, selected, taken_by, typed_parts, typed_arguments}
 use Rattle.vs_const.proofs.Formed.{begins_same, split, way_length, length_some}
 
 -- good: its length is known, and it has a bit
@@ -177,8 +177,8 @@ applied_long place (Barred rule) t h = cc
 applied_long place Unknown t h = cc
 
 -- nor is a further select
-further_long : (place : ℕ) (m : Meaning) → (further_typed true place m).good ≡ true → IsLong (further_typed true place m)
-further_long place m h = cc
+further_long : (place : ℕ) (m : Meaning) (a : Typed) (t : Taken) → (further_typed true place m a t).good ≡ true → IsLong (further_typed true place m a t)
+further_long place m a t h = cc
 
 module _ (find : Find) (fair : IsFair find) where
   mutual
@@ -213,7 +213,7 @@ module _ (find : Find) (fair : IsFair find) where
         let first = typed e (first_names kind find) (first_needed kind true) in
         let second = typed f (steady find) true in
         select_long b (slice_taken b.range bracket kind (expr_place e) first (expr_place f) second) (λ k. slice_long b.range bracket kind (expr_place e) first (expr_place f) second k) h
-    selected_long (tree.OfWord bracket address part) name x h = further_long name.place (find name.bytes) h
+    selected_long (tree.OfWord bracket address part) name x h = let m = find name.bytes in further_long name.place m (typed address find true) (taken_by (word_range m) part find true) h
 
     parts_long : (parts : tree.Exprs) → AreParts parts → (typed_parts parts find true).good ≡ true → IsLong (typed_parts parts find true)
     parts_long tree.NoExpr x h = absurd x

@@ -1,7 +1,7 @@
 -- How deep calls of functions nest: a function that calls none is 1 deep (IEEE 1364-2005, 10.4).
 use Rattle.std.specs.Prelude.{ℕ, suc, max}
-use Rattle.vs_design.specs.Expressions.{Expression, Literal, Name, Select, Word, Unary, Binary, Choice, Join, Repeat, At, Call, Items, NoItem, Item}
-use Rattle.vs_design.specs.Statements.{Target, Whole, PartOf, WordOf, Both, Statement, Empty, Assignment, Then, If, Case, Arms, Arm, Default}
+use Rattle.vs_design.specs.Expressions.{Expression, Literal, Name, Select, Word, WordPart, Unary, Binary, Choice, Join, Repeat, At, Call, Items, NoItem, Item}
+use Rattle.vs_design.specs.Statements.{Target, Whole, PartOf, WordOf, WordPartOf, Both, Statement, Empty, Assignment, Then, If, Case, Arms, Arm, Default}
 
 -- of the deepest function that is called, and 0 where none is
 abbrev mutual
@@ -10,6 +10,7 @@ abbrev mutual
   call_depth (Name signal) = 0
   call_depth (Select source part index) = call_depth index
   call_depth (Word signal index) = call_depth index
+  call_depth (WordPart signal address part index) = max (call_depth address) (call_depth index)
   call_depth (Unary op a) = call_depth a
   call_depth (Binary op a b) = max (call_depth a) (call_depth b)
   call_depth (Choice c p q) = max (call_depth c) (max (call_depth p) (call_depth q))
@@ -26,6 +27,7 @@ abbrev mutual
   target_depth (Whole signal) = 0
   target_depth (PartOf signal part index) = call_depth index
   target_depth (WordOf signal index) = call_depth index
+  target_depth (WordPartOf signal address part index) = max (call_depth address) (call_depth index)
   target_depth (Both high low) = max (target_depth high) (target_depth low)
 
   pub calls_in : Statement → ℕ

@@ -10,7 +10,8 @@ use Rattle.vs_const.specs.declared.faults.Fault.{Fault}
 use Rattle.vs_const.specs.Faults.{Rule, fault, fault_if, UnknownConstant, WrongKind, NotConstant, FunctionRule, Recursion}
 use Rattle.vs_const.specs.Meanings.{FunctionMeaning, Meaning, ASignal, AFunction, Incomplete, Find, steady, is_result}
 use Rattle.vs_const.specs.Typed.{Typed, broken, fine, noted, Numbered, number_of, natural, unary_typed, binary_typed, choice_typed, join_typed, copies_typed}
-use Rattle.vs_const.specs.Selects.{base_of, name_typed, slice_taken, first_needed, first_names, select_typed, bit_typed, rule_where, wrong_rule, further_typed}
+use Rattle.vs_four.specs.declared.Range.{Range}
+use Rattle.vs_const.specs.Selects.{base_of, name_typed, Taken, not_taken, taken, slice_taken, first_needed, first_names, select_typed, bit_typed, rule_where, wrong_rule, word_range, further_typed}
 
 -- a literal without a size has no place in a concatenation (5.1.14); brackets round it are no matter
 abbrev pub unsized_faults : tree.Expr → List Fault
@@ -127,7 +128,17 @@ abbrev mutual
   selected (tree.Slice bracket kind e f) name find needed =
       let b = base_of needed name.place (find name.bytes) in
       select_typed b (slice_taken b.range bracket kind (expr_place e) (typed e (first_names kind find) (first_needed kind needed)) (expr_place f) (typed f (steady find) true))
-  selected (tree.OfWord bracket address part) name find needed = further_typed needed name.place (find name.bytes)
+  selected (tree.OfWord bracket address part) name find needed =
+      let m = find name.bytes in
+      further_typed needed name.place m (typed address find needed) (taken_by (word_range m) part find needed)
+
+  -- which bits of a word with this range a further select takes, one or several
+  pub taken_by : Option Range → tree.Select → Find → Bool → Taken
+  taken_by declared (tree.BitAt bracket index) find needed = let i = typed index find needed in taken declared true 1 i i.faults
+  taken_by declared (tree.Slice bracket kind e f) find needed =
+      slice_taken declared bracket kind (expr_place e) (typed e (first_names kind find) (first_needed kind needed)) (expr_place f) (typed f (steady find) true)
+  taken_by declared tree.Whole find needed = not_taken None []
+  taken_by declared (tree.OfWord bracket address part) find needed = not_taken None []
 
   -- the parts of a concatenation
   pub typed_parts : tree.Exprs → Find → Bool → Typed

@@ -3,7 +3,7 @@ use Rattle.std.specs.Prelude.{ℕ, Bool, true, false, not, ◌&&◌, ◌||◌, L
 use Rattle.vs_four.specs.declared.Range.{Range}
 use Rattle.vs_four.specs.Numbers.{bits_of}
 use Rattle.vs_four.specs.Selects.{Part, range_length, is_descending}
-use Rattle.vs_design.specs.Expressions.{Signal, word_length, Source, OfSignal, OfConstant, Expression, Literal, Name, Select, Word, At}
+use Rattle.vs_design.specs.Expressions.{Signal, word_length, Source, OfSignal, OfConstant, Expression, Literal, Name, Select, Word, WordPart, At}
 use Rattle.vs_grammar.specs.Trees.{SliceKind, Between, Upward, Downward}
 use Rattle.vs_const.specs.declared.faults.Fault.{Fault}
 use Rattle.vs_const.specs.Faults.{Rule, fault, fault_if, BadRange, NotConstant, UnknownName, WrongKind}
@@ -224,6 +224,23 @@ abbrev pub bit_typed : (needed : Bool) → (place : ℕ) → Meaning → Typed �
 bit_typed needed place (AMemory m) i = word_typed needed place m i
 bit_typed needed place m i = let b = base_of needed place m in select_typed b (taken b.range true 1 i i.faults)
 
--- A further select, of a bit or of several of a word, isn't taken; what stands in the brackets comes behind the name.
-abbrev pub further_typed : (needed : Bool) → (place : ℕ) → Meaning → Typed
-further_typed needed place m = broken None (fault (wrong_rule needed m) place)
+-- ---- parts of words (5.2.2)
+
+-- the declared range of a memory's words
+abbrev pub word_range : Meaning → Option Range
+word_range (AMemory m) = m.signal.range
+word_range m = None
+
+-- bits of the word at an address, unless a fault leaves them undefined
+abbrev pub word_part_if : (good : Bool) → SignalMeaning → List Fault → Typed → Taken → Typed
+word_part_if true m faults a t = record { expression = WordPart m.signal a.expression t.part t.index; length = t.length; good = true; faults = faults ++ (a.faults ++ t.faults) }
+word_part_if false m faults a t = broken t.length (faults ++ (a.faults ++ t.faults))
+
+-- a word of one bit without a range has none to select
+abbrev pub word_part_typed : (place : ℕ) → SignalMeaning → Typed → Taken → Typed
+word_part_typed place m a t = word_part_if (m.known && a.good && t.good) m (fault_if (is_scalar m) WrongKind place) a t
+
+-- `name[address]` with a further select: of a memory, where no constant is needed. Of any other name what stands in the brackets comes behind it
+abbrev pub further_typed : (needed : Bool) → (place : ℕ) → Meaning → Typed → Taken → Typed
+further_typed false place (AMemory m) a t = word_part_typed place m a t
+further_typed needed place m a t = broken None (fault (wrong_rule needed m) place)

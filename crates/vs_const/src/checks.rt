@@ -17,13 +17,13 @@ use crate::calls::{Arguments, and_argument, call_rule, find_called, find_misname
 use crate::found::{
     Found, find_between, find_binary, find_bit, find_brackets, find_choice, find_clog2,
     find_concatenation, find_last, find_literal, find_more, find_moving, find_name, find_number,
-    find_replication, find_unary,
+    find_replication, find_unary, find_word_part,
 };
 use crate::names::{Env, Named};
 use crate::needs::{Need, meant};
 use crate::ranges::{Bounds, Natural, Numbered, natural_of, range_of_bounds};
 use crate::rules::Rule;
-use crate::selects::{Taken, between, moving, wrong_rule};
+use crate::selects::{Taken, between, bits_from, moving, no_bits, wrong_rule};
 use std::alloc::{AllocError, Global};
 use vs_ast::{Expr, Name, Select, SliceKind, SystemFunction};
 use vs_base::UnaryOp;
@@ -271,7 +271,6 @@ fn find_selected<E: Env>(
     let named = meant(env, need, name.text.as_slice());
     match select {
         Select::Whole => Ok(find_name(needed, name.place, &named)),
-        Select::Word { .. } => Ok(find_misnamed(wrong_rule(needed, &named), name.place)),
         Select::Bit { index, .. } => {
             let i = look(alloc, index, env, need)?;
             find_bit(alloc, needed, name.place, &named, i)
@@ -326,6 +325,66 @@ fn find_selected<E: Env>(
                 }
             }
         }
+        Select::Word { address, part, .. } => match named {
+            Named::Memory(s) => {
+                if needed {
+                    Ok(find_misnamed(Rule::NotConstant, name.place))
+                } else {
+                    let at = look(alloc, address, env, need)?;
+                    let bits = look_part(alloc, s.range, part, env, need)?;
+                    Ok(find_word_part(name.place, s, at, bits))
+                }
+            }
+            _ => Ok(find_misnamed(wrong_rule(needed, &named), name.place)),
+        },
+    }
+}
+
+/// Which bits of a word with this range a further select takes.
+#[cycle(evaluation)]
+fn look_part<E: Env>(
+    alloc: Global,
+    declared: Option<Range>,
+    part: &Select,
+    env: &E,
+    need: Need,
+) -> Result<Taken, AllocError>
+    requires shaped { IsSelect (view.select part.now) }
+    requires fair { IsFair (E.names env.now) }
+    ensures { IfOk result (λ t. ChecksTaken t (expr.taken_by declared (view.select part.now) (names_for need (E.names env.now)) (is_needed need))) }
+{
+    match part {
+        Select::Bit { index, .. } => {
+            let i = look(alloc, index, env, need)?;
+            Ok(bits_from(declared, 1, i.said.good, i.said.depth, i.said.flaws))
+        }
+        Select::Slice {
+            bracket,
+            kind,
+            left,
+            right,
+        } => {
+            let n = steady_number(alloc, right, env)?;
+            match kind {
+                SliceKind::Between => {
+                    let m = steady_number(alloc, left, env)?;
+                    let bounds = range_of_bounds(
+                        64,
+                        *bracket,
+                        place_of(left),
+                        m,
+                        place_of(right),
+                        n,
+                    );
+                    Ok(between(declared, *bracket, bounds))
+                }
+                SliceKind::Upward | SliceKind::Downward => {
+                    let a = look(alloc, left, env, need)?;
+                    Ok(moving(declared, a.said, place_of(right), n))
+                }
+            }
+        }
+        Select::Whole | Select::Word { .. } => Ok(no_bits()),
     }
 }
 
@@ -448,6 +507,25 @@ pub fn check_slice<E: Env>(
             let a = check(alloc, left, env, needed)?;
             Ok(moving(declared, a.said, place_of(right), n))
         }
+    }
+}
+
+/// Which bits of a word with this range a further select takes (IEEE 1364-2005, 5.2.2). The index is a constant where one is needed.
+pub fn check_part<E: Env>(
+    alloc: Global,
+    declared: Option<Range>,
+    part: &Select,
+    env: &E,
+    needed: bool,
+) -> Result<Taken, AllocError>
+    requires shaped { IsSelect (view.select part.now) }
+    requires fair { IsFair (E.names env.now) }
+    ensures { IfOk result (λ t. ChecksTaken t (expr.taken_by declared (view.select part.now) (E.names env.now) needed)) }
+{
+    if needed {
+        look_part(alloc, declared, part, env, Need::Constant)
+    } else {
+        look_part(alloc, declared, part, env, Need::Anything)
     }
 }
 

@@ -8,23 +8,25 @@ ghost use Rattle.vs_grammar.specs.Trees as tree;
 ghost use Rattle.vs_grammar.specs.Shapes.{IsLiteral};
 ghost use Rattle.vs_ast.specs.Views as view;
 ghost use Rattle.vs_const.specs.Faults.{flaws_of};
-ghost use Rattle.vs_const.specs.Meanings.{Meaning, Means, IsFairMeaning};
+ghost use Rattle.vs_const.specs.Meanings.{Meaning, Means, SignalMeaning, IsFairMeaning};
 ghost use Rattle.vs_const.specs.Typed as typed;
 ghost use Rattle.vs_const.specs.Selects as spec;
 ghost use Rattle.vs_const.specs.Expressions as expr;
-ghost use Rattle.vs_const.specs.Checks.{Checks, ChecksNumber, ChecksNatural, IsUnsizedAt};
+ghost use Rattle.vs_const.specs.Checks.{Checks, ChecksNumber, ChecksNatural, ChecksTaken, IsUnsizedAt};
 ghost use Rattle.vs_const.specs.Forms.{expression, IsForm};
 ghost use Rattle.vs_const.specs.Found.{IsOf, Keeps, Finds, Says, AreValued};
 
 use crate::faults::{Fault, Flaws, both, flaw};
 use crate::forms::{Form, own, shape};
-use crate::names::Named;
+use crate::names::{Named, SignalShape};
 use crate::operators::{
     binary, choice, clog2_broken, clog2_of, copies, join, literal, noted, part, replicated, unary,
 };
 use crate::ranges::{Numbered, natural_of, range_of_bounds};
 use crate::rules::Rule;
-use crate::selects::{base_of, between, bits_from, moving, name_alone, taken_of, word};
+use crate::selects::{
+    Taken, base_of, between, bits_from, moving, name_alone, taken_of, word, word_part,
+};
 use std::alloc::{AllocError, Global};
 use vs_ast::Literal;
 use vs_base::{BinaryOp, Context, UnaryOp};
@@ -497,6 +499,17 @@ pub(crate) fn find_bit(
             form: None,
         }),
         _ => find_one_bit(alloc, needed, place, named, i),
+    }
+}
+
+/// Bits of a word of a memory, which is no constant and so is never kept.
+pub(crate) fn find_word_part(place: u32, s: SignalShape, address: Found, t: Taken) -> Found
+    ensures { (m : SignalMeaning) (a : typed.Typed) (bits : spec.Taken) → s.range ≡ m.signal.range → s.known ≡ m.known → Says false address a → ChecksTaken t bits
+        → Finds false result (spec.word_part_typed place m a bits) }
+{
+    Found {
+        said: word_part(place, s, address.said, t),
+        form: None,
     }
 }
 

@@ -17,7 +17,9 @@ mod ranges;
 mod rules;
 mod selects;
 
-pub use checks::{address_bounds, bounds, check, check_slice, natural, numbered, place_of};
+pub use checks::{
+    address_bounds, bounds, check, check_part, check_slice, natural, numbered, place_of,
+};
 pub use constants::{constant, number};
 pub use error::ConstError;
 pub use faults::{

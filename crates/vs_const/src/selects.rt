@@ -272,6 +272,35 @@ pub(crate) fn taken_of(b: Base, t: Taken) -> Checked
     }
 }
 
+/// Bits of the word of a memory at this address (5.2.2), where no constant is needed.
+#[tactic(auto, using(crate::proofs::Least::flaws_append))]
+pub(crate) fn word_part(place: u32, shape: SignalShape, address: Checked, t: Taken) -> Checked
+    ensures { (m : SignalMeaning) (a : typed.Typed) (bits : spec.Taken) → shape.range ≡ m.signal.range → shape.known ≡ m.known → Checks address a → ChecksTaken t bits
+        → Checks result (spec.word_part_typed place m a bits) }
+{
+    let good = shape.known && address.good && t.good;
+    let scalar = flaw_if(shape.known && shape.range.is_none(), Rule::WrongKind, place);
+    Checked {
+        flaws: both(scalar, both(address.flaws, t.flaws)),
+        length: t.length,
+        good,
+        signed: false,
+        depth: if good { address.depth.max(t.depth) } else { 0 },
+    }
+}
+
+/// No bits: what the grammar has behind no word.
+pub(crate) fn no_bits() -> Taken
+    ensures { ChecksTaken result (spec.not_taken None []) }
+{
+    Taken {
+        length: None,
+        good: false,
+        flaws: flawless(),
+        depth: 0,
+    }
+}
+
 /// The word of a memory at this address, which is no constant (4.9.3).
 #[tactic(auto, using(crate::proofs::Least::flaws_append))]
 pub(crate) fn word(needed: bool, place: u32, shape: SignalShape, index: Checked) -> Checked

@@ -1,12 +1,12 @@
 -- The families of sets along a level order.
-use Rattle.std.proofs.Common.{◌≡◌, ℕ, ◌+◌, ◌-◌, Bool, true, false, List, [], ◌∷◌, ◌++◌, ◌||◌, if◌then◌else◌, inr, refl, sym, ap, ◌∙◌, subst, map, take, drop, ◌==◌, eqb-true, Option, Some, None}
+use Rattle.std.proofs.Common.{◌≡◌, ℕ, ◌+◌, ◌-◌, Bool, true, false, List, [], ◌∷◌, ◌++◌, ◌&&◌, ◌||◌, if◌then◌else◌, inr, refl, sym, ap, ◌∙◌, subst, map, take, drop, ◌==◌, eqb-true, Option, Some, None}
 use Rattle.std.specs.Prelude.{slice_get}
 use Rattle.vs_net.specs.Network.{State, put, write_all}
 use Rattle.vs_net.proofs.Basics.{write_all_covered}
 use Rattle.vs_four.specs.Selects.{places}
 use Rattle.vs_design.specs.Expressions.{Expression, sign, is_constant}
-use Rattle.vs_design.specs.Values.{bits_of_signal, word_places, constant_value}
-use Rattle.vs_design.specs.Statements.{Target, Whole, PartOf, WordOf, Both, target_width, Statement}
+use Rattle.vs_design.specs.Values.{bits_of_signal, word_places, constant_value, word_part_places}
+use Rattle.vs_design.specs.Statements.{Target, Whole, PartOf, WordOf, WordPartOf, Both, target_width, Statement}
 use Rattle.vs_design.specs.Bodies.{bits_at, assignment_writes, body}
 use Rattle.vs_design.specs.Designs.{Process, Continuous, Always, is_clocked, Design}
 use Rattle.vs_design.specs.Footprints.{contains, somes, target_bits, read_bits, statement_bits, statement_reads, writes_of, without}
@@ -30,6 +30,7 @@ use Rattle.vs_design.proofs.SetStatement.{body_in}
 use Rattle.vs_design.proofs.Blocks.{early_in, no_latch_at, block_writes}
 use Rattle.vs_design.proofs.Drivers.{one_process}
 use Rattle.vs_design.proofs.Order.{Turn, turn_of, all_at_end}
+use Rattle.vs_design.proofs.WordParts.{part_constant, part_variable}
 
 same_option : {A : Type 0} (x y : A) → Some x ≡ Some y → x ≡ y
 same_option x y e = cc
@@ -55,6 +56,10 @@ write_other (WordOf signal index) ss sets b h =
     by_test (is_constant index)
     (λ e. rw e (each_other (bits_at signal (word_places signal (sign index) (constant_value index))) ss sets b (subst (λ xs. contains xs b ≡ false) (addressed_constant signal index e) h)))
     (λ e. rw e (rw (subst (λ xs. contains xs b ≡ false) (addressed_variable signal index e) h) refl))
+write_other (WordPartOf signal address part index) ss sets b h =
+    by_test (is_constant address && is_constant index)
+    (λ e. rw e (each_other (bits_at signal (word_part_places signal (sign address) (constant_value address) part (sign index) (constant_value index))) ss sets b (subst (λ xs. contains xs b ≡ false) (part_constant signal address part index e) h)))
+    (λ e. rw e (rw (subst (λ xs. contains xs b ≡ false) (part_variable signal address part index e) h) refl))
 write_other (Both high low) ss sets b h =
     let k = neither (target_bits high) (target_bits low) b h in
     write_other low (take (target_width low) ss) (write_sets high (drop (target_width low) ss) sets) b k.1 ∙ write_other high (drop (target_width low) ss) sets b k.0
@@ -128,6 +133,7 @@ pub constant_assigns : (t : Target) → has_constant_selects t ≡ true → assi
 constant_assigns (Whole signal) h = refl
 constant_assigns (PartOf signal part index) h = rw h refl
 constant_assigns (WordOf signal index) h = rw h refl
+constant_assigns (WordPartOf signal address part index) h = rw h refl
 constant_assigns (Both high low) h =
     let k = and_both (has_constant_selects high) (has_constant_selects low) h in
     ap {B = List ℕ} (λ xs. xs ++ assigns low) (constant_assigns high k.0) ∙ ap {B = List ℕ} (λ xs. target_bits high ++ xs) (constant_assigns low k.1)

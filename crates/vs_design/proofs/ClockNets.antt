@@ -6,9 +6,9 @@ use Rattle.vs_net.specs.Network.{State, Write, Effect, is_written, write_all, Ne
 use Rattle.vs_net.specs.Network as N
 use Rattle.vs_net.specs.Lawful.{IsClockPort}
 use Rattle.vs_four.specs.Logic.{BitList}
-use Rattle.vs_design.specs.Expressions.{Signal, signal_length, Expression, Literal, Name, Select, Word, Unary, Binary, Choice, Join, Repeat, At, Call, width, sign}
+use Rattle.vs_design.specs.Expressions.{Signal, signal_length, Expression, Literal, Name, Select, Word, WordPart, Unary, Binary, Choice, Join, Repeat, At, Call, width, sign}
 use Rattle.vs_design.specs.Values.{count_from, bits_of_signal, value}
-use Rattle.vs_design.specs.Statements.{Target, Whole, PartOf, WordOf, Both}
+use Rattle.vs_design.specs.Statements.{Target, Whole, PartOf, WordOf, WordPartOf, Both}
 use Rattle.vs_design.specs.Bodies.{assignment_writes, body}
 use Rattle.vs_design.specs.Designs.{Port, Process, Continuous, Always, Design, top_inputs, bit_count}
 use Rattle.vs_design.specs.Footprints.{contains, read_bits, target_reads, target_bits, input_bits}
@@ -178,6 +178,7 @@ port_of nets (Continuous place port target_place (Whole signal) e) b h =
     (λ k. absurd (either_way (contains [] b) (subst (λ (c : Bool). contains (if c then (signal.first ∷ []) else []) b ≡ true) k h) refl))
 port_of nets (Continuous place port target_place (PartOf signal part index) e) b h = cc
 port_of nets (Continuous place port target_place (WordOf signal index) e) b h = cc
+port_of nets (Continuous place port target_place (WordPartOf signal address part index) e) b h = cc
 port_of nets (Continuous place port target_place (Both high low) e) b h = cc
 port_of nets (Always place star events st) b h = cc
 
@@ -259,6 +260,7 @@ name_facts (At place e) s h = let r = name_facts e s h in record { value_is = r.
 name_facts (Literal bits signed sized) s h = cc
 name_facts (Select source part index) s h = cc
 name_facts (Word signal index) s h = cc
+name_facts (WordPart signal address part index) s h = cc
 name_facts (Unary op a) s h = cc
 name_facts (Binary op a b) s h = cc
 name_facts (Choice c p q) s h = cc

@@ -3,20 +3,21 @@ use Rattle.std.proofs.Common.{◌≡◌, ℕ, zero, suc, Bool, true, false, List
 use Rattle.std.specs.Prelude.{slice_get, is_some}
 use Rattle.std.specs.List.{filter}
 use Rattle.vs_four.specs.declared.Range.{Range}
-use Rattle.vs_four.specs.Selects.{range_length, places}
-use Rattle.vs_design.specs.Expressions.{Signal, signal_length, range_or_one, words_length, OfSignal, sign, is_constant}
+use Rattle.vs_four.specs.Selects.{range_length, places, Part}
+use Rattle.vs_design.specs.Expressions.{Signal, signal_length, range_or_one, words_length, OfSignal, sign, is_constant, word_length}
 use Rattle.vs_design.specs.Values.{bits_of_signal, constant_value}
-use Rattle.vs_design.specs.Statements.{Target, Whole, PartOf, WordOf, Both, Statement, Empty, Assignment, Then, If, Case, Arms, Arm, Default}
+use Rattle.vs_design.specs.Statements.{Target, Whole, PartOf, WordOf, WordPartOf, Both, Statement, Empty, Assignment, Then, If, Case, Arms, Arm, Default}
 use Rattle.vs_design.specs.Bodies.{bits_at}
 use Rattle.vs_design.specs.Designs.{Design}
 use Rattle.vs_design.specs.Footprints.{contains, somes, signals_bits, target_bits, statement_bits, arms_bits, is_variable, variable_bits, is_memory}
 use Rattle.vs_design.specs.Clocks.{same_name}
 use Rattle.vs_design.specs.Fits.{fits_64}
-use Rattle.vs_design.specs.Elaborated.{same_range, same_flag, same_signal, is_this, is_signal, is_plain, has_words, is_formed, is_formed_select, is_formed_target, is_formed_statement, are_formed_arms, has_items, are_formed}
+use Rattle.vs_design.specs.Elaborated.{same_range, same_flag, same_signal, is_this, is_signal, is_plain, has_words, is_formed, is_formed_select, is_formed_target, is_formed_statement, are_formed_arms, has_items, are_formed, is_formed_word_part}
 use Rattle.vs_design.proofs.Lists.{by_test, and_both, contains-left, contains-right}
 use Rattle.vs_design.proofs.Signals.{split}
 use Rattle.vs_design.proofs.Writes.{either_way, part_bits}
 use Rattle.vs_design.proofs.Words.{addressed_within}
+use Rattle.vs_design.proofs.WordParts.{part_bits_within}
 
 -- ---- equal signals
 
@@ -84,6 +85,20 @@ plain_signal d s h = (and_both (is_signal d s) (not (is_memory s)) h).0
 pub words_signal : (d : Design) (s : Signal) → has_words d s ≡ true → is_signal d s ≡ true
 words_signal d s h = (and_both (is_signal d s) (is_memory s) h).0
 
+-- and so is one of which a part of a word is taken
+pub part_words : (d : Design) (s : Signal) (part : Part) → is_formed_word_part d s part ≡ true → has_words d s ≡ true
+part_words d s part h = (and_both (has_words d s) (same_range s.range (Some part.range)) (and_both (has_words d s && same_range s.range (Some part.range)) (fits_64 part.width) h).0).0
+
+pub part_signal : (d : Design) (s : Signal) (part : Part) → is_formed_word_part d s part ≡ true → is_signal d s ≡ true
+part_signal d s part h = words_signal d s (part_words d s part h)
+
+-- the part's range has as many bits as the word
+pub word_part_length : (d : Design) (s : Signal) (part : Part) → is_formed_word_part d s part ≡ true → range_length part.range ≡ word_length s
+word_part_length d s part h =
+    let p = and_both (has_words d s && same_range s.range (Some part.range)) (fits_64 part.width) h in
+    let q = and_both (has_words d s) (same_range s.range (Some part.range)) p.0 in
+    sym (ap range_or_one (range_is s.range (Some part.range) q.1))
+
 -- one that isn't has the bits of its range
 pub plain_length : (d : Design) (s : Signal) → is_plain d s ≡ true → signal_length s ≡ range_or_one s.range
 plain_length d s h = go s.words (and_both (is_signal d s) (not (is_memory s)) h).1
@@ -144,6 +159,11 @@ target_kind d allowed (WordOf signal index) b f h =
     let p = and_both (has_words d signal && allowed signal) (is_formed d index) f in
     let q = and_both (has_words d signal) (allowed signal) p.0 in
     selected d signal allowed b (words_signal d signal q.0) q.1 (addressed_within signal index b h)
+target_kind d allowed (WordPartOf signal address part index) b f h =
+    let p = and_both (is_formed_word_part d signal part && allowed signal && is_formed d address) (is_formed d index) f in
+    let q = and_both (is_formed_word_part d signal part && allowed signal) (is_formed d address) p.0 in
+    let r = and_both (is_formed_word_part d signal part) (allowed signal) q.0 in
+    selected d signal allowed b (part_signal d signal part r.0) r.1 (part_bits_within signal address part index b h)
 target_kind d allowed (Both high low) b f h =
     let p = and_both (is_formed_target d allowed high) (is_formed_target d allowed low) f in
     split (target_bits high) (target_bits low) b h (target_kind d allowed high b p.0) (target_kind d allowed low b p.1)

@@ -5,7 +5,7 @@ use Rattle.vs_four.specs.Logic.{BitList, truth}
 use Rattle.vs_four.specs.Tables.{is_one}
 use Rattle.vs_design.specs.Expressions.{Signal, OfSignal}
 use Rattle.vs_design.specs.Values.{own_value, value}
-use Rattle.vs_design.specs.Statements.{Target, Whole, PartOf, WordOf, Both, CaseKind, Statement, Empty, Assignment, Then, If, Case, Arms, Arm, Default, case_width, case_sign}
+use Rattle.vs_design.specs.Statements.{Target, Whole, PartOf, WordOf, WordPartOf, Both, CaseKind, Statement, Empty, Assignment, Then, If, Case, Arms, Arm, Default, case_width, case_sign}
 use Rattle.vs_design.specs.Bodies.{is_taken, body, arms_body}
 use Rattle.vs_design.specs.Designs.{Design}
 use Rattle.vs_design.specs.Footprints.{statement_bits, arms_bits, is_variable}
@@ -25,6 +25,7 @@ formed_parts d allowed (PartOf signal part index) f =
     let s = and_both (is_plain d signal) (same_range signal.range (Some part.range)) r.0 in
     part_length d signal part.range s.0 s.1
 formed_parts d allowed (WordOf signal index) f = tt
+formed_parts d allowed (WordPartOf signal address part index) f = tt
 formed_parts d allowed (Both high low) f = let p = and_both (is_formed_target d allowed high) (is_formed_target d allowed low) f in (formed_parts d allowed high p.0, formed_parts d allowed low p.1)
 
 mutual

@@ -11,7 +11,7 @@ use Rattle.vs_four.specs.Numbers.{bits_of, bits_of_integer, if_known, has_quotie
 use Rattle.vs_four.specs.Shifts.{move_up, move_down, distance}
 use Rattle.vs_four.specs.Selects.{Part, range_length, at_place, places, select}
 use Rattle.vs_design.proofs.Places.{first_place, places_from, places_are}
-use Rattle.vs_design.specs.Expressions.{Signal, signal_length, word_length, Source, UnaryOp, Plus, Minus, BitNot, Signed, Unsigned, BinaryOp, Add, Subtract, Multiply, Divide, Remainder, BitAnd, BitOr, BitXor, BitXnor, ShiftLeft, ShiftRight, ShiftLeftArith, ShiftRightArith, Power, Expression, Literal, Name, Select, Word, Unary, Binary, Choice, Join, Repeat, At, Call, Way, InContext, Own, Compared, Shifted, Raised, unary_way, way, unary_length, binary_length, width, sign}
+use Rattle.vs_design.specs.Expressions.{Signal, signal_length, word_length, Source, UnaryOp, Plus, Minus, BitNot, Signed, Unsigned, BinaryOp, Add, Subtract, Multiply, Divide, Remainder, BitAnd, BitOr, BitXor, BitXnor, ShiftLeft, ShiftRight, ShiftLeftArith, ShiftRightArith, Power, Expression, Literal, Name, Select, Word, WordPart, Unary, Binary, Choice, Join, Repeat, At, Call, Way, InContext, Own, Compared, Shifted, Raised, unary_way, way, unary_length, binary_length, width, sign}
 use Rattle.vs_design.specs.Values.{count_from, bits_of_signal, read, source_value, address_place, spread, word_places, select_word, apply_unary, or_all_x, apply_binary, left_width, right_width, left_sign, right_sign, unset, value, argument_state, body, assigned_value}
 
 pub length_extend : {A : Type 0} (fill : A) (w : ℕ) (xs : List A) → length xs ≤ w → length (extend_with fill w xs) ≡ w
@@ -153,6 +153,11 @@ length_value (Word signal index) w g s h =
     let a = read s (bits_of_signal signal) in
     let e = length-map (word_places signal (sign index) v) (at_place X a) ∙ length_word signal (sign index) v in
     length_extend _ w (select_word signal (sign index) a v) (omega (arith, e))
+length_value (WordPart signal address part index) w g s h =
+    let v = value index (width index) (sign index) s in
+    let a = select_word signal (sign address) (read s (bits_of_signal signal)) (value address (width address) (sign address) s) in
+    let e = length-map (places part (sign index) v) (at_place X a) ∙ length_places part (sign index) v in
+    length_extend _ w (select part (sign index) a v) (omega (arith, e))
 length_value (Unary op a) w g s h =
     let v = value a (left_width (unary_way op) w (width a) 0) (left_sign (unary_way op) g (sign a) false) s in
     let e : length v ≡ left_width (unary_way op) w (width a) 0 = length_value a (left_width (unary_way op) w (width a) 0) (left_sign (unary_way op) g (sign a) false) s (unary_fits op w (width a) h) in

@@ -2,6 +2,7 @@ pub mod Lists
 pub mod Places
 pub mod Lengths
 pub mod Words
+pub mod WordParts
 pub mod ReadValue
 pub mod Writes
 pub mod BodyExact
@@ -55,7 +56,7 @@ pub mod Stirring
 pub mod OrderFacts
 pub mod OpenPaths
 pub mod SlotEnds
-pub mod WholeWords
+pub mod MemoryBits
 pub mod MemoryLaws
 pub mod Decided
 pub mod Weights
@@ -66,6 +67,7 @@ pub mod ExampleLaws
 pub mod ExampleBlocking
 pub mod ExampleInitials
 pub mod ExampleMemoryLaws
+pub mod ExampleWordPartLaws
 pub mod ExampleTogether
 pub mod SpareLaws
 pub mod Within

@@ -1,8 +1,6 @@
 -- The words of memories are those that their updates give.
-use Rattle.std.proofs.Common.{◌≡◌, ◌≢◌, ℕ, zero, suc, ◌+◌, ◌*◌, ◌<◌, Bool, true, false, List, [], ◌∷◌, ◌++◌, ◌||◌, ◌&&◌, ◌==◌, if◌then◌else◌, ◌⊎◌, inl, inr, refl, sym, ap, ◌∙◌, subst, arith, map, Option, Some, None}
+use Rattle.std.proofs.Common.{◌≡◌, ◌≢◌, ℕ, zero, suc, ◌+◌, ◌<◌, Bool, true, false, List, [], ◌∷◌, ◌++◌, ◌||◌, ◌==◌, if◌then◌else◌, inl, inr, refl, sym, ap, ◌∙◌, subst, arith, map, Option, Some, None}
 use Rattle.std.specs.Prelude.{slice_get, not}
-use Rattle.std.specs.List.{list_all}
-use Rattle.vs_four.specs.declared.Bit4.TheVariants.{X}
 use Rattle.vs_four.specs.Logic.{BitList}
 use Rattle.vs_four.specs.Tables.{same}
 use Rattle.vs_four.specs.Selects.{range_length}
@@ -24,7 +22,7 @@ use Rattle.vs_design.specs.Networks.{network_of}
 use Rattle.vs_design.specs.Elaborated.{are_lawful_words, is_lawful_memory, is_formed_process, is_formed_statement, are_formed_events, has_clocked_words, writes_no_word}
 use Rattle.vs_design.specs.Accepted.{IsAcceptedDesign}
 use Rattle.vs_design.specs.SlotValues.{register_value}
-use Rattle.vs_design.specs.Memories.{word_bits, block_effects, effects_if, process_effects, slot_effects, word_after, word_along, WordsAre}
+use Rattle.vs_design.specs.Memories.{word_bits, block_effects, effects_if, process_effects, slot_effects, overwritten, word_after, word_along, WordsAre}
 use Rattle.vs_design.proofs.Lists.{by_test, and_both, or_right, contains_head}
 use Rattle.vs_design.proofs.Writes.{either_way, written-append}
 use Rattle.vs_design.proofs.Parts.{all_at}
@@ -39,7 +37,7 @@ use Rattle.vs_design.proofs.Begun.{begun}
 use Rattle.vs_design.proofs.TreeFacts.{body_within_bits}
 use Rattle.vs_design.proofs.ResetLaws.{given, reset_is}
 use Rattle.vs_design.proofs.SlotEnds.{slot_values_are}
-use Rattle.vs_design.proofs.WholeWords.{AllOrNone, AllHave, have_append, word_in_bits, unworded_apart, body_all}
+use Rattle.vs_design.proofs.MemoryBits.{word_in_bits, unworded_apart}
 
 -- ---- lists of updates
 
@@ -66,14 +64,6 @@ given_written x b = written-append x.writes (flatten x.updates) b
 
 -- ---- one word after some updates
 
-all_have : (f : ℕ → Bool) (bits : List ℕ) → ((b : ℕ) → contains bits b ≡ true → f b ≡ true) → list_all f bits ≡ true
-all_have f [] h = refl
-all_have f (b ∷ bits) h = both (f b) (list_all f bits) (h b (contains_head b bits)) (all_have f bits (λ c k. h c (or_right (c == b) (contains bits c) k)))
-  where
-    both : (a c : Bool) → a ≡ true → c ≡ true → (a && c) ≡ true
-    both true c p q = q
-    both false c p q = cc
-
 read_same : (bits : List ℕ) (s t : State) → ((b : ℕ) → contains bits b ≡ true → s b ≡ t b) → read s bits ≡ read t bits
 read_same [] s t h = refl
 read_same (b ∷ bits) s t h =
@@ -81,31 +71,26 @@ read_same (b ∷ bits) s t h =
     let rest : read s bits ≡ read t bits = read_same bits s t (λ c k. h c (or_right (c == b) (contains bits c) k)) in
     cc
 
-list_has : (f : ℕ → Bool) (bits : List ℕ) (b : ℕ) → list_all f bits ≡ true → contains bits b ≡ true → f b ≡ true
-list_has f [] b h k = cc
-list_has f (c ∷ bits) b h k =
-    let p = and_both (f c) (list_all f bits) h in
-    by_test (b == c)
-    (λ e. subst (λ x. f x ≡ true) (sym (Rattle.std.proofs.Common.eqb-true b c e)) p.0)
-    (λ e. list_has f bits b p.1 (subst (λ x. (x || contains bits b) ≡ true) e k))
+-- an update gives a bit its last value, or leaves it
+one_bit : (u : Update) (s : State) (b : ℕ) → write_all s u b ≡ write_all (λ c. s b) u b
+one_bit u s b =
+    by_test (is_written u b)
+    (λ e. write_all_covered u s (λ c. s b) b e)
+    (λ e. write_all_other u s b e ∙ sym (write_all_other u (λ c. s b) b e))
 
--- an update gives a word its value, or leaves it
-one_update : (bits : List ℕ) (u : Update) (s : State) → AllOrNone bits u → read (write_all s u) bits ≡ (if list_all (is_written u) bits then read (write_all (λ b. X) u) bits else read s bits)
-one_update bits u s h =
-    by_test (list_all (is_written u) bits)
-    (λ e. rw e (read_same bits (write_all s u) (write_all (λ b. X) u) (λ b k. write_all_covered u s (λ b. X) b (list_has (is_written u) bits b e k))))
-    (λ e. rw e (read_same bits (write_all s u) s (λ b k. write_all_other u s b (none b k e))))
-  where
-    none : (b : ℕ) → contains bits b ≡ true → list_all (is_written u) bits ≡ false → is_written u b ≡ false
-    none b k e = by_test (is_written u b) (λ w. absurd (either_way (list_all (is_written u) bits) (all_have (is_written u) bits (λ c m. h b c k m w)) e)) (λ w. w)
+one_update : (bits : List ℕ) (u : Update) (s : State) → read (write_all s u) bits ≡ overwritten u bits (read s bits)
+one_update [] u s = refl
+one_update (b ∷ bits) u s =
+    ap {B = BitList} (λ x. x ∷ read (write_all s u) bits) (one_bit u s b)
+    ∙ ap {B = BitList} (λ r. write_all (λ c. s b) u b ∷ r) (one_update bits u s)
 
-after_updates : (bits : List ℕ) (us : List Update) (s : State) → AllHave (AllOrNone bits) us → read (write_all s (flatten us)) bits ≡ word_after us bits (read s bits)
+after_updates : (bits : List ℕ) (us : List Update) (s : State) → read (write_all s (flatten us)) bits ≡ word_after us bits (read s bits)
 unfolding flatten
-after_updates bits [] s h = read_same bits (write_all s []) s (λ b k. nothing_changed s b)
-after_updates bits (u ∷ us) s h =
+after_updates bits [] s = read_same bits (write_all s []) s (λ b k. nothing_changed s b)
+after_updates bits (u ∷ us) s =
     ap {B = BitList} (λ (t : State). read t bits) (write_all-append u (flatten us) s)
-    ∙ after_updates bits us (write_all s u) h.1
-    ∙ ap {B = BitList} (word_after us bits) (one_update bits u s h.0)
+    ∙ after_updates bits us (write_all s u)
+    ∙ ap {B = BitList} (word_after us bits) (one_update bits u s)
 
 -- ---- who writes a bit
 
@@ -285,22 +270,10 @@ module _ (d : Design) (names : List (List ℕ)) (a : IsAcceptedDesign d names) w
       abbrev bits : List ℕ
       bits = word_bits s k
 
-      updates_all : (slot : Slot) (before : State) (p : ℕ) (x : Process) → slice_get d.processes p ≡ Some x → AllHave (AllOrNone bits) (updates_of slot before x)
-      updates_all slot before p (Continuous place port target_place target e) h = tt
-      updates_all slot before p (Always place star events st) h = go (updates_of slot before (Always place star events st)) (from_body slot before p place star events st h)
-        where
-          go : (us : List Update) → FromBody slot before st us → AllHave (AllOrNone bits) us
-          go us (of_none e) = subst (AllHave (AllOrNone bits)) (sym e) tt
-          go us (of_body r e) = subst (AllHave (AllOrNone bits)) (sym e) (body_all d a.lawful.bits_numbered i s at memory k low st r (formed_at p place star events st h))
-
-      slot_all : (slot : Slot) (before : State) (ps : List Process) → ((p : ℕ) (x : Process) → slice_get ps p ≡ Some x → AllHave (AllOrNone bits) (updates_of slot before x)) → AllHave (AllOrNone bits) (slot_effects d clocks slot before ps)
-      slot_all slot before [] h = tt
-      slot_all slot before (x ∷ ps) h = have_append (AllOrNone bits) (updates_of slot before x) (slot_effects d clocks slot before ps) (h zero x refl) (slot_all slot before ps (λ p y e. h (suc p) y e))
-
       slot_word : (slot : Slot) (before t : State) → IsSlotEnd (network_of d clocks) before slot t → read t bits ≡ word_after (slot_effects d clocks slot before d.processes) bits (read before bits)
       slot_word slot before t h =
           read_same bits t (write_all before (flatten (slot_effects d clocks slot before d.processes))) (λ b m. slot_bit slot before t h b (word_in_bits s k b low m))
-          ∙ after_updates bits (slot_effects d clocks slot before d.processes) before (slot_all slot before d.processes (λ p x e. updates_all slot before p x e))
+          ∙ after_updates bits (slot_effects d clocks slot before d.processes) before
 
       along : (v : BitList) (before : State) (slots : List Slot) (xs : List State) → v ≡ read before bits → IsSolution (network_of d clocks) before slots xs → map (λ x. read x bits) xs ≡ word_along d clocks bits v before slots xs
       along v before [] [] e h = refl

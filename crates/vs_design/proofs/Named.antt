@@ -7,15 +7,15 @@ use Rattle.std.proofs.lemmas.List.Folds.{list_all-append}
 use Rattle.std.proofs.lemmas.List.Sums.{sum_by-cons}
 use Rattle.std.proofs.lemmas.List.Kept.{IsStrictlyIncreasing-filter}
 use Rattle.vs_four.specs.Selects.{range_length, Part, places}
-use Rattle.vs_design.specs.Expressions.{Signal, signal_length, Source, OfSignal, OfConstant, Expression, Literal, Name, Select, Word, Unary, Binary, Choice, Join, Repeat, At, Call, Items, NoItem, Item, sign, is_constant}
+use Rattle.vs_design.specs.Expressions.{Signal, signal_length, Source, OfSignal, OfConstant, Expression, Literal, Name, Select, Word, WordPart, Unary, Binary, Choice, Join, Repeat, At, Call, Items, NoItem, Item, sign, is_constant}
 use Rattle.vs_design.specs.Values.{count_from, bits_of_signal, constant_value}
-use Rattle.vs_design.specs.Statements.{Target, Whole, PartOf, WordOf, Both, Statement, Empty, Assignment, Then, If, Case, Arms, Arm, Default}
+use Rattle.vs_design.specs.Statements.{Target, Whole, PartOf, WordOf, WordPartOf, Both, Statement, Empty, Assignment, Then, If, Case, Arms, Arm, Default}
 use Rattle.vs_design.specs.Bodies.{bits_at}
 use Rattle.vs_design.specs.Designs.{Event, Process, Continuous, Always, is_combinational, Design}
-use Rattle.vs_design.specs.Footprints.{addressed_bits, contains, somes, selected_bits, source_bits, read_bits, source_signals, read_signals, target_bits, target_reads, target_signals, items_reads, items_signals, statement_reads, arms_reads, statement_signals, arms_signals, statement_bits, without, writes_of, all_reads, reads_of, wait_signals, signals_bits, waits_of, is_net, is_variable}
+use Rattle.vs_design.specs.Footprints.{addressed_bits, contains, somes, selected_bits, source_bits, read_bits, source_signals, read_signals, target_bits, target_reads, target_signals, items_reads, items_signals, statement_reads, arms_reads, statement_signals, arms_signals, statement_bits, without, writes_of, all_reads, reads_of, wait_signals, signals_bits, waits_of, is_net, is_variable, word_part_bits}
 use Rattle.vs_design.specs.Rules.{mixed_in}
 use Rattle.vs_design.specs.Fits.{fits_64}
-use Rattle.vs_design.specs.Elaborated.{same_range, is_signal, is_plain, has_words, is_formed_select, is_formed, is_formed_target, has_constant_selects, is_nil, has_items, is_formed_header, inside, are_as_many, are_formed, is_formed_statement, are_formed_arms, is_formed_event, are_formed_events, is_formed_port, is_formed_process, have_bits_from}
+use Rattle.vs_design.specs.Elaborated.{same_range, is_signal, is_plain, has_words, is_formed_select, is_formed, is_formed_target, has_constant_selects, is_nil, has_items, is_formed_header, inside, are_as_many, are_formed, is_formed_statement, are_formed_arms, is_formed_event, are_formed_events, is_formed_port, is_formed_process, have_bits_from, is_formed_word_part}
 use Rattle.vs_design.specs.Laws.{BitsOfDesign, StarMissesNone, AscendingHas, AscendingRises}
 use Rattle.vs_design.proofs.Lists.{by_test, and_both, or_right, contains-left, contains-right, contains_head, contains_filter}
 use Rattle.vs_design.proofs.Writes.{either_way, part_bits}
@@ -23,8 +23,9 @@ use Rattle.vs_design.proofs.Words.{in_count, addressed_within}
 use Rattle.vs_design.proofs.Lengths.{length_count}
 use Rattle.vs_design.proofs.Signals.{split, count_high, member_bits}
 use Rattle.vs_design.proofs.Parts.{all_at}
-use Rattle.vs_design.proofs.Formed.{plain_signal, words_signal, part_length, signal_at, target_kind, statement_kind}
+use Rattle.vs_design.proofs.Formed.{plain_signal, words_signal, part_length, signal_at, target_kind, statement_kind, part_signal}
 use Rattle.vs_design.proofs.WidthExact.{and_true}
+use Rattle.vs_design.proofs.WordParts.{part_bits_within}
 
 -- ---- lists of signals
 
@@ -70,6 +71,12 @@ mutual
   read_named d (Word signal index) b f h =
       let p = and_both (has_words d signal) (is_formed d index) f in
       join_bits (addressed_bits signal index) (read_bits index) (signal ∷ []) (read_signals index) b (λ k. contains-left (bits_of_signal signal) [] b (addressed_within signal index b k)) (read_named d index b p.1) h
+  read_named d (WordPart signal address part index) b f h =
+      let p = and_both (is_formed_word_part d signal part && is_formed d address) (is_formed d index) f in
+      let q = and_both (is_formed_word_part d signal part) (is_formed d address) p.0 in
+      join_bits (word_part_bits signal address part index) (read_bits address ++ read_bits index) (signal ∷ []) (read_signals address ++ read_signals index) b
+      (λ k. contains-left (bits_of_signal signal) [] b (part_bits_within signal address part index b k))
+      (λ k. join_bits (read_bits address) (read_bits index) (read_signals address) (read_signals index) b (read_named d address b q.1) (read_named d index b p.1) k) h
   read_named d (Unary op a) b f h = read_named d a b f h
   read_named d (Binary op a c) b f h =
       let p = and_both (is_formed d a) (is_formed d c) f in
@@ -96,6 +103,10 @@ target_named : (d : Design) (allowed : Signal → Bool) (t : Target) (b : ℕ) �
 target_named d allowed (Whole signal) b f h = h
 target_named d allowed (PartOf signal part index) b f h = read_named d index b (and_both (is_formed_select d (OfSignal signal) part && allowed signal) (is_formed d index) f).1 h
 target_named d allowed (WordOf signal index) b f h = read_named d index b (and_both (has_words d signal && allowed signal) (is_formed d index) f).1 h
+target_named d allowed (WordPartOf signal address part index) b f h =
+    let p = and_both (is_formed_word_part d signal part && allowed signal && is_formed d address) (is_formed d index) f in
+    let q = and_both (is_formed_word_part d signal part && allowed signal) (is_formed d address) p.0 in
+    join_bits (read_bits address) (read_bits index) (read_signals address) (read_signals index) b (read_named d address b q.1) (read_named d index b p.1) h
 target_named d allowed (Both high low) b f h =
     let p = and_both (is_formed_target d allowed high) (is_formed_target d allowed low) f in
     join_bits (target_reads high) (target_reads low) (target_signals high) (target_signals low) b (target_named d allowed high b p.0) (target_named d allowed low b p.1) h
@@ -148,6 +159,10 @@ mutual
   read_all d (Select source part index) f =
       let p = and_both (is_formed_select d source part) (is_formed d index) f in both_all d (source_signals source) (read_signals index) (source_all d source part p.0) (read_all d index p.1)
   read_all d (Word signal index) f = let p = and_both (has_words d signal) (is_formed d index) f in both_all d (signal ∷ []) (read_signals index) (one_all d signal (words_signal d signal p.0)) (read_all d index p.1)
+  read_all d (WordPart signal address part index) f =
+      let p = and_both (is_formed_word_part d signal part && is_formed d address) (is_formed d index) f in
+      let q = and_both (is_formed_word_part d signal part) (is_formed d address) p.0 in
+      both_all d (signal ∷ []) (read_signals address ++ read_signals index) (one_all d signal (part_signal d signal part q.0)) (both_all d (read_signals address) (read_signals index) (read_all d address q.1) (read_all d index p.1))
   read_all d (Unary op a) f = read_all d a f
   read_all d (Binary op a c) f = let p = and_both (is_formed d a) (is_formed d c) f in both_all d (read_signals a) (read_signals c) (read_all d a p.0) (read_all d c p.1)
   read_all d (Choice c p q) f =
@@ -167,6 +182,10 @@ target_all : (d : Design) (allowed : Signal → Bool) (t : Target) → is_formed
 target_all d allowed (Whole signal) f = refl
 target_all d allowed (PartOf signal part index) f = read_all d index (and_both (is_formed_select d (OfSignal signal) part && allowed signal) (is_formed d index) f).1
 target_all d allowed (WordOf signal index) f = read_all d index (and_both (has_words d signal && allowed signal) (is_formed d index) f).1
+target_all d allowed (WordPartOf signal address part index) f =
+    let p = and_both (is_formed_word_part d signal part && allowed signal && is_formed d address) (is_formed d index) f in
+    let q = and_both (is_formed_word_part d signal part && allowed signal) (is_formed d address) p.0 in
+    both_all d (read_signals address) (read_signals index) (read_all d address q.1) (read_all d index p.1)
 target_all d allowed (Both high low) f =
     let p = and_both (is_formed_target d allowed high) (is_formed_target d allowed low) f in both_all d (target_signals high) (target_signals low) (target_all d allowed high p.0) (target_all d allowed low p.1)
 

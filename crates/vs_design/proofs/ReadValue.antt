@@ -5,13 +5,14 @@ use Rattle.vs_net.specs.Network.{State, write_all}
 use Rattle.vs_four.specs.Logic.{BitList, truth, choose}
 use Rattle.vs_four.specs.Lengths.{cut, extend, join, repeat}
 use Rattle.vs_four.specs.Selects.{Part, places, select, at_place}
-use Rattle.vs_design.specs.Expressions.{Signal, signal_length, Source, OfSignal, OfConstant, Expression, Literal, Name, Select, Word, Unary, Binary, Choice, Join, Repeat, At, Call, Items, NoItem, Item, unary_way, way, width, sign, is_constant}
-use Rattle.vs_design.specs.Values.{bits_of_signal, read, source_value, word_places, select_word, apply_unary, apply_binary, left_width, right_width, left_sign, right_sign, unset, value, argument_state, item_values, body, constant_value}
+use Rattle.vs_design.specs.Expressions.{Signal, signal_length, Source, OfSignal, OfConstant, Expression, Literal, Name, Select, Word, WordPart, Unary, Binary, Choice, Join, Repeat, At, Call, Items, NoItem, Item, unary_way, way, width, sign, is_constant}
+use Rattle.vs_design.specs.Values.{bits_of_signal, read, source_value, word_places, select_word, apply_unary, apply_binary, left_width, right_width, left_sign, right_sign, unset, value, argument_state, item_values, body, constant_value, word_part_places}
 use Rattle.vs_design.specs.Bodies.{bits_at, pair_up}
-use Rattle.vs_design.specs.Footprints.{contains, somes, source_bits, addressed_bits, read_bits, items_reads}
+use Rattle.vs_design.specs.Footprints.{contains, somes, source_bits, addressed_bits, read_bits, items_reads, word_part_bits}
 use Rattle.vs_design.specs.TreeLaws.{Agree}
 use Rattle.vs_design.proofs.Lists.{by_test, or_right, and_both, contains_head, agree-left, agree-right, read_agree, nth_agree, contains-append, or_false}
 use Rattle.vs_design.proofs.Words.{addressed_constant, addressed_variable}
+use Rattle.vs_design.proofs.WordParts.{part_of_word, part_constant, part_variable}
 
 -- nothing is read by an expression that names no signal
 pub constant_reads : (e : Expression) → is_constant e ≡ true → (b : ℕ) → contains (read_bits e) b ≡ false
@@ -20,6 +21,7 @@ constant_reads (Name signal) h b = cc
 constant_reads (Select (OfSignal signal) part index) h b = cc
 constant_reads (Select (OfConstant bits) part index) h b = constant_reads index h b
 constant_reads (Word signal index) h b = cc
+constant_reads (WordPart signal address part index) h b = cc
 constant_reads (Unary op a) h b = constant_reads a h b
 constant_reads (Binary op a c) h b =
     let k = and_both (is_constant a) (is_constant c) h in
@@ -77,6 +79,25 @@ word_agree s t signal index bits k h =
     (places_agree s t signal (word_places signal (sign index) (constant_value index)) (subst (λ xs. Agree xs s t) (addressed_constant signal index e) h)))
     (λ e. ap {B = BitList} (λ v. select_word signal (sign index) v bits) (read_agree (bits_of_signal signal) s t (subst (λ xs. Agree xs s t) (addressed_variable signal index e) h)))
 
+-- a part of a word by an address and an index of which each has one value
+word_part_agree : (s t : State) (signal : Signal) (address : Expression) (part : Part) (index : Expression) (us vs : BitList) → (is_constant address ≡ true → us ≡ constant_value address) → (is_constant index ≡ true → vs ≡ constant_value index) → Agree (word_part_bits signal address part index) s t
+    → select part (sign index) (select_word signal (sign address) (read s (bits_of_signal signal)) us) vs ≡ select part (sign index) (select_word signal (sign address) (read t (bits_of_signal signal)) us) vs
+word_part_agree s t signal address part index us vs ka ki h =
+    by_test (is_constant address && is_constant index)
+    (λ e.
+    let p = and_both (is_constant address) (is_constant index) e in
+    let one : us ≡ constant_value address = ka p.0 in
+    let two : vs ≡ constant_value index = ki p.1 in
+    rw (one, two) (by_constants (subst (λ xs. Agree xs s t) (part_constant signal address part index e) h)))
+    (λ e. ap {B = BitList} (λ v. select part (sign index) v vs) (word_agree s t signal address us ka (subst (λ xs. Agree xs s t) (part_variable signal address part index e) h)))
+  where
+    by_constants : Agree (somes (bits_at signal (word_part_places signal (sign address) (constant_value address) part (sign index) (constant_value index)))) s t
+        → select part (sign index) (select_word signal (sign address) (read s (bits_of_signal signal)) (constant_value address)) (constant_value index) ≡ select part (sign index) (select_word signal (sign address) (read t (bits_of_signal signal)) (constant_value address)) (constant_value index)
+    by_constants k =
+        part_of_word signal (sign address) (constant_value address) part (sign index) (constant_value index) (read s (bits_of_signal signal))
+        ∙ places_agree s t signal (word_part_places signal (sign address) (constant_value address) part (sign index) (constant_value index)) k
+        ∙ sym (part_of_word signal (sign address) (constant_value address) part (sign index) (constant_value index) (read t (bits_of_signal signal)))
+
 mutual
   pub value_reads : (e : Expression) (w : ℕ) (g : Bool) (s t : State) → Agree (read_bits e) s t → value e w g s ≡ value e w g t
   value_reads (Literal bits signed sized) w g s t h = refl
@@ -95,6 +116,17 @@ mutual
       ap {B = BitList} (extend w g)
       (word_agree s t signal index (value index (width index) (sign index) s) hc ha
       ∙ ap {B = BitList} (λ v. select_word signal (sign index) (read t (bits_of_signal signal)) v) hi)
+  value_reads (WordPart signal address part index) w g s t h =
+      let hb = agree-left (word_part_bits signal address part index) (read_bits address ++ read_bits index) s t h in
+      let hr = agree-right (word_part_bits signal address part index) (read_bits address ++ read_bits index) s t h in
+      let ha = value_reads address (width address) (sign address) s t (agree-left (read_bits address) (read_bits index) s t hr) in
+      let hi = value_reads index (width index) (sign index) s t (agree-right (read_bits address) (read_bits index) s t hr) in
+      let ca : is_constant address ≡ true → value address (width address) (sign address) s ≡ constant_value address = λ e. value_reads address (width address) (sign address) s (λ b. X) (constant_agree address e s (λ b. X)) in
+      let ci : is_constant index ≡ true → value index (width index) (sign index) s ≡ constant_value index = λ e. value_reads index (width index) (sign index) s (λ b. X) (constant_agree index e s (λ b. X)) in
+      ap {B = BitList} (extend w g)
+      (word_part_agree s t signal address part index (value address (width address) (sign address) s) (value index (width index) (sign index) s) ca ci hb
+      ∙ ap {B = BitList} (λ v. select part (sign index) (select_word signal (sign address) (read t (bits_of_signal signal)) v) (value index (width index) (sign index) s)) ha
+      ∙ ap {B = BitList} (λ v. select part (sign index) (select_word signal (sign address) (read t (bits_of_signal signal)) (value address (width address) (sign address) t)) v) hi)
   value_reads (Unary op a) w g s t h = ap {B = BitList} (λ v. extend w g (apply_unary op v)) (value_reads a (left_width (unary_way op) w (width a) 0) (left_sign (unary_way op) g (sign a) false) s t h)
   value_reads (Binary op a b) w g s t h =
       let ha = value_reads a (left_width (way op) w (width a) (width b)) (left_sign (way op) g (sign a) (sign b)) s t (agree-left (read_bits a) (read_bits b) s t h) in

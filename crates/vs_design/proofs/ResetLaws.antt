@@ -9,7 +9,7 @@ use Rattle.vs_four.specs.Logic.{BitList, truth}
 use Rattle.vs_net.specs.Network.{State, Update, Effect, to_value, Network, Kind, AnInput, AnAssign, kind, writes, effects}
 use Rattle.vs_net.specs.Network as N
 use Rattle.vs_net.specs.Lawful.{IsClockPort, IsResetPort}
-use Rattle.vs_design.specs.Expressions.{Signal, signal_length, Expression, Literal, Name, Select, Word, Unary, BitNot, LogicalNot, Binary, Choice, Join, Repeat, At, Call, width, sign, is_constant}
+use Rattle.vs_design.specs.Expressions.{Signal, signal_length, Expression, Literal, Name, Select, Word, WordPart, Unary, BitNot, LogicalNot, Binary, Choice, Join, Repeat, At, Call, width, sign, is_constant}
 use Rattle.vs_design.specs.Values.{bits_of_signal, count_from, own_value, value}
 use Rattle.vs_design.specs.Statements.{Target, Whole, Statement, Empty, Assignment, Then, If, Case}
 use Rattle.vs_design.specs.Bodies.{body}
@@ -134,6 +134,7 @@ inverse_value (Literal bits signed sized) s h l r = cc
 inverse_value (Name signal) s h l r = cc
 inverse_value (Select source part index) s h l r = cc
 inverse_value (Word signal index) s h l r = cc
+inverse_value (WordPart signal address part index) s h l r = cc
 inverse_value (Binary op a b) s h l r = cc
 inverse_value (Choice c p q) s h l r = cc
 inverse_value (Join high low) s h l r = cc
@@ -177,6 +178,7 @@ compared_reads (Literal bits signed sized) s h l n m = cc
 compared_reads (Name signal) s h l n m = cc
 compared_reads (Select source part index) s h l n m = cc
 compared_reads (Word signal index) s h l n m = cc
+compared_reads (WordPart signal address part index) s h l n m = cc
 compared_reads (Unary op a) s h l n m = cc
 compared_reads (Choice c p q) s h l n m = cc
 compared_reads (Join high low) s h l n m = cc

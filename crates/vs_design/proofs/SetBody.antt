@@ -9,10 +9,10 @@ use Rattle.vs_net.proofs.Basics.{same_number, put-same, put-other, write_all_oth
 use Rattle.vs_four.specs.Logic.{BitList}
 use Rattle.vs_four.specs.Selects.{range_length, places}
 use Rattle.vs_design.specs.Expressions.{signal_length, Expression, width, sign, is_constant}
-use Rattle.vs_design.specs.Values.{bits_of_signal, word_places, value, own_value, constant_value, assigned_value}
-use Rattle.vs_design.specs.Statements.{Target, Whole, PartOf, WordOf, Both, target_width}
+use Rattle.vs_design.specs.Values.{bits_of_signal, word_places, value, own_value, constant_value, assigned_value, word_part_places}
+use Rattle.vs_design.specs.Statements.{Target, Whole, PartOf, WordOf, WordPartOf, Both, target_width}
 use Rattle.vs_design.specs.Bodies.{bits_at, pair_up, target_writes, last_of_each, assignment_writes}
-use Rattle.vs_design.specs.Footprints.{contains, somes}
+use Rattle.vs_design.specs.Footprints.{contains, somes, addressed_bits}
 use Rattle.vs_design.specs.Latches.{assigns}
 use Rattle.vs_design.specs.Fits.{fits_target, fits_64, is_fit}
 use Rattle.vs_design.specs.Sets.{Set4, has, all_of}
@@ -20,11 +20,12 @@ use Rattle.vs_design.specs.Lifted.{Family, lifted, assigned_sets}
 use Rattle.vs_design.specs.LiftedBodies.{put_each, widen, write_sets, assign_sets}
 use Rattle.vs_design.specs.TreeLaws.{AllIn, none_in, one_in}
 use Rattle.vs_design.proofs.Lists.{by_test, and_both, contains-append}
-use Rattle.vs_design.proofs.Writes.{either_way, written_pairs, somes_all, part_bits, constant_index}
+use Rattle.vs_design.proofs.Writes.{either_way, written_pairs, somes_all, part_bits, constant_index, part_addressed}
 use Rattle.vs_design.proofs.Words.{long_word, word_within}
 use Rattle.vs_design.proofs.Lengths.{length_places, length_count, length_assigned}
 use Rattle.vs_design.proofs.SetBits.{union_left, union_right, all_take, all_drop}
 use Rattle.vs_design.proofs.SetOps.{Each, each_of_all}
+use Rattle.vs_design.proofs.WordParts.{long_word_part}
 
 -- the bit is in its set
 abbrev pub In : Family → State → ℕ → Type 0
@@ -147,6 +148,39 @@ target_in (WordOf signal index) v ss sets from s b f h l k =
     only_left : (In sets s b) ⊎ (contains (assigns (WordOf signal index)) b ≡ true) → assigns (WordOf signal index) ≡ [] → In sets s b
     only_left (inl q) e = q
     only_left (inr q) e = absurd (either_way (contains (assigns (WordOf signal index)) b) q (ap (λ c. contains c b) e))
+target_in (WordPartOf signal address part index) v ss sets from s b f h l k =
+    by_test (is_constant address && is_constant index)
+    (λ e.
+    let p = and_both (is_constant address) (is_constant index) e in
+    rw e (rw (constant_index address from p.0, constant_index index from p.1)
+    (pairs_in (bits_at signal (word_part_places signal (sign address) (constant_value address) part (sign index) (constant_value index))) sets s b (long (constant_value address) (constant_value index)) h (go k (by_constants e)))))
+    (λ e. rw e
+    (by_test (is_written (pair_up there v) b)
+    (λ q. widen_adds (addressed_bits signal address) (all_of ss) sets b (write_all s (pair_up there v) b)
+    (part_addressed signal address part index from b (sym (written_pairs there v b (long (own_value address from) (own_value index from))) ∙ q))
+    (written_has (all_of ss) there v s b (each_of_all h) q))
+    (λ q. widen_keeps (addressed_bits signal address) (all_of ss) sets b (write_all s (pair_up there v) b)
+    (rw (write_all_other (pair_up there v) s b q) (only_left k (none e))))))
+  where
+    there : List (Option ℕ)
+    there = bits_at signal (word_part_places signal (sign address) (own_value address from) part (sign index) (own_value index from))
+
+    long : (a i : BitList) → length (bits_at signal (word_part_places signal (sign address) a part (sign index) i)) ≡ length v
+    long a i = long_word_part signal (sign address) a part (sign index) i ∙ sym l
+
+    by_constants : (is_constant address && is_constant index) ≡ true → assigns (WordPartOf signal address part index) ≡ somes (bits_at signal (word_part_places signal (sign address) (constant_value address) part (sign index) (constant_value index)))
+    by_constants e = rw e refl
+
+    none : (is_constant address && is_constant index) ≡ false → assigns (WordPartOf signal address part index) ≡ []
+    none e = rw e refl
+
+    go : (In sets s b) ⊎ (contains (assigns (WordPartOf signal address part index)) b ≡ true) → {xs : List ℕ} → assigns (WordPartOf signal address part index) ≡ xs → (In sets s b) ⊎ (contains xs b ≡ true)
+    go (inl q) e = inl q
+    go (inr q) e = inr (subst (λ c. contains c b ≡ true) e q)
+
+    only_left : (In sets s b) ⊎ (contains (assigns (WordPartOf signal address part index)) b ≡ true) → assigns (WordPartOf signal address part index) ≡ [] → In sets s b
+    only_left (inl q) e = q
+    only_left (inr q) e = absurd (either_way (contains (assigns (WordPartOf signal address part index)) b) q (ap (λ c. contains c b) e))
 target_in (Both high low) v ss sets from s b f h l k =
     let fs = and_both (fits_64 (target_width high + target_width low) && fits_target high) (fits_target low) f in
     let fh = and_both (fits_64 (target_width high + target_width low)) (fits_target high) fs.0 in

@@ -7,13 +7,13 @@ use Rattle.vs_net.specs.Network.{State, write_all}
 use Rattle.vs_net.proofs.Basics.{write_all-append}
 use Rattle.vs_four.specs.Logic.{BitList, truth}
 use Rattle.vs_four.specs.Selects.{range_length}
-use Rattle.vs_design.specs.Expressions.{Signal, signal_length, word_length, Expression, Literal, Name, Select, Word, Unary, Binary, Choice, Join, Repeat, At, Call, Items, NoItem, Item, unary_way, way, width, sign}
+use Rattle.vs_design.specs.Expressions.{Signal, signal_length, word_length, Expression, Literal, Name, Select, Word, WordPart, Unary, Binary, Choice, Join, Repeat, At, Call, Items, NoItem, Item, unary_way, way, width, sign}
 use Rattle.vs_design.specs.Values.{bits_of_signal, left_width, right_width, left_sign, right_sign, unset, value, item_values, argument_state, own_value, assigned_value}
 use Rattle.vs_design.specs.Statements.{Target, CaseKind, Statement, Empty, Assignment, Then, If, Case, Arms, Arm, Default, case_width, case_sign}
 use Rattle.vs_design.specs.Bodies.{pair_up, assignment_writes, is_taken, body, arms_body}
-use Rattle.vs_design.specs.Footprints.{contains, source_bits, addressed_bits, read_bits, items_reads}
+use Rattle.vs_design.specs.Footprints.{contains, source_bits, addressed_bits, read_bits, items_reads, word_part_bits}
 use Rattle.vs_design.specs.Latches.{assigns}
-use Rattle.vs_design.specs.Fits.{fits, is_fit, fits_64, fits_signal, source_length, fit_items, divides_constants, fits_target, fits_statement, fits_arms}
+use Rattle.vs_design.specs.Fits.{fits, is_fit, fits_64, fits_signal, source_length, fit_items, divides_constants, fits_target, fits_statement, fits_arms, fits_word_part}
 use Rattle.vs_design.specs.Sets.{Set4, only, set_or}
 use Rattle.vs_design.specs.Lifted.{Family, lift_of, lifted, lifted_items, argument_sets, own_sets, assigned_sets}
 use Rattle.vs_design.specs.LiftedBodies.{put_each, assign_sets, item_sets, lifted_body, lifted_arms}
@@ -23,7 +23,7 @@ use Rattle.vs_design.proofs.Writes.{constant_index}
 use Rattle.vs_design.proofs.Lengths.{left_fits, right_fits, unary_fits, length_value, length_count, length_assigned}
 use Rattle.vs_design.proofs.SetBits.{all_append, all_repeat, all_only, all_extend, all_take}
 use Rattle.vs_design.proofs.SetOps.{choose_in}
-use Rattle.vs_design.proofs.SetValue.{read_in, truth_in, unary_in, operator_in, select_in, word_value_in, sets_left, sets_right}
+use Rattle.vs_design.proofs.SetValue.{read_in, truth_in, unary_in, operator_in, select_in, word_value_in, sets_left, sets_right, word_part_in}
 use Rattle.vs_design.proofs.SetBody.{In, pairs_in, assignment_by}
 use Rattle.vs_design.proofs.SetBranches.{EachIn, items_taken, items_passed, AllFit, ArmsFit, arms_more, arms_fit, branches_in, arm_in, empty_in}
 
@@ -41,6 +41,17 @@ mutual
       let q = and_both (fits_64 (word_length signal)) (fits index) f in
       all_extend w g (word_value_in signal index sets s (own_value index s) (value_in index (width index) (sign index) sets s q.1 (omega arith) (sets_right (addressed_bits signal index) (read_bits index) sets s k))
       (λ e. constant_index index s e) (sets_left (addressed_bits signal index) (read_bits index) sets s k))
+  value_in (WordPart signal address part index) w g sets s f h k =
+      let q = and_both (fits_word_part signal part && fits address) (fits index) f in
+      let r = and_both (fits_word_part signal part) (fits address) q.0 in
+      let x = and_both (fits_64 part.width) (range_length part.range == word_length signal) r.0 in
+      let kr = sets_right (word_part_bits signal address part index) (read_bits address ++ read_bits index) sets s k in
+      all_extend w g
+      (word_part_in signal address part index sets s (own_value address s) (own_value index s)
+      (value_in address (width address) (sign address) sets s r.1 (omega arith) (sets_left (read_bits address) (read_bits index) sets s kr))
+      (value_in index (width index) (sign index) sets s q.1 (omega arith) (sets_right (read_bits address) (read_bits index) sets s kr))
+      (λ e. constant_index address s e) (λ e. constant_index index s e) (eqb-true (range_length part.range) (word_length signal) x.1)
+      (sets_left (word_part_bits signal address part index) (read_bits address ++ read_bits index) sets s k))
   value_in (Unary op a) w g sets s f h k =
       all_extend w g (unary_in op (value_in a (left_width (unary_way op) w (width a) 0) (left_sign (unary_way op) g (sign a) false) sets s f (unary_fits op w (width a) h) k))
   value_in (Binary op a b) w g sets s f h k =

@@ -1,5 +1,5 @@
 -- Lifted sets have the lengths of values, and depend on the sets of what is read alone.
-use Rattle.std.proofs.Common.{◌≡◌, ℕ, zero, suc, ◌+◌, ◌*◌, ◌≤◌, Bool, true, false, List, [], ◌∷◌, ◌++◌, ◌||◌, ◌==◌, if◌then◌else◌, refl, sym, ap, ◌∙◌, subst, map, length, max, get_or, Option, Some, None, arith, add-zero, length-append, length-take, length-drop, take, drop}
+use Rattle.std.proofs.Common.{◌≡◌, ℕ, zero, suc, ◌+◌, ◌*◌, ◌≤◌, Bool, true, false, List, [], ◌∷◌, ◌++◌, ◌&&◌, ◌||◌, ◌==◌, if◌then◌else◌, refl, sym, ap, ◌∙◌, subst, map, length, max, get_or, Option, Some, None, arith, add-zero, length-append, length-take, length-drop, take, drop}
 use Rattle.std.proofs.Math.ListN.{length-map, length-replicate}
 use Rattle.vs_four.specs.declared.Bit4.TheVariants.{X}
 use Rattle.vs_four.specs.Tables.{not_bit, and_bit, or_bit, xor_bit, xnor_bit, merge_bit}
@@ -7,17 +7,18 @@ use Rattle.vs_four.specs.Logic.{all_known}
 use Rattle.vs_four.specs.Lengths.{extend_literal, join, repeat, cut}
 use Rattle.vs_four.specs.Shifts.{distance}
 use Rattle.vs_four.specs.Selects.{Part, range_length, places, at_place}
-use Rattle.vs_design.specs.Expressions.{Signal, signal_length, word_length, addresses, Source, OfSignal, OfConstant, UnaryOp, Plus, Minus, BitNot, Signed, Unsigned, BinaryOp, Add, Subtract, Multiply, Divide, Remainder, BitAnd, BitOr, BitXor, BitXnor, ShiftLeft, ShiftRight, ShiftLeftArith, ShiftRightArith, Power, Expression, Literal, Name, Select, Word, Unary, Binary, Choice, Join, Repeat, At, Call, Items, NoItem, Item, unary_way, way, unary_length, binary_length, width, sign, is_constant}
-use Rattle.vs_design.specs.Values.{count_from, bits_of_signal, word_places, value, constant_value, left_width, right_width, left_sign, right_sign}
+use Rattle.vs_design.specs.Expressions.{Signal, signal_length, word_length, addresses, Source, OfSignal, OfConstant, UnaryOp, Plus, Minus, BitNot, Signed, Unsigned, BinaryOp, Add, Subtract, Multiply, Divide, Remainder, BitAnd, BitOr, BitXor, BitXnor, ShiftLeft, ShiftRight, ShiftLeftArith, ShiftRightArith, Power, Expression, Literal, Name, Select, Word, WordPart, Unary, Binary, Choice, Join, Repeat, At, Call, Items, NoItem, Item, unary_way, way, unary_length, binary_length, width, sign, is_constant}
+use Rattle.vs_design.specs.Values.{count_from, bits_of_signal, word_places, value, constant_value, left_width, right_width, left_sign, right_sign, word_part_places}
 use Rattle.vs_design.specs.Bodies.{bits_at}
-use Rattle.vs_design.specs.Footprints.{contains, somes, source_bits, addressed_bits, read_bits, items_reads}
+use Rattle.vs_design.specs.Footprints.{contains, somes, source_bits, addressed_bits, read_bits, items_reads, word_part_bits}
 use Rattle.vs_design.specs.Sets.{Set4, only, none, all_words, any_value, image, image2, union, when, set_or, arithmetic, set_shift_by, set_choose}
 use Rattle.vs_design.specs.Lifted.{Family, extend_sets, source_sets, set_select, set_word, lift_unary, lift_binary, lift_of, is_left, fill_set, lift_shift, lift_quotient, lift_operator, lifted, lifted_items, argument_sets, lifted_body, assigned_sets}
 use Rattle.vs_design.specs.LiftedBodies.{put_each}
 use Rattle.vs_design.specs.TreeLaws.{SameSets}
-use Rattle.vs_design.proofs.Lists.{by_test, or_right, contains_head, contains-left, contains-right}
+use Rattle.vs_design.proofs.Lists.{by_test, or_right, contains_head, contains-left, contains-right, and_both}
 use Rattle.vs_design.proofs.Lengths.{length_extend, length_map2, length_move_up, length_move_down, length_repeat, length_count, length_places, length_word, left_fits, right_fits, unary_fits, length_value}
 use Rattle.vs_design.proofs.Words.{words_are, addressed_constant, addressed_variable}
+use Rattle.vs_design.proofs.WordParts.{twice, part_constant, part_variable}
 
 -- ---- lengths
 
@@ -101,6 +102,10 @@ length_lifted (Word signal index) w g f h =
     let l = length-map (bits_of_signal signal) f ∙ length_count signal.first (signal_length signal) in
     let e = word_long signal index (lifted index (width index) (sign index) f) (map f (bits_of_signal signal)) l in
     extend_long w g (set_word signal index (lifted index (width index) (sign index) f) (map f (bits_of_signal signal))) (omega (arith, e))
+length_lifted (WordPart signal address part index) w g f h =
+    let ss = set_word signal address (lifted address (width address) (sign address) f) (map f (bits_of_signal signal)) in
+    let e = select_long (OfSignal signal) part index (lifted index (width index) (sign index) f) ss in
+    extend_long w g (set_select part index (lifted index (width index) (sign index) f) ss) (omega (arith, e))
 length_lifted (Unary op a) w g f h =
     let ss = lifted a (left_width (unary_way op) w (width a) 0) (left_sign (unary_way op) g (sign a) false) f in
     let e : length ss ≡ left_width (unary_way op) w (width a) 0 = length_lifted a (left_width (unary_way op) w (width a) 0) (left_sign (unary_way op) g (sign a) false) f (unary_fits op w (width a) h) in
@@ -182,6 +187,28 @@ word_same f h signal index ts us e k =
     (λ c. rw c (places_same f h signal (word_places signal (sign index) (constant_value index)) (subst (λ xs. SameSets xs f h) (addressed_constant signal index c) k)))
     (λ c. ap {B = List Set4} (λ xs. set_word signal index xs (map f (bits_of_signal signal))) e ∙ ap {B = List Set4} (λ xs. set_word signal index us xs) (map_same (bits_of_signal signal) f h (subst (λ xs. SameSets xs f h) (addressed_variable signal index c) k)))
 
+word_part_same : (f h : Family) (signal : Signal) (address : Expression) (part : Part) (index : Expression) (ts us vs ws : List Set4) → ts ≡ us → vs ≡ ws → SameSets (word_part_bits signal address part index) f h
+    → set_select part index vs (set_word signal address ts (map f (bits_of_signal signal))) ≡ set_select part index ws (set_word signal address us (map h (bits_of_signal signal)))
+word_part_same f h signal address part index ts us vs ws ea ei k =
+    by_test (is_constant address && is_constant index)
+    (λ c. let p = and_both (is_constant address) (is_constant index) c in rw (p.0, p.1) (by_constants (subst (λ xs. SameSets xs f h) (part_constant signal address part index c) k)))
+    (λ c.
+    ap {B = List Set4} (λ xs. set_select part index xs (set_word signal address ts (map f (bits_of_signal signal)))) ei
+    ∙ ap {B = List Set4} (λ xs. set_select part index ws xs) (word_same f h signal address ts us ea (subst (λ xs. SameSets xs f h) (part_variable signal address part index c) k)))
+  where
+    of_word : List (Option ℕ)
+    of_word = word_places signal (sign address) (constant_value address)
+
+    of_part : List (Option ℕ)
+    of_part = places part (sign index) (constant_value index)
+
+    by_constants : SameSets (somes (bits_at signal (word_part_places signal (sign address) (constant_value address) part (sign index) (constant_value index)))) f h
+        → map (at_place (only X) (map (at_place (only X) (map f (bits_of_signal signal))) of_word)) of_part ≡ map (at_place (only X) (map (at_place (only X) (map h (bits_of_signal signal))) of_word)) of_part
+    by_constants q =
+        twice (only X) (map f (bits_of_signal signal)) of_word of_part
+        ∙ places_same f h signal (map (at_place None of_word) of_part) q
+        ∙ sym (twice (only X) (map h (bits_of_signal signal)) of_word of_part)
+
 mutual
   pub lifted_reads : (e : Expression) (w : ℕ) (g : Bool) (f h : Family) → SameSets (read_bits e) f h → lifted e w g f ≡ lifted e w g h
   lifted_reads (Literal bits signed sized) w g f h k = refl
@@ -194,6 +221,13 @@ mutual
       ap {B = List Set4} (extend_sets w g)
       (word_same f h signal index (lifted index (width index) (sign index) f) (lifted index (width index) (sign index) h)
       (lifted_reads index (width index) (sign index) f h (same_right (addressed_bits signal index) (read_bits index) f h k)) (same_left (addressed_bits signal index) (read_bits index) f h k))
+  lifted_reads (WordPart signal address part index) w g f h k =
+      let kr = same_right (word_part_bits signal address part index) (read_bits address ++ read_bits index) f h k in
+      ap {B = List Set4} (extend_sets w g)
+      (word_part_same f h signal address part index (lifted address (width address) (sign address) f) (lifted address (width address) (sign address) h) (lifted index (width index) (sign index) f) (lifted index (width index) (sign index) h)
+      (lifted_reads address (width address) (sign address) f h (same_left (read_bits address) (read_bits index) f h kr))
+      (lifted_reads index (width index) (sign index) f h (same_right (read_bits address) (read_bits index) f h kr))
+      (same_left (word_part_bits signal address part index) (read_bits address ++ read_bits index) f h k))
   lifted_reads (Unary op a) w g f h k = ap {B = List Set4} (λ ss. extend_sets w g (lift_unary op ss)) (lifted_reads a (left_width (unary_way op) w (width a) 0) (left_sign (unary_way op) g (sign a) false) f h k)
   lifted_reads (Binary op a b) w g f h k =
       let ha = lifted_reads a (left_width (way op) w (width a) (width b)) (left_sign (way op) g (sign a) (sign b)) f h (same_left (read_bits a) (read_bits b) f h k) in

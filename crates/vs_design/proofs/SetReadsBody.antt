@@ -6,10 +6,10 @@ use Rattle.std.proofs.lemmas.List.{length-map}
 use Rattle.vs_net.specs.Network.{put}
 use Rattle.vs_four.specs.Selects.{places}
 use Rattle.vs_design.specs.Expressions.{signal_length, Expression, Items, width, sign, is_constant}
-use Rattle.vs_design.specs.Values.{bits_of_signal, word_places, constant_value}
-use Rattle.vs_design.specs.Statements.{Target, Whole, PartOf, WordOf, Both, target_width, CaseKind, Statement, Empty, Assignment, Then, If, Case, Arms, Arm, Default, case_width, case_sign}
+use Rattle.vs_design.specs.Values.{bits_of_signal, word_places, constant_value, word_part_places}
+use Rattle.vs_design.specs.Statements.{Target, Whole, PartOf, WordOf, WordPartOf, Both, target_width, CaseKind, Statement, Empty, Assignment, Then, If, Case, Arms, Arm, Default, case_width, case_sign}
 use Rattle.vs_design.specs.Bodies.{bits_at}
-use Rattle.vs_design.specs.Footprints.{contains, somes, read_bits, target_reads, items_reads, statement_bits, statement_reads, without}
+use Rattle.vs_design.specs.Footprints.{contains, somes, read_bits, target_reads, items_reads, statement_bits, statement_reads, without, addressed_bits}
 use Rattle.vs_design.specs.Latches.{assigns, assigned_after, early_reads, early_in_arms, assigned_in_arms, common, latch_bits}
 use Rattle.vs_design.specs.Rules.{mixed_in, mixed_in_arms}
 use Rattle.vs_design.specs.Sets.{Set4, union, is_only_x, all_of, set_or}
@@ -24,6 +24,7 @@ use Rattle.vs_design.proofs.BodyExact.{append_empty, contains_common}
 use Rattle.vs_design.proofs.Blocks.{no_latch_at, early_in, contains_without}
 use Rattle.vs_design.proofs.Lengths.{length_count, length_places}
 use Rattle.vs_design.proofs.SetReads.{length_assigned_sets, lifted_reads, items_same, assigned_sets_reads, same_left, same_right}
+use Rattle.vs_design.proofs.WordParts.{long_word_part}
 
 -- the sets of the bit are the same before, or the bit is assigned
 abbrev SameOr : Family → Family → List ℕ → ℕ → Type 0
@@ -82,6 +83,26 @@ write_same (WordOf signal index) ss f h b l k =
     unassigned (inr q) e = absurd (either_way _ q (none e))
       where
         none : is_constant index ≡ false → contains (assigns (WordOf signal index)) b ≡ false
+        none e = rw e refl
+write_same (WordPartOf signal address part index) ss f h b l k =
+    by_test (is_constant address && is_constant index)
+    (λ e. rw e
+    (each_same (bits_at signal (word_part_places signal (sign address) (constant_value address) part (sign index) (constant_value index))) ss f h b
+    (long_word_part signal (sign address) (constant_value address) part (sign index) (constant_value index) ∙ sym l) (assigned k e)))
+    (λ e. rw e (widen_same (addressed_bits signal address) (all_of ss) f h b (unassigned k e)))
+  where
+    assigned : SameOr f h (assigns (WordPartOf signal address part index)) b → (is_constant address && is_constant index) ≡ true
+        → SameOr f h (somes (bits_at signal (word_part_places signal (sign address) (constant_value address) part (sign index) (constant_value index)))) b
+    assigned k e = subst (λ xs. SameOr f h xs b) (by_constants e) k
+      where
+        by_constants : (is_constant address && is_constant index) ≡ true → assigns (WordPartOf signal address part index) ≡ somes (bits_at signal (word_part_places signal (sign address) (constant_value address) part (sign index) (constant_value index)))
+        by_constants e = rw e refl
+
+    unassigned : SameOr f h (assigns (WordPartOf signal address part index)) b → (is_constant address && is_constant index) ≡ false → f b ≡ h b
+    unassigned (inl q) e = q
+    unassigned (inr q) e = absurd (either_way _ q (none e))
+      where
+        none : (is_constant address && is_constant index) ≡ false → contains (assigns (WordPartOf signal address part index)) b ≡ false
         none e = rw e refl
 write_same (Both high low) ss f h b l k =
     let dl = length-drop (target_width low) ss in

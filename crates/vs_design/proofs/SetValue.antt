@@ -13,9 +13,9 @@ use Rattle.vs_four.specs.Lengths.{last_or}
 use Rattle.vs_four.specs.Numbers.{bits_of, number, integer, if_known}
 use Rattle.vs_four.specs.Shifts.{distance, move_up, move_down}
 use Rattle.vs_four.specs.Selects.{Part, range_length, at_place, places, select}
-use Rattle.vs_design.specs.Expressions.{Signal, signal_length, Source, OfSignal, OfConstant, UnaryOp, Plus, Minus, BitNot, LogicalNot, ReduceAnd, ReduceNand, ReduceOr, ReduceNor, ReduceXor, ReduceXnor, Signed, Unsigned, BinaryOp, Add, Subtract, Multiply, Divide, Remainder, BitAnd, BitOr, BitXor, BitXnor, Less, LessEqual, Greater, GreaterEqual, Equal, NotEqual, CaseEqual, CaseNotEqual, LogicalAnd, LogicalOr, ShiftLeft, ShiftRight, ShiftLeftArith, ShiftRightArith, Power, Expression, Binary, way, width, sign, is_constant}
-use Rattle.vs_design.specs.Values.{count_from, bits_of_signal, read, source_value, word_places, select_word, apply_unary, apply_binary, left_width, right_width, left_sign, right_sign, value, own_value, constant_value}
-use Rattle.vs_design.specs.Footprints.{contains, source_bits, addressed_bits, somes}
+use Rattle.vs_design.specs.Expressions.{Signal, signal_length, Source, OfSignal, OfConstant, UnaryOp, Plus, Minus, BitNot, LogicalNot, ReduceAnd, ReduceNand, ReduceOr, ReduceNor, ReduceXor, ReduceXnor, Signed, Unsigned, BinaryOp, Add, Subtract, Multiply, Divide, Remainder, BitAnd, BitOr, BitXor, BitXnor, Less, LessEqual, Greater, GreaterEqual, Equal, NotEqual, CaseEqual, CaseNotEqual, LogicalAnd, LogicalOr, ShiftLeft, ShiftRight, ShiftLeftArith, ShiftRightArith, Power, Expression, Binary, way, width, sign, is_constant, word_length}
+use Rattle.vs_design.specs.Values.{count_from, bits_of_signal, read, source_value, word_places, select_word, apply_unary, apply_binary, left_width, right_width, left_sign, right_sign, value, own_value, constant_value, word_part_places}
+use Rattle.vs_design.specs.Footprints.{contains, source_bits, addressed_bits, somes, word_part_bits}
 use Rattle.vs_design.specs.Bodies.{bits_at}
 use Rattle.vs_design.specs.Sets.{Set4, has, only, any_value, union, image, image2, is_known_set, is_unknown_set, all_of, set_and, set_or, set_xor, arithmetic, set_match, variable}
 use Rattle.vs_design.specs.Lifted.{Family, extend_sets, source_sets, surely_inside, set_select, set_word, lift_unary, lift_binary, lift_shift, fill_set, is_left, lift_quotient, lift_operator, lift_of, Lift, FromSets, Moved, Divided, lifted}
@@ -30,6 +30,7 @@ use Rattle.vs_design.proofs.SetOps.{Each, each_in, each_of_all, bits_of_known, o
 use Rattle.vs_design.proofs.Indices.{select_sure}
 use Rattle.vs_design.proofs.Words.{addressed_constant, addressed_variable}
 use Rattle.vs_design.proofs.WordSets.{word_in}
+use Rattle.vs_design.proofs.WordParts.{twice, length_select_word, part_constant, part_variable}
 
 pub sets_left : (xs ys : List ℕ) (sets : Family) (s : State) → InSets (xs ++ ys) sets s → InSets xs sets s
 sets_left xs ys sets s h b k = h b (contains-left xs ys b k)
@@ -210,6 +211,42 @@ word_value_in signal index sets s {ts} us h c k =
     by_test (is_constant index)
     (λ e. rw e (rw (c e) (constant_in sets s signal (word_places signal (sign index) (constant_value index)) (subst (λ xs. InSets xs sets s) (addressed_constant signal index e) k))))
     (λ e. rw e (word_in signal (sign index) h (read_in (bits_of_signal signal) sets s (subst (λ xs. InSets xs sets s) (addressed_variable signal index e) k)) (length_signal s signal)))
+
+-- a select of what is in its sets
+part_in : (part : Part) (index : Expression) {ts ss : List Set4} (us : BitList) {vs : BitList} → AllIn ts us → AllIn ss vs → (is_constant index ≡ true → us ≡ constant_value index) → range_length part.range ≡ length vs
+    → AllIn (set_select part index ts ss) (select part (sign index) vs us)
+part_in part index us h k c l =
+    by_test (is_constant index)
+    (λ e. rw e (rw (c e) (places_in (places part (sign index) (constant_value index)) k)))
+    (λ e. rw e (variable_in part (sign index) h k l))
+
+-- and so is a part of a word
+pub word_part_in : (signal : Signal) (address : Expression) (part : Part) (index : Expression) (sets : Family) (s : State) {ts rs : List Set4} (us vs : BitList) → AllIn ts us → AllIn rs vs
+    → (is_constant address ≡ true → us ≡ constant_value address) → (is_constant index ≡ true → vs ≡ constant_value index) → range_length part.range ≡ word_length signal → InSets (word_part_bits signal address part index) sets s
+    → AllIn (set_select part index rs (set_word signal address ts (map sets (bits_of_signal signal)))) (select part (sign index) (select_word signal (sign address) (read s (bits_of_signal signal)) us) vs)
+word_part_in signal address part index sets s us vs ha hi ca ci l k =
+    by_test (is_constant address && is_constant index)
+    (λ e.
+    let p = and_both (is_constant address) (is_constant index) e in
+    let one : us ≡ constant_value address = ca p.0 in
+    let two : vs ≡ constant_value index = ci p.1 in
+    rw (p.0, p.1) (rw (one, two) (by_constants (subst (λ xs. InSets xs sets s) (part_constant signal address part index e) k))))
+    (λ e.
+    part_in part index vs hi (word_value_in signal address sets s us ha ca (subst (λ xs. InSets xs sets s) (part_variable signal address part index e) k)) ci
+    (l ∙ sym (length_select_word signal (sign address) us (read s (bits_of_signal signal)))))
+  where
+    of_word : List (Option ℕ)
+    of_word = word_places signal (sign address) (constant_value address)
+
+    of_part : List (Option ℕ)
+    of_part = places part (sign index) (constant_value index)
+
+    by_constants : InSets (somes (bits_at signal (word_part_places signal (sign address) (constant_value address) part (sign index) (constant_value index)))) sets s
+        → AllIn (map (at_place (only X) (map (at_place (only X) (map sets (bits_of_signal signal))) of_word)) of_part) (map (at_place X (map (at_place X (map s (bits_of_signal signal))) of_word)) of_part)
+    by_constants q =
+        subst (λ xs. AllIn xs (map (at_place X (map (at_place X (map s (bits_of_signal signal))) of_word)) of_part)) (sym (twice (only X) (map sets (bits_of_signal signal)) of_word of_part))
+        (subst (AllIn (map (at_place (only X) (map sets (bits_of_signal signal))) (map (at_place None of_word) of_part))) (sym (twice X (map s (bits_of_signal signal)) of_word of_part))
+        (constant_in sets s signal (map (at_place None of_word) of_part) q))
 
 any_has : (v : Bit4) → has any_value v ≡ true
 any_has Zero = refl

@@ -4,18 +4,18 @@ use Rattle.std.specs.Prelude.{nat_le, is_some}
 use Rattle.std.specs.List.{list_all}
 use Rattle.vs_four.specs.declared.Range.{Range}
 use Rattle.vs_four.specs.Selects.{range_length, Part}
-use Rattle.vs_design.specs.Expressions.{Signal, range_or_one, words_length, signal_length, word_length, Source, OfSignal, OfConstant, UnaryOp, Plus, Minus, BitNot, Signed, Unsigned, Expression, Literal, Name, Select, Word, Unary, Binary, Choice, Join, Repeat, At, Call, Items, NoItem, Item, Header, local_signals, Way, InContext, Shifted, Raised, way, unary_length, binary_length, width, is_constant}
-use Rattle.vs_design.specs.Statements.{Target, Whole, PartOf, WordOf, Both, target_width, Statement, Empty, Assignment, Then, If, Case, Arms, Arm, Default}
+use Rattle.vs_design.specs.Expressions.{Signal, range_or_one, words_length, signal_length, word_length, Source, OfSignal, OfConstant, UnaryOp, Plus, Minus, BitNot, Signed, Unsigned, Expression, Literal, Name, Select, Word, WordPart, Unary, Binary, Choice, Join, Repeat, At, Call, Items, NoItem, Item, Header, local_signals, Way, InContext, Shifted, Raised, way, unary_length, binary_length, width, is_constant}
+use Rattle.vs_design.specs.Statements.{Target, Whole, PartOf, WordOf, WordPartOf, Both, target_width, Statement, Empty, Assignment, Then, If, Case, Arms, Arm, Default}
 use Rattle.vs_design.specs.Designs.{Design, Process, Continuous, Always, Initial}
 use Rattle.vs_design.specs.Footprints.{is_input, is_net, is_variable, is_memory}
 use Rattle.vs_design.specs.Rules.{mixed_in}
-use Rattle.vs_design.specs.Fits.{fits_64, fits_signal, source_length, fits, fit_items, is_division, divides_constants, is_fit, fits_target, fits_statement, fits_arms, fits_process, fits_initial}
-use Rattle.vs_design.specs.Elaborated.{same_range, is_lawful_range, is_plain, has_words, is_formed_select, is_formed, is_formed_target, has_constant_selects, is_nil, has_items, are_numbered, have_bits_from, is_local, is_formed_header, inside, are_as_many, are_formed, is_formed_statement, are_formed_arms, are_formed_events, is_formed_port, is_formed_process, is_formed_initial}
+use Rattle.vs_design.specs.Fits.{fits_64, fits_signal, source_length, fits, fit_items, is_division, divides_constants, is_fit, fits_target, fits_statement, fits_arms, fits_process, fits_initial, fits_word_part}
+use Rattle.vs_design.specs.Elaborated.{same_range, is_lawful_range, is_plain, has_words, is_formed_select, is_formed, is_formed_target, has_constant_selects, is_nil, has_items, are_numbered, have_bits_from, is_local, is_formed_header, inside, are_as_many, are_formed, is_formed_statement, are_formed_arms, are_formed_events, is_formed_port, is_formed_process, is_formed_initial, is_formed_word_part}
 use Rattle.vs_design.specs.Refusals.{over_64, wide_places, wide_in_items, wide_in_indices, wide_in_statement, wide_in_arms, place_in, division_places, divisions_in_items, divisions_in_indices, divisions_in_statement, divisions_in_arms, in_indices, in_items, in_statement, in_arms, wide_in, divisions_in}
 use Rattle.vs_design.proofs.Lists.{by_test, and_both}
 use Rattle.vs_design.proofs.BodyExact.{append_empty}
 use Rattle.vs_design.proofs.LawfulParts.{positive, word_positive, range_positive}
-use Rattle.vs_design.proofs.Formed.{part_length}
+use Rattle.vs_design.proofs.Formed.{part_length, word_part_length}
 
 pub and_true : (a b : Bool) → a ≡ true → b ≡ true → (a && b) ≡ true
 and_true true b h k = k
@@ -80,11 +80,23 @@ select_fits d (OfConstant bits) part h =
     let p = and_both (is_lawful_range (Some part.range) && (range_length part.range == length bits)) (fits_64 part.width) h in
     (p.1, (and_both (is_lawful_range (Some part.range)) (range_length part.range == length bits) p.0).1)
 
+word_part_fits : (d : Design) (signal : Signal) (part : Part) → is_formed_word_part d signal part ≡ true → fits_word_part signal part ≡ true
+word_part_fits d signal part h =
+    and_true _ _ (and_both (has_words d signal && same_range signal.range (Some part.range)) (fits_64 part.width) h).1 (eq-eqb (range_length part.range) (word_length signal) (word_part_length d signal part h))
+
+word_part_positive : (d : Design) (signal : Signal) (part : Part) → is_formed_word_part d signal part ≡ true → 1 ≤ part.width
+word_part_positive d signal part h = (fits_is part.width (and_both (has_words d signal && same_range signal.range (Some part.range)) (fits_64 part.width) h).1).0
+
+word_part_most : (signal : Signal) (part : Part) → fits_word_part signal part ≡ true → part.width ≤ 64
+word_part_most signal part h = (fits_is part.width (and_both (fits_64 part.width) (range_length part.range == word_length signal) h).0).1
+
 width_positive : (d : Design) (e : Expression) → is_formed d e ≡ true → 1 ≤ width e
 width_positive d (Literal bits signed sized) h = (fits_is (length bits) (and_both (fits_64 (length bits)) (sized || (length bits == 32)) h).0).0
 width_positive d (Name signal) h = positive signal
 width_positive d (Select source part index) h = (fits_is part.width (select_fits d source part (and_both (is_formed_select d source part) (is_formed d index) h).0).0).0
 width_positive d (Word signal index) h = word_positive signal
+width_positive d (WordPart signal address part index) h =
+    word_part_positive d signal part (and_both (is_formed_word_part d signal part) (is_formed d address) (and_both (is_formed_word_part d signal part && is_formed d address) (is_formed d index) h).0).0
 width_positive d (Unary op a) h = unary_positive op (width a) (width_positive d a h)
 width_positive d (Binary op a b) h = let p = and_both (is_formed d a) (is_formed d b) h in binary_positive (way op) (width a) (width b) (width_positive d a p.0) (width_positive d b p.1)
 width_positive d (Choice c p q) h =
@@ -159,6 +171,9 @@ undivided (Literal bits signed sized) at h = refl
 undivided (Name signal) at h = refl
 undivided (Select source part index) at h = undivided index at h
 undivided (Word signal index) at h = undivided index at h
+undivided (WordPart signal address part index) at h =
+    let k = append_empty (division_places at address) (division_places at index) h in
+    and_true _ _ (undivided address at k.0) (undivided index at k.1)
 undivided (Unary op a) at h = undivided a at h
 undivided (Binary op a b) at h =
     let k = append_empty (if is_division op && not (is_constant a && is_constant b) then (place_in at a ∷ []) else []) (division_places at a ++ division_places at b) h in
@@ -181,6 +196,10 @@ target_positive d allowed (PartOf signal part index) f =
     let p = and_both (is_formed_select d (OfSignal signal) part && allowed signal) (is_formed d index) f in
     (fits_is part.width (select_fits d (OfSignal signal) part (and_both (is_formed_select d (OfSignal signal) part) (allowed signal) p.0).0).0).0
 target_positive d allowed (WordOf signal index) f = word_positive signal
+target_positive d allowed (WordPartOf signal address part index) f =
+    let p = and_both (is_formed_word_part d signal part && allowed signal && is_formed d address) (is_formed d index) f in
+    let q = and_both (is_formed_word_part d signal part && allowed signal) (is_formed d address) p.0 in
+    word_part_positive d signal part (and_both (is_formed_word_part d signal part) (allowed signal) q.0).0
 target_positive d allowed (Both high low) f = let k = target_positive d allowed high (and_both (is_formed_target d allowed high) (is_formed_target d allowed low) f).0 in omega (arith, k)
 
 mutual
@@ -197,6 +216,12 @@ mutual
       let p = and_both (has_words d signal) (is_formed d index) f in
       let l = append_empty (over_64 at (word_length signal)) (wide_places at index) h in
       and_true _ (fits index) (is_fits (word_length signal) (word_positive signal) (over_is at (word_length signal) l.0)) (narrow_fits d index at p.1 l.1 k)
+  narrow_fits d (WordPart signal address part index) at f h k =
+      let p = and_both (is_formed_word_part d signal part && is_formed d address) (is_formed d index) f in
+      let q = and_both (is_formed_word_part d signal part) (is_formed d address) p.0 in
+      let w = append_empty (wide_places at address) (wide_places at index) (append_empty (over_64 at part.width) (wide_places at address ++ wide_places at index) h).1 in
+      let v = append_empty (division_places at address) (division_places at index) k in
+      and_true _ _ (and_true _ _ (word_part_fits d signal part q.0) (narrow_fits d address at q.1 w.0 v.0)) (narrow_fits d index at p.1 w.1 v.1)
   narrow_fits d (Unary op a) at f h k = narrow_fits d a at f (append_empty (over_64 at (width (Unary op a))) (wide_places at a) h).1 k
   narrow_fits d (Binary op a b) at f h k =
       let p = and_both (is_formed d a) (is_formed d b) f in
@@ -248,6 +273,13 @@ mutual
   target_clear d allowed (WordOf signal index) at f n h k =
       let p = and_both (has_words d signal && allowed signal) (is_formed d index) f in
       and_true _ _ (is_fits (word_length signal) (word_positive signal) n) (and_true _ _ (narrow_fits d index at p.1 h k) (undivided index at k))
+  target_clear d allowed (WordPartOf signal address part index) at f n h k =
+      let p = and_both (is_formed_word_part d signal part && allowed signal && is_formed d address) (is_formed d index) f in
+      let q = and_both (is_formed_word_part d signal part && allowed signal) (is_formed d address) p.0 in
+      let r = and_both (is_formed_word_part d signal part) (allowed signal) q.0 in
+      let w = append_empty (wide_places at address) (wide_places at index) h in
+      let v = append_empty (division_places at address) (division_places at index) k in
+      and_true _ _ (and_true _ _ (word_part_fits d signal part r.0) (and_true _ _ (narrow_fits d address at q.1 w.0 v.0) (undivided address at v.0))) (and_true _ _ (narrow_fits d index at p.1 w.1 v.1) (undivided index at v.1))
   target_clear d allowed (Both high low) at f n h k =
       let p = and_both (is_formed_target d allowed high) (is_formed_target d allowed low) f in
       let a = append_empty (wide_in_indices at high) (wide_in_indices at low) h in
@@ -313,6 +345,8 @@ width_most (Literal bits signed sized) h = (fits_is (length bits) h).1
 width_most (Name signal) h = (fits_is (signal_length signal) h).1
 width_most (Select source part index) h = (fits_is part.width (and_both (fits_64 part.width) (range_length part.range == source_length source) (and_both (fits_64 part.width && (range_length part.range == source_length source)) (fits index) h).0).0).1
 width_most (Word signal index) h = (fits_is (word_length signal) (and_both (fits_64 (word_length signal)) (fits index) h).0).1
+width_most (WordPart signal address part index) h =
+    word_part_most signal part (and_both (fits_word_part signal part) (fits address) (and_both (fits_word_part signal part && fits address) (fits index) h).0).0
 width_most (Unary op a) h = unary_most op (width a) (width_most a h)
 width_most (Binary op a b) h = let p = and_both (fits a) (fits b) h in binary_most (way op) (width a) (width b) (width_most a p.0) (width_most b p.1)
 width_most (Choice c p q) h =
@@ -332,6 +366,8 @@ target_most (Whole signal) h = (fits_is (signal_length signal) h).1
 target_most (PartOf signal part index) h =
     (fits_is part.width (and_both (fits_64 part.width) (range_length part.range == signal_length signal) (and_both (fits_64 part.width && (range_length part.range == signal_length signal)) (is_fit index) h).0).0).1
 target_most (WordOf signal index) h = (fits_is (word_length signal) (and_both (fits_64 (word_length signal)) (is_fit index) h).0).1
+target_most (WordPartOf signal address part index) h =
+    word_part_most signal part (and_both (fits_word_part signal part) (is_fit address) (and_both (fits_word_part signal part && is_fit address) (is_fit index) h).0).0
 target_most (Both high low) h =
     (fits_is (target_width high + target_width low) (and_both (fits_64 (target_width high + target_width low)) (fits_target high) (and_both (fits_64 (target_width high + target_width low) && fits_target high) (fits_target low) h).0).0).1
 
@@ -343,6 +379,10 @@ mutual
   fits_narrow (Select source part index) at h =
       empty_append _ _ (is_over at part.width (width_most (Select source part index) h)) (fits_narrow index at (and_both (fits_64 part.width && (range_length part.range == source_length source)) (fits index) h).1)
   fits_narrow (Word signal index) at h = empty_append _ _ (is_over at (word_length signal) (width_most (Word signal index) h)) (fits_narrow index at (and_both (fits_64 (word_length signal)) (fits index) h).1)
+  fits_narrow (WordPart signal address part index) at h =
+      let p = and_both (fits_word_part signal part && fits address) (fits index) h in
+      let q = and_both (fits_word_part signal part) (fits address) p.0 in
+      empty_append _ _ (is_over at part.width (width_most (WordPart signal address part index) h)) (empty_append _ _ (fits_narrow address at q.1) (fits_narrow index at p.1))
   fits_narrow (Unary op a) at h = empty_append _ _ (is_over at (unary_length op (width a)) (width_most (Unary op a) h)) (fits_narrow a at h)
   fits_narrow (Binary op a b) at h =
       let p = and_both (fits a) (fits b) h in
@@ -371,6 +411,10 @@ mutual
   indices_narrow (Whole signal) at h = refl
   indices_narrow (PartOf signal part index) at h = fits_narrow index at (and_both (fits index) (divides_constants index) (and_both (fits_64 part.width && (range_length part.range == signal_length signal)) (is_fit index) h).1).0
   indices_narrow (WordOf signal index) at h = fits_narrow index at (and_both (fits index) (divides_constants index) (and_both (fits_64 (word_length signal)) (is_fit index) h).1).0
+  indices_narrow (WordPartOf signal address part index) at h =
+      let p = and_both (fits_word_part signal part && is_fit address) (is_fit index) h in
+      let q = and_both (fits_word_part signal part) (is_fit address) p.0 in
+      empty_append _ _ (fits_narrow address at (and_both (fits address) (divides_constants address) q.1).0) (fits_narrow index at (and_both (fits index) (divides_constants index) p.1).0)
   indices_narrow (Both high low) at h =
       let p = and_both (fits_64 (target_width high + target_width low) && fits_target high) (fits_target low) h in
       empty_append _ _ (indices_narrow high at (and_both (fits_64 (target_width high + target_width low)) (fits_target high) p.0).1) (indices_narrow low at p.1)
@@ -401,6 +445,11 @@ mutual
   divides_none (Name signal) at f h = refl
   divides_none (Select source part index) at f h = divides_none index at (and_both (fits_64 part.width && (range_length part.range == source_length source)) (fits index) f).1 h
   divides_none (Word signal index) at f h = divides_none index at (and_both (fits_64 (word_length signal)) (fits index) f).1 h
+  divides_none (WordPart signal address part index) at f h =
+      let p = and_both (fits_word_part signal part && fits address) (fits index) f in
+      let q = and_both (fits_word_part signal part) (fits address) p.0 in
+      let r = and_both (divides_constants address) (divides_constants index) h in
+      empty_append _ _ (divides_none address at q.1 r.0) (divides_none index at p.1 r.1)
   divides_none (Unary op a) at f h = divides_none a at f h
   divides_none (Binary op a b) at f h =
       let g = and_both (fits a) (fits b) f in
@@ -437,6 +486,12 @@ mutual
       let q = and_both (fits index) (divides_constants index) (and_both (fits_64 part.width && (range_length part.range == signal_length signal)) (is_fit index) h).1 in divides_none index at q.0 q.1
   indices_undivided (WordOf signal index) at h =
       let q = and_both (fits index) (divides_constants index) (and_both (fits_64 (word_length signal)) (is_fit index) h).1 in divides_none index at q.0 q.1
+  indices_undivided (WordPartOf signal address part index) at h =
+      let p = and_both (fits_word_part signal part && is_fit address) (is_fit index) h in
+      let q = and_both (fits_word_part signal part) (is_fit address) p.0 in
+      let a = and_both (fits address) (divides_constants address) q.1 in
+      let i = and_both (fits index) (divides_constants index) p.1 in
+      empty_append _ _ (divides_none address at a.0 a.1) (divides_none index at i.0 i.1)
   indices_undivided (Both high low) at h =
       let p = and_both (fits_64 (target_width high + target_width low) && fits_target high) (fits_target low) h in
       empty_append _ _ (indices_undivided high at (and_both (fits_64 (target_width high + target_width low)) (fits_target high) p.0).1) (indices_undivided low at p.1)
@@ -470,6 +525,7 @@ wide_indices : (t : Target) (at : ℕ) → in_indices wide_places at t ≡ wide_
 wide_indices (Whole signal) at = refl
 wide_indices (PartOf signal part index) at = refl
 wide_indices (WordOf signal index) at = refl
+wide_indices (WordPartOf signal address part index) at = refl
 wide_indices (Both high low) at = ap {B = List ℕ} (λ ns. ns ++ in_indices wide_places at low) (wide_indices high at) ∙ ap {B = List ℕ} (λ ns. wide_in_indices at high ++ ns) (wide_indices low at)
 
 pub wide_items : (es : Items) (at : ℕ) → in_items wide_places at es ≡ wide_in_items at es
@@ -497,6 +553,7 @@ divided_indices : (t : Target) (at : ℕ) → in_indices division_places at t �
 divided_indices (Whole signal) at = refl
 divided_indices (PartOf signal part index) at = refl
 divided_indices (WordOf signal index) at = refl
+divided_indices (WordPartOf signal address part index) at = refl
 divided_indices (Both high low) at = ap {B = List ℕ} (λ ns. ns ++ in_indices division_places at low) (divided_indices high at) ∙ ap {B = List ℕ} (λ ns. divisions_in_indices at high ++ ns) (divided_indices low at)
 
 pub divided_items : (es : Items) (at : ℕ) → in_items division_places at es ≡ divisions_in_items at es

@@ -4,16 +4,16 @@ use Rattle.std.specs.Prelude.{sum_by, nat_le, slice_get}
 use Rattle.std.specs.List.{list_all}
 use Rattle.std.proofs.lemmas.List.Sums.{sum_by-cons}
 use Rattle.vs_four.specs.Selects.{Part}
-use Rattle.vs_design.specs.Expressions.{Signal, signal_length, local_signals, Header, Source, OfSignal, OfConstant, Literal, Name, Select, Word, Unary, Binary, Choice, Join, Repeat, At, Call, Items, NoItem, Item}
-use Rattle.vs_design.specs.Statements.{Whole, PartOf, WordOf, Both, Empty, Assignment, Then, If, Case, Arms, Arm, Default}
+use Rattle.vs_design.specs.Expressions.{Signal, signal_length, local_signals, Header, Source, OfSignal, OfConstant, Literal, Name, Select, Word, WordPart, Unary, Binary, Choice, Join, Repeat, At, Call, Items, NoItem, Item}
+use Rattle.vs_design.specs.Statements.{Whole, PartOf, WordOf, WordPartOf, Both, Empty, Assignment, Then, If, Case, Arms, Arm, Default}
 use Rattle.vs_design.specs.Designs.{Design, bit_count}
 use Rattle.vs_design.specs.Footprints.{is_input, is_variable}
 use Rattle.vs_design.specs.Fits.{fits_64}
 use Rattle.vs_design.specs.Rules.{mixed_in}
-use Rattle.vs_design.specs.Elaborated.{same_range, is_nil, is_signal, is_plain, has_words, is_local, is_formed_select, is_formed_header, inside, has_items, are_as_many, are_numbered, have_bits_from, is_formed, are_formed, is_formed_target, is_formed_statement, are_formed_arms}
+use Rattle.vs_design.specs.Elaborated.{same_range, is_nil, is_signal, is_plain, has_words, is_local, is_formed_select, is_formed_header, inside, has_items, are_as_many, are_numbered, have_bits_from, is_formed, are_formed, is_formed_target, is_formed_statement, are_formed_arms, is_formed_word_part}
 use Rattle.vs_design.specs.Within.{signal_within, source_within, items_within, arms_within, FormedIsWithin, TargetIsWithin, StatementIsWithin, FunctionIsWithin}
 use Rattle.vs_design.proofs.Lists.{and_both}
-use Rattle.vs_design.proofs.Formed.{plain_signal, words_signal, signal_at}
+use Rattle.vs_design.proofs.Formed.{plain_signal, words_signal, signal_at, part_signal}
 use Rattle.vs_design.proofs.WidthExact.{and_true}
 
 some_same : (x y : Signal) → Some x ≡ Some y → x ≡ y
@@ -53,6 +53,10 @@ mutual
   formed_is_within d h (Word signal index) f =
       let p = and_both (has_words d signal) (is_formed d index) f in
       and_true _ _ (is_within d h signal (words_signal d signal p.0)) (formed_is_within d h index p.1)
+  formed_is_within d h (WordPart signal address part index) f =
+      let p = and_both (is_formed_word_part d signal part && is_formed d address) (is_formed d index) f in
+      let q = and_both (is_formed_word_part d signal part) (is_formed d address) p.0 in
+      and_true _ _ (and_true _ _ (is_within d h signal (part_signal d signal part q.0)) (formed_is_within d h address q.1)) (formed_is_within d h index p.1)
   formed_is_within d h (Unary op a) f = formed_is_within d h a f
   formed_is_within d h (Binary op a b) f =
       let p = and_both (is_formed d a) (is_formed d b) f in
@@ -87,6 +91,11 @@ target_is_within d h allowed (WordOf signal index) f =
     let p = and_both (has_words d signal && allowed signal) (is_formed d index) f in
     let q = and_both (has_words d signal) (allowed signal) p.0 in
     and_true _ _ (is_within d h signal (words_signal d signal q.0)) (formed_is_within d h index p.1)
+target_is_within d h allowed (WordPartOf signal address part index) f =
+    let p = and_both (is_formed_word_part d signal part && allowed signal && is_formed d address) (is_formed d index) f in
+    let q = and_both (is_formed_word_part d signal part && allowed signal) (is_formed d address) p.0 in
+    let r = and_both (is_formed_word_part d signal part) (allowed signal) q.0 in
+    and_true _ _ (and_true _ _ (is_within d h signal (part_signal d signal part r.0)) (formed_is_within d h address q.1)) (formed_is_within d h index p.1)
 target_is_within d h allowed (Both high low) f =
     let p = and_both (is_formed_target d allowed high) (is_formed_target d allowed low) f in
     and_true _ _ (target_is_within d h allowed high p.0) (target_is_within d h allowed low p.1)

@@ -9,10 +9,10 @@ use Rattle.vs_four.specs.Numbers.{integer}
 use Rattle.vs_four.specs.Selects.{Part, range_length, below, places}
 use Rattle.vs_design.proofs.Places.{first_place, places_from, places_are}
 use Rattle.vs_design.specs.Expressions.{Signal, signal_length, word_length, Expression, width, sign, is_constant}
-use Rattle.vs_design.specs.Values.{bits_of_signal, word_places, own_value, constant_value, assigned_value}
-use Rattle.vs_design.specs.Statements.{Target, Whole, PartOf, WordOf, Both, target_width}
+use Rattle.vs_design.specs.Values.{bits_of_signal, word_places, value, own_value, constant_value, assigned_value, word_part_places}
+use Rattle.vs_design.specs.Statements.{Target, Whole, PartOf, WordOf, WordPartOf, Both, target_width}
 use Rattle.vs_design.specs.Bodies.{bits_at, pair_up, target_writes, last_of_each, assignment_writes}
-use Rattle.vs_design.specs.Footprints.{contains, somes, selected_bits, addressed_bits, target_bits, target_reads}
+use Rattle.vs_design.specs.Footprints.{contains, somes, selected_bits, addressed_bits, read_bits, target_bits, target_reads, word_part_bits}
 use Rattle.vs_design.specs.Latches.{assigns}
 use Rattle.vs_design.specs.Fits.{fits_target, fits_64, is_fit}
 use Rattle.vs_design.specs.TreeLaws.{Agree}
@@ -20,6 +20,7 @@ use Rattle.vs_design.proofs.Lists.{by_test, or_left, or_right, and_both, contain
 use Rattle.vs_design.proofs.ReadValue.{value_reads, constant_agree}
 use Rattle.vs_design.proofs.Words.{in_count, no_places, long_word, word_within, addressed_constant, addressed_variable}
 use Rattle.vs_design.proofs.Lengths.{length_places, length_count, length_assigned}
+use Rattle.vs_design.proofs.WordParts.{long_word_part, part_in_word, part_constant, part_variable}
 
 pub either_way : (b : Bool) → b ≡ true → b ≡ false → ⊥
 either_way b p q = go b p q
@@ -92,17 +93,36 @@ written_part signal part index v s b h =
 pub written_word : (signal : Signal) (index : Expression) (v : BitList) (s : State) (b : ℕ) → length v ≡ word_length signal → is_written (target_writes (WordOf signal index) v s) b ≡ contains (somes (bits_at signal (word_places signal (sign index) (own_value index s)))) b
 written_word signal index v s b h = written_pairs (bits_at signal (word_places signal (sign index) (own_value index s))) v b (long_word signal (sign index) (own_value index s) ∙ sym h)
 
+pub written_word_part : (signal : Signal) (address : Expression) (part : Part) (index : Expression) (v : BitList) (s : State) (b : ℕ) → length v ≡ part.width
+    → is_written (target_writes (WordPartOf signal address part index) v s) b ≡ contains (somes (bits_at signal (word_part_places signal (sign address) (own_value address s) part (sign index) (own_value index s)))) b
+written_word_part signal address part index v s b h =
+    written_pairs (bits_at signal (word_part_places signal (sign address) (own_value address s) part (sign index) (own_value index s))) v b (long_word_part signal (sign address) (own_value address s) part (sign index) (own_value index s) ∙ sym h)
+
+-- a word's bits are among those that its address may name
+pub word_addressed : (signal : Signal) (index : Expression) (s : State) (b : ℕ) → contains (somes (bits_at signal (word_places signal (sign index) (own_value index s)))) b ≡ true → contains (addressed_bits signal index) b ≡ true
+word_addressed signal index s b w =
+    by_test (is_constant index)
+    (λ e. subst (λ xs. contains xs b ≡ true) (sym (addressed_constant signal index e)) (subst (λ (x : BitList). contains (somes (bits_at signal (word_places signal (sign index) x))) b ≡ true) (constant_index index s e) w))
+    (λ e. subst (λ xs. contains xs b ≡ true) (sym (addressed_variable signal index e)) (word_within signal (sign index) (own_value index s) b w))
+
+-- and so are those of a part of it
+pub part_addressed : (signal : Signal) (address : Expression) (part : Part) (index : Expression) (s : State) (b : ℕ)
+    → contains (somes (bits_at signal (word_part_places signal (sign address) (own_value address s) part (sign index) (own_value index s)))) b ≡ true → contains (addressed_bits signal address) b ≡ true
+part_addressed signal address part index s b w = word_addressed signal address s b (part_in_word signal (sign address) (own_value address s) part (sign index) (own_value index s) b w)
+
 -- a part is of as many bits as its signal has
 abbrev pub HasParts : Target → Type 0
 HasParts (Whole signal) = Unit {0}
 HasParts (PartOf signal part index) = range_length part.range ≡ signal_length signal
 HasParts (WordOf signal index) = Unit {0}
+HasParts (WordPartOf signal address part index) = Unit {0}
 HasParts (Both high low) = HasParts high × HasParts low
 
 pub fit_parts : (t : Target) → fits_target t ≡ true → HasParts t
 fit_parts (Whole signal) f = tt
 fit_parts (PartOf signal part index) f = eqb-true _ _ (and_both (fits_64 part.width) (range_length part.range == signal_length signal) (and_both (fits_64 part.width && (range_length part.range == signal_length signal)) (is_fit index) f).0).1
 fit_parts (WordOf signal index) f = tt
+fit_parts (WordPartOf signal address part index) f = tt
 fit_parts (Both high low) f =
     let fs = and_both (fits_64 (target_width high + target_width low) && fits_target high) (fits_target low) f in
     (fit_parts high (and_both (fits_64 (target_width high + target_width low)) (fits_target high) fs.0).1, fit_parts low fs.1)
@@ -117,10 +137,16 @@ target_within (PartOf signal part index) v s b f h k =
     (λ e. subst (λ (c : Bool). contains (if c then somes (bits_at signal (places part (sign index) (constant_value index))) else bits_of_signal signal) b ≡ true) (sym e) (subst (λ (x : BitList). contains (somes (bits_at signal (places part (sign index) x))) b ≡ true) (constant_index index s e) w))
     (λ e. subst (λ (c : Bool). contains (if c then somes (bits_at signal (places part (sign index) (constant_value index))) else bits_of_signal signal) b ≡ true) (sym e) (part_bits signal part (sign index) (own_value index s) b f w))
 target_within (WordOf signal index) v s b f h k =
-    let w : contains (somes (bits_at signal (word_places signal (sign index) (own_value index s)))) b ≡ true = sym (written_word signal index v s b h) ∙ k in
-    by_test (is_constant index)
-    (λ e. subst (λ xs. contains xs b ≡ true) (sym (addressed_constant signal index e)) (subst (λ (x : BitList). contains (somes (bits_at signal (word_places signal (sign index) x))) b ≡ true) (constant_index index s e) w))
-    (λ e. subst (λ xs. contains xs b ≡ true) (sym (addressed_variable signal index e)) (word_within signal (sign index) (own_value index s) b w))
+    word_addressed signal index s b (sym (written_word signal index v s b h) ∙ k)
+target_within (WordPartOf signal address part index) v s b f h k =
+    let w : contains (somes (bits_at signal (word_part_places signal (sign address) (own_value address s) part (sign index) (own_value index s)))) b ≡ true = sym (written_word_part signal address part index v s b h) ∙ k in
+    by_test (is_constant address && is_constant index)
+    (λ e.
+    let p = and_both (is_constant address) (is_constant index) e in
+    subst (λ xs. contains xs b ≡ true) (sym (part_constant signal address part index e))
+    (subst (λ (x : BitList). contains (somes (bits_at signal (word_part_places signal (sign address) x part (sign index) (constant_value index)))) b ≡ true) (constant_index address s p.0)
+    (subst (λ (x : BitList). contains (somes (bits_at signal (word_part_places signal (sign address) (own_value address s) part (sign index) x))) b ≡ true) (constant_index index s p.1) w)))
+    (λ e. subst (λ xs. contains xs b ≡ true) (sym (part_variable signal address part index e)) (part_addressed signal address part index s b w))
 target_within (Both high low) v s b f h k =
     let w : (is_written (target_writes high (drop (target_width low) v) s) b || is_written (target_writes low (take (target_width low) v) s) b) ≡ true = sym (written-append (target_writes high (drop (target_width low) v) s) (target_writes low (take (target_width low) v) s) b) ∙ k in
     let dl = length-drop (target_width low) v in
@@ -147,6 +173,16 @@ target_assigns (WordOf signal index) v s b h k =
     written_word signal index v s b h
     ∙ subst (λ (x : BitList). contains (somes (bits_at signal (word_places signal (sign index) x))) b ≡ true) (sym (constant_index index s e)) (subst (λ xs. contains xs b ≡ true) (addressed_constant signal index e) k'))
     (λ e. absurd (either_way (contains [] b) (subst (λ (c : Bool). contains (if c then addressed_bits signal index else []) b ≡ true) e k) refl))
+target_assigns (WordPartOf signal address part index) v s b h k =
+    by_test (is_constant address && is_constant index)
+    (λ e.
+    let p = and_both (is_constant address) (is_constant index) e in
+    let k' : contains (word_part_bits signal address part index) b ≡ true = subst (λ (c : Bool). contains (if c then word_part_bits signal address part index else []) b ≡ true) e k in
+    written_word_part signal address part index v s b h
+    ∙ subst (λ (x : BitList). contains (somes (bits_at signal (word_part_places signal (sign address) (own_value address s) part (sign index) x))) b ≡ true) (sym (constant_index index s p.1))
+    (subst (λ (x : BitList). contains (somes (bits_at signal (word_part_places signal (sign address) x part (sign index) (constant_value index)))) b ≡ true) (sym (constant_index address s p.0))
+    (subst (λ xs. contains xs b ≡ true) (part_constant signal address part index e) k')))
+    (λ e. absurd (either_way (contains [] b) (subst (λ (c : Bool). contains (if c then word_part_bits signal address part index else []) b ≡ true) e k) refl))
 target_assigns (Both high low) v s b h k =
     let dl = length-drop (target_width low) v in
     let tl = length-take (target_width low) v in
@@ -169,6 +205,9 @@ pub target_reads_law : (g : Target) (v : BitList) (s t : State) → Agree (targe
 target_reads_law (Whole signal) v s t h = refl
 target_reads_law (PartOf signal part index) v s t h = ap {B = List Write} (λ i. pair_up (bits_at signal (places part (sign index) i)) v) (value_reads index (width index) (sign index) s t h)
 target_reads_law (WordOf signal index) v s t h = ap {B = List Write} (λ i. pair_up (bits_at signal (word_places signal (sign index) i)) v) (value_reads index (width index) (sign index) s t h)
+target_reads_law (WordPartOf signal address part index) v s t h =
+    ap {B = List Write} (λ a. pair_up (bits_at signal (word_part_places signal (sign address) a part (sign index) (value index (width index) (sign index) s))) v) (value_reads address (width address) (sign address) s t (agree-left (read_bits address) (read_bits index) s t h))
+    ∙ ap {B = List Write} (λ i. pair_up (bits_at signal (word_part_places signal (sign address) (value address (width address) (sign address) t) part (sign index) i)) v) (value_reads index (width index) (sign index) s t (agree-right (read_bits address) (read_bits index) s t h))
 target_reads_law (Both high low) v s t h =
     ap {B = List Write} (λ ws. ws ++ target_writes low (take (target_width low) v) s) (target_reads_law high (drop (target_width low) v) s t (agree-left (target_reads high) (target_reads low) s t h))
     ∙ ap {B = List Write} (λ ws. target_writes high (drop (target_width low) v) t ++ ws) (target_reads_law low (take (target_width low) v) s t (agree-right (target_reads high) (target_reads low) s t h))

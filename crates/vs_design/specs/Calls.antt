@@ -1,7 +1,7 @@
 -- Where functions are called.
 use Rattle.std.specs.Prelude.{Bool, true, false, ◌||◌}
-use Rattle.vs_design.specs.Expressions.{Expression, Literal, Name, Select, Word, Unary, Binary, Choice, Join, Repeat, At, Call, Items, NoItem, Item}
-use Rattle.vs_design.specs.Statements.{Target, Whole, PartOf, WordOf, Both, Statement, Empty, Assignment, Then, If, Case, Arms, Arm, Default}
+use Rattle.vs_design.specs.Expressions.{Expression, Literal, Name, Select, Word, WordPart, Unary, Binary, Choice, Join, Repeat, At, Call, Items, NoItem, Item}
+use Rattle.vs_design.specs.Statements.{Target, Whole, PartOf, WordOf, WordPartOf, Both, Statement, Empty, Assignment, Then, If, Case, Arms, Arm, Default}
 
 -- the expression calls a function
 abbrev pub calls : Expression → Bool
@@ -9,6 +9,7 @@ calls (Literal bits signed sized) = false
 calls (Name signal) = false
 calls (Select source part index) = calls index
 calls (Word signal index) = calls index
+calls (WordPart signal address part index) = calls address || calls index
 calls (Unary op a) = calls a
 calls (Binary op a b) = calls a || calls b
 calls (Choice c p q) = calls c || calls p || calls q
@@ -25,6 +26,7 @@ abbrev pub target_calls : Target → Bool
 target_calls (Whole signal) = false
 target_calls (PartOf signal part index) = calls index
 target_calls (WordOf signal index) = calls index
+target_calls (WordPartOf signal address part index) = calls address || calls index
 target_calls (Both high low) = target_calls high || target_calls low
 
 abbrev mutual

@@ -3,8 +3,8 @@ use Rattle.std.specs.Prelude.{◌≡◌, ℕ, suc, ◌+◌, ◌≤◌, Bool, tru
 use Rattle.std.specs.List.{list_all}
 use Rattle.vs_four.specs.declared.Range.{Range}
 use Rattle.vs_four.specs.Selects.{range_length, Part}
-use Rattle.vs_design.specs.Expressions.{Signal, signal_length, Source, OfSignal, OfConstant, Expression, Literal, Name, Select, Word, Unary, Binary, Choice, Join, Repeat, At, Call, Items, NoItem, Item, Header, local_signals, is_constant}
-use Rattle.vs_design.specs.Statements.{Target, Whole, PartOf, WordOf, Both, Statement, Empty, Assignment, Then, If, Case, Arms, Arm, Default, Function}
+use Rattle.vs_design.specs.Expressions.{Signal, signal_length, Source, OfSignal, OfConstant, Expression, Literal, Name, Select, Word, WordPart, Unary, Binary, Choice, Join, Repeat, At, Call, Items, NoItem, Item, Header, local_signals, is_constant}
+use Rattle.vs_design.specs.Statements.{Target, Whole, PartOf, WordOf, WordPartOf, Both, Statement, Empty, Assignment, Then, If, Case, Arms, Arm, Default, Function}
 use Rattle.vs_design.specs.Designs.{Scope, Event, is_edge, is_clocked, Port, Written, InputPort, OutputPort, Process, Continuous, Always, Initial, Design, bit_count}
 use Rattle.vs_design.specs.Footprints.{is_input, is_net, is_variable, is_memory}
 use Rattle.vs_design.specs.Fits.{fits_64}
@@ -99,10 +99,15 @@ abbrev pub is_formed_select : Design → Source → Part → Bool
 is_formed_select d (OfSignal signal) part = is_plain d signal && same_range signal.range (Some part.range) && fits_64 part.width
 is_formed_select d (OfConstant bits) part = is_lawful_range (Some part.range) && (range_length part.range == length bits) && fits_64 part.width
 
+-- a part of a word has 1 to 64 bits, and the declared range of the words
+abbrev pub is_formed_word_part : Design → Signal → Part → Bool
+is_formed_word_part d signal part = has_words d signal && same_range signal.range (Some part.range) && fits_64 part.width
+
 abbrev pub has_constant_selects : Target → Bool
 has_constant_selects (Whole signal) = true
 has_constant_selects (PartOf signal part index) = is_constant index
 has_constant_selects (WordOf signal index) = is_constant index
+has_constant_selects (WordPartOf signal address part index) = is_constant address && is_constant index
 has_constant_selects (Both high low) = has_constant_selects high && has_constant_selects low
 
 -- a local signal of a function is of the function's scope, and no net and no memory
@@ -135,6 +140,7 @@ abbrev mutual
   is_formed d (Name signal) = is_plain d signal
   is_formed d (Select source part index) = is_formed_select d source part && is_formed d index
   is_formed d (Word signal index) = has_words d signal && is_formed d index
+  is_formed d (WordPart signal address part index) = is_formed_word_part d signal part && is_formed d address && is_formed d index
   is_formed d (Unary op a) = is_formed d a
   is_formed d (Binary op a b) = is_formed d a && is_formed d b
   is_formed d (Choice c p q) = is_formed d c && is_formed d p && is_formed d q
@@ -154,6 +160,7 @@ abbrev mutual
   is_formed_target d allowed (Whole signal) = is_plain d signal && allowed signal
   is_formed_target d allowed (PartOf signal part index) = is_formed_select d (OfSignal signal) part && allowed signal && is_formed d index
   is_formed_target d allowed (WordOf signal index) = has_words d signal && allowed signal && is_formed d index
+  is_formed_target d allowed (WordPartOf signal address part index) = is_formed_word_part d signal part && allowed signal && is_formed d address && is_formed d index
   is_formed_target d allowed (Both high low) = is_formed_target d allowed high && is_formed_target d allowed low
 
   -- a block writes variables (table 6-1)
@@ -171,9 +178,10 @@ abbrev mutual
 abbrev pub is_formed_function : Design → Function → Bool
 is_formed_function d f = is_formed_header d f.header && is_nil (mixed_in false f.statement) && is_formed_statement (inside d f.header) f.statement
 
--- no target in it is a word of a memory
+-- no target in it is a word of a memory, or a part of one
 abbrev pub is_wordless : Target → Bool
 is_wordless (WordOf signal index) = false
+is_wordless (WordPartOf signal address part index) = false
 is_wordless (Both high low) = is_wordless high && is_wordless low
 is_wordless _ = true
 

@@ -1,6 +1,6 @@
 -- The lengths and signs of expressions (IEEE 1364-2005, 5.1, 5.4.1 and 5.5.1).
 use Rattle.std.specs.Prelude.{ℕ, ◌+◌, ◌*◌, Bool, true, false, ◌&&◌, length, max}
-pub use Rattle.vs_design.specs.Trees.{Signal, range_or_one, words_length, signal_length, word_length, range_or_zero, addresses, Source, OfSignal, OfConstant, Header, local_signals, Expression, Literal, Name, Select, Word, Unary, Binary, Choice, Join, Repeat, At, Call, Items, NoItem, Item, items_of}
+pub use Rattle.vs_design.specs.Trees.{Signal, range_or_one, words_length, signal_length, word_length, range_or_zero, addresses, Source, OfSignal, OfConstant, Header, local_signals, Expression, Literal, Name, Select, Word, WordPart, Unary, Binary, Choice, Join, Repeat, At, Call, Items, NoItem, Item, items_of}
 pub use Rattle.vs_base.specs.declared.operators.UnaryOp.{UnaryOp}
 pub use Rattle.vs_base.specs.declared.operators.UnaryOp.TheVariants.{Plus, Minus, BitNot, LogicalNot, ReduceAnd, ReduceNand, ReduceOr, ReduceNor, ReduceXor, ReduceXnor, Signed, Unsigned}
 pub use Rattle.vs_base.specs.declared.operators.BinaryOp.{BinaryOp}
@@ -15,6 +15,7 @@ width (Literal bits signed sized) = length bits
 width (Name signal) = signal_length signal
 width (Select source part index) = part.width
 width (Word signal index) = word_length signal
+width (WordPart signal address part index) = part.width
 width (Unary op a) = unary_length op (width a)
 width (Binary op a b) = binary_length (way op) (width a) (width b)
 width (Choice c p q) = max (width p) (width q)
@@ -29,6 +30,7 @@ sign (Literal bits signed sized) = signed
 sign (Name signal) = signal.signed
 sign (Select source part index) = false
 sign (Word signal index) = signal.signed
+sign (WordPart signal address part index) = false
 sign (Unary op a) = unary_sign op (sign a)
 sign (Binary op a b) = binary_sign (way op) (sign a) (sign b)
 sign (Choice c p q) = sign p && sign q
@@ -44,6 +46,7 @@ is_constant (Name signal) = false
 is_constant (Select (OfSignal signal) part index) = false
 is_constant (Select (OfConstant bits) part index) = is_constant index
 is_constant (Word signal index) = false
+is_constant (WordPart signal address part index) = false
 is_constant (Unary op a) = is_constant a
 is_constant (Binary op a b) = is_constant a && is_constant b
 is_constant (Choice c p q) = is_constant c && is_constant p && is_constant q

@@ -1,9 +1,9 @@
 -- Lengths from 1 to 64 bits, and no division at run time: the rules TooWide and Division.
 use Rattle.std.specs.Prelude.{ℕ, ◌+◌, ◌*◌, Bool, true, false, not, ◌&&◌, ◌||◌, length, nat_le, ◌==◌}
 use Rattle.std.specs.List.{list_all}
-use Rattle.vs_four.specs.Selects.{range_length}
-use Rattle.vs_design.specs.Expressions.{Signal, signal_length, word_length, Source, OfSignal, OfConstant, BinaryOp, Divide, Remainder, Power, Expression, Literal, Name, Select, Word, Unary, Binary, Choice, Join, Repeat, At, Call, Items, NoItem, Item, width, is_constant}
-use Rattle.vs_design.specs.Statements.{Target, Whole, PartOf, WordOf, Both, target_width, Statement, Empty, Assignment, Then, If, Case, Arms, Arm, Default}
+use Rattle.vs_four.specs.Selects.{range_length, Part}
+use Rattle.vs_design.specs.Expressions.{Signal, signal_length, word_length, Source, OfSignal, OfConstant, BinaryOp, Divide, Remainder, Power, Expression, Literal, Name, Select, Word, WordPart, Unary, Binary, Choice, Join, Repeat, At, Call, Items, NoItem, Item, width, is_constant}
+use Rattle.vs_design.specs.Statements.{Target, Whole, PartOf, WordOf, WordPartOf, Both, target_width, Statement, Empty, Assignment, Then, If, Case, Arms, Arm, Default}
 use Rattle.vs_design.specs.Designs.{Process, Continuous, Always, Initial}
 
 abbrev pub source_length : Source → ℕ
@@ -15,6 +15,10 @@ fits_64 n = nat_le 1 n && nat_le n 64
 
 abbrev pub fits_signal : Signal → Bool
 fits_signal s = fits_64 (signal_length s)
+
+-- a part of a word has 1 to 64 bits, and a range of as many bits as the word
+abbrev pub fits_word_part : Signal → Part → Bool
+fits_word_part signal part = fits_64 part.width && (range_length part.range == word_length signal)
 
 abbrev pub is_division : BinaryOp → Bool
 is_division Divide = true
@@ -28,6 +32,7 @@ divides_constants (Literal bits signed sized) = true
 divides_constants (Name signal) = true
 divides_constants (Select source part index) = divides_constants index
 divides_constants (Word signal index) = divides_constants index
+divides_constants (WordPart signal address part index) = divides_constants address && divides_constants index
 divides_constants (Unary op a) = divides_constants a
 divides_constants (Binary op a b) = (not (is_division op) || (is_constant a && is_constant b)) && divides_constants a && divides_constants b
 divides_constants (Choice c p q) = divides_constants c && divides_constants p && divides_constants q
@@ -43,6 +48,7 @@ abbrev mutual
   fits (Name signal) = fits_64 (signal_length signal)
   fits (Select source part index) = fits_64 part.width && (range_length part.range == source_length source) && fits index
   fits (Word signal index) = fits_64 (word_length signal) && fits index
+  fits (WordPart signal address part index) = fits_word_part signal part && fits address && fits index
   fits (Unary op a) = fits a
   fits (Binary op a b) = fits a && fits b
   fits (Choice c p q) = fits c && fits p && fits q
@@ -61,6 +67,7 @@ abbrev mutual
   fits_target (Whole signal) = fits_64 (signal_length signal)
   fits_target (PartOf signal part index) = fits_64 part.width && (range_length part.range == signal_length signal) && (fits index && divides_constants index)
   fits_target (WordOf signal index) = fits_64 (word_length signal) && (fits index && divides_constants index)
+  fits_target (WordPartOf signal address part index) = fits_word_part signal part && (fits address && divides_constants address) && (fits index && divides_constants index)
   fits_target (Both high low) = fits_64 (target_width high + target_width low) && fits_target high && fits_target low
 
   pub fits_statement : Statement → Bool

@@ -2,9 +2,9 @@
 use Rattle.std.specs.Prelude.{ℕ, Bool, true, false, not, ◌&&◌, List, [], ◌∷◌, ◌++◌, map, filter, if◌then◌else◌, ◌==◌, Option, Some, None, is_some}
 use Rattle.std.specs.List.{list_any}
 use Rattle.vs_four.specs.Selects.{Part, places}
-use Rattle.vs_design.specs.Expressions.{Signal, Source, OfSignal, OfConstant, Expression, Literal, Name, Select, Word, Unary, Binary, Choice, Join, Repeat, At, Call, Items, NoItem, Item, sign, is_constant}
-use Rattle.vs_design.specs.Values.{count_from, bits_of_signal, word_places, constant_value}
-use Rattle.vs_design.specs.Statements.{Target, Whole, PartOf, WordOf, Both, Statement, Empty, Assignment, Then, If, Case, Arms, Arm, Default}
+use Rattle.vs_design.specs.Expressions.{Signal, Source, OfSignal, OfConstant, Expression, Literal, Name, Select, Word, WordPart, Unary, Binary, Choice, Join, Repeat, At, Call, Items, NoItem, Item, sign, is_constant}
+use Rattle.vs_design.specs.Values.{count_from, bits_of_signal, word_places, word_part_places, constant_value}
+use Rattle.vs_design.specs.Statements.{Target, Whole, PartOf, WordOf, WordPartOf, Both, Statement, Empty, Assignment, Then, If, Case, Arms, Arm, Default}
 use Rattle.vs_design.specs.Bodies.{bits_at}
 use Rattle.vs_design.specs.Designs.{Event, Process, Continuous, Always, is_combinational, Design}
 
@@ -25,6 +25,13 @@ selected_bits signal part index =
 abbrev pub addressed_bits : Signal → Expression → List ℕ
 addressed_bits signal index = if is_constant index then somes (bits_at signal (word_places signal (sign index) (constant_value index))) else bits_of_signal signal
 
+-- the bits of a part of a word: by a constant address and a constant index those in range, by any other those of the word, or of all words
+abbrev pub word_part_bits : Signal → Expression → Part → Expression → List ℕ
+word_part_bits signal address part index =
+    if is_constant address && is_constant index
+    then somes (bits_at signal (word_part_places signal (sign address) (constant_value address) part (sign index) (constant_value index)))
+    else addressed_bits signal address
+
 abbrev pub source_bits : Source → Part → Expression → List ℕ
 source_bits (OfSignal signal) part index = selected_bits signal part index
 source_bits (OfConstant bits) part index = []
@@ -36,6 +43,7 @@ abbrev mutual
   read_bits (Name signal) = bits_of_signal signal
   read_bits (Select source part index) = source_bits source part index ++ read_bits index
   read_bits (Word signal index) = addressed_bits signal index ++ read_bits index
+  read_bits (WordPart signal address part index) = word_part_bits signal address part index ++ (read_bits address ++ read_bits index)
   read_bits (Unary op a) = read_bits a
   read_bits (Binary op a b) = read_bits a ++ read_bits b
   read_bits (Choice c p q) = read_bits c ++ (read_bits p ++ read_bits q)
@@ -59,6 +67,7 @@ abbrev mutual
   read_signals (Name signal) = signal ∷ []
   read_signals (Select source part index) = source_signals source ++ read_signals index
   read_signals (Word signal index) = signal ∷ read_signals index
+  read_signals (WordPart signal address part index) = signal ∷ (read_signals address ++ read_signals index)
   read_signals (Unary op a) = read_signals a
   read_signals (Binary op a b) = read_signals a ++ read_signals b
   read_signals (Choice c p q) = read_signals c ++ (read_signals p ++ read_signals q)
@@ -76,6 +85,7 @@ abbrev pub target_bits : Target → List ℕ
 target_bits (Whole signal) = bits_of_signal signal
 target_bits (PartOf signal part index) = selected_bits signal part index
 target_bits (WordOf signal index) = addressed_bits signal index
+target_bits (WordPartOf signal address part index) = word_part_bits signal address part index
 target_bits (Both high low) = target_bits high ++ target_bits low
 
 -- the bits, and the signals, that the indices of a target read
@@ -83,12 +93,14 @@ abbrev pub target_reads : Target → List ℕ
 target_reads (Whole signal) = []
 target_reads (PartOf signal part index) = read_bits index
 target_reads (WordOf signal index) = read_bits index
+target_reads (WordPartOf signal address part index) = read_bits address ++ read_bits index
 target_reads (Both high low) = target_reads high ++ target_reads low
 
 abbrev pub target_signals : Target → List Signal
 target_signals (Whole signal) = []
 target_signals (PartOf signal part index) = read_signals index
 target_signals (WordOf signal index) = read_signals index
+target_signals (WordPartOf signal address part index) = read_signals address ++ read_signals index
 target_signals (Both high low) = target_signals high ++ target_signals low
 
 abbrev mutual

@@ -1,15 +1,16 @@
 -- The bits that a combinational block may leave unassigned: the rule Latch.
-use Rattle.std.specs.Prelude.{ℕ, not, ◌||◌, List, [], ◌++◌, filter, if◌then◌else◌}
+use Rattle.std.specs.Prelude.{ℕ, not, ◌&&◌, ◌||◌, List, [], ◌++◌, filter, if◌then◌else◌}
 use Rattle.vs_design.specs.Expressions.{is_constant}
 use Rattle.vs_design.specs.Values.{bits_of_signal}
-use Rattle.vs_design.specs.Statements.{Target, Whole, PartOf, WordOf, Both, Statement, Empty, Assignment, Then, If, Case, Arms, Arm, Default}
-use Rattle.vs_design.specs.Footprints.{contains, selected_bits, addressed_bits, read_bits, target_reads, items_reads, statement_bits, without}
+use Rattle.vs_design.specs.Statements.{Target, Whole, PartOf, WordOf, WordPartOf, Both, Statement, Empty, Assignment, Then, If, Case, Arms, Arm, Default}
+use Rattle.vs_design.specs.Footprints.{contains, selected_bits, addressed_bits, word_part_bits, read_bits, target_reads, items_reads, statement_bits, without}
 
 -- the bits that an assignment surely assigns; one by a variable index assigns none
 abbrev pub assigns : Target → List ℕ
 assigns (Whole signal) = bits_of_signal signal
 assigns (PartOf signal part index) = if is_constant index then selected_bits signal part index else []
 assigns (WordOf signal index) = if is_constant index then addressed_bits signal index else []
+assigns (WordPartOf signal address part index) = if is_constant address && is_constant index then word_part_bits signal address part index else []
 assigns (Both high low) = assigns high ++ assigns low
 
 -- the bits that are in both

@@ -50,6 +50,7 @@ pub mod ExampleDesigns
 pub mod ExampleBlocking
 pub mod ExampleRefusals
 pub mod ExampleMemories
+pub mod ExampleWordParts
 pub mod ExampleTogether
 pub mod ExampleInitials
 pub mod PlaceLaws

@@ -8,7 +8,7 @@ use Rattle.vs_four.specs.Lengths.{last_or, extend_with, extend_literal, cut, joi
 use Rattle.vs_four.specs.Shifts.{distance}
 use Rattle.vs_four.specs.Selects.{range_length, Part, one_bit, places, at_place}
 use Rattle.vs_design.specs.Sets.{Set4, only, any_result, any_value, image, image2, is_known_set, all_of, all_words, set_and, set_or, set_xor, arithmetic, set_match, variable, set_shift_by, set_shift, set_choose}
-use Rattle.vs_design.specs.Expressions.{Signal, signal_length, word_length, addresses, Source, OfSignal, OfConstant, UnaryOp, Minus, BitNot, LogicalNot, ReduceAnd, ReduceNand, ReduceOr, ReduceNor, ReduceXor, ReduceXnor, BinaryOp, Add, Subtract, Multiply, Divide, Remainder, BitAnd, BitOr, BitXor, BitXnor, Less, LessEqual, Greater, GreaterEqual, Equal, NotEqual, CaseEqual, CaseNotEqual, LogicalAnd, LogicalOr, ShiftLeft, ShiftRight, ShiftLeftArith, ShiftRightArith, Power, Expression, Literal, Name, Select, Word, Unary, Binary, Choice, Join, Repeat, At, Call, Items, NoItem, Item, unary_way, way, width, sign, is_constant}
+use Rattle.vs_design.specs.Expressions.{Signal, signal_length, word_length, addresses, Source, OfSignal, OfConstant, UnaryOp, Minus, BitNot, LogicalNot, ReduceAnd, ReduceNand, ReduceOr, ReduceNor, ReduceXor, ReduceXnor, BinaryOp, Add, Subtract, Multiply, Divide, Remainder, BitAnd, BitOr, BitXor, BitXnor, Less, LessEqual, Greater, GreaterEqual, Equal, NotEqual, CaseEqual, CaseNotEqual, LogicalAnd, LogicalOr, ShiftLeft, ShiftRight, ShiftLeftArith, ShiftRightArith, Power, Expression, Literal, Name, Select, Word, WordPart, Unary, Binary, Choice, Join, Repeat, At, Call, Items, NoItem, Item, unary_way, way, width, sign, is_constant}
 use Rattle.vs_design.specs.Values.{bits_of_signal, word_places, value, constant_value, left_width, right_width, left_sign, right_sign}
 use Rattle.vs_design.specs.Statements.{target_width, CaseKind, Statement, Empty, Assignment, Then, If, Case, Arms, Arm, Default, case_width, case_sign}
 use Rattle.vs_design.specs.LiftedParts.{put_each, write_sets, join_branches, matches_of, join_arms}
@@ -132,6 +132,8 @@ abbrev mutual
   lifted (Name signal) w s sets = extend_sets w s (map sets (bits_of_signal signal))
   lifted (Select source part index) w s sets = extend_sets w s (set_select part index (lifted index (width index) (sign index) sets) (source_sets sets source))
   lifted (Word signal index) w s sets = extend_sets w s (set_word signal index (lifted index (width index) (sign index) sets) (map sets (bits_of_signal signal)))
+  lifted (WordPart signal address part index) w s sets =
+      extend_sets w s (set_select part index (lifted index (width index) (sign index) sets) (set_word signal address (lifted address (width address) (sign address) sets) (map sets (bits_of_signal signal))))
   lifted (Unary op a) w s sets =
       extend_sets w s (lift_unary op (lifted a (left_width (unary_way op) w (width a) 0) (left_sign (unary_way op) s (sign a) false) sets))
   lifted (Binary op a b) w s sets =

@@ -1,10 +1,8 @@
 -- The words of memories (IEEE 1364-2005, 4.9): what each holds at the end of a slot, from what its writers give it alone.
-use Rattle.std.specs.Prelude.{◌≡◌, ℕ, ◌+◌, ◌*◌, ◌<◌, Bool, true, false, List, [], ◌∷◌, ◌++◌, map, if◌then◌else◌, Option, Some, slice_get}
-use Rattle.std.specs.List.{list_all}
-use Rattle.vs_four.specs.declared.Bit4.TheVariants.{X}
-use Rattle.vs_four.specs.Logic.{BitList}
+use Rattle.std.specs.Prelude.{◌≡◌, ℕ, ◌+◌, ◌*◌, ◌<◌, Bool, true, false, List, [], ◌∷◌, ◌++◌, map, Option, Some, slice_get}
+use Rattle.vs_four.specs.Logic.{BitList, map2}
 use Rattle.vs_four.specs.Selects.{range_length}
-use Rattle.vs_net.specs.Network.{State, Update, write_all, is_written}
+use Rattle.vs_net.specs.Network.{State, Update, write_all}
 use Rattle.vs_net.specs.Network as N
 use Rattle.vs_net.specs.Queue.{Slot, Fall, Rise}
 use Rattle.vs_net.specs.Solution.{reset_effects, beginning, IsSolution}
@@ -42,18 +40,22 @@ abbrev pub slot_effects : Design → List ℕ → Slot → State → List Proces
 slot_effects d clocks slot before [] = []
 slot_effects d clocks slot before (p ∷ ps) = process_effects d clocks slot before p ++ slot_effects d clocks slot before ps
 
--- the last value that one of these, each what a run writes at once or an update, gives the word of these bits, else the value that it had
+-- the values of these bits after what a run writes at once, or an update: each has the last value that this gives it, else the one that it had
+abbrev pub overwritten : Update → List ℕ → BitList → BitList
+overwritten u bits v = map2 (λ b x. write_all (λ c. x) u b) bits v
+
+-- and after several
 abbrev pub word_after : List Update → List ℕ → BitList → BitList
 word_after [] bits v = v
-word_after (u ∷ us) bits v = word_after us bits (if list_all (is_written u) bits then read (write_all (λ b. X) u) bits else v)
+word_after (u ∷ us) bits v = word_after us bits (overwritten u bits v)
 
--- slot by slot the last value that one has given the word of these bits, from this value on; the values at the end of each slot are those of xs
+-- slot by slot the last value that one has given each of the word's bits, from this value on; the values at the end of each slot are those of xs
 abbrev pub word_along : Design → List ℕ → List ℕ → BitList → State → List Slot → List State → List BitList
 word_along d clocks bits v before [] xs = []
 word_along d clocks bits v before (slot ∷ slots) [] = []
 word_along d clocks bits v before (slot ∷ slots) (x ∷ xs) = let w = word_after (slot_effects d clocks slot before d.processes) bits v in w ∷ word_along d clocks bits w x slots xs
 
--- a word has what initial processes leave in it, x where none does, until it is given a value, and then has the last one
+-- a word's bit has what initial processes leave in it, x where none does, until it is given a value, and then has the last one
 abbrev pub word : Design → List ℕ → Signal → ℕ → State → List Slot → List State → List BitList
 word d clocks s n before slots xs = word_along d clocks (word_bits s n) (read (start_value d) (word_bits s n)) before slots xs
 

@@ -1,8 +1,8 @@
 -- What a refusal of an elaborated design carries, and which comes first. A refusal's `at` is a place in the text.
 use Rattle.std.specs.Prelude.{◌≡◌, ℕ, zero, suc, Bool, true, not, ◌&&◌, List, [], ◌∷◌, ◌++◌, map, min, get_or, if◌then◌else◌, nat_le, nat_lt, Option, Some, None, option_map, option_and_then}
 use Rattle.std.specs.List.{flat_map}
-use Rattle.vs_design.specs.Expressions.{Signal, Expression, Literal, Name, Select, Word, Unary, Binary, Choice, Join, Repeat, At, Call, Items, NoItem, Item, width, is_constant}
-use Rattle.vs_design.specs.Statements.{Target, Whole, PartOf, WordOf, Both, target_width, Statement, Empty, Assignment, Then, If, Case, Arms, Arm, Default}
+use Rattle.vs_design.specs.Expressions.{Signal, Expression, Literal, Name, Select, Word, WordPart, Unary, Binary, Choice, Join, Repeat, At, Call, Items, NoItem, Item, width, is_constant}
+use Rattle.vs_design.specs.Statements.{Target, Whole, PartOf, WordOf, WordPartOf, Both, target_width, Statement, Empty, Assignment, Then, If, Case, Arms, Arm, Default}
 use Rattle.vs_design.specs.Designs.{Process, Continuous, Always, process_place, Design, AnyProcess, OfProcess, OfInitial, in_text_order}
 use Rattle.vs_design.specs.Values.{bits_of_signal}
 use Rattle.vs_design.specs.Footprints.{contains, statement_bits}
@@ -61,6 +61,7 @@ abbrev mutual
   wide_places at (Name signal) = over_64 at (width (Name signal))
   wide_places at (Select source part index) = over_64 at (width (Select source part index)) ++ wide_places at index
   wide_places at (Word signal index) = over_64 at (width (Word signal index)) ++ wide_places at index
+  wide_places at (WordPart signal address part index) = over_64 at (width (WordPart signal address part index)) ++ (wide_places at address ++ wide_places at index)
   wide_places at (Unary op a) = over_64 at (width (Unary op a)) ++ wide_places at a
   wide_places at (Binary op a b) = over_64 at (width (Binary op a b)) ++ (wide_places at a ++ wide_places at b)
   wide_places at (Choice c p q) = over_64 at (width (Choice c p q)) ++ (wide_places at c ++ (wide_places at p ++ wide_places at q))
@@ -77,6 +78,7 @@ abbrev mutual
   wide_in_indices at (Whole signal) = []
   wide_in_indices at (PartOf signal part index) = wide_places at index
   wide_in_indices at (WordOf signal index) = wide_places at index
+  wide_in_indices at (WordPartOf signal address part index) = wide_places at address ++ wide_places at index
   wide_in_indices at (Both high low) = wide_in_indices at high ++ wide_in_indices at low
 
   pub wide_in_statement : ℕ → Statement → List ℕ
@@ -102,6 +104,7 @@ abbrev mutual
   division_places at (Name signal) = []
   division_places at (Select source part index) = division_places at index
   division_places at (Word signal index) = division_places at index
+  division_places at (WordPart signal address part index) = division_places at address ++ division_places at index
   division_places at (Unary op a) = division_places at a
   division_places at (Binary op a b) =
       (if is_division op && not (is_constant a && is_constant b) then (place_in at a ∷ []) else []) ++ (division_places at a ++ division_places at b)
@@ -119,6 +122,7 @@ abbrev mutual
   divisions_in_indices at (Whole signal) = []
   divisions_in_indices at (PartOf signal part index) = division_places at index
   divisions_in_indices at (WordOf signal index) = division_places at index
+  divisions_in_indices at (WordPartOf signal address part index) = division_places at address ++ division_places at index
   divisions_in_indices at (Both high low) = divisions_in_indices at high ++ divisions_in_indices at low
 
   pub divisions_in_statement : ℕ → Statement → List ℕ
@@ -137,6 +141,7 @@ abbrev pub in_indices : (ℕ → Expression → List ℕ) → ℕ → Target →
 in_indices f at (Whole signal) = []
 in_indices f at (PartOf signal part index) = f at index
 in_indices f at (WordOf signal index) = f at index
+in_indices f at (WordPartOf signal address part index) = f at address ++ f at index
 in_indices f at (Both high low) = in_indices f at high ++ in_indices f at low
 
 abbrev pub in_items : (ℕ → Expression → List ℕ) → ℕ → Items → List ℕ

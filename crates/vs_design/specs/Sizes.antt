@@ -2,9 +2,9 @@
 use Rattle.vs_design.specs.Races.{doubled_bits}
 use Rattle.std.specs.Prelude.{ℕ, ◌+◌, ◌*◌, Bool, true, false, ◌&&◌, List, [], ◌∷◌, ◌++◌, max, sum_by, if◌then◌else◌}
 use Rattle.vs_four.specs.Selects.{range_length}
-use Rattle.vs_design.specs.Expressions.{Signal, signal_length, word_length, addresses, UnaryOp, Plus, Minus, BitNot, LogicalNot, Signed, Unsigned, BinaryOp, Add, Subtract, Multiply, Less, LessEqual, Greater, GreaterEqual, Equal, NotEqual, CaseEqual, CaseNotEqual, LogicalAnd, LogicalOr, ShiftLeft, ShiftRight, ShiftLeftArith, ShiftRightArith, Expression, Literal, Name, Select, Word, Unary, Binary, Choice, Join, Repeat, At, Call, Items, NoItem, Item, Way, Shifted, unary_way, way, width, is_constant}
+use Rattle.vs_design.specs.Expressions.{Signal, signal_length, word_length, addresses, UnaryOp, Plus, Minus, BitNot, LogicalNot, Signed, Unsigned, BinaryOp, Add, Subtract, Multiply, Less, LessEqual, Greater, GreaterEqual, Equal, NotEqual, CaseEqual, CaseNotEqual, LogicalAnd, LogicalOr, ShiftLeft, ShiftRight, ShiftLeftArith, ShiftRightArith, Expression, Literal, Name, Select, Word, WordPart, Unary, Binary, Choice, Join, Repeat, At, Call, Items, NoItem, Item, Way, Shifted, unary_way, way, width, is_constant}
 use Rattle.vs_design.specs.Values.{left_width, right_width}
-use Rattle.vs_design.specs.Statements.{Target, Whole, PartOf, WordOf, Both, target_width, Statement, Empty, Assignment, Then, If, Case, Arms, Arm, Default, case_width}
+use Rattle.vs_design.specs.Statements.{Target, Whole, PartOf, WordOf, WordPartOf, Both, target_width, Statement, Empty, Assignment, Then, If, Case, Arms, Arm, Default, case_width}
 use Rattle.vs_design.specs.Designs.{Process, Continuous, Always, is_clocked, is_combinational, Design, top_inputs}
 use Rattle.vs_design.specs.Footprints.{contains, statement_bits, arms_bits, writes_of, waits_of, memory_bits}
 use Rattle.vs_design.specs.Sleepers.{is_sleeping}
@@ -60,6 +60,10 @@ abbrev mutual
   weight (Name signal) w = 0
   weight (Select source part index) w = if is_constant index then 0 else (part.width * (range_length part.range * width index) + weight index (width index))
   weight (Word signal index) w = if is_constant index then 0 else (address_weight signal (width index) + weight index (width index))
+  -- of a part of a word both, as of the word and as of the select
+  weight (WordPart signal address part index) w =
+      (if is_constant address then 0 else (address_weight signal (width address) + weight address (width address)))
+      + (if is_constant index then 0 else (part.width * (range_length part.range * width index) + weight index (width index)))
   weight (Unary op a) w = if is_constant a then 0 else (unary_weight op w (width a) + weight a (left_width (unary_way op) w (width a) 0))
   weight (Binary op a b) w =
       (if is_constant a && is_constant b then 0 else (if is_shift (way op) && is_constant b then 0 else binary_weight op w (width a) (width b)))
@@ -82,6 +86,9 @@ abbrev mutual
   target_weight (PartOf signal part index) =
       if is_constant index then 0 else (part.width * (range_length part.range * (width index + 1)) + weight index (width index))
   target_weight (WordOf signal index) = if is_constant index then 0 else (address_weight signal (width index) + weight index (width index))
+  target_weight (WordPartOf signal address part index) =
+      (if is_constant address then 0 else (address_weight signal (width address) + weight address (width address)))
+      + (if is_constant index then 0 else (part.width * (range_length part.range * (width index + 1)) + weight index (width index)))
   target_weight (Both high low) = target_weight high + target_weight low
 
   pub items_weight : Items → ℕ → ℕ

@@ -5,13 +5,14 @@ use Rattle.vs_four.specs.Logic.{BitList, identical, matches_z, matches_x}
 use Rattle.vs_design.specs.Expressions.{signal_length, word_length, Expression, Items, NoItem, Item, width, sign}
 pub use Rattle.vs_base.specs.declared.events.CaseKind.{CaseKind}
 pub use Rattle.vs_base.specs.declared.events.CaseKind.TheVariants.{Exact, CaseZ, CaseX}
-pub use Rattle.vs_design.specs.Trees.{Target, Whole, PartOf, WordOf, Both, Statement, Empty, Assignment, Then, If, Case, Arms, Arm, Default, Function}
+pub use Rattle.vs_design.specs.Trees.{Target, Whole, PartOf, WordOf, WordPartOf, Both, Statement, Empty, Assignment, Then, If, Case, Arms, Arm, Default, Function}
 
 -- the length of a target in bits
 abbrev pub target_width : Target → ℕ
 target_width (Whole signal) = signal_length signal
 target_width (PartOf signal part index) = part.width
 target_width (WordOf signal index) = word_length signal
+target_width (WordPartOf signal address part index) = part.width
 target_width (Both high low) = target_width high + target_width low
 
 -- how an item is compared (9.5, 9.5.1)

@@ -1,13 +1,14 @@
 -- The laws of expressions and statements.
-use Rattle.std.specs.Prelude.{◌≡◌, ℕ, ◌≤◌, Bool, true, false, List, [], ◌∷◌, ◌⊎◌, length}
+use Rattle.std.specs.Prelude.{◌≡◌, ℕ, ◌+◌, ◌*◌, ◌≤◌, Bool, true, false, List, [], ◌∷◌, ◌⊎◌, length, map, replicate, Option, Some, None, option_map}
 use Rattle.vs_four.specs.declared.Bit4.{Bit4}
 use Rattle.vs_four.specs.declared.Bit4.TheVariants.{X}
 use Rattle.vs_four.specs.Logic.{BitList}
+use Rattle.vs_four.specs.Selects.{Part, range_length, places}
 use Rattle.vs_net.specs.Network.{State, is_written, write_all, flatten}
-use Rattle.vs_design.specs.Expressions.{Expression, width, is_constant}
-use Rattle.vs_design.specs.Values.{value, assigned_value}
+use Rattle.vs_design.specs.Expressions.{Signal, word_length, Expression, width, is_constant}
+use Rattle.vs_design.specs.Values.{address_place, word_part_places, value, assigned_value}
 use Rattle.vs_design.specs.Statements.{Target, Statement}
-use Rattle.vs_design.specs.Bodies.{assignment_writes, body}
+use Rattle.vs_design.specs.Bodies.{bits_at, assignment_writes, body}
 use Rattle.vs_design.specs.Footprints.{contains, read_bits, target_bits, statement_reads, statement_bits, without}
 use Rattle.vs_design.specs.Latches.{latch_bits, early_reads, assigned_after}
 use Rattle.vs_design.specs.Rules.{mixed_in}
@@ -96,3 +97,13 @@ ValueSetsRead = (e : Expression) (w : ℕ) (signed : Bool) (f g : Family) → Sa
 -- and those after a body on those of the bits that it reads before it assigns them; so it is no matter from which sets the bits start that it assigns on every path
 abbrev pub BodySetsRead : Type 0
 BodySetsRead = (st : Statement) (f g : Family) → mixed_in false st ≡ [] → SameSets (early_reads st []) f g → (b : ℕ) → (f b ≡ g b) ⊎ (contains (assigned_after st []) b ≡ true) → lifted_body st f b ≡ lifted_body st g b
+
+-- by an address of a word, which is at place n of its memory, the bits of a part are those that its select takes of the word's bits
+abbrev pub PartsOfWord : Type 0
+PartsOfWord = (signal : Signal) (address_signed : Bool) (address : BitList) (part : Part) (signed : Bool) (index : BitList) (n : ℕ) → range_length part.range ≡ word_length signal → address_place signal address_signed address ≡ Some n
+    → bits_at signal (word_part_places signal address_signed address part signed index) ≡ map (λ p. option_map (λ m. (signal.first + n * word_length signal) + m) p) (places part signed index)
+
+-- and by an address of no word there are none
+abbrev pub PartsOfNone : Type 0
+PartsOfNone = (signal : Signal) (address_signed : Bool) (address : BitList) (part : Part) (signed : Bool) (index : BitList) → address_place signal address_signed address ≡ None
+    → bits_at signal (word_part_places signal address_signed address part signed index) ≡ replicate part.width None

@@ -68,6 +68,8 @@ mutual
     Select : (source : Source) (part : Part) (index : Expression) → Expression
     -- a word of a memory (4.9.3)
     Word : (signal : Signal) (index : Expression) → Expression
+    -- a bit or several of the word at this address (5.2.2)
+    WordPart : (signal : Signal) (address : Expression) (part : Part) (index : Expression) → Expression
     Unary : (op : UnaryOp) (a : Expression) → Expression
     Binary : (op : BinaryOp) (a b : Expression) → Expression
     -- `c ? p : q`
@@ -86,11 +88,12 @@ mutual
     NoItem : Items
     Item : (e : Expression) (rest : Items) → Items
 
-  -- the left side of an assignment: a signal, a select of one, a word of a memory, or a concatenation (table 6-1)
+  -- the left side of an assignment: a signal, a select of one, a word of a memory, a select of one, or a concatenation (table 6-1)
   pub data Target : Type 0 where
     Whole : (signal : Signal) → Target
     PartOf : (signal : Signal) (part : Part) (index : Expression) → Target
     WordOf : (signal : Signal) (index : Expression) → Target
+    WordPartOf : (signal : Signal) (address : Expression) (part : Part) (index : Expression) → Target
     -- `{high, low}`; longer ones nest
     Both : (high low : Target) → Target
 

@@ -7,11 +7,11 @@ use Rattle.vs_four.specs.Logic.{BitList, all_known, truth, choose}
 use Rattle.vs_four.specs.Lengths.{extend, extend_literal, join, repeat, cut}
 use Rattle.vs_four.specs.Tables.{is_one}
 use Rattle.vs_four.specs.Numbers.{integer}
-use Rattle.vs_four.specs.Selects.{place_of, at_place, places, select}
+use Rattle.vs_four.specs.Selects.{place_of, Part, at_place, places, select}
 pub use Rattle.vs_base.specs.Operators.{left_width, right_width, left_sign, right_sign}
 pub use Rattle.vs_base.specs.Applied.{apply_unary, or_all_x, apply_binary}
-use Rattle.vs_design.specs.Expressions.{Signal, signal_length, word_length, addresses, Source, OfSignal, OfConstant, Expression, Literal, Name, Select, Word, Unary, Binary, Choice, Join, Repeat, At, Call, Items, NoItem, Item, unary_way, way, width, sign}
-use Rattle.vs_design.specs.Statements.{Target, Whole, PartOf, WordOf, Both, target_width, CaseKind, case_match, Statement, Empty, Assignment, Then, If, Case, Arms, Arm, Default, case_width, case_sign}
+use Rattle.vs_design.specs.Expressions.{Signal, signal_length, word_length, addresses, Source, OfSignal, OfConstant, Expression, Literal, Name, Select, Word, WordPart, Unary, Binary, Choice, Join, Repeat, At, Call, Items, NoItem, Item, unary_way, way, width, sign}
+use Rattle.vs_design.specs.Statements.{Target, Whole, PartOf, WordOf, WordPartOf, Both, target_width, CaseKind, case_match, Statement, Empty, Assignment, Then, If, Case, Arms, Arm, Default, case_width, case_sign}
 use Rattle.vs_design.specs.Effects.{bits_at, pair_up, last_of_each, effect_of, no_effect, both_effects}
 
 -- first, first + 1, .. count numbers
@@ -44,6 +44,10 @@ spread k (Some n) = map Some (count_from (n * k) k)
 abbrev pub word_places : Signal → Bool → BitList → List (Option ℕ)
 word_places signal signed index = spread (word_length signal) (address_place signal signed index)
 
+-- the places of a part of a word among those of its memory: of the word's places those that the part takes
+abbrev pub word_part_places : Signal → Bool → BitList → Part → Bool → BitList → List (Option ℕ)
+word_part_places signal address_signed address part signed index = map (at_place None (word_places signal address_signed address)) (places part signed index)
+
 -- the word at this address, of a memory of these bits: all x where there is none
 abbrev pub select_word : Signal → Bool → BitList → BitList → BitList
 select_word signal signed a index = map (at_place X a) (word_places signal signed index)
@@ -63,6 +67,8 @@ abbrev mutual
   value (Name signal) w s state = extend w s (read state (bits_of_signal signal))
   value (Select source part index) w s state = extend w s (select part (sign index) (source_value state source) (value index (width index) (sign index) state))
   value (Word signal index) w s state = extend w s (select_word signal (sign index) (read state (bits_of_signal signal)) (value index (width index) (sign index) state))
+  value (WordPart signal address part index) w s state =
+      extend w s (select part (sign index) (select_word signal (sign address) (read state (bits_of_signal signal)) (value address (width address) (sign address) state)) (value index (width index) (sign index) state))
   value (Unary op a) w s state =
       extend w s (apply_unary op (value a (left_width (unary_way op) w (width a) 0) (left_sign (unary_way op) s (sign a) false) state))
   value (Binary op a b) w s state =
@@ -95,6 +101,8 @@ abbrev mutual
   target_writes (Whole signal) v state = pair_up (map Some (bits_of_signal signal)) v
   target_writes (PartOf signal part index) v state = pair_up (bits_at signal (places part (sign index) (value index (width index) (sign index) state))) v
   target_writes (WordOf signal index) v state = pair_up (bits_at signal (word_places signal (sign index) (value index (width index) (sign index) state))) v
+  target_writes (WordPartOf signal address part index) v state =
+      pair_up (bits_at signal (word_part_places signal (sign address) (value address (width address) (sign address) state) part (sign index) (value index (width index) (sign index) state))) v
   target_writes (Both high low) v state = target_writes high (drop (target_width low) v) state ++ target_writes low (take (target_width low) v) state
 
   -- what a statement does: the blocking writes in their order, and the nonblocking updates, one for each `<=` that is executed. The values after it are `write_all state` of the writes

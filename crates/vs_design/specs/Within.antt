@@ -1,7 +1,7 @@
 -- How many bits there have to be where an expression or a statement stands: all bits of the signals that it names are among the first n. Those of a call's statement are its function's own, which are others.
 use Rattle.std.specs.Prelude.{◌≡◌, ℕ, ◌+◌, Bool, true, ◌&&◌, nat_le, sum_by}
-use Rattle.vs_design.specs.Expressions.{Signal, signal_length, local_signals, Source, OfSignal, OfConstant, Expression, Literal, Name, Select, Word, Unary, Binary, Choice, Join, Repeat, At, Call, Items, NoItem, Item}
-use Rattle.vs_design.specs.Statements.{Target, Whole, PartOf, WordOf, Both, Statement, Empty, Assignment, Then, If, Case, Arms, Arm, Default, Function}
+use Rattle.vs_design.specs.Expressions.{Signal, signal_length, local_signals, Source, OfSignal, OfConstant, Expression, Literal, Name, Select, Word, WordPart, Unary, Binary, Choice, Join, Repeat, At, Call, Items, NoItem, Item}
+use Rattle.vs_design.specs.Statements.{Target, Whole, PartOf, WordOf, WordPartOf, Both, Statement, Empty, Assignment, Then, If, Case, Arms, Arm, Default, Function}
 use Rattle.vs_design.specs.Designs.{Design, bit_count}
 use Rattle.vs_design.specs.Elaborated.{have_bits_from, is_formed, is_formed_target, is_formed_statement, is_formed_function}
 
@@ -18,6 +18,7 @@ abbrev mutual
   names_within n (Name signal) = signal_within n signal
   names_within n (Select source part index) = source_within n source && names_within n index
   names_within n (Word signal index) = signal_within n signal && names_within n index
+  names_within n (WordPart signal address part index) = signal_within n signal && names_within n address && names_within n index
   names_within n (Unary op a) = names_within n a
   names_within n (Binary op a b) = names_within n a && names_within n b
   names_within n (Choice c p q) = names_within n c && names_within n p && names_within n q
@@ -34,6 +35,7 @@ abbrev pub target_within : ℕ → Target → Bool
 target_within n (Whole signal) = signal_within n signal
 target_within n (PartOf signal part index) = signal_within n signal && names_within n index
 target_within n (WordOf signal index) = signal_within n signal && names_within n index
+target_within n (WordPartOf signal address part index) = signal_within n signal && names_within n address && names_within n index
 target_within n (Both high low) = target_within n high && target_within n low
 
 abbrev mutual

@@ -17,6 +17,7 @@ ghost use Rattle.vs_design.specs.ExampleSets.{SetsComputed};
 ghost use Rattle.vs_design.specs.ExampleSizes.{SizesComputed};
 ghost use Rattle.vs_design.specs.ExampleTogether.{TogetherComputed};
 ghost use Rattle.vs_design.specs.ExampleValues.{ValuesComputed};
+ghost use Rattle.vs_design.specs.ExampleWordParts.{WordPartsComputed};
 ghost use Rattle.vs_design.specs.Laws.{AcceptedExactly, AcceptedIsLawful, AscendingHas, AscendingRises, BeginningIs, BitsOfDesign, BoundOfDesign, ClockNetsAre, EveryOrderOfDesign, LevelOrderIs, LevelRunOfDesign, NetsOfEach, OneFamilies, OnePassOfDesign, OneSolutionOfDesign, OrderOrCycle, RaceByAnyOrder, RunsEndOfDesign, SleepersOfDesign, SleepingIs, SpareClockIs, StarMissesNone, StirredBitsAre};
 ghost use Rattle.vs_design.specs.Memories.{WordsAre};
 ghost use Rattle.vs_design.specs.Paths.{LatchBitsAre};
@@ -24,13 +25,19 @@ ghost use Rattle.vs_design.specs.PlaceLaws.{ItemPlacesAgree, StatementFits, Stat
 ghost use Rattle.vs_design.specs.RefusalLaws.{BlockRefusalIs, ClockRefusalIs, DriverRefusalIs, DriversAre, RaceRefusalIs, WidthRefusalIs, ZeroRefusalIs};
 ghost use Rattle.vs_design.specs.SlotValues.{SlotValuesAre};
 ghost use Rattle.vs_design.specs.Within.{FormedIsWithin, FunctionIsWithin, StatementIsWithin, TargetIsWithin};
-ghost use Rattle.vs_design.specs.TreeLaws.{AssignWritesExactly, AssignedLength, BlockReads, BlockWritesExactly, BodyAssigns, BodyInSets, BodyReads, BodySetsRead, BodyWritesWithin, ConstantValue, NoUpdates, NoWrites, ValueInSets, ValueLength, ValueReads, ValueSetsRead};
+ghost use Rattle.vs_design.specs.TreeLaws.{AssignWritesExactly, AssignedLength, BlockReads, BlockWritesExactly, BodyAssigns, BodyInSets, BodyReads, BodySetsRead, BodyWritesWithin, ConstantValue, NoUpdates, NoWrites, PartsOfNone, PartsOfWord, ValueInSets, ValueLength, ValueReads, ValueSetsRead};
 
 /// A value has the length of its context, and a constant expression has one value (IEEE 1364-2005, 5.4 and 5.5).
 pub fn value_law()
     ensures length { ValueLength }
     ensures assigned { AssignedLength }
     ensures constant { ConstantValue }
+{}
+
+/// The bits of a part of a word are those that its select takes of the word's bits (IEEE 1364-2005, 5.2.2); where no word has the address there are none.
+pub fn word_part_law()
+    ensures words { PartsOfWord }
+    ensures none { PartsOfNone }
 {}
 
 /// A value depends on the bits that its expression reads alone, and what a statement does on those that the statement reads (IEEE 1364-2005, 5 and 9).
@@ -177,7 +184,7 @@ pub fn exists_law()
     ensures { LevelRunOfDesign }
 {}
 
-/// Each word of a memory has, at the end of each slot, the last value that a clocked block or an active reset gave it, at once or by an update, and before the first what initial processes leave in it, x where none does (IEEE 1364-2005, 4.9 and 9.9.1).
+/// Each bit of a memory's words has, at the end of each slot, the last value that a clocked block or an active reset gave it, at once or by an update, and before the first what initial processes leave in it, x where none does (IEEE 1364-2005, 4.9 and 9.9.1).
 pub fn memory_law()
     ensures { WordsAre }
 {}
@@ -250,6 +257,11 @@ pub fn initial_examples()
 /// Worked memories: places of words, what is read and written, sizes, and the values at the end of each slot.
 pub fn memory_examples()
     ensures { MemoriesComputed }
+{}
+
+/// Worked parts of words: their places and values, what is read and written, sets, sizes, and the values at the end of each slot.
+pub fn word_part_examples()
+    ensures { WordPartsComputed }
 {}
 
 /// Worked designs in which memories, functions and blocking assignments meet: a call with a word as its argument, and a word that a run writes twice at once.

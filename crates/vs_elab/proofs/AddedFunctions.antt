@@ -23,7 +23,7 @@ use Rattle.vs_elab.proofs.Headers.{declared_is, formed_parts, header_is, locals_
 
 -- the body of a function, where its variables of named blocks mean this
 abbrev body_with : (ℕ → Meaning) → Body
-body_with declared = body_of (record { in_function = true; clocked = false }) true declared
+body_with declared = body_of (record { in_function = true; takes_variables = true; clocked = false }) true declared
 
 module _ (s : Draft) (scope : ℕ) (env : Env) (f : tree.Function) (h : Function) (i : Inside) (is : IsHeader h f.place i.locals)
     (locals : AreLocals i.locals (function_locals scope (inside_function env []) f) (declared_locals f)) (names : inside_names i ≡ function_names scope env f) (can : CanBuild s.design scope env f) where

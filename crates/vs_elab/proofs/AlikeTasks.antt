@@ -31,7 +31,7 @@ module _ (source : Source) (name : List ℕ) (parent : Option ℕ) (m : Module) 
   abbrev of_survey : (left : ℕ) → Totals → Survey → Result Read Fault
   of_survey left t s =
       unless_fault (limit_faults the_limits (task os) (counted (task os) t)) λ u. unless_fault s.faults λ v.
-      then_do (read_pieces (read_scope left the_limits source) s.pieces s.totals) λ r. Ok (record { entries = s.entries; design = scope_design (task os) s r.design; totals = r.totals })
+      then_do (read_pieces the_limits (read_scope left the_limits source) s.pieces s.totals) λ r. Ok (record { entries = s.entries; design = scope_design (task os) s r.design; totals = r.totals })
 
   same_survey : (t : Totals) → survey the_limits source (task os) (counted (task os) t) ≡ survey the_limits source (task qs) (counted (task qs) t)
   same_survey t = survey_alike os qs alike the_limits source name parent m depth place env (counted (task os) t)

@@ -1,8 +1,8 @@
 -- What an item without a fault adds breaks no rule.
 use Rattle.std.proofs.Common.{◌≡◌, ◌≤◌, ◌<◌, ◌+◌, ℕ, zero, suc, Bool, true, false, if◌then◌else◌, List, [], ◌∷◌, ◌++◌, length, get_or, map, Option, Some, None, refl, sym, subst, arith}
 use Rattle.vs_grammar.specs.Trees as tree
-use Rattle.vs_grammar.specs.Shapes.{Each, OneOrMore, IsExpr, IsName, IsDeclarator, IsAssign, IsInstance, AreInstances}
-use Rattle.vs_grammar.specs.Depths.{deepest, expr_depth, declarator_depth, signals_depth, header_depth, assign_depth, instance_depth, instances_depth}
+use Rattle.vs_grammar.specs.Shapes.{Each, OneOrMore, IsExpr, IsName, IsDeclarator, IsAssign, IsStatement, IsInstance, AreInstances}
+use Rattle.vs_grammar.specs.Depths.{deepest, expr_depth, declarator_depth, signals_depth, header_depth, assign_depth, statement_depth, instance_depth, instances_depth}
 use Rattle.vs_grammar.specs.Spelled.{depth_limit}
 use Rattle.vs_ast.specs.declared.items.Item.{Item}
 use Rattle.vs_ast.specs.Views as view
@@ -14,12 +14,13 @@ use Rattle.vs_const.proofs.Formed.{both_nil}
 use Rattle.vs_elaborated.specs.Environments.{Env}
 use Rattle.vs_elaborated.specs.Generate.{Made}
 use Rattle.vs_elaborated.specs.Ports.{find_module}
+use Rattle.vs_elaborated.specs.NamedBlocks.{NamedBlock}
 use Rattle.vs_elaborated.specs.Pieces.{Said, all_said}
 use Rattle.vs_elaborated.specs.Instances.{Around, said_overrides, instance_said, unknown_module}
 use Rattle.vs_elaborated.specs.Signals.{is_reg}
 use Rattle.vs_elaborated.specs.Surveys.{value_said, wire_said, declarator_said, signals_said, ports_said, assign_said}
 use Rattle.vs_items.specs.Stated.{IsDeclared, IsStatedHeader}
-use Rattle.vs_elab.specs.Fine.{IsFineAssign, IsFineBegun, IsFineValue, IsFineDeclarator, AreFineSignals, IsFineHeader, IsFineBlock, IsFineInstance, IsFineItem, AreFineItems, plain_said, plains_said}
+use Rattle.vs_elab.specs.Fine.{IsFineAssign, IsFineBegun, IsFineValue, IsFineDeclarator, AreFineSignals, IsFineHeader, IsFineBlock, IsFineScoped, IsFineInstance, IsFineItem, AreFineItems, plain_block, plain_said, plains_said}
 use Rattle.vs_elab.proofs.PartItems.{made_at}
 
 -- each of a list that says no fault
@@ -64,8 +65,14 @@ pub assigns_fine : (source : tree.Source) (around : Around) (place : ℕ) (xs : 
 assigns_fine source around place xs m f =
     all_fine (assign_said around.env place) IsAssign (IsFineAssign around.env) assign_depth (λ a s h c. record { shaped = s; clean = c; shallow = h }) xs f.stated f.shallow f.clean
 
-pub block_fine : (source : tree.Source) (around : Around) (b : tree.AlwaysBlock) (m : Made) → IsFineItem source around (tree.AlwaysItem b) m → IsFineBlock around.env b
-block_fine source around b m f = record { shaped = f.stated; clean = f.clean; shallow = f.shallow }
+-- by its named blocks that are scopes
+abbrev pub IsFineBy : List NamedBlock → Around → tree.AlwaysBlock → Type 0
+IsFineBy [] around b = IsFineBlock around.env b
+IsFineBy (n ∷ ns) around b = IsFineScoped around.env b
+
+pub block_by : (ns : List NamedBlock) (around : Around) (b : tree.AlwaysBlock) → IsStatement b.statement → statement_depth b.statement ≤ depth_limit → (plain_block ns around b).faults ≡ [] → IsFineBy ns around b
+block_by [] around b y h c = record { shaped = y; clean = c; shallow = h }
+block_by (n ∷ ns) around b y h c = record { shaped = y; clean = c; shallow = h }
 
 pub initial_fine : (source : tree.Source) (around : Around) (b : tree.InitialBlock) (m : Made) → IsFineItem source around (tree.InitialItem b) m → IsFineBegun around.env b.statement
 initial_fine source around b m f = record { shaped = f.stated; clean = f.clean; shallow = omega (arith, f.shallow) }

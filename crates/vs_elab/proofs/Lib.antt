@@ -22,6 +22,10 @@ mod FineItems
 mod WiredPorts
 mod OpenedSteps
 mod OwnSteps
+mod ScopedSteps
+mod ScopedParts
+mod ScopedFaults
+mod ScopedReads
 mod BlockSteps
 mod KnownModules
 mod AlikeTasks

@@ -14,6 +14,7 @@ use Rattle.vs_elaborated.specs.Signals.{SaidSignal}
 use Rattle.vs_elaborated.specs.Pieces.{Task}
 use Rattle.vs_elaborated.specs.Surveys.{Totals, Survey}
 use Rattle.vs_elaborated.specs.Sound.{AreCounted}
+use Rattle.vs_elaborated.specs.Scoped.{AreNumberedBelow}
 use Rattle.vs_scope.specs.Surveys.{IsOfParts, signals_in, start_at}
 use Rattle.vs_scope.proofs.NamedLists.{same_self}
 
@@ -50,6 +51,18 @@ found_from d scope n b (s ∷ ss) f c = (here (f 0), found_from d scope (n + 1) 
   where
     here : slice_get d.signals (n + 0) ≡ Some s → is_this s (slice_get d.signals s.number) ≡ true
     here h = subst (λ o. is_this s o ≡ true) (sym (ap (slice_get d.signals) (let e : s.number ≡ n + 0 = omega (arith, c.0) in e) ∙ h)) (signal_itself s)
+
+found_below : (d : Design) (scopes n b : ℕ) (ss : List Signal) → ((i : ℕ) → slice_get d.signals (n + i) ≡ slice_get ss i) → AreNumberedBelow scopes n b ss → Each (λ (s : Signal). is_signal d s ≡ true) ss
+found_below d scopes n b [] f c = tt
+found_below d scopes n b (s ∷ ss) f c = (here (f 0), found_below d scopes (n + 1) (b + signal_length s) ss (λ i. ap (slice_get d.signals) (let e : (n + 1) + i ≡ n + suc i = omega arith in e) ∙ f (suc i)) c.3)
+  where
+    here : slice_get d.signals (n + 0) ≡ Some s → is_this s (slice_get d.signals s.number) ≡ true
+    here h = subst (λ o. is_this s o ≡ true) (sym (ap (slice_get d.signals) (let e : s.number ≡ n + 0 = omega (arith, c.0) in e) ∙ h)) (signal_itself s)
+
+-- those of named blocks
+pub variables_there : (d : Design) (before : List Signal) (scopes n b : ℕ) (ss : List Signal) → d.signals ≡ before ++ ss → length before ≡ n → AreNumberedBelow scopes n b ss → Each (λ (s : Signal). is_signal d s ≡ true) ss
+variables_there d before scopes n b ss e l c =
+    found_below d scopes n b ss (λ i. ap (λ (k : ℕ). slice_get d.signals (k + i)) (sym l) ∙ ap (λ (xs : List Signal). slice_get xs (length before + i)) e ∙ get_behind before ss i) c
 
 -- signals that are numbered from the first free number on
 pub signals_there : (d : Design) (before : List Signal) (scope b : ℕ) (ss : List Signal) → d.signals ≡ before ++ ss → AreCounted scope (length before) b ss → Each (λ (s : Signal). is_signal d s ≡ true) ss

@@ -68,7 +68,7 @@ counted_read r c e few f p h = record {
 abbrev pub design_with : Design → Task → Survey → Design
 design_with d t s = both_designs d (scope_part t s)
 
-wider_by : (c d : Design) (ss : List design.Signal) → length c.scopes ≤ length d.scopes → d.signals ≡ c.signals ++ ss → IsWider c d
+pub wider_by : (c d : Design) (ss : List design.Signal) → length c.scopes ≤ length d.scopes → d.signals ≡ c.signals ++ ss → IsWider c d
 wider_by c d [] n e = same_signals c d n (e ∙ append-nil c.signals)
 wider_by c d (s ∷ ss) n e = of (more_signals c m s (omega arith) refl) (wider_by m d ss n (e ∙ sym (append_assoc c.signals (s ∷ []) ss)))
   where

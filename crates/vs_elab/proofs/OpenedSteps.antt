@@ -2,7 +2,7 @@
 use Rattle.std.proofs.Common.{◌≡◌, ℕ, suc, ◌+◌, ◌<◌, ◌≤◌, ◌^◌, Bool, true, false, List, [], ◌∷◌, ◌++◌, length, length-append, map, Option, Some, if◌then◌else◌, refl, sym, ap, ◌∙◌, subst, arith}
 use Rattle.std.specs.Prelude.{Result, Err, IfErr, option_to_list, sum_by}
 use Rattle.std.specs.Result.{IsErrAnd}
-use Rattle.std.proofs.lemmas.Result.{err_from_is_err_and}
+use Rattle.std.proofs.lemmas.Result.{err_from_is_err_and, IfErr-weaker}
 use Rattle.std.proofs.lemmas.List.{append-nil}
 use Rattle.std.proofs.lemmas.List.Sums.{sum_by-append, sum_by-cons}
 use Rattle.vs_design.specs.Designs.{Design}
@@ -284,6 +284,10 @@ tells (Broken f) P Q g h = g f h
 -- an error that is passed on
 pub told_exit : {A : Type 0} (P : Fault → Type 0) (r : Result A ElabError) (e : ElabError) → IsErrAnd r (λ (y : ElabError). y ≡ e) → Tells e P → IfErr r (λ (y : ElabError). Tells y P)
 told_exit P r e h q = let p = err_from_is_err_and r h in rw p.1 (subst (λ (x : ElabError). Tells x P) (sym p.2) q)
+
+-- and of what it says another thing
+pub told_on : {A : Type 0} (r : Result A ElabError) (P Q : Fault → Type 0) → ((f : Fault) → P f → Q f) → IfErr r (λ (y : ElabError). Tells y P) → IfErr r (λ (y : ElabError). Tells y Q)
+told_on r P Q g h = IfErr-weaker r (λ (y : ElabError). Tells y P) (λ (y : ElabError). Tells y Q) (λ y k. tells y P Q g k) h
 
 pub told : (P : Fault → Type 0) (e : ElabError) (f : Fault) → e ≡ Broken f → P f → Tells e P
 told P e f is h = subst (λ (x : ElabError). Tells x P) (sym is) h

@@ -26,17 +26,17 @@ use Rattle.vs_elaborated.specs.Limits.{the_limits}
 use Rattle.vs_elaborated.specs.Environments.{Env, named}
 use Rattle.vs_elaborated.specs.Instances.{Around}
 use Rattle.vs_elaborated.specs.Sound.{AreSoundFrames}
-use Rattle.vs_elaborated.specs.Pieces.{Piece, Own, Initially, Instance as InstancePiece, Within}
+use Rattle.vs_elaborated.specs.Pieces.{Piece, Own, OfScopes, Initially, Instance as InstancePiece, Within}
 use Rattle.vs_elaborated.specs.Elaborated.{both_designs, of_processes, of_initial}
 use Rattle.vs_build.specs.Drafts.{Draft, home, home_in, and_process, and_initial}
 use Rattle.vs_build.specs.Growth.{draft}
-use Rattle.vs_build.specs.Executable.{IsExecutable, IsRunnable, block_process, begun, value_assignment}
+use Rattle.vs_build.specs.Executable.{IsExecutable, IsRunnable, barred, block_process, begun, value_assignment}
 use Rattle.vs_build.specs.Writable.{IsAssignable, assign_process, wire_assign}
 use Rattle.vs_scope.specs.declared.frames.Frame.{Frame}
 use Rattle.vs_scope.specs.declared.frames.Turn.{Turn}
 use Rattle.vs_scope.specs.Frames.{env_at, envs}
 use Rattle.vs_elab.specs.declared.pending.Part.{Part}
-use Rattle.vs_elab.specs.declared.pending.Part.TheVariants.{Wire, Value, Assigned, Always, Initial as InitialPart, Instance, Block}
+use Rattle.vs_elab.specs.declared.pending.Part.TheVariants.{Wire, Value, Assigned, Always, Scoped, Initial as InitialPart, Instance, Block}
 use Rattle.vs_elab.specs.declared.reading.Counts.{Counts}
 use Rattle.vs_elab.specs.declared.reading.Reading.{Reading}
 use Rattle.vs_elab.specs.declared.reading.Text.{Text}
@@ -81,18 +81,23 @@ IsNoBlock part = (name : Vec ℕ Global) (items : Bor (List Item)) (turn : Optio
 abbrev pub IsNoInstance : Part → Type 0
 IsNoInstance part = (item : Bor Instances) (instance : Bor TextInstance) → part ≡ Instance item instance → ⊥
 
-pub own_fine : (source : tree.Source) (env : Env) (part : Part) → IsNoBlock part → IsNoInstance part → IsFinePart source env part → IsFineOwn env part
-own_fine source env (Wire place name value) b i h = h
-own_fine source env (Value name value) b i h = h
-own_fine source env (Assigned place a) b i h = h
-own_fine source env (Always k) b i h = h
-own_fine source env (InitialPart k) b i h = h
-own_fine source env (Instance t x) b i h = absurd (i t x refl)
-own_fine source env (Block name items t) b i h = absurd (b name items t refl)
+abbrev pub IsNoScoped : Part → Type 0
+IsNoScoped part = (b : Bor AlwaysBlock) → part ≡ Scoped b → ⊥
+
+pub own_fine : (source : tree.Source) (env : Env) (part : Part) → IsNoBlock part → IsNoInstance part → IsNoScoped part → IsFinePart source env part → IsFineOwn env part
+own_fine source env (Wire place name value) b i s h = h
+own_fine source env (Value name value) b i s h = h
+own_fine source env (Assigned place a) b i s h = h
+own_fine source env (Always k) b i s h = h
+own_fine source env (Scoped k) b i s h = absurd (s k refl)
+own_fine source env (InitialPart k) b i s h = h
+own_fine source env (Instance t x) b i s h = absurd (i t x refl)
+own_fine source env (Block name items t) b i s h = absurd (b name items t refl)
 
 -- with what a piece has of its own
 abbrev pub and_piece : Draft → Piece → Draft
 and_piece s (Own q) = and_process s q
+and_piece s (OfScopes b) = s
 and_piece s (Initially place statement) = and_initial s place statement
 and_piece s (InstancePiece cs k) = s
 and_piece s (Within k) = s
@@ -108,7 +113,8 @@ pub own_pieces : (source : tree.Source) (around : Around) (part : Part) → IsFi
 own_pieces source around (Wire place name value) h = record { piece = Own (assign_process place (wire_assign (view.name name.now) (view.expr value.now)) (named around.env)); own = tt; built = λ s. refl; pieces = refl }
 own_pieces source around (Value name value) h = record { piece = Initially (view.name name.now).place (begun (value_assignment (view.name name.now) (view.expr value.now)) (named around.env)); own = tt; built = λ s. refl; pieces = refl }
 own_pieces source around (Assigned place a) h = record { piece = Own (assign_process place (view.assign a.now) (named around.env)); own = tt; built = λ s. refl; pieces = refl }
-own_pieces source around (Always k) h = record { piece = Own (block_process (view.always_block k.now) (named around.env)); own = tt; built = λ s. refl; pieces = refl }
+own_pieces source around (Always k) h = record { piece = Own (block_process barred (view.always_block k.now) (named around.env)); own = tt; built = λ s. refl; pieces = refl }
+own_pieces source around (Scoped k) h = absurd h
 own_pieces source around (InitialPart k) h = record { piece = Initially (view.initial_block k.now).place (begun (view.initial_block k.now).statement (named around.env)); own = tt; built = λ s. refl; pieces = refl }
 own_pieces source around (Instance t x) h = absurd h
 own_pieces source around (Block name items t) h = absurd h
@@ -120,6 +126,7 @@ own_only env (Wire place name value) w v a k i h = w place name value refl
 own_only env (Value name value) w v a k i h = v name value refl
 own_only env (Assigned place x) w v a k i h = a place x refl
 own_only env (Always b) w v a k i h = k b refl
+own_only env (Scoped b) w v a k i h = h
 own_only env (InitialPart b) w v a k i h = i b refl
 own_only env (Instance t x) w v a k i h = h
 own_only env (Block name items t) w v a k i h = h
@@ -137,12 +144,12 @@ assign_fine s here env a outside e h sound numbered =
     (subst (λ (x : Env). IsAssignable s.design (named x) a) (sym e) (record { shaped = h.shaped; sound = sound; numbered = numbered; clean = h.clean; shallow = low (assign_depth a) h.shallow }))
 
 pub block_fine : (s : Draft) (here env : Env) (b : tree.AlwaysBlock) → s.function ≡ None → here ≡ env → IsFineBlock env b → AreSound s.design false (named env) → AreNumbered s.design (named env)
-    → IsRunnable (home s) (named here) b
+    → IsRunnable (home s) barred (named here) b
 block_fine s here env b outside e h sound numbered =
     let n = both_nil (typed_control b.control (named env)).faults (typed_statement b.statement (block_body b) (named env)).faults h.clean in
-    subst (λ (d : Design). IsRunnable d (named here) b) (at_home s outside)
-    (subst (λ (x : Env). IsRunnable s.design (named x) b) (sym e)
-    (record { shaped = h.shaped; sound = sound; numbered = numbered; control = n.0; clean = n.1; shallow = low (statement_depth b.statement) h.shallow }))
+    subst (λ (d : Design). IsRunnable d barred (named here) b) (at_home s outside)
+    (subst (λ (x : Env). IsRunnable s.design barred (named x) b) (sym e)
+    (record { shaped = h.shaped; around = record { unrolls = refl; sound = λ place. tt; numbered = λ place. tt }; sound = sound; numbered = numbered; control = n.0; clean = n.1; shallow = low (statement_depth b.statement) h.shallow }))
 
 pub begun_fine : (s : Draft) (here env : Env) (t : tree.Statement) → s.function ≡ None → here ≡ env → IsFineBegun env t → AreSound s.design false (named env) → AreNumbered s.design (named env)
     → IsExecutable (home s) initial_body (named here) t
@@ -164,9 +171,9 @@ assign_built old new here env part place a e is h =
     h ∙ ap (λ (x : Env). and_process old (assign_process place (view.assign a.now) (named x))) e ∙ sym (ap (λ (x : Part). with_own old env x) is)
 
 pub always_built : (old new : Draft) (here env : Env) (part : Part) (b : Bor AlwaysBlock) → here ≡ env → part ≡ Always b
-    → new ≡ and_process old (block_process (view.always_block b.now) (named here)) → new ≡ with_own old env part
+    → new ≡ and_process old (block_process barred (view.always_block b.now) (named here)) → new ≡ with_own old env part
 always_built old new here env part b e is h =
-    h ∙ ap (λ (x : Env). and_process old (block_process (view.always_block b.now) (named x))) e ∙ sym (ap (λ (x : Part). with_own old env x) is)
+    h ∙ ap (λ (x : Env). and_process old (block_process barred (view.always_block b.now) (named x))) e ∙ sym (ap (λ (x : Part). with_own old env x) is)
 
 pub value_built : (old new : Draft) (here env : Env) (part : Part) (name : Bor Name) (value : Bor Expr) → here ≡ env → part ≡ Value name value
     → new ≡ and_initial old (view.name name.now).place (begun (value_assignment (view.name name.now) (view.expr value.now)) (named here)) → new ≡ with_own old env part
@@ -207,6 +214,7 @@ initial_behind d place t =
 
 -- the design has it behind all others
 pub piece_behind : (s : Draft) (v : Draft) (p : Piece) → IsOwnPiece p → v ≡ and_piece s p → v.design ≡ both_designs s.design (own_design p)
+piece_behind s v (OfScopes b) h e = absurd h
 piece_behind s v (Own q) h e = ap (λ (z : Draft). z.design) e ∙ process_behind s.design q
 piece_behind s v (Initially place t) h e = ap (λ (z : Draft). z.design) e ∙ initial_behind s.design place t
 piece_behind s v (InstancePiece cs k) h e = absurd h
@@ -214,36 +222,42 @@ piece_behind s v (Within k) h e = absurd h
 
 -- it is one process or one initial process
 pub piece_counts : (p : Piece) → IsOwnPiece p → piece_processes p ≡ 1
+piece_counts (OfScopes b) h = absurd h
 piece_counts (Own q) h = refl
 piece_counts (Initially place t) h = refl
 piece_counts (InstancePiece cs k) h = absurd h
 piece_counts (Within k) h = absurd h
 
 one_more_in : (s : Draft) (p : Piece) → IsOwnPiece p → processes_in (and_piece s p).design ≡ processes_in s.design + 1
+one_more_in s (OfScopes b) h = absurd h
 one_more_in s (Own q) h = let n = length-append s.design.processes (q ∷ []) in omega (arith, n)
 one_more_in s (Initially place t) h = let n = length-append s.design.initials (placed place t (length s.design.processes) ∷ []) in omega (arith, n)
 one_more_in s (InstancePiece cs k) h = absurd h
 one_more_in s (Within k) h = absurd h
 
 same_functions_in : (s : Draft) (p : Piece) → (and_piece s p).design.functions ≡ s.design.functions
+same_functions_in s (OfScopes b) = refl
 same_functions_in s (Own q) = refl
 same_functions_in s (Initially place t) = refl
 same_functions_in s (InstancePiece cs k) = refl
 same_functions_in s (Within k) = refl
 
 same_scopes_in : (s : Draft) (p : Piece) → (and_piece s p).design.scopes ≡ s.design.scopes
+same_scopes_in s (OfScopes b) = refl
 same_scopes_in s (Own q) = refl
 same_scopes_in s (Initially place t) = refl
 same_scopes_in s (InstancePiece cs k) = refl
 same_scopes_in s (Within k) = refl
 
 same_signals_in : (s : Draft) (p : Piece) → (and_piece s p).design.signals ≡ s.design.signals
+same_signals_in s (OfScopes b) = refl
 same_signals_in s (Own q) = refl
 same_signals_in s (Initially place t) = refl
 same_signals_in s (InstancePiece cs k) = refl
 same_signals_in s (Within k) = refl
 
 idle_in : (s : Draft) (p : Piece) → IsIdle s → IsIdle (and_piece s p)
+idle_in s (OfScopes b) h = h
 idle_in s (Own q) h = record { outside = h.outside; expressions = h.expressions; statements = h.statements }
 idle_in s (Initially place t) h = record { outside = h.outside; expressions = h.expressions; statements = h.statements }
 idle_in s (InstancePiece cs k) h = h
@@ -343,7 +357,7 @@ own_room text old q p stack own h is = room_for_one _ _ _ _ left h.room h.read.f
 
 -- ---- the part that comes next, if it is a process or an initial process
 
-module _ (text : Text) (old : Reading) (p : Pending) (stack : List Pending) (b : IsNoBlock p.part) (i : IsNoInstance p.part) (h : IsReading text old (stack ++ p ∷ [])) where
+module _ (text : Text) (old : Reading) (p : Pending) (stack : List Pending) (b : IsNoBlock p.part) (i : IsNoInstance p.part) (s : IsNoScoped p.part) (h : IsReading text old (stack ++ p ∷ [])) where
   next : IsPending (source_of text) old.frames.items p
   next = each_last (IsPending (source_of text) old.frames.items) stack p h.pending
 
@@ -357,7 +371,7 @@ module _ (text : Text) (old : Reading) (p : Pending) (stack : List Pending) (b :
   next_numbered = h.read.numbered p.frame next.within
 
   pub next_fine : IsFineOwn (env_at (envs old.frames.items) (Some p.frame)) p.part
-  next_fine = own_fine (source_of text) (env_at (envs old.frames.items) (Some p.frame)) p.part b i next.fine
+  next_fine = own_fine (source_of text) (env_at (envs old.frames.items) (Some p.frame)) p.part b i s next.fine
 
   own : IsOwn (source_of text) (scope_around old.frames.items p.frame p.depth) p.part
   own = own_pieces (source_of text) (scope_around old.frames.items p.frame p.depth) p.part next_fine

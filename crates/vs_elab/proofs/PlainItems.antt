@@ -9,14 +9,15 @@ use Rattle.vs_elaborated.specs.Environments.{named}
 use Rattle.vs_elaborated.specs.Generate.{Made}
 use Rattle.vs_elaborated.specs.Heads.{shared_heads}
 use Rattle.vs_elaborated.specs.Instances.{Around}
+use Rattle.vs_elaborated.specs.NamedBlocks.{NamedBlock, named_blocks}
 use Rattle.vs_elaborated.specs.Pieces.{Own, Initially, Piece}
 use Rattle.vs_elaborated.specs.Statements.{TypedStatement, typed_control, typed_statement}
-use Rattle.vs_elaborated.specs.Surveys.{Loops, block_body, block_heads, block_said, block_statement, initial_body, initial_heads, initial_said, initial_statement, item_said, items_said, loops_after}
+use Rattle.vs_elaborated.specs.Surveys.{Loops, block_body, block_by, block_heads, plain_block_said, block_statement, initial_body, initial_heads, initial_said, initial_statement, item_said, items_said, loops_after}
 use Rattle.vs_build.proofs.Unrolled.{unrolled_is}
-use Rattle.vs_elab.specs.Fine.{plain_said, plains_said}
+use Rattle.vs_elab.specs.Fine.{plain_block, plain_said, plains_said}
 
 -- an always block
-module _ (source : tree.Source) (around : Around) (loops : Loops) (b : tree.AlwaysBlock) (clean : (block_said the_limits around.env loops b).faults ≡ []) where
+module _ (source : tree.Source) (around : Around) (loops : Loops) (b : tree.AlwaysBlock) (clean : (plain_block_said the_limits around.env loops b).faults ≡ []) where
   abbrev said : TypedStatement
   said = block_statement the_limits around.env loops b
 
@@ -32,15 +33,21 @@ module _ (source : tree.Source) (around : Around) (loops : Loops) (b : tree.Alwa
   none [] ys h k = k
   none (x ∷ xs) ys h k = cc
 
-  pub block_clean : (made : Made) → (plain_said source around (tree.AlwaysItem b) made).faults ≡ []
-  block_clean made =
+  block_clean : (plain_block [] around b).faults ≡ []
+  block_clean =
       none (typed_control b.control (named around.env)).faults (typed_statement b.statement (block_body b) (named around.env)).faults parts_clean.0
       (ap (λ (t : TypedStatement). t.faults) (sym statement_is) ∙ parts_clean.1)
 
-  pub block_pieces : (made : Made) → (plain_said source around (tree.AlwaysItem b) made).pieces ≡ (block_said the_limits around.env loops b).pieces
-  block_pieces made =
+  block_pieces : (plain_block [] around b).pieces ≡ (plain_block_said the_limits around.env loops b).pieces
+  block_pieces =
       let e = typed_control b.control (named around.env) in
       ap (λ (t : TypedStatement). let ps : List Piece = Own (Always b.place e.star e.events t.statement) ∷ [] in ps) (sym statement_is)
+
+-- by its named blocks that are scopes
+blocks_plain : (source : tree.Source) (around : Around) (loops : Loops) (b : tree.AlwaysBlock) (ns : List NamedBlock) → (block_by ns the_limits around loops b).faults ≡ []
+    → ((plain_block ns around b).faults ≡ []) × ((plain_block ns around b).pieces ≡ (block_by ns the_limits around loops b).pieces)
+blocks_plain source around loops b [] h = (block_clean source around loops b h, block_pieces source around loops b h)
+blocks_plain source around loops b (n ∷ ns) h = ((both_nil (typed_control b.control (named around.env)).faults (shared_heads loops.headed (block_heads around.env b)) h).0, refl)
 
 -- an initial block
 module _ (source : tree.Source) (around : Around) (loops : Loops) (b : tree.InitialBlock) (clean : (initial_said the_limits around.env loops b).faults ≡ []) where
@@ -65,7 +72,7 @@ plain_is : (source : tree.Source) (around : Around) (loops : Loops) (i : tree.It
 plain_is source around loops (tree.SignalsItem t) made h = (h, refl)
 plain_is source around loops (tree.ParametersItem t) made h = (h, refl)
 plain_is source around loops (tree.AssignsItem place assigns) made h = (h, refl)
-plain_is source around loops (tree.AlwaysItem b) made h = (block_clean source around loops b h made, block_pieces source around loops b h made)
+plain_is source around loops (tree.AlwaysItem b) made h = blocks_plain source around loops b (named_blocks b.statement) h
 plain_is source around loops (tree.InitialItem b) made h = (initial_clean source around loops b h made, initial_pieces source around loops b h made)
 plain_is source around loops (tree.GenvarsItem place names) made h = (h, refl)
 plain_is source around loops (tree.IntegersItem place names) made h = (h, refl)

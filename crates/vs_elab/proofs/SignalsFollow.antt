@@ -7,8 +7,7 @@ use Rattle.vs_design.specs.Expressions as design
 use Rattle.vs_design.specs.Expressions.{signal_length}
 use Rattle.vs_design.specs.Designs.{bit_count}
 use Rattle.vs_build.specs.Drafts.{Draft, and_signal}
-use Rattle.vs_scope.specs.declared.names.Signal.{Signal}
-use Rattle.vs_elab.specs.Opening.{signal, Follow, and_signals}
+use Rattle.vs_elab.specs.Opening.{Follow, and_signals}
 use Rattle.vs_elab.proofs.Sequences.{one_more}
 
 -- what holds of one of them
@@ -18,38 +17,39 @@ pub record Follows (scopes n b : ℕ) (s : design.Signal) : Type 0 where
   pub scope : s.scope < scopes
   pub bits : b + signal_length s ≤ 2 ^ 20
 
-follow_at : (scopes n b : ℕ) (xs : List Signal) (i : ℕ) (x : Signal) → i < length xs → x ≡ get_or xs i x → Follow scopes n b (map signal xs)
-    → Follows scopes (n + i) (b + sum_by signal_length (map signal (take i xs))) (signal x)
-follow_at scopes n b [] i x h e f = absurd (let no : ⊥ = omega (arith, h) in no)
-follow_at scopes n b (y ∷ ys) zero x h e f =
-    subst (λ (s : Signal). Follows scopes (n + 0) (b + 0) (signal s)) (sym e) (record { number = f.0 ∙ (let k : n ≡ n + 0 = omega arith in k); first = f.1 ∙ (let k : b ≡ b + 0 = omega arith in k); scope = f.2; bits = omega (arith, f.3) })
-follow_at scopes n b (y ∷ ys) (suc i) x h e f =
-    let r = follow_at scopes (n + 1) (b + signal_length (signal y)) ys i x (omega (arith, h)) e f.4 in
-    let s = sum_by-cons signal_length (signal y) (map signal (take i ys)) in
-    record { number = r.number ∙ (let k : (n + 1) + i ≡ n + suc i = omega arith in k); first = let p = r.first in omega (arith, p, s); scope = r.scope; bits = let q = r.bits in omega (arith, q, s) }
-
 pub signals_nothing : (s : Draft) → s ≡ and_signals s []
 signals_nothing s = ap (λ ss. let t : Draft = record s { design = record s.design { signals = ss } } in t) (sym (append-nil s.design.signals))
 
-pub signals_more : (s t new : Draft) (xs : List Signal) (i : ℕ) (x : Signal) → i < length xs → x ≡ get_or xs i x → t ≡ and_signals s (map signal (take i xs)) → new ≡ and_signal t (signal x)
-    → new ≡ and_signals s (map signal (take (i + 1) xs))
-signals_more s t new xs i x h e before is =
-    is ∙ ap (λ y. and_signal y (signal x)) before
-    ∙ ap (λ ss. let y : Draft = record s { design = record s.design { signals = ss } } in y) (append_assoc s.design.signals (map signal (take i xs)) (signal x ∷ []))
-    ∙ ap (and_signals s) (sym (one_more signal xs i x h e))
+module _ {A : Type 0} (f : A → design.Signal) where
+  follow_at : (scopes n b : ℕ) (xs : List A) (i : ℕ) (x : A) → i < length xs → x ≡ get_or xs i x → Follow scopes n b (map f xs)
+      → Follows scopes (n + i) (b + sum_by signal_length (map f (take i xs))) (f x)
+  follow_at scopes n b [] i x h e fs = absurd (let no : ⊥ = omega (arith, h) in no)
+  follow_at scopes n b (y ∷ ys) zero x h e fs =
+      subst (λ (s : A). Follows scopes (n + 0) (b + 0) (f s)) (sym e) (record { number = fs.0 ∙ (let k : n ≡ n + 0 = omega arith in k); first = fs.1 ∙ (let k : b ≡ b + 0 = omega arith in k); scope = fs.2; bits = omega (arith, fs.3) })
+  follow_at scopes n b (y ∷ ys) (suc i) x h e fs =
+      let r = follow_at scopes (n + 1) (b + signal_length (f y)) ys i x (omega (arith, h)) e fs.4 in
+      let s = sum_by-cons signal_length (f y) (map f (take i ys)) in
+      record { number = r.number ∙ (let k : (n + 1) + i ≡ n + suc i = omega arith in k); first = let p = r.first in omega (arith, p, s); scope = r.scope; bits = let q = r.bits in omega (arith, q, s) }
 
-taken : (xs : List Signal) (i : ℕ) → i < length xs → length (map signal (take i xs)) ≡ i
-taken [] i h = absurd (let no : ⊥ = omega (arith, h) in no)
-taken (x ∷ xs) zero h = refl
-taken (x ∷ xs) (suc i) h = ap suc (taken xs i (omega (arith, h)))
+  pub signals_more : (s t new : Draft) (xs : List A) (i : ℕ) (x : A) → i < length xs → x ≡ get_or xs i x → t ≡ and_signals s (map f (take i xs)) → new ≡ and_signal t (f x)
+      → new ≡ and_signals s (map f (take (i + 1) xs))
+  signals_more s t new xs i x h e before is =
+      is ∙ ap (λ y. and_signal y (f x)) before
+      ∙ ap (λ ss. let y : Draft = record s { design = record s.design { signals = ss } } in y) (append_assoc s.design.signals (map f (take i xs)) (f x ∷ []))
+      ∙ ap (and_signals s) (sym (one_more f xs i x h e))
 
--- the next one has the first free number
-pub next_follows : (s t : Draft) (xs : List Signal) (i : ℕ) (x : Signal) → i < length xs → x ≡ get_or xs i x → t ≡ and_signals s (map signal (take i xs))
-    → Follow (length s.design.scopes) (length s.design.signals) (bit_count s.design) (map signal xs) → Follows (length t.design.scopes) (length t.design.signals) (bit_count t.design) (signal x)
-next_follows s t xs i x h e is f =
-    subst (λ (y : Draft). Follows (length y.design.scopes) (length y.design.signals) (bit_count y.design) (signal x)) (sym is)
-    (let r = follow_at (length s.design.scopes) (length s.design.signals) (bit_count s.design) xs i x h e f in
-    let a = length-append s.design.signals (map signal (take i xs)) in
-    let b = taken xs i h in
-    let d = sum_by-append signal_length s.design.signals (map signal (take i xs)) in
-    record { number = r.number ∙ sym (a ∙ ap (λ n. length s.design.signals + n) b); first = r.first ∙ sym d; scope = r.scope; bits = let q = r.bits in omega (arith, q, d) })
+  taken : (xs : List A) (i : ℕ) → i < length xs → length (map f (take i xs)) ≡ i
+  taken [] i h = absurd (let no : ⊥ = omega (arith, h) in no)
+  taken (x ∷ xs) zero h = refl
+  taken (x ∷ xs) (suc i) h = ap suc (taken xs i (omega (arith, h)))
+
+  -- the next one has the first free number
+  pub next_follows : (s t : Draft) (xs : List A) (i : ℕ) (x : A) → i < length xs → x ≡ get_or xs i x → t ≡ and_signals s (map f (take i xs))
+      → Follow (length s.design.scopes) (length s.design.signals) (bit_count s.design) (map f xs) → Follows (length t.design.scopes) (length t.design.signals) (bit_count t.design) (f x)
+  next_follows s t xs i x h e is fs =
+      subst (λ (y : Draft). Follows (length y.design.scopes) (length y.design.signals) (bit_count y.design) (f x)) (sym is)
+      (let r = follow_at (length s.design.scopes) (length s.design.signals) (bit_count s.design) xs i x h e fs in
+      let a = length-append s.design.signals (map f (take i xs)) in
+      let b = taken xs i h in
+      let d = sum_by-append signal_length s.design.signals (map f (take i xs)) in
+      record { number = r.number ∙ sym (a ∙ ap (λ n. length s.design.signals + n) b); first = r.first ∙ sym d; scope = r.scope; bits = let q = r.bits in omega (arith, q, d) })

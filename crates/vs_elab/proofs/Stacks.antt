@@ -9,9 +9,9 @@ use Rattle.vs_grammar.specs.Trees.{Source}
 use Rattle.vs_const.specs.declared.faults.Fault.{Fault}
 use Rattle.vs_const.specs.Faults.{least}
 use Rattle.vs_elaborated.specs.Limits.{Limits}
-use Rattle.vs_elaborated.specs.Pieces.{Task, Connection, Piece, Own, Initially, Instance, Within}
-use Rattle.vs_elaborated.specs.Surveys.{Totals, Survey, survey}
-use Rattle.vs_elaborated.specs.Elaborated.{moved, both_designs, of_processes, of_initial, then_do, unless_fault, port_assign, Read, ReadPieces, read_piece, read_pieces, counted, limit_faults, scope_design, read_scope}
+use Rattle.vs_elaborated.specs.Pieces.{Task, Connection, ScopedBlock, Piece, Own, OfScopes, Initially, Instance, Within}
+use Rattle.vs_elaborated.specs.Surveys.{Totals, Survey, scoped_signals, scoped_statement, survey}
+use Rattle.vs_elaborated.specs.Elaborated.{moved, both_designs, of_processes, of_initial, then_do, unless_fault, port_assign, Read, ReadPieces, scoped_design, scoped_totals, scoped_faults, read_scoped, read_piece, read_pieces, counted, limit_faults, scope_design, read_scope}
 use Rattle.vs_elab.specs.Stacks.{Pending, pending, rest_of, built_then, scope_part, ports_part}
 
 -- ---- designs one after the other
@@ -80,15 +80,15 @@ abbrev pub and_rest : Limits → Source → List Pending → Result ReadPieces F
 and_rest limits source ps r = then_do r λ a. built_then a.design (rest_of limits source ps a.totals)
 
 pub rest_append : (limits : Limits) (source : Source) (left : ℕ) (qs : List Piece) (ps : List Pending) (t : Totals)
-    → rest_of limits source (map (pending left) qs ++ ps) t ≡ and_rest limits source ps (read_pieces (read_scope left limits source) qs t)
+    → rest_of limits source (map (pending left) qs ++ ps) t ≡ and_rest limits source ps (read_pieces limits (read_scope left limits source) qs t)
 rest_append limits source left [] ps t = sym (built_nothing (rest_of limits source ps t))
-rest_append limits source left (q ∷ qs) ps t = of (read_piece (read_scope left limits source) q t) (λ u. rest_append limits source left qs ps u)
+rest_append limits source left (q ∷ qs) ps t = of (read_piece limits (read_scope left limits source) q t) (λ u. rest_append limits source left qs ps u)
   where
-    of : (r : Result ReadPieces Fault) → ((u : Totals) → rest_of limits source (map (pending left) qs ++ ps) u ≡ and_rest limits source ps (read_pieces (read_scope left limits source) qs u))
+    of : (r : Result ReadPieces Fault) → ((u : Totals) → rest_of limits source (map (pending left) qs ++ ps) u ≡ and_rest limits source ps (read_pieces limits (read_scope left limits source) qs u))
         → (then_do r λ a. built_then a.design (rest_of limits source (map (pending left) qs ++ ps) a.totals))
-        ≡ and_rest limits source ps (then_do r λ a. then_do (read_pieces (read_scope left limits source) qs a.totals) λ b. Ok (record { design = both_designs a.design b.design; totals = b.totals }))
+        ≡ and_rest limits source ps (then_do r λ a. then_do (read_pieces limits (read_scope left limits source) qs a.totals) λ b. Ok (record { design = both_designs a.design b.design; totals = b.totals }))
     of (Err e) h = refl
-    of (Ok a) h = ap (built_then a.design) (h a.totals) ∙ last (read_pieces (read_scope left limits source) qs a.totals)
+    of (Ok a) h = ap (built_then a.design) (h a.totals) ∙ last (read_pieces limits (read_scope left limits source) qs a.totals)
       where
         last : (r : Result ReadPieces Fault) → built_then a.design (and_rest limits source ps r) ≡ and_rest limits source ps (then_do r λ b. Ok (record { design = both_designs a.design b.design; totals = b.totals }))
         last (Err e) = refl
@@ -110,7 +110,7 @@ module _ (left : ℕ) (limits : Limits) (source : Source) (k : Task) (t : Totals
   read_of q = then_do q λ r. Ok (record { entries = own.entries; design = scope_design k own r.design; totals = r.totals })
 
   abbrev inside : ℕ → Result Read Fault
-  inside u = unless_fault own.faults λ v. read_of (read_pieces (read_scope left limits source) own.pieces own.totals)
+  inside u = unless_fault own.faults λ v. read_of (read_pieces limits (read_scope left limits source) own.pieces own.totals)
 
   -- a scope past the limits
   pub limited : (e : Fault) → least (limit_faults limits k (counted k t)) ≡ Some e → read_scope (suc left) limits source k t ≡ Err e
@@ -118,20 +118,21 @@ module _ (left : ℕ) (limits : Limits) (source : Source) (k : Task) (t : Totals
 
   -- a scope with a fault
   pub faulty : (e : Fault) → least (limit_faults limits k (counted k t)) ≡ None → least (survey limits source k (counted k t)).faults ≡ Some e → read_scope (suc left) limits source k t ≡ Err e
-  faulty e h f = unless_none (limit_faults limits k (counted k t)) inside h ∙ unless_some own.faults (λ v. read_of (read_pieces (read_scope left limits source) own.pieces own.totals)) e f
+  faulty e h f = unless_none (limit_faults limits k (counted k t)) inside h ∙ unless_some own.faults (λ v. read_of (read_pieces limits (read_scope left limits source) own.pieces own.totals)) e f
 
   -- a scope without one
   pub fair : least (limit_faults limits k (counted k t)) ≡ None → least (survey limits source k (counted k t)).faults ≡ None
       → read_scope (suc left) limits source k t
-      ≡ then_do (read_pieces (read_scope left limits source) (survey limits source k (counted k t)).pieces (survey limits source k (counted k t)).totals)
+      ≡ then_do (read_pieces limits (read_scope left limits source) (survey limits source k (counted k t)).pieces (survey limits source k (counted k t)).totals)
       λ r. Ok (record { entries = (survey limits source k (counted k t)).entries; design = scope_design k (survey limits source k (counted k t)) r.design; totals = r.totals })
-  fair h f = unless_none (limit_faults limits k (counted k t)) inside h ∙ unless_none own.faults (λ v. read_of (read_pieces (read_scope left limits source) own.pieces own.totals)) f
+  fair h f = unless_none (limit_faults limits k (counted k t)) inside h ∙ unless_none own.faults (λ v. read_of (read_pieces limits (read_scope left limits source) own.pieces own.totals)) f
 
 -- ---- steps
 
 -- a process or an initial process of a scope's own
 abbrev pub IsOwnPiece : Piece → Type 0
 IsOwnPiece (Own p) = Unit {0}
+IsOwnPiece (OfScopes b) = ⊥
 IsOwnPiece (Initially place statement) = Unit {0}
 IsOwnPiece (Instance cs k) = ⊥
 IsOwnPiece (Within k) = ⊥
@@ -139,6 +140,7 @@ IsOwnPiece (Within k) = ⊥
 -- alone
 abbrev pub own_design : Piece → Design
 own_design (Own p) = of_processes (p ∷ [])
+own_design (OfScopes b) = of_processes []
 own_design (Initially place statement) = of_initial place statement
 own_design (Instance cs k) = of_processes []
 own_design (Within k) = of_processes []
@@ -146,9 +148,28 @@ own_design (Within k) = of_processes []
 pub own_step : (limits : Limits) (source : Source) (built : Design) (left : ℕ) (p : Piece) (ps : List Pending) (t : Totals) → IsOwnPiece p
     → built_then built (rest_of limits source (pending left p ∷ ps) t) ≡ built_then (both_designs built (own_design p)) (rest_of limits source ps t)
 own_step limits source built left (Own p) ps t h = built_more built (of_processes (p ∷ [])) (rest_of limits source ps t)
+own_step limits source built left (OfScopes b) ps t h = absurd h
 own_step limits source built left (Initially place statement) ps t h = built_more built (of_initial place statement) (rest_of limits source ps t)
 own_step limits source built left (Instance cs k) ps t h = absurd h
 own_step limits source built left (Within k) ps t h = absurd h
+
+-- an always block with scopes, which has a fault or none
+abbrev pub scoped_then : Limits → ScopedBlock → Totals → ReadPieces
+scoped_then limits b t = record { design = scoped_design b t (scoped_signals b t) (scoped_statement limits b t); totals = scoped_totals b t (scoped_signals b t) (scoped_statement limits b t) }
+
+pub scoped_read : (limits : Limits) (b : ScopedBlock) (t : Totals) → least (scoped_faults limits b t) ≡ None → read_scoped limits b t ≡ Ok (scoped_then limits b t)
+scoped_read limits b t h = unless_none (scoped_faults limits b t) (λ u. Ok (scoped_then limits b t)) h
+
+pub scoped_step : (limits : Limits) (source : Source) (built : Design) (left : ℕ) (b : ScopedBlock) (ps : List Pending) (t : Totals) → least (scoped_faults limits b t) ≡ None
+    → built_then built (rest_of limits source (pending left (OfScopes b) ∷ ps) t)
+    ≡ built_then (both_designs built (scoped_design b t (scoped_signals b t) (scoped_statement limits b t))) (rest_of limits source ps (scoped_totals b t (scoped_signals b t) (scoped_statement limits b t)))
+scoped_step limits source built left b ps t h =
+    ap (λ (q : Result ReadPieces Fault). built_then built (and_rest limits source ps q)) (scoped_read limits b t h)
+    ∙ built_more built (scoped_then limits b t).design (rest_of limits source ps (scoped_then limits b t).totals)
+
+pub scoped_fails : (limits : Limits) (source : Source) (built : Design) (left : ℕ) (b : ScopedBlock) (ps : List Pending) (t : Totals) (e : Fault) → least (scoped_faults limits b t) ≡ Some e
+    → built_then built (rest_of limits source (pending left (OfScopes b) ∷ ps) t) ≡ Err e
+scoped_fails limits source built left b ps t e h = ap (λ (q : Result ReadPieces Fault). built_then built (and_rest limits source ps q)) (unless_some (scoped_faults limits b t) (λ u. Ok (scoped_then limits b t)) e h)
 
 -- the piece of a scope
 abbrev pub within_read : Result Read Fault → Result ReadPieces Fault
@@ -192,7 +213,7 @@ pub within_step : (limits : Limits) (source : Source) (built : Design) (left : �
     ≡ built_then (both_designs built (scope_part k (survey limits source k (counted k t)))) (rest_of limits source (map (pending left) (survey limits source k (counted k t)).pieces ++ ps) (survey limits source k (counted k t)).totals)
 within_step limits source built left k ps t h f =
     ap (λ (q : Result Read Fault). built_then built (and_rest limits source ps (within_read q))) (fair left limits source k t h f)
-    ∙ scope_opens limits source built k (own left limits source k t) ps (read_pieces (read_scope left limits source) (own left limits source k t).pieces (own left limits source k t).totals)
+    ∙ scope_opens limits source built k (own left limits source k t) ps (read_pieces limits (read_scope left limits source) (own left limits source k t).pieces (own left limits source k t).totals)
     ∙ ap (built_then (both_designs built (scope_part k (own left limits source k t)))) (sym (rest_append limits source left (own left limits source k t).pieces ps (own left limits source k t).totals))
 
 -- an instance
@@ -203,5 +224,5 @@ pub instance_step : (limits : Limits) (source : Source) (built : Design) (left :
     (rest_of limits source (map (pending left) (survey limits source k (counted k t)).pieces ++ ps) (survey limits source k (counted k t)).totals)
 instance_step limits source built left cs k ps t h f =
     ap (λ (q : Result Read Fault). built_then built (and_rest limits source ps (instance_read k cs q))) (fair left limits source k t h f)
-    ∙ instance_opens limits source built k (own left limits source k t) cs ps (read_pieces (read_scope left limits source) (own left limits source k t).pieces (own left limits source k t).totals)
+    ∙ instance_opens limits source built k (own left limits source k t) cs ps (read_pieces limits (read_scope left limits source) (own left limits source k t).pieces (own left limits source k t).totals)
     ∙ ap (built_then (both_designs (both_designs built (ports_part k (own left limits source k t) cs)) (scope_part k (own left limits source k t)))) (sym (rest_append limits source left (own left limits source k t).pieces ps (own left limits source k t).totals))

@@ -14,13 +14,14 @@ use Rattle.vs_elaborated.specs.Generate.{Nested, Made}
 use Rattle.vs_elaborated.specs.Ports.{find_module}
 use Rattle.vs_elaborated.specs.Instances.{Around, said_overrides, said_connections}
 use Rattle.vs_elaborated.specs.Signals.{is_reg}
-use Rattle.vs_elaborated.specs.Pieces.{Own, Initially, Said, nothing_said, one_said, both_said}
+use Rattle.vs_elaborated.specs.NamedBlocks.{NamedBlock, named_blocks}
+use Rattle.vs_elaborated.specs.Pieces.{Own, OfScopes, Initially, Said, nothing_said, one_said, both_said}
 use Rattle.vs_elaborated.specs.Surveys.{no_loops, block_body, initial_body, ports_said, item_said}
 use Rattle.vs_build.specs.Writable.{wire_assign}
-use Rattle.vs_build.specs.Executable.{block_process, begun, value_assignment}
+use Rattle.vs_build.specs.Executable.{barred, block_process, begun, value_assignment}
 use Rattle.vs_items.specs.Stated.{IsStated, AreStated}
 use Rattle.vs_elab.specs.declared.pending.Part.{Part}
-use Rattle.vs_elab.specs.declared.pending.Part.TheVariants.{Wire, Value, Assigned, Always, Initial, Instance, Block}
+use Rattle.vs_elab.specs.declared.pending.Part.TheVariants.{Wire, Value, Assigned, Always, Scoped, Initial, Instance, Block}
 
 -- ---- parts
 
@@ -60,6 +61,12 @@ pub record IsFineBlock (env : Env) (b : tree.AlwaysBlock) : Type 0 where
   pub clean : (typed_control b.control (named env)).faults ++ (typed_statement b.statement (block_body b) (named env)).faults ≡ []
   pub shallow : statement_depth b.statement ≤ depth_limit
 
+-- one whose named blocks are scopes (9.8.2)
+pub record IsFineScoped (env : Env) (b : tree.AlwaysBlock) : Type 0 where
+  pub shaped : IsStatement b.statement
+  pub clean : (typed_control b.control (named env)).faults ≡ []
+  pub shallow : statement_depth b.statement ≤ depth_limit
+
 -- an instance of an item, whose module the text has (12.1.2)
 pub record IsFineInstance (source : tree.Source) (env : Env) (t : tree.Instances) (i : tree.Instance) : Type 0 where
   pub of : tree.Module
@@ -81,6 +88,7 @@ IsFinePart source env (Wire place name value) = IsFineAssign env (wire_assign (v
 IsFinePart source env (Value name value) = IsFineBegun env (value_assignment (view.name name.now) (view.expr value.now))
 IsFinePart source env (Assigned place a) = IsFineAssign env (view.assign a.now)
 IsFinePart source env (Always b) = IsFineBlock env (view.always_block b.now)
+IsFinePart source env (Scoped b) = IsFineScoped env (view.always_block b.now)
 IsFinePart source env (Initial b) = IsFineBegun env (view.initial_block b.now).statement
 IsFinePart source env (Instance t i) = IsFineInstance source env (view.instances t.now) (view.instance i.now)
 IsFinePart source env (Block name items t) = AreFineInside (map view.item items.now)
@@ -90,10 +98,14 @@ AreFineParts source env ps = Each (IsFinePart source env) ps
 
 -- ---- items
 
--- what an item says where it breaks no rule: the loops of its block are unrolled, whatever loops did before
+-- what an always block says where it breaks no rule, by its named blocks that are scopes: its loops are unrolled, whatever loops did before
+abbrev pub plain_block : List NamedBlock → Around → tree.AlwaysBlock → Said
+plain_block [] around b = one_said (Own (block_process barred b (named around.env))) ((typed_control b.control (named around.env)).faults ++ (typed_statement b.statement (block_body b) (named around.env)).faults)
+plain_block (n ∷ ns) around b = one_said (OfScopes (record { scope = around.scope; env = around.env; block = b })) (typed_control b.control (named around.env)).faults
+
+-- and so an item
 abbrev pub plain_said : tree.Source → Around → tree.Item → Made → Said
-plain_said source around (tree.AlwaysItem b) made =
-    one_said (Own (block_process b (named around.env))) ((typed_control b.control (named around.env)).faults ++ (typed_statement b.statement (block_body b) (named around.env)).faults)
+plain_said source around (tree.AlwaysItem b) made = plain_block (named_blocks b.statement) around b
 plain_said source around (tree.InitialItem b) made = one_said (Initially b.place (begun b.statement (named around.env))) (typed_statement b.statement initial_body (named around.env)).faults
 plain_said source around item made = item_said the_limits source around no_loops item made
 

@@ -6,3 +6,4 @@ pub mod Fine
 pub mod OwnParts
 pub mod Functions
 pub mod Reading
+pub mod Scoped

@@ -5,16 +5,16 @@ use Rattle.vs_grammar.specs.Shapes.{Each}
 use Rattle.vs_ast.specs.Views as view
 use Rattle.vs_elaborated.specs.Ports.{find_module}
 use Rattle.vs_elaborated.specs.Environments.{named}
-use Rattle.vs_elaborated.specs.Pieces.{Piece, Own, Initially}
+use Rattle.vs_elaborated.specs.Pieces.{Piece, Own, OfScopes, Initially}
 use Rattle.vs_elaborated.specs.Instances.{Around, instance_said, said_overrides}
 use Rattle.vs_elaborated.specs.Surveys.{assign_said, value_said, wire_said, nested_piece}
-use Rattle.vs_build.specs.Executable.{block_process, begun}
+use Rattle.vs_build.specs.Executable.{barred, block_process, begun}
 use Rattle.vs_scope.specs.declared.frames.Frame.{Frame}
 use Rattle.vs_scope.specs.Frames.{turn, env_at, envs}
 use Rattle.vs_elab.specs.Stacks as stacks
 use Rattle.vs_elab.specs.declared.stack.Pending.{Pending}
 use Rattle.vs_elab.specs.declared.pending.Part.{Part}
-use Rattle.vs_elab.specs.declared.pending.Part.TheVariants.{Wire, Value, Assigned, Always, Initial, Instance, Block}
+use Rattle.vs_elab.specs.declared.pending.Part.TheVariants.{Wire, Value, Assigned, Always, Scoped, Initial, Instance, Block}
 
 -- the instance of an item, where this stands around it
 abbrev pub instance_pieces : tree.Source → Around → tree.Instances → tree.Instance → List Piece
@@ -27,7 +27,8 @@ abbrev pub part_pieces : tree.Source → Around → Part → List Piece
 part_pieces source around (Wire place name value) = (wire_said around.env place (view.name name.now) (view.expr value.now)).pieces
 part_pieces source around (Value name value) = (value_said around.env (view.name name.now) (view.expr value.now)).pieces
 part_pieces source around (Assigned place a) = (assign_said around.env place (view.assign a.now)).pieces
-part_pieces source around (Always b) = Own (block_process (view.always_block b.now) (named around.env)) ∷ []
+part_pieces source around (Always b) = Own (block_process barred (view.always_block b.now) (named around.env)) ∷ []
+part_pieces source around (Scoped b) = OfScopes (record { scope = around.scope; env = around.env; block = view.always_block b.now }) ∷ []
 part_pieces source around (Initial b) = Initially (view.initial_block b.now).place (begun (view.initial_block b.now).statement (named around.env)) ∷ []
 part_pieces source around (Instance t i) = instance_pieces source around (view.instances t.now) (view.instance i.now)
 part_pieces source around (Block name items t) = nested_piece around (record { name = name.items; items = map view.item items.now; turn = view.option turn t }) ∷ []

@@ -4,7 +4,7 @@ use Rattle.vs_design.specs.Designs.{Design}
 use Rattle.vs_grammar.specs.Trees.{Source}
 use Rattle.vs_const.specs.declared.faults.Fault.{Fault}
 use Rattle.vs_elaborated.specs.Limits.{Limits}
-use Rattle.vs_elaborated.specs.Pieces.{Task, is_instance, Connection, Piece, Own, Initially, Instance, Within}
+use Rattle.vs_elaborated.specs.Pieces.{Task, is_instance, Connection, Piece, Own, OfScopes, Initially, Instance, Within}
 use Rattle.vs_elaborated.specs.Surveys.{Totals, Survey, survey}
 use Rattle.vs_elaborated.specs.Elaborated.{both_designs, of_processes, then_do, port_assign, counted, Read, ReadPieces, read_piece, read_scope}
 
@@ -19,7 +19,7 @@ pending left piece = record { left = left; piece = piece }
 
 -- what it has, and the counts then
 abbrev pub read_pending : Limits → Source → Pending → Totals → Result ReadPieces Fault
-read_pending limits source p totals = read_piece (read_scope p.left limits source) p.piece totals
+read_pending limits source p totals = read_piece limits (read_scope p.left limits source) p.piece totals
 
 -- what all of them have, one after the other
 abbrev pub rest_of : Limits → Source → List Pending → Totals → Result Design Fault
@@ -50,19 +50,20 @@ after (Ok a) f = f a.totals
 -- of one piece, and of pieces in text order; `f` is that of a scope
 abbrev pub piece_work : (Task → Totals → ℕ) → Piece → Totals → ℕ
 piece_work f (Own p) t = 0
+piece_work f (OfScopes b) t = 0
 piece_work f (Initially place statement) t = 0
 piece_work f (Instance cs k) t = f k t
 piece_work f (Within k) t = f k t
 
-abbrev pub pieces_work : (Task → Totals → Result Read Fault) → (Task → Totals → ℕ) → List Piece → Totals → ℕ
-pieces_work read f [] t = 0
-pieces_work read f (p ∷ ps) t = suc (piece_work f p t + after (read_piece read p t) (λ u. pieces_work read f ps u))
+abbrev pub pieces_work : Limits → (Task → Totals → Result Read Fault) → (Task → Totals → ℕ) → List Piece → Totals → ℕ
+pieces_work limits read f [] t = 0
+pieces_work limits read f (p ∷ ps) t = suc (piece_work f p t + after (read_piece limits read p t) (λ u. pieces_work limits read f ps u))
 
 -- of a scope
 abbrev pub scope_work : ℕ → Limits → Source → Task → Totals → ℕ
 scope_work zero limits source k t = 0
 scope_work (suc left) limits source k t =
-    pieces_work (read_scope left limits source) (scope_work left limits source) (survey limits source k (counted k t)).pieces (survey limits source k (counted k t)).totals
+    pieces_work limits (read_scope left limits source) (scope_work left limits source) (survey limits source k (counted k t)).pieces (survey limits source k (counted k t)).totals
 
 -- of all that is pending
 abbrev pub work : Limits → Source → List Pending → Totals → ℕ

@@ -22,8 +22,11 @@ use vs_base::{List, Text};
 use vs_build::{Builder, function};
 use vs_scope::{Around, LocalSignal, Locals, Names, within_function};
 
-/// A local signal in the flat design. A bit whose number has more than 32 bits is one too many for memory.
-fn local_signal(alloc: Global, s: &LocalSignal<'_>) -> Result<vs_flat::Signal, AllocError>
+/// A local signal, or a variable of a named block, in the flat design. A bit whose number has more than 32 bits is one too many for memory.
+pub(crate) fn local_signal(
+    alloc: Global,
+    s: &LocalSignal<'_>,
+) -> Result<vs_flat::Signal, AllocError>
     ensures { IfOk result (λ x. signal_of s.now.number x ≡ (local_meaning s.now).signal) }
 {
     let name = Text::of(s.name.to_vec(alloc)?);
@@ -38,7 +41,7 @@ fn local_signal(alloc: Global, s: &LocalSignal<'_>) -> Result<vs_flat::Signal, A
             signed: s.signed,
             first_bit,
             words: None,
-            integer: false,
+            integer: s.integer,
         }),
     }
 }

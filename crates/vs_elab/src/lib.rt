@@ -9,6 +9,7 @@ mod opening;
 mod parts;
 mod pending;
 mod reading;
+mod scoped;
 mod stack;
 mod steps;
 mod surveyed;

@@ -1,23 +1,26 @@
 //! The parts of a scope, from its header, its items and what its generate constructs make (IEEE 1364-2005, A.1.4 and 12.4).
 
-ghost use Rattle.std.specs.Prelude.{◌≡◌, ◌++◌, ◌∷◌, [], List, IfOk, OnOk, length, map};
+ghost use Rattle.std.specs.Prelude.{◌≡◌, ◌≤◌, ◌++◌, ◌∷◌, [], List, IfOk, OnOk, length, map};
 ghost use Rattle.vs_grammar.specs.Trees as tree;
-ghost use Rattle.vs_grammar.specs.Shapes.{Each};
+ghost use Rattle.vs_grammar.specs.Shapes.{Each, IsStatement};
+ghost use Rattle.vs_grammar.specs.Depths.{statement_depth};
+ghost use Rattle.vs_grammar.specs.Spelled.{depth_limit};
 ghost use Rattle.vs_ast.specs.Views as view;
 ghost use Rattle.vs_elaborated.specs.Environments.{Env};
 ghost use Rattle.vs_elaborated.specs.Generate as generate;
 ghost use Rattle.vs_elaborated.specs.Instances.{Around};
+ghost use Rattle.vs_elaborated.specs.NamedBlocks.{named_blocks as named_blocks_of};
 ghost use Rattle.vs_elaborated.specs.Surveys.{nested_piece, ports_said};
 ghost use Rattle.vs_scope.specs.Contents.{block_items, contents_header, contents_items};
 ghost use Rattle.vs_scope.specs.Made as code;
-ghost use Rattle.vs_elab.specs.Fine.{AreFineInside, AreFineItems, AreFineParts, IsFineHeader, IsFineItem, plain_said, plains_said, scope_plain};
-ghost use Rattle.vs_elab.specs.Pending.{parts_pieces};
+ghost use Rattle.vs_elab.specs.Fine.{AreFineInside, AreFineItems, AreFineParts, IsFineHeader, IsFineItem, IsFinePart, plain_block, plain_said, plains_said, scope_plain};
+ghost use Rattle.vs_elab.specs.Pending.{part_pieces, parts_pieces};
 
 use crate::pending::{Part, push_assigns, push_header, push_instances, push_signals};
 use std::alloc::{AllocError, Global};
 use std::slice;
-use vs_ast::Item;
-use vs_scope::{BlockItems, Contents, Made, Nested};
+use vs_ast::{AlwaysBlock, Item};
+use vs_scope::{BlockItems, Contents, Made, Nested, named_blocks};
 
 /// The items of a block, one after the other.
 fn items_of<'a>(block: BlockItems<'a>) -> &'a [Item]
@@ -51,6 +54,19 @@ fn push_blocks<'a>(
     Ok(())
 }
 
+/// The part of an always block, by its named blocks that are scopes.
+fn always_part<'a>(alloc: Global, b: &'a AlwaysBlock) -> Result<Part<'a>, AllocError>
+    ensures pieces { (source : tree.Source) (around : Around) → IfOk result (λ p. part_pieces source around p ≡ (plain_block (named_blocks_of (view.always_block b.now).statement) around (view.always_block b.now)).pieces) }
+    ensures fine { (source : tree.Source) (around : Around) → IsStatement (view.always_block b.now).statement → statement_depth (view.always_block b.now).statement ≤ depth_limit
+        → (plain_block (named_blocks_of (view.always_block b.now).statement) around (view.always_block b.now)).faults ≡ [] → IfOk result (IsFinePart source around.env) }
+{
+    let named = named_blocks(alloc, &b.statement)?;
+    if named.is_empty() {
+        return Ok(Part::Always(b));
+    }
+    Ok(Part::Scoped(b))
+}
+
 /// Adds the parts of an item, which makes this if it is a generate construct.
 fn push_item<'a>(
     parts: &mut Vec<Part<'a>>,
@@ -67,7 +83,8 @@ fn push_item<'a>(
         Item::Signals(s) => push_signals(parts, s),
         Item::Assigns { place, assigns } => push_assigns(parts, *place, assigns),
         Item::Always(b) => {
-            parts.push(Part::Always(b))?;
+            let part = always_part(alloc, b)?;
+            parts.push(part)?;
             Ok(())
         }
         Item::Initial(b) => {

@@ -19,7 +19,7 @@ use vs_ast::{
 };
 use vs_scope::{Turn, is_reg};
 
-/// A part of a scope: a process or an initial process of its own, an instance, or a generate block. `place` is where the item begins.
+/// A part of a scope: a process or an initial process of its own, one whose named blocks are scopes, an instance, or a generate block. `place` is where the item begins.
 #[derive(Drop)]
 pub(crate) enum Part<'a> {
     /// A declared net with a value (6.1.1).
@@ -39,6 +39,8 @@ pub(crate) enum Part<'a> {
         assign: &'a Assign,
     },
     Always(&'a AlwaysBlock),
+    /// An always block of whose named blocks some are scopes (9.8.2).
+    Scoped(&'a AlwaysBlock),
     Initial(&'a InitialBlock),
     /// One instance of an item (12.1.2).
     Instance {

@@ -19,6 +19,7 @@ use crate::error::ElabError;
 use crate::opened::open_scope;
 use crate::pending::Part;
 use crate::reading::{NewScope, Reading, Text};
+use crate::scoped::read_scoped;
 use crate::stack::{Pending, push_parts};
 use crate::wiring::wire_ports;
 use std::alloc::{AllocError, Global};
@@ -204,6 +205,7 @@ pub(crate) fn read_part<'a>(
             None => unreachable!(),
             Some(known) => { read_instance(alloc, text, reading, stack, at, item, instance, known) }
         },
+        Part::Scoped(block) => read_scoped(alloc, reading, frame, block),
         part => Ok(read_own(alloc, reading, frame, &part)?),
     }
 }

@@ -9,7 +9,7 @@ use Rattle.vs_const.specs.Faults.{fault_if, comes_before}
 use Rattle.vs_const.specs.declared.rules.Rule.TheVariants.{InstanceDepth, TooManyInstances}
 use Rattle.vs_elaborated.specs.Limits.{Limits}
 use Rattle.vs_elaborated.specs.Ports.{find_module}
-use Rattle.vs_elaborated.specs.Pieces.{Task, Piece, Own, Initially, Instance, Within, is_instance}
+use Rattle.vs_elaborated.specs.Pieces.{Task, Piece, Own, OfScopes, Initially, Instance, Within, is_instance}
 use Rattle.vs_elaborated.specs.Surveys.{items_of, Totals, no_totals, Survey, survey}
 use Rattle.vs_elaborated.specs.Elaborated.{both_designs, of_processes, then_do, unless_fault, port_assign, Read, ReadPieces, read_piece, read_pieces, counted, limit_faults, scope_design, read_scope, top_task, scope_depth}
 use Rattle.vs_elaborated.proofs.LowBlocks.{levels, AreLowModules, IsLowInstance, IsLowPiece, AreLowPieces, modules_low, found_low, survey_low}
@@ -18,33 +18,35 @@ use Rattle.vs_elaborated.proofs.LowBlocks.{levels, AreLowModules, IsLowInstance,
 
 abbrev Agree : (Task → Totals → Result Read Fault) → (Task → Totals → Result Read Fault) → Piece → Type 0
 Agree f g (Own p) = Unit {0}
+Agree f g (OfScopes b) = Unit {0}
 Agree f g (Initially place statement) = Unit {0}
 Agree f g (Instance connections task) = (t : Totals) → f task t ≡ g task t
 Agree f g (Within task) = (t : Totals) → f task t ≡ g task t
 
-piece_same : (f g : Task → Totals → Result Read Fault) (p : Piece) → Agree f g p → (t : Totals) → read_piece f p t ≡ read_piece g p t
-piece_same f g (Own p) h t = refl
-piece_same f g (Initially place statement) h t = refl
-piece_same f g (Instance connections task) h t = ap onward (h t)
+piece_same : (limits : Limits) (f g : Task → Totals → Result Read Fault) (p : Piece) → Agree f g p → (t : Totals) → read_piece limits f p t ≡ read_piece limits g p t
+piece_same limits f g (Own p) h t = refl
+piece_same limits f g (OfScopes b) h t = refl
+piece_same limits f g (Initially place statement) h t = refl
+piece_same limits f g (Instance connections task) h t = ap onward (h t)
   where
     onward : Result Read Fault → Result ReadPieces Fault
     onward q = then_do q λ r. Ok (record { design = both_designs (of_processes (map (port_assign task.place r.entries) connections)) r.design; totals = r.totals })
-piece_same f g (Within task) h t = ap onward (h t)
+piece_same limits f g (Within task) h t = ap onward (h t)
   where
     onward : Result Read Fault → Result ReadPieces Fault
     onward q = then_do q λ r. Ok (record { design = r.design; totals = r.totals })
 
-pieces_same : (f g : Task → Totals → Result Read Fault) (ps : List Piece) → Each (Agree f g) ps → (t : Totals) → read_pieces f ps t ≡ read_pieces g ps t
-pieces_same f g [] h t = refl
-pieces_same f g (p ∷ ps) h t = ap (onward f) (piece_same f g p h.0 t) ∙ of (read_piece g p t) (λ u. pieces_same f g ps h.1 u)
+pieces_same : (limits : Limits) (f g : Task → Totals → Result Read Fault) (ps : List Piece) → Each (Agree f g) ps → (t : Totals) → read_pieces limits f ps t ≡ read_pieces limits g ps t
+pieces_same limits f g [] h t = refl
+pieces_same limits f g (p ∷ ps) h t = ap (onward f) (piece_same limits f g p h.0 t) ∙ of (read_piece limits g p t) (λ u. pieces_same limits f g ps h.1 u)
   where
     last : ReadPieces → Result ReadPieces Fault → Result ReadPieces Fault
     last a q = then_do q λ b. Ok (record { design = both_designs a.design b.design; totals = b.totals })
 
     onward : (Task → Totals → Result Read Fault) → Result ReadPieces Fault → Result ReadPieces Fault
-    onward read q = then_do q λ a. last a (read_pieces read ps a.totals)
+    onward read q = then_do q λ a. last a (read_pieces limits read ps a.totals)
 
-    of : (q : Result ReadPieces Fault) → ((u : Totals) → read_pieces f ps u ≡ read_pieces g ps u) → onward f q ≡ onward g q
+    of : (q : Result ReadPieces Fault) → ((u : Totals) → read_pieces limits f ps u ≡ read_pieces limits g ps u) → onward f q ≡ onward g q
     of (Err e) k = refl
     of (Ok a) k = ap (last a) (k a.totals)
 
@@ -81,7 +83,7 @@ deep_scope left limits source k t i h = too_deep limits k (counted k t) inside i
     y = survey limits source k (counted k t)
 
     inside : ℕ → Result Read Fault
-    inside u = unless_fault y.faults λ v. then_do (read_pieces (read_scope left limits source) y.pieces y.totals) λ r. Ok (record { entries = y.entries; design = scope_design k y r.design; totals = r.totals })
+    inside u = unless_fault y.faults λ v. then_do (read_pieces limits (read_scope left limits source) y.pieces y.totals) λ r. Ok (record { entries = y.entries; design = scope_design k y r.design; totals = r.totals })
 
 -- ---- fuel
 
@@ -109,7 +111,7 @@ scope_same zero (suc more) limits source x b k t (inr h) = deep_scope more limit
 scope_same (suc left) zero limits source x b k t e = absurd (omega (arith, b))
 scope_same (suc left) (suc more) limits source x b k t (inr h) = deep_scope more limits source k t h.0 h.1 ∙ sym (deep_scope left limits source k t h.0 h.1)
 scope_same (suc left) (suc more) limits source x b k t (inl h) =
-    ap onward (pieces_same (read_scope more limits source) (read_scope left limits source) y.pieces (all y.pieces (survey_low limits source k (counted k t) x) (λ j u i. scope_same left more limits source x (omega (arith, b)) j u i)) y.totals)
+    ap onward (pieces_same limits (read_scope more limits source) (read_scope left limits source) y.pieces (all y.pieces (survey_low limits source k (counted k t) x) (λ j u i. scope_same left more limits source x (omega (arith, b)) j u i)) y.totals)
   where
     y : Survey
     y = survey limits source k (counted k t)
@@ -123,6 +125,7 @@ scope_same (suc left) (suc more) limits source x b k t (inl h) =
       where
         one : (p : Piece) → IsLowPiece k.depth (levels (items_of k.contents)) p → Agree (read_scope more limits source) (read_scope left limits source) p
         one (Own p) i = tt
+        one (OfScopes b) i = tt
         one (Initially place statement) i = tt
         one (Instance connections task) i = λ u. r task u (instance_or limits k.depth (levels (items_of k.contents)) left task h i)
         one (Within task) i = λ u. r task u (inl (block_enough limits.depth k.depth (levels (items_of k.contents)) left (levels (items_of task.contents)) task.depth h i.low i.same))

@@ -10,11 +10,11 @@ use Rattle.vs_const.specs.Faults.{fault, lesser, least}
 use Rattle.vs_const.specs.declared.rules.Rule.TheVariants.{TooManyProcesses}
 use Rattle.vs_elaborated.specs.Limits.{Limits}
 use Rattle.vs_elaborated.specs.Ports.{find_module}
-use Rattle.vs_elaborated.specs.Pieces.{Task, Piece, Own, Initially, Instance, Within, is_instance}
+use Rattle.vs_elaborated.specs.Pieces.{Task, Piece, Own, OfScopes, Initially, Instance, Within, is_instance}
 use Rattle.vs_elaborated.specs.Surveys.{Totals, no_totals, Survey, survey, piece_place, piece_processes, processes_over}
 use Rattle.vs_elaborated.proofs.SurveyParts.{faultless}
 use Rattle.vs_elaborated.specs.Elaborated.{moved, both_designs, of_processes, then_do, port_assign, Read, ReadPieces, read_piece, read_pieces, counted, limit_faults, scope_design, read_scope, repeated_modules, top_task, scope_depth, elaborated_top, elaborated_within}
-use Rattle.vs_elaborated.proofs.NumberedSignals.{unless}
+use Rattle.vs_elaborated.proofs.NumberedSignals.{unless, of_scoped}
 
 -- ---- counting
 
@@ -67,10 +67,11 @@ length_both (x ∷ xs) ys = let e = length_both xs ys in omega (arith, e)
 abbrev CountsTasks : ℕ → (Task → Totals → Result Read Fault) → Type 0
 CountsTasks most read = (k : Task) (t : Totals) → t.processes ≤ most → CountsRead most t (read k t)
 
-piece_counts : (most : ℕ) (read : Task → Totals → Result Read Fault) → CountsTasks most read → (p : Piece) (t : Totals) → t.processes ≤ most → CountsPieces most t (piece_processes p) (read_piece read p t)
-piece_counts most read h (Own p) t b = record { exact = omega arith; within = b }
-piece_counts most read h (Initially place statement) t b = record { exact = omega arith; within = b }
-piece_counts most read h (Instance connections task) t b = of (read task t) (h task t b)
+piece_counts : (limits : Limits) (most : ℕ) (read : Task → Totals → Result Read Fault) → CountsTasks most read → (p : Piece) (t : Totals) → t.processes ≤ most → CountsPieces most t (piece_processes p) (read_piece limits read p t)
+piece_counts limits most read h (Own p) t b = record { exact = omega arith; within = b }
+piece_counts limits most read h (OfScopes s) t b = of_scoped (CountsPieces most t 1) (λ e. tt) limits s t (record { exact = omega arith; within = b })
+piece_counts limits most read h (Initially place statement) t b = record { exact = omega arith; within = b }
+piece_counts limits most read h (Instance connections task) t b = of (read task t) (h task t b)
   where
     of : (r : Result Read Fault) → CountsRead most t r → CountsPieces most t (length connections) (then_do r λ s. Ok (record { design = both_designs (of_processes (map (port_assign task.place s.entries) connections)) s.design; totals = s.totals }))
     of (Err e) g = tt
@@ -80,20 +81,20 @@ piece_counts most read h (Instance connections task) t b = of (read task t) (h t
           exact = omega (arith, g.exact, length_both ports s.design.processes, length-map connections (port_assign task.place s.entries), length-map s.design.initials (moved (length ports)));
           within = g.within;
         }
-piece_counts most read h (Within task) t b = of (read task t) (h task t b)
+piece_counts limits most read h (Within task) t b = of (read task t) (h task t b)
   where
     of : (r : Result Read Fault) → CountsRead most t r → CountsPieces most t 0 (then_do r λ s. Ok (record { design = s.design; totals = s.totals }))
     of (Err e) g = tt
     of (Ok s) g = record { exact = g.exact; within = g.within }
 
-pieces_count : (most : ℕ) (read : Task → Totals → Result Read Fault) → CountsTasks most read → (ps : List Piece) (t : Totals) → t.processes ≤ most → CountsPieces most t (processes_of ps) (read_pieces read ps t)
-pieces_count most read h [] t b = record { exact = omega arith; within = b }
-pieces_count most read h (p ∷ ps) t b = of (read_piece read p t) (piece_counts most read h p t b) (λ u c. pieces_count most read h ps u c)
+pieces_count : (limits : Limits) (most : ℕ) (read : Task → Totals → Result Read Fault) → CountsTasks most read → (ps : List Piece) (t : Totals) → t.processes ≤ most → CountsPieces most t (processes_of ps) (read_pieces limits read ps t)
+pieces_count limits most read h [] t b = record { exact = omega arith; within = b }
+pieces_count limits most read h (p ∷ ps) t b = of (read_piece limits read p t) (piece_counts limits most read h p t b) (λ u c. pieces_count limits most read h ps u c)
   where
-    of : (r : Result ReadPieces Fault) → CountsPieces most t (piece_processes p) r → ((u : Totals) → u.processes ≤ most → CountsPieces most u (processes_of ps) (read_pieces read ps u))
-        → CountsPieces most t (piece_processes p + processes_of ps) (then_do r λ a. then_do (read_pieces read ps a.totals) λ b. Ok (record { design = both_designs a.design b.design; totals = b.totals }))
+    of : (r : Result ReadPieces Fault) → CountsPieces most t (piece_processes p) r → ((u : Totals) → u.processes ≤ most → CountsPieces most u (processes_of ps) (read_pieces limits read ps u))
+        → CountsPieces most t (piece_processes p + processes_of ps) (then_do r λ a. then_do (read_pieces limits read ps a.totals) λ b. Ok (record { design = both_designs a.design b.design; totals = b.totals }))
     of (Err e) g k = tt
-    of (Ok a) g k = rest (read_pieces read ps a.totals) (k a.totals g.within)
+    of (Ok a) g k = rest (read_pieces limits read ps a.totals) (k a.totals g.within)
       where
         rest : (q : Result ReadPieces Fault) → CountsPieces most a.totals (processes_of ps) q → CountsPieces most t (piece_processes p + processes_of ps) (then_do q λ b. Ok (record { design = both_designs a.design b.design; totals = b.totals }))
         rest (Err e) l = tt
@@ -128,7 +129,7 @@ scope_counts (suc left) limits source k t b =
     let s = survey limits source k (counted k t) in
     if_none (CountsRead limits.processes t) (λ f. tt) (least s.faults) _ λ none i.
     let c = survey_counts limits source k (counted k t) (omega (arith, counted_processes k t, b)) (least_none s.faults none) in
-    of s (omega (arith, counted_processes k t, sum_is s.pieces)) (read_pieces (read_scope left limits source) s.pieces s.totals) (pieces_count limits.processes (read_scope left limits source) (scope_counts left limits source) s.pieces s.totals c)
+    of s (omega (arith, counted_processes k t, sum_is s.pieces)) (read_pieces limits (read_scope left limits source) s.pieces s.totals) (pieces_count limits limits.processes (read_scope left limits source) (scope_counts left limits source) s.pieces s.totals c)
   where
     of : (s : Survey) → s.totals.processes ≡ t.processes + processes_of s.pieces → (q : Result ReadPieces Fault) → CountsPieces limits.processes s.totals (processes_of s.pieces) q → CountsRead limits.processes t (then_do q λ r. Ok (record { entries = s.entries; design = scope_design k s r.design; totals = r.totals }))
     of s e (Err f) g = tt

@@ -24,7 +24,8 @@ use Rattle.vs_elaborated.specs.Generate.{Nested, Made}
 use Rattle.vs_elaborated.specs.Ports.{Port, find_port, find_in, find_module}
 use Rattle.vs_elaborated.specs.Pieces.{Contents, OfModule, OfBlock, Task, Connection, Said, all_said}
 use Rattle.vs_elaborated.specs.Instances.{Around, Overrides, and_override, overrides_by_order, overrides_by_name, said_overrides, output_target, directed, connected, connected_by_order, connected_by_name, connection_name, connection_of, module_overridable, module_ports, unknown_module, in_port_order, said_connections, instance_said, instances_said}
-use Rattle.vs_elaborated.specs.Surveys.{Loops, block_body, block_statement, block_heads, initial_body, initial_statement, initial_heads, loops_after, items_of, Totals, survey, value_said, wire_said, declarator_said, signals_said, ports_said, header_said, assign_said, block_said, initial_said, turned, nested_piece, item_said, items_said}
+use Rattle.vs_elaborated.specs.NamedBlocks.{NamedBlock, named_blocks}
+use Rattle.vs_elaborated.specs.Surveys.{Loops, block_body, block_statement, block_heads, initial_body, initial_statement, initial_heads, loops_after, items_of, Totals, survey, value_said, wire_said, declarator_said, signals_said, ports_said, header_said, assign_said, plain_block_said, block_by, block_said, initial_said, turned, nested_piece, item_said, items_said}
 use Rattle.vs_elaborated.specs.Sound.{AreSoundFrames, AreFineOverrides, IsShapedContents, IsFineConnection, IsSoundTask, IsFinePiece, AreFinePieces, AreModules}
 use Rattle.vs_elaborated.proofs.FormedBodies.{target_fine, statement_fine, control_fine, as_target_shaped}
 use Rattle.vs_elaborated.proofs.SoundNames.{frames_needed, named_sound, constant_fine}
@@ -134,8 +135,8 @@ module _ (d : Design) (env : Env) (s : AreSoundFrames d false env.frames) where
   header_fine (OfModule m overrides) x h = ports_fine m.header x.header h
   header_fine (OfBlock items) x h = tt
 
-  block_fine : (limits : Limits) (loops : Loops) (b : tree.AlwaysBlock) → IsControl b.control → IsStatement b.statement → (block_said limits env loops b).faults ≡ [] → AreFinePieces d (block_said limits env loops b).pieces
-  block_fine limits loops b x y h =
+  plain_block_fine : (limits : Limits) (loops : Loops) (b : tree.AlwaysBlock) → IsControl b.control → IsStatement b.statement → (plain_block_said limits env loops b).faults ≡ [] → AreFinePieces d (plain_block_said limits env loops b).pieces
+  plain_block_fine limits loops b x y h =
       let find = named env in
       let sound = named_sound d false env s in
       let most = limits.copies - loops.copies in
@@ -221,6 +222,14 @@ module _ (d : Design) (env : Env) (s : AreSoundFrames d false env.frames) where
 
 -- ---- instances, blocks and items
 
+block_fine : (d : Design) (limits : Limits) (around : Around) (loops : Loops) → AreSoundFrames d false around.env.frames → (b : tree.AlwaysBlock) → IsControl b.control → IsStatement b.statement → (block_said limits around loops b).faults ≡ []
+    → AreFinePieces d (block_said limits around loops b).pieces
+block_fine d limits around loops s b x y h = of (named_blocks b.statement) h
+  where
+    of : (ns : List NamedBlock) → (block_by ns limits around loops b).faults ≡ [] → AreFinePieces d (block_by ns limits around loops b).pieces
+    of [] k = plain_block_fine d around.env s limits loops b x y k
+    of (n ∷ ns) k = (record { frames = s; control = x; statement = y; clean = (both_nil (typed_control b.control (named around.env)).faults (shared_heads loops.headed (block_heads around.env b)) k).0 }, tt)
+
 pub found_shaped : (ms : List Module) (name : List ℕ) (m : Module) → AreModules ms → find_in ms name ≡ Some m → IsModule m
 found_shaped [] name m x h = cc
 found_shaped (a ∷ ms) name m x h = of (same_name a.name.bytes name) h (λ k. found_shaped ms name m x.1 k)
@@ -265,7 +274,7 @@ pub generate_item_fine : (d : Design) (limits : Limits) (source : Source) (aroun
 generate_item_fine d limits source around loops s x (tree.SignalsItem t) made y z h = signals_fine d around.env s t y.0 h
 generate_item_fine d limits source around loops s x (tree.ParametersItem t) made y z h = blocks_fine d around s made.blocks z
 generate_item_fine d limits source around loops s x (tree.AssignsItem place assigns) made y z h = assigns_fine d around s place assigns y h
-generate_item_fine d limits source around loops s x (tree.AlwaysItem block) made y z h = block_fine d around.env s limits loops block y.0 y.1 h
+generate_item_fine d limits source around loops s x (tree.AlwaysItem block) made y z h = block_fine d limits around loops s block y.0 y.1 h
 generate_item_fine d limits source around loops s x (tree.InitialItem block) made y z h = initial_fine d around.env s limits loops block y h
 generate_item_fine d limits source around loops s x (tree.GenvarsItem place names) made y z h = blocks_fine d around s made.blocks z
 generate_item_fine d limits source around loops s x (tree.IntegersItem place names) made y z h = blocks_fine d around s made.blocks z
@@ -280,7 +289,7 @@ pub item_fine : (d : Design) (limits : Limits) (source : Source) (around : Aroun
 item_fine d limits source around loops s x (tree.SignalsItem t) made y z h = signals_fine d around.env s t y h
 item_fine d limits source around loops s x (tree.ParametersItem t) made y z h = blocks_fine d around s made.blocks z
 item_fine d limits source around loops s x (tree.AssignsItem place assigns) made y z h = assigns_fine d around s place assigns y h
-item_fine d limits source around loops s x (tree.AlwaysItem block) made y z h = block_fine d around.env s limits loops block y.0 y.1 h
+item_fine d limits source around loops s x (tree.AlwaysItem block) made y z h = block_fine d limits around loops s block y.0 y.1 h
 item_fine d limits source around loops s x (tree.InitialItem block) made y z h = initial_fine d around.env s limits loops block y h
 item_fine d limits source around loops s x (tree.GenvarsItem place names) made y z h = blocks_fine d around s made.blocks z
 item_fine d limits source around loops s x (tree.IntegersItem place names) made y z h = blocks_fine d around s made.blocks z

@@ -3,28 +3,29 @@ use Rattle.std.proofs.Common.{◌≡◌, ℕ, Bool, true, false, not, ◌&&◌, 
 use Rattle.std.specs.List.{list_all}
 use Rattle.vs_four.specs.declared.Range.{Range}
 use Rattle.vs_four.specs.Logic.{BitList}
-use Rattle.vs_design.specs.Expressions.{Signal, OfSignal, items_of}
+use Rattle.vs_design.specs.Expressions.{Signal, OfSignal, items_of, is_constant}
 use Rattle.vs_design.specs.Statements.{Statement}
 use Rattle.vs_design.specs.Clocks.{same_name}
 use Rattle.vs_design.specs.Designs.{Design, Edge, is_edge}
 use Rattle.vs_design.specs.Footprints.{is_net, is_variable}
 use Rattle.vs_design.specs.Fits.{fits_64}
-use Rattle.vs_design.specs.Elaborated.{is_plain, has_words, has_items, are_formed, same_range, is_formed, is_formed_select, is_formed_target, has_constant_selects, is_formed_statement, are_formed_arms, is_formed_event, are_formed_events}
+use Rattle.vs_design.specs.Elaborated.{is_plain, has_words, has_items, are_formed, same_range, is_formed, is_formed_select, is_formed_word_part, is_formed_target, has_constant_selects, is_formed_statement, are_formed_arms, is_formed_event, are_formed_events}
 use Rattle.vs_grammar.specs.Trees as tree
 use Rattle.vs_grammar.specs.Trees.{expr_place, target_place}
 use Rattle.vs_grammar.specs.Shapes.{IsExpr, IsSelect, IsTarget, ArePartsOfTarget, AreTargets, IsStatement, IsFallback, AreStatements, AreArms, OneOrMore, Each, IsControl, AreParts, AreExprs}
 use Rattle.vs_const.specs.Meanings.{SignalMeaning, Meaning, AValue, Undefined, ASignal, AMemory, AFunction, Incomplete, Another, Barred, Unknown, Find, steady, turn_value, turning}
-use Rattle.vs_const.specs.Selects.{Base, is_scalar, Taken, taken, slice_taken, first_needed, first_names}
-use Rattle.vs_const.specs.Faults.{fault_if}
-use Rattle.vs_const.specs.Expressions.{typed}
+use Rattle.vs_const.specs.Selects.{Base, is_scalar, Taken, taken, slice_taken, first_needed, first_names, word_range}
+use Rattle.vs_const.specs.declared.rules.Rule.{Rule}
+use Rattle.vs_const.specs.Faults.{fault, fault_if}
+use Rattle.vs_const.specs.Expressions.{typed, taken_by}
 use Rattle.vs_const.specs.Typed.{Typed}
 use Rattle.vs_const.specs.Sound.{IsSound, AreSound, IsFine}
 use Rattle.vs_const.proofs.Steady.{sound_needed, first_sound, steady_sound}
-use Rattle.vs_const.proofs.Formed.{both_nil, no_fault, both, IsFineTaken, taken_faults, bit_fine, slice_fine, typed_fine, same_itself}
-use Rattle.vs_elaborated.specs.Targets.{meant_signal, TypedTarget, is_wrong_target, target_rule, target_base, part_target, bit_target, selected_target, typed_target, typed_targets, targeted, and_target, as_target, as_targets}
+use Rattle.vs_const.proofs.Formed.{both_nil, no_fault, both, IsFineTaken, taken_faults, bit_fine, slice_fine, typed_fine, taken_by_fine, word_ranged, same_itself}
+use Rattle.vs_elaborated.specs.Targets.{meant_signal, TypedTarget, is_wrong_target, target_rule, unwritten_rule, target_base, part_target, bit_target, word_part_target, further_target, selected_target, typed_target, typed_targets, targeted, and_target, as_target, as_targets}
 use Rattle.vs_elaborated.specs.Statements.{Body, TypedStatement, typed_list, delayed_faults, word_faults, Local, scope_locals, find_local, local_or, scoped, local_faults, typed_statement, typed_fallback, typed_sequence, typed_arms, event_faults, typed_events, typed_control}
 use Rattle.vs_elaborated.proofs.TurnsLaw.{loop_law}
-use Rattle.vs_const.specs.declared.rules.Rule.TheVariants.{WrongKind}
+use Rattle.vs_const.specs.declared.rules.Rule.TheVariants.{UnknownName, WrongKind}
 
 -- what a target may write
 abbrev pub allowed : Bool → Signal → Bool
@@ -154,6 +155,54 @@ bit_target_fine d procedural place Another i s i_if h = selected_bit_fine d proc
 bit_target_fine d procedural place (Barred rule) i s i_if h = selected_bit_fine d procedural place (Barred rule) i s i_if h
 bit_target_fine d procedural place Unknown i s i_if h = selected_bit_fine d procedural place Unknown i s i_if h
 
+-- bits of a word
+word_part_target_fine : (d : Design) (procedural : Bool) (place : ℕ) (m : SignalMeaning) (a : Typed) (t : Taken) → IsSound d false (AMemory m) → (a.faults ≡ [] → IsFine d (not procedural) a)
+    → ((r : Range) → m.signal.range ≡ Some r → t.faults ≡ [] → IsFineTaken d (not procedural) r t) → (word_part_target procedural place m a t).faults ≡ [] → IsFineTarget d procedural (word_part_target procedural place m a t)
+word_part_target_fine d procedural place m a t s a_if t_if h =
+    let n = both_nil (fault_if (is_wrong_target procedural m) WrongKind place) (fault_if (is_scalar m) WrongKind place ++ (a.faults ++ t.faults)) h in
+    let k = both_nil (fault_if (is_scalar m) WrongKind place) (a.faults ++ t.faults) n.1 in
+    let l = both_nil a.faults t.faults k.1 in
+    let w = word_ranged m place s.1 k.0 in
+    let f = a_if l.0 in
+    let g = t_if w.0 w.1 l.1 in
+    record {
+      formed = four (is_formed_word_part d m.signal t.part) (allowed procedural m.signal) (is_formed d a.expression) (is_formed d t.index) (part w.0 w.1 g)
+          (may_write procedural m (no_fault (is_wrong_target procedural m) WrongKind place n.0) s.2) f.formed g.formed;
+      constant = λ e. both (is_constant a.expression) (is_constant t.index) (f.constant (ap not e)) (g.constant (ap not e));
+    }
+  where
+    three : (a b c : Bool) → a ≡ true → b ≡ true → c ≡ true → (a && b && c) ≡ true
+    three true true true h k l = refl
+    three true true false h k l = cc
+    three true false c h k l = cc
+    three false b c h k l = cc
+
+    four : (a b c d : Bool) → a ≡ true → b ≡ true → c ≡ true → d ≡ true → (a && b && c && d) ≡ true
+    four true b c d h k l m = three b c d k l m
+    four false b c d h k l m = cc
+
+    part : (r : Range) → m.signal.range ≡ Some r → IsFineTaken d (not procedural) r t → is_formed_word_part d m.signal t.part ≡ true
+    part r e g = three (has_words d m.signal) (same_range m.signal.range (Some t.part.range)) (fits_64 t.part.width) s.0 (subst (λ q. same_range q (Some t.part.range) ≡ true) (sym e) (subst (λ q. same_range (Some r) (Some q) ≡ true) (sym g.range) (same_itself r))) g.fits
+
+-- a name that is no memory has no words
+no_further : (d : Design) (procedural : Bool) (rule : Rule) (place : ℕ) (t : TypedTarget) → fault rule place ≡ [] → IsFineTarget d procedural t
+no_further d procedural rule place t h = absurd (no h)
+  where
+    no : fault rule place ≡ [] → ⊥
+    no k = cc
+
+further_target_fine : (d : Design) (procedural : Bool) (place : ℕ) (m : Meaning) (a : Typed) (t : Taken) → IsSound d false m → (a.faults ≡ [] → IsFine d (not procedural) a)
+    → ((r : Range) → word_range m ≡ Some r → t.faults ≡ [] → IsFineTaken d (not procedural) r t) → (further_target procedural place m a t).faults ≡ [] → IsFineTarget d procedural (further_target procedural place m a t)
+further_target_fine d procedural place (AMemory m) a t s a_if t_if h = word_part_target_fine d procedural place m a t s a_if t_if h
+further_target_fine d procedural place (AValue v r turns) a t s a_if t_if h = no_further d procedural (unwritten_rule (AValue v r turns)) place (further_target procedural place (AValue v r turns) a t) h
+further_target_fine d procedural place (Undefined r) a t s a_if t_if h = absurd s
+further_target_fine d procedural place (ASignal m) a t s a_if t_if h = no_further d procedural WrongKind place (further_target procedural place (ASignal m) a t) h
+further_target_fine d procedural place (AFunction f) a t s a_if t_if h = no_further d procedural WrongKind place (further_target procedural place (AFunction f) a t) h
+further_target_fine d procedural place Incomplete a t s a_if t_if h = no_further d procedural WrongKind place (further_target procedural place Incomplete a t) h
+further_target_fine d procedural place Another a t s a_if t_if h = no_further d procedural WrongKind place (further_target procedural place Another a t) h
+further_target_fine d procedural place (Barred rule) a t s a_if t_if h = no_further d procedural rule place (further_target procedural place (Barred rule) a t) h
+further_target_fine d procedural place Unknown a t s a_if t_if h = no_further d procedural UnknownName place (further_target procedural place Unknown a t) h
+
 module _ (d : Design) (find : Find) (s : AreSound d false find) where
   selected_target_fine : (select : tree.Select) (name : tree.Name) (procedural : Bool) → IsSelect select → (selected_target select name find procedural).faults ≡ [] → IsFineTarget d procedural (selected_target select name find procedural)
   selected_target_fine tree.Whole name procedural x h =
@@ -181,7 +230,15 @@ module _ (d : Design) (find : Find) (s : AreSound d false find) where
       weaker : (b : Bool) → AreSound d b find
       weaker true = λ name. sound_needed d false (find name) (s name)
       weaker false = s
-  selected_target_fine (tree.OfWord bracket address part) name procedural x h = cc
+  selected_target_fine (tree.OfWord bracket address part) name procedural x h =
+      let m = find name.bytes in
+      further_target_fine d procedural name.place m (typed address find (not procedural)) (taken_by (word_range m) part find (not procedural)) (s name.bytes)
+      (λ k. typed_fine d find address (not procedural) (weaker (not procedural)) x.0 k)
+      (λ r e k. taken_by_fine d part find (not procedural) (word_range m) r (weaker (not procedural)) x.1 x.2 e k) h
+    where
+      weaker : (b : Bool) → AreSound d b find
+      weaker true = λ name. sound_needed d false (find name) (s name)
+      weaker false = s
 
   mutual
     pub target_fine : (t : tree.Target) (procedural : Bool) → IsTarget t → (typed_target t find procedural).faults ≡ [] → IsFineTarget d procedural (typed_target t find procedural)

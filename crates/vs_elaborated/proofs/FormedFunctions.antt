@@ -49,11 +49,11 @@ names_shaped t x (n ∷ ns) = (x, names_shaped t x ns)
 locals_shaped : (vs : List tree.Variables) → Each AreVariables vs → Each IsShapedLocal (flat_map locals_of vs)
 locals_shaped vs x = each_flat AreVariables IsShapedLocal locals_of (λ v k. names_shaped v.value_type k.value_type v.names) vs x
 
-scope_shaped : (scope : Option tree.BlockScope) → Given IsScope scope → Each IsShapedLocal (scope_locals scope)
+pub scope_shaped : (scope : Option tree.BlockScope) → Given IsScope scope → Each IsShapedLocal (scope_locals scope)
 scope_shaped None x = tt
 scope_shaped (Some scope) x = locals_shaped scope.variables x.variables
 
-variables_shaped : (used : List ℕ → Bool) (vs : List Local) → Each IsShapedLocal vs → Each IsShapedLocal (variables_of used vs)
+pub variables_shaped : (used : List ℕ → Bool) (vs : List Local) → Each IsShapedLocal vs → Each IsShapedLocal (variables_of used vs)
 variables_shaped used [] x = tt
 variables_shaped used (v ∷ vs) x = of (is_integer v && not (used v.name.bytes)) (variables_shaped used vs x.1)
   where
@@ -149,7 +149,7 @@ one_fine d env s start role l input v x h =
     let r = type_fine d v.value_type env s x h in
     record { known = r.known; lawful = r.lawful; scope_is = refl; net = refl; signal_input = refl; input_is = refl; words = refl; local = l }
 
-abbrev AreClean : List LocalSignal → Type 0
+abbrev pub AreClean : List LocalSignal → Type 0
 AreClean ss = flat_map (λ (v : LocalSignal). v.faults) ss ≡ []
 
 signals_fine : (d : Design) (env : Env) → AreSoundFrames d true env.frames → (role : Role) → IsLocalRole role → (input : Bool) (vs : List Local) (start : Start) → Each IsShapedLocal vs → AreClean (signals_of env start role input vs)
@@ -160,7 +160,7 @@ signals_fine d env s role l input (v ∷ vs) start x h =
     let n = both_nil one.faults (flat_map (λ (u : LocalSignal). u.faults) (signals_of env (behind start one) role input vs)) h in
     (one_fine d env s start role l input v x.0 n.0, signals_fine d env s role l input vs (behind start one) x.1 n.1)
 
-clean_split : (xs ys : List LocalSignal) → AreClean (xs ++ ys) → AreClean xs × AreClean ys
+pub clean_split : (xs ys : List LocalSignal) → AreClean (xs ++ ys) → AreClean xs × AreClean ys
 clean_split [] ys h = (refl, h)
 clean_split (x ∷ xs) ys h =
     let n = both_nil x.faults (flat_map (λ (v : LocalSignal). v.faults) (xs ++ ys)) h in
@@ -291,7 +291,7 @@ all_sound d scope env f g =
     let n = split_in e h.inputs (h.result ∷ h.own) (in_design e (counted_numbered scope 0 0 0 (local_signals h) (omega arith) (header_counted scope env f))) in
     each_append (IsSoundLocal e) l.inputs (l.result ∷ l.own) (sound_locals e scope true l.inputs g.inputs n.0) (sound_locals e scope false (l.result ∷ l.own) (g.result, g.own) n.1)
 
-found_local : (P : LocalSignal → Type 0) (ss : List LocalSignal) (place : ℕ) → Each P ss → (s : LocalSignal) → signal_at ss place ≡ Some s → P s
+pub found_local : (P : LocalSignal → Type 0) (ss : List LocalSignal) (place : ℕ) → Each P ss → (s : LocalSignal) → signal_at ss place ≡ Some s → P s
 found_local P [] place h s e = cc
 found_local P (x ∷ xs) place h s e = of (x.place == place) e (λ k. found_local P xs place h.1 s k)
   where

@@ -15,11 +15,13 @@ use Rattle.vs_const.proofs.Formed.{both}
 use Rattle.vs_elaborated.specs.Limits.{Limits, the_limits}
 use Rattle.vs_elaborated.specs.Environments.{Entry}
 use Rattle.vs_elaborated.specs.Ports.{find_module, find_in}
-use Rattle.vs_elaborated.specs.Pieces.{Task, Piece, Own, Initially, Instance, Within, Connection, IntoInput, FromOutput, is_instance}
-use Rattle.vs_elaborated.specs.Surveys.{declarations_of, Totals, no_totals, survey}
-use Rattle.vs_elaborated.specs.Elaborated.{moved, both_designs, of_processes, then_do, port_assign, Read, ReadPieces, read_piece, read_pieces, counted, limit_faults, scope_design, read_scope, repeated_modules, top_task, scope_depth, elaborated_top, elaborated_within, elaborated}
+use Rattle.vs_elaborated.specs.Pieces.{Task, Piece, Own, OfScopes, Initially, Instance, Within, Connection, IntoInput, FromOutput, is_instance}
+use Rattle.vs_elaborated.specs.Functions.{LocalSignal}
+use Rattle.vs_elaborated.specs.Surveys.{declarations_of, Totals, no_totals, scoped_signals, survey}
+use Rattle.vs_elaborated.specs.Elaborated.{moved, both_designs, of_processes, then_do, port_assign, Read, ReadPieces, scoped_faults, read_piece, read_pieces, counted, limit_faults, scope_design, read_scope, repeated_modules, top_task, scope_depth, elaborated_top, elaborated_within, elaborated}
 use Rattle.vs_elaborated.specs.Sound.{IsFineConnection, IsSoundTask, IsFinePiece, AreFinePieces, AreModules}
-use Rattle.vs_elaborated.proofs.NumberedSignals.{own_part, bits_of_all, AreBelow, GoodRead, GoodPieces, good_pieces, good_scope, good_survey, GoodDesign, elaborated_numbered, unless}
+use Rattle.vs_elaborated.proofs.ScopedBlocks.{IsFineVariable, lawful_memory, scoped_fine}
+use Rattle.vs_elaborated.proofs.NumberedSignals.{local_signals, scoped_read, own_part, bits_of_all, AreBelow, GoodRead, GoodPieces, good_pieces, good_scope, good_survey, GoodDesign, elaborated_numbered, unless}
 use Rattle.vs_elaborated.proofs.NestedScopes.{IsChild, AreChildren, survey_children, counted_scopes, NestedDesign, elaborated_nested}
 use Rattle.vs_elaborated.proofs.FewProcesses.{least_none, if_none, FewDesign, elaborated_few}
 use Rattle.vs_elaborated.proofs.EachOf.{each_append, each_split}
@@ -99,8 +101,19 @@ never_top o m n h k = absurd (no (sym k ∙ has_parent o m h))
     no : true ≡ false → ⊥
     no e = cc
 
-piece_fine : (d : Design) (limits : Limits) (read : Task → Totals → Result Read Fault) → ReadsFine d limits read → (m : ℕ) (p : Piece) → IsFinePiece d p → IsDirectedPiece p → IsChild m p → (t : Totals) → t.bits ≤ limits.bits → PartsAreFine d limits (read_piece read p t)
+-- the variables of named blocks are no inputs and no memories
+fine_variables : (ss : List LocalSignal) → Each IsFineVariable ss → Each IsFineSignal (local_signals ss)
+fine_variables [] h = tt
+fine_variables (s ∷ ss) h = ((h.0.lawful, λ e. absurd (no (sym h.0.signal_input ∙ e)), lawful_memory s.meaning.signal h.0.words), fine_variables ss h.1)
+  where
+    no : false ≡ true → ⊥
+    no e = cc
+
+piece_fine : (d : Design) (limits : Limits) (read : Task → Totals → Result Read Fault) → ReadsFine d limits read → (m : ℕ) (p : Piece) → IsFinePiece d p → IsDirectedPiece p → IsChild m p → (t : Totals) → t.bits ≤ limits.bits → PartsAreFine d limits (read_piece limits read p t)
 piece_fine d limits read h m (Own p) f g c t b = λ i l. record { formed = (f, tt); initials = tt; behind = refl; declared = tt; functions = tt; bits = b }
+piece_fine d limits read h m (OfScopes s) f g c t b = if_none (PartsAreFine d limits) (λ e. tt) (least (scoped_faults limits s t)) (λ n. Ok (scoped_read limits s t)) λ none n i l.
+    let u = scoped_fine d limits s t f b i (least_none (scoped_faults limits s t) none) in
+    record { formed = ((u.formed, u.clocked), tt); initials = tt; behind = refl; declared = fine_variables (scoped_signals s t) u.variables; functions = tt; bits = u.bits }
 piece_fine d limits read h m (Initially place statement) f g c t b = λ i l. record { formed = tt; initials = (f, tt); behind = refl; declared = tt; functions = tt; bits = b }
 piece_fine d limits read h m (Instance connections task) f g c t b = of (read task t) (h task t f.1 (never_top task.parent m t.scopes c) b)
   where
@@ -124,15 +137,15 @@ piece_fine d limits read h m (Within task) f g c t b = of (read task t) (h task 
     of (Ok s) q = λ i l. let u = q i l in record { formed = u.formed; initials = u.initials; behind = u.behind; declared = u.declared; functions = u.functions; bits = u.bits }
 
 pieces_fine : (d : Design) (limits : Limits) (read : Task → Totals → Result Read Fault) → ((k : Task) (t : Totals) → GoodRead t (read k t)) → ReadsFine d limits read → (m : ℕ) (ps : List Piece) → AreFinePieces d ps → AreDirectedPieces ps → AreChildren m ps → (t : Totals) → t.bits ≤ limits.bits
-    → PartsAreFine d limits (read_pieces read ps t)
+    → PartsAreFine d limits (read_pieces limits read ps t)
 pieces_fine d limits read good h m [] f g c t b = λ i l. record { formed = tt; initials = tt; behind = refl; declared = tt; functions = tt; bits = b }
 pieces_fine d limits read good h m (p ∷ ps) f g c t b =
-    of (read_piece read p t) (piece_fine d limits read h m p f.0 g.0 c.0 t b) (λ u l. pieces_fine d limits read good h m ps f.1 g.1 c.1 u l)
+    of (read_piece limits read p t) (piece_fine d limits read h m p f.0 g.0 c.0 t b) (λ u l. pieces_fine d limits read good h m ps f.1 g.1 c.1 u l)
   where
-    of : (r : Result ReadPieces Fault) → PartsAreFine d limits r → ((u : Totals) → u.bits ≤ limits.bits → PartsAreFine d limits (read_pieces read ps u))
-        → PartsAreFine d limits (then_do r λ a. then_do (read_pieces read ps a.totals) λ b. Ok (record { design = both_designs a.design b.design; totals = b.totals }))
+    of : (r : Result ReadPieces Fault) → PartsAreFine d limits r → ((u : Totals) → u.bits ≤ limits.bits → PartsAreFine d limits (read_pieces limits read ps u))
+        → PartsAreFine d limits (then_do r λ a. then_do (read_pieces limits read ps a.totals) λ b. Ok (record { design = both_designs a.design b.design; totals = b.totals }))
     of (Err e) q k = tt
-    of (Ok a) q k = rest (read_pieces read ps a.totals) (good_pieces read good ps a.totals) (λ l. k a.totals l)
+    of (Ok a) q k = rest (read_pieces limits read ps a.totals) (good_pieces limits read good ps a.totals) (λ l. k a.totals l)
       where
         both_fine : (b : ReadPieces) → FineParts d limits a → FineParts d limits b → FineParts d limits (record { design = both_designs a.design b.design; totals = b.totals })
         both_fine b u v = record {
@@ -177,7 +190,7 @@ scope_fine d (suc left) limits source x k t s top b =
     let c = subst (λ b. b ≤ limits.bits) (sym (counted_bits k t)) b in
     let g = survey_signals d limits source k (counted k t) s c h in
     let good = good_survey limits source k (counted k t) in
-    of (read_pieces (read_scope left limits source) y.pieces y.totals) (good_pieces (read_scope left limits source) (good_scope left limits source) y.pieces y.totals) h g
+    of (read_pieces limits (read_scope left limits source) y.pieces y.totals) (good_pieces limits (read_scope left limits source) (good_scope left limits source) y.pieces y.totals) h g
     (λ there own.
     pieces_fine d limits (read_scope left limits source) (good_scope left limits source) (scope_fine d left limits source x) (counted k t).scopes y.pieces (survey_pieces d limits source k (counted k t) x s there own h)
     (survey_directed limits source k (counted k t)) (survey_children limits source k (counted k t)) y.totals (omega (arith, g.bits, good.bits)))

@@ -3,6 +3,8 @@ mod TurnsLaw
 mod FormedBodies
 mod SoundNames
 mod NumberedSignals
+mod Nestings
+mod NamedScopes
 mod NestedScopes
 mod FewProcesses
 pub mod ShapedBlocks
@@ -19,6 +21,8 @@ mod SurveyParts
 mod ValuePieces
 mod BehindProcesses
 mod Unrolling
+mod ScopedBlocks
+mod ScopedLaws
 mod LawfulDesigns
 mod LowBlocks
 mod SoundScopes

@@ -14,9 +14,10 @@ use Rattle.vs_elaborated.specs.Generate.{Nested, Made, nothing_made, after_fault
 use Rattle.vs_elaborated.specs.Loops.{holds, Turns, turns_from, turn_blocks, loop_blocks, loop_from}
 use Rattle.vs_elaborated.specs.Constructs.{said_case, is_conditional, construct, branch, fallback, arm_branch, is_construct, constructs}
 use Rattle.vs_elaborated.specs.Ports.{find_in, find_module}
-use Rattle.vs_elaborated.specs.Pieces.{Task, is_instance, Piece, Own, Initially, Instance, Within, Said, all_said}
+use Rattle.vs_elaborated.specs.Pieces.{Task, is_instance, Piece, Own, OfScopes, Initially, Instance, Within, Said, all_said}
 use Rattle.vs_elaborated.specs.Instances.{Around, said_overrides, instance_said}
-use Rattle.vs_elaborated.specs.Surveys.{Loops, loops_after, items_of, Totals, survey, header_said, assign_said, nested_piece, item_said, items_said}
+use Rattle.vs_elaborated.specs.NamedBlocks.{NamedBlock, named_blocks}
+use Rattle.vs_elaborated.specs.Surveys.{Loops, block_by, loops_after, items_of, Totals, survey, header_said, assign_said, nested_piece, item_said, items_said}
 use Rattle.vs_elaborated.proofs.EachOf.{each_append}
 use Rattle.vs_elaborated.proofs.ValuePieces.{signals_each, header_each}
 use Rattle.vs_elaborated.proofs.SurveyParts.{functions_in, loops_in, made_in, around_in}
@@ -131,6 +132,7 @@ pub record IsLowBlock (depth l : ℕ) (task : Task) : Type 0 where
 
 abbrev pub IsLowPiece : (depth l : ℕ) → Piece → Type 0
 IsLowPiece depth l (Own p) = Unit {0}
+IsLowPiece depth l (OfScopes b) = Unit {0}
 IsLowPiece depth l (Initially place statement) = Unit {0}
 IsLowPiece depth l (Instance connections task) = IsLowInstance depth task
 IsLowPiece depth l (Within task) = IsLowBlock depth l task
@@ -165,11 +167,15 @@ blocks_low : (l : ℕ) (around : Around) (bs : List Nested) → AreLower l bs �
 blocks_low l around [] x = tt
 blocks_low l around (b ∷ bs) x = (record { low = x.0; same = refl }, blocks_low l around bs x.1)
 
+block_low : (depth l : ℕ) (limits : Limits) (around : Around) (loops : Loops) (b : tree.AlwaysBlock) (ns : List NamedBlock) → AreLowPieces depth l (block_by ns limits around loops b).pieces
+block_low depth l limits around loops b [] = (tt, tt)
+block_low depth l limits around loops b (n ∷ ns) = (tt, tt)
+
 item_low : (l : ℕ) (limits : Limits) (source : Source) (around : Around) (loops : Loops) → AreLowModules source.modules → (item : tree.Item) (made : Made) → AreLower l made.blocks → AreLowPieces around.depth l (item_said limits source around loops item made).pieces
 item_low l limits source around loops x (tree.SignalsItem t) made y = signals_each (IsLowPiece around.depth l) (λ p. tt) (λ q s. tt) around.env t
 item_low l limits source around loops x (tree.ParametersItem t) made y = blocks_low l around made.blocks y
 item_low l limits source around loops x (tree.AssignsItem place assigns) made y = all_low around.depth l (assign_said around.env place) assigns (λ a. (tt, tt))
-item_low l limits source around loops x (tree.AlwaysItem block) made y = (tt, tt)
+item_low l limits source around loops x (tree.AlwaysItem block) made y = block_low around.depth l limits around loops block (named_blocks block.statement)
 item_low l limits source around loops x (tree.InitialItem block) made y = (tt, tt)
 item_low l limits source around loops x (tree.GenvarsItem place names) made y = blocks_low l around made.blocks y
 item_low l limits source around loops x (tree.IntegersItem place names) made y = blocks_low l around made.blocks y

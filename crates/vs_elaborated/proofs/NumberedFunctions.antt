@@ -24,7 +24,8 @@ use Rattle.vs_elaborated.specs.Generate.{BlockName, Nested, Made}
 use Rattle.vs_elaborated.specs.Ports.{find_module}
 use Rattle.vs_elaborated.specs.Pieces.{Said, all_said}
 use Rattle.vs_elaborated.specs.Instances.{Around, said_overrides, instance_said}
-use Rattle.vs_elaborated.specs.Surveys.{Loops, loops_after, items_of, declarations_of, overrides_of, block_entries, turned, Totals, counts_of, survey, header_said, assign_said, nested_piece, item_said, items_said}
+use Rattle.vs_elaborated.specs.NamedBlocks.{NamedBlock, named_blocks}
+use Rattle.vs_elaborated.specs.Surveys.{Loops, block_by, loops_after, items_of, declarations_of, overrides_of, block_entries, turned, Totals, counts_of, survey, header_said, assign_said, nested_piece, item_said, items_said}
 use Rattle.vs_elaborated.specs.Numbers.{IsAtNumber, IsNumbered, IsNumberedDeclared, AreNumberedEntries, AreNumberedFrames, IsNumberedPiece, HasFunctions, NamesAreNumbered, FunctionNamesAreNumbered, FunctionsAreNumbered, ScopesAreNumbered, FunctionsAreCounted, NumbersStay, MoreFunctionsStand}
 use Rattle.vs_elaborated.proofs.EachOf.{each_append, each_weaker}
 use Rattle.vs_elaborated.proofs.ValuePieces.{signals_each, header_each}
@@ -257,11 +258,15 @@ nested_numbered d around s (b ∷ bs) = (of b.turn, nested_numbered d around s b
     of None = s
     of (Some t) = s
 
+block_numbered : (d : Design) (limits : Limits) (around : Around) (loops : Loops) → AreNumberedFrames d around.env.frames → (b : tree.AlwaysBlock) (ns : List NamedBlock) → AreNumberedPieces d (block_by ns limits around loops b)
+block_numbered d limits around loops s b [] = (tt, tt)
+block_numbered d limits around loops s b (n ∷ ns) = (s, tt)
+
 item_numbered : (d : Design) (limits : Limits) (source : Source) (around : Around) (loops : Loops) → AreNumberedFrames d around.env.frames → (item : tree.Item) (made : Made) → AreNumberedPieces d (item_said limits source around loops item made)
 item_numbered d limits source around loops s (tree.SignalsItem t) made = signals_each (IsNumberedPiece d) (λ p. tt) (λ q st. tt) around.env t
 item_numbered d limits source around loops s (tree.ParametersItem t) made = nested_numbered d around s made.blocks
 item_numbered d limits source around loops s (tree.AssignsItem place assigns) made = every_said d (assign_said around.env place) assigns (λ a. (tt, tt))
-item_numbered d limits source around loops s (tree.AlwaysItem block) made = (tt, tt)
+item_numbered d limits source around loops s (tree.AlwaysItem block) made = block_numbered d limits around loops s block (named_blocks block.statement)
 item_numbered d limits source around loops s (tree.InitialItem block) made = (tt, tt)
 item_numbered d limits source around loops s (tree.GenvarsItem place names) made = nested_numbered d around s made.blocks
 item_numbered d limits source around loops s (tree.IntegersItem place names) made = nested_numbered d around s made.blocks

@@ -2,6 +2,7 @@
 use Rattle.std.proofs.Common.{◌≡◌, ℕ, zero, suc, ◌+◌, ◌≤◌, ◌<◌, Bool, true, false, ◌&&◌, List, [], ◌∷◌, ◌++◌, map, length, Option, Some, None, refl, sym, ap, ◌∙◌, subst, subst₂, arith, nat_le, ◌==◌, eq-eqb, if◌then◌else◌}
 use Rattle.std.specs.Prelude.{Result, Ok, Err, fold, sum_by}
 use Rattle.std.proofs.lemmas.Bool.{le-leb}
+use Rattle.std.proofs.lemmas.List.{map-append, length-map}
 use Rattle.vs_design.specs.Expressions.{Signal, signal_length}
 use Rattle.vs_design.specs.Designs.{Process, Design}
 use Rattle.vs_design.specs.Elaborated.{are_numbered, have_bits_from}
@@ -9,16 +10,21 @@ use Rattle.vs_grammar.specs.Trees.{Name, Module, Source}
 use Rattle.vs_grammar.specs.Shapes.{Each}
 use Rattle.vs_const.specs.declared.faults.Fault.{Fault}
 use Rattle.vs_const.specs.Faults.{least}
+use Rattle.vs_const.specs.declared.names.Role.TheVariants.{InModule}
 use Rattle.vs_const.proofs.Formed.{both}
 use Rattle.vs_elaborated.specs.Environments.{Env}
 use Rattle.vs_elaborated.specs.Limits.{Limits}
 use Rattle.vs_elaborated.specs.Declarations.{Declaration, Named, Sort, SignalOf, ParameterOf, FunctionOf, GenvarSort, IntegerSort, InstanceSort}
 use Rattle.vs_elaborated.specs.Signals.{Start, SaidSignal, said_signal, said_signals, after}
 use Rattle.vs_elaborated.specs.Ports.{find_module}
-use Rattle.vs_elaborated.specs.Pieces.{Task, Piece, Own, Initially, Instance, Within, is_instance}
-use Rattle.vs_elaborated.specs.Surveys.{Totals, no_totals, Survey, survey}
+use Rattle.vs_elaborated.specs.Pieces.{Task, ScopedBlock, Piece, Own, OfScopes, Initially, Instance, Within, is_instance}
+use Rattle.vs_elaborated.specs.Statements.{Local, TypedStatement}
+use Rattle.vs_elaborated.specs.Functions as functions
+use Rattle.vs_elaborated.specs.Functions.{LocalSignal}
+use Rattle.vs_elaborated.specs.NamedBlocks.{NamedBlock, named_blocks, named_scope, named_signals}
+use Rattle.vs_elaborated.specs.Surveys.{Totals, no_totals, scoped_signals, scoped_statement, Survey, survey}
 use Rattle.vs_elaborated.proofs.SurveyParts.{names_in, ranged_in, start_in, signals_in}
-use Rattle.vs_elaborated.specs.Elaborated.{both_designs, of_processes, then_do, port_assign, Read, ReadPieces, read_piece, read_pieces, counted, limit_faults, scope_design, read_scope, repeated_modules, top_task, scope_depth, elaborated_top, elaborated_within}
+use Rattle.vs_elaborated.specs.Elaborated.{both_designs, of_processes, then_do, port_assign, Read, ReadPieces, scoped_design, scoped_totals, scoped_faults, read_scoped, read_piece, read_pieces, counted, limit_faults, scope_design, read_scope, repeated_modules, top_task, scope_depth, elaborated_top, elaborated_within}
 
 abbrev pub bits_of_all : List Signal → ℕ
 bits_of_all [] = 0
@@ -121,27 +127,105 @@ goes_on_both t u v d e g h = record {
 nothing_read : (t : Totals) (ps : List Process) → GoesOn t (of_processes ps) t
 nothing_read t ps = record { numbered = tt; below = tt; signals = omega arith; bits = omega arith; scopes = omega arith }
 
-pub good_piece : (read : Task → Totals → Result Read Fault) → ((k : Task) (t : Totals) → GoodRead t (read k t)) → (p : Piece) (t : Totals) → GoodPieces t (read_piece read p t)
-good_piece read h (Own p) t = nothing_read t (p ∷ [])
-good_piece read h (Initially place statement) t = record { numbered = tt; below = tt; signals = omega arith; bits = omega arith; scopes = omega arith }
-good_piece read h (Instance connections task) t = of (read task t) (h task t)
+-- ---- an always block with scopes
+
+abbrev pub local_signals : List LocalSignal → List Signal
+local_signals ss = map (λ (s : LocalSignal). s.meaning.signal) ss
+
+locals_numbered : (env : Env) (vs : List Local) (start : functions.Start) → Numbered start.signal start.bit start.scope (local_signals (functions.signals_of env start InModule false vs))
+locals_numbered env [] start = tt
+locals_numbered env (v ∷ vs) start = (refl, refl, omega arith, locals_numbered env vs (functions.behind start (functions.local_signal env start InModule false v)))
+
+locals_below : (env : Env) (vs : List Local) (start : functions.Start) → AreBelow (suc start.scope) (local_signals (functions.signals_of env start InModule false vs))
+locals_below env [] start = tt
+locals_below env (v ∷ vs) start = (omega arith, locals_below env vs (functions.behind start (functions.local_signal env start InModule false v)))
+
+count_behind : (ss : List LocalSignal) (start : functions.Start) → (functions.behind_all start ss).signal ≡ start.signal + length (local_signals ss)
+count_behind [] start = omega arith
+count_behind (s ∷ ss) start = count_behind ss (functions.behind start s) ∙ omega arith
+
+bits_behind : (ss : List LocalSignal) (start : functions.Start) → (functions.behind_all start ss).bit ≡ start.bit + bits_of_all (local_signals ss)
+bits_behind [] start = omega arith
+bits_behind (s ∷ ss) start = bits_behind ss (functions.behind start s) ∙ omega arith
+
+-- where the variables of the next block begin
+abbrev pub next_start : Env → functions.Start → NamedBlock → functions.Start
+next_start env start b = record (functions.behind_all start (functions.signals_of env start InModule false b.variables)) { scope = suc start.scope }
+
+pub named_numbered : (env : Env) (bs : List NamedBlock) (start : functions.Start) → Numbered start.signal start.bit start.scope (local_signals (named_signals env start bs))
+named_numbered env [] start = tt
+named_numbered env (b ∷ bs) start =
+    let ss = functions.signals_of env start InModule false b.variables in
+    let next = next_start env start b in
+    let rest = local_signals (named_signals env next bs) in
+    subst (Numbered start.signal start.bit start.scope) (sym (map-append (λ (s : LocalSignal). s.meaning.signal) ss (named_signals env next bs)))
+    (numbered_append start.signal start.bit start.scope (suc start.scope) (local_signals ss) rest (omega arith) (locals_below env b.variables start) (locals_numbered env b.variables start)
+    (subst₂ (λ n a. Numbered n a (suc start.scope) rest) (count_behind ss start) (bits_behind ss start) (named_numbered env bs next)))
+
+pub named_below : (env : Env) (bs : List NamedBlock) (start : functions.Start) → AreBelow (start.scope + length bs) (local_signals (named_signals env start bs))
+named_below env [] start = tt
+named_below env (b ∷ bs) start =
+    let ss = functions.signals_of env start InModule false b.variables in
+    let next = next_start env start b in
+    let rest = local_signals (named_signals env next bs) in
+    let most = start.scope + suc (length bs) in
+    subst (AreBelow most) (sym (map-append (λ (s : LocalSignal). s.meaning.signal) ss (named_signals env next bs)))
+    (below_append most (local_signals ss) rest (below_more (suc start.scope) most (local_signals ss) (omega arith) (locals_below env b.variables start))
+    (below_more (suc start.scope + length bs) most rest (omega arith) (named_below env bs next)))
+
+local_bits_from : (k : ℕ) (ss : List LocalSignal) → fold (λ (n : ℕ) (s : LocalSignal). n + signal_length s.meaning.signal) k ss ≡ k + bits_of_all (local_signals ss)
+local_bits_from k [] = omega arith
+local_bits_from k (s ∷ ss) = local_bits_from (k + signal_length s.meaning.signal) ss ∙ omega arith
+
+pub local_bits : (ss : List LocalSignal) → sum_by (λ (s : LocalSignal). signal_length s.meaning.signal) ss ≡ bits_of_all (local_signals ss)
+local_bits ss = local_bits_from 0 ss ∙ omega arith
+
+good_scoped : (b : ScopedBlock) (t : Totals) (s : TypedStatement) → GoesOn t (scoped_design b t (scoped_signals b t) s) (scoped_totals b t (scoped_signals b t) s)
+good_scoped b t s =
+    let bs = named_blocks b.block.statement in
+    let start : functions.Start = record { scope = t.scopes; signal = t.signals; bit = t.bits } in
+    let ss = scoped_signals b t in
+    record {
+      numbered = named_numbered b.env bs start;
+      below = named_below b.env bs start;
+      signals = ap (λ n. t.signals + n) (sym (length-map ss (λ (x : LocalSignal). x.meaning.signal)));
+      bits = ap (λ n. t.bits + n) (local_bits ss);
+      scopes = ap (λ n. t.scopes + n) (sym (length-map bs (named_scope b.scope t.scopes)));
+    }
+
+pub unless : {A : Type 0} (P : Result A Fault → Type 0) → ((e : Fault) → P (Err e)) → (o : Option Fault) (f : ℕ → Result A Fault) → ((n : ℕ) → P (f n)) → P (elim o [ None ↦ f 0 | Some a ↦ Err a ])
+unless P e None f h = h 0
+unless P e (Some a) f h = e a
+
+-- where it has no fault it gives this
+abbrev pub scoped_read : Limits → ScopedBlock → Totals → ReadPieces
+scoped_read limits b t = record { design = scoped_design b t (scoped_signals b t) (scoped_statement limits b t); totals = scoped_totals b t (scoped_signals b t) (scoped_statement limits b t) }
+
+pub of_scoped : (P : Result ReadPieces Fault → Type 0) → ((e : Fault) → P (Err e)) → (limits : Limits) (b : ScopedBlock) (t : Totals) → P (Ok (scoped_read limits b t)) → P (read_scoped limits b t)
+of_scoped P e limits b t h = unless P e (least (scoped_faults limits b t)) (λ n. Ok (scoped_read limits b t)) (λ n. h)
+
+pub good_piece : (limits : Limits) (read : Task → Totals → Result Read Fault) → ((k : Task) (t : Totals) → GoodRead t (read k t)) → (p : Piece) (t : Totals) → GoodPieces t (read_piece limits read p t)
+good_piece limits read h (Own p) t = nothing_read t (p ∷ [])
+good_piece limits read h (OfScopes b) t = of_scoped (GoodPieces t) (λ e. tt) limits b t (good_scoped b t (scoped_statement limits b t))
+good_piece limits read h (Initially place statement) t = record { numbered = tt; below = tt; signals = omega arith; bits = omega arith; scopes = omega arith }
+good_piece limits read h (Instance connections task) t = of (read task t) (h task t)
   where
     of : (r : Result Read Fault) → GoodRead t r → GoodPieces t (then_do r λ s. Ok (record { design = both_designs (of_processes (map (port_assign task.place s.entries) connections)) s.design; totals = s.totals }))
     of (Err e) g = tt
     of (Ok s) g = goes_on_both t t s.totals (of_processes (map (port_assign task.place s.entries) connections)) s.design (nothing_read t (map (port_assign task.place s.entries) connections)) g
-good_piece read h (Within task) t = of (read task t) (h task t)
+good_piece limits read h (Within task) t = of (read task t) (h task t)
   where
     of : (r : Result Read Fault) → GoodRead t r → GoodPieces t (then_do r λ s. Ok (record { design = s.design; totals = s.totals }))
     of (Err e) g = tt
     of (Ok s) g = g
 
-pub good_pieces : (read : Task → Totals → Result Read Fault) → ((k : Task) (t : Totals) → GoodRead t (read k t)) → (ps : List Piece) (t : Totals) → GoodPieces t (read_pieces read ps t)
-good_pieces read h [] t = nothing_read t []
-good_pieces read h (p ∷ ps) t = of (read_piece read p t) (good_piece read h p t) (λ u. good_pieces read h ps u)
+pub good_pieces : (limits : Limits) (read : Task → Totals → Result Read Fault) → ((k : Task) (t : Totals) → GoodRead t (read k t)) → (ps : List Piece) (t : Totals) → GoodPieces t (read_pieces limits read ps t)
+good_pieces limits read h [] t = nothing_read t []
+good_pieces limits read h (p ∷ ps) t = of (read_piece limits read p t) (good_piece limits read h p t) (λ u. good_pieces limits read h ps u)
   where
-    of : (r : Result ReadPieces Fault) → GoodPieces t r → ((u : Totals) → GoodPieces u (read_pieces read ps u)) → GoodPieces t (then_do r λ a. then_do (read_pieces read ps a.totals) λ b. Ok (record { design = both_designs a.design b.design; totals = b.totals }))
+    of : (r : Result ReadPieces Fault) → GoodPieces t r → ((u : Totals) → GoodPieces u (read_pieces limits read ps u)) → GoodPieces t (then_do r λ a. then_do (read_pieces limits read ps a.totals) λ b. Ok (record { design = both_designs a.design b.design; totals = b.totals }))
     of (Err e) g k = tt
-    of (Ok a) g k = rest (read_pieces read ps a.totals) (k a.totals)
+    of (Ok a) g k = rest (read_pieces limits read ps a.totals) (k a.totals)
       where
         rest : (q : Result ReadPieces Fault) → GoodPieces a.totals q → GoodPieces t (then_do q λ b. Ok (record { design = both_designs a.design b.design; totals = b.totals }))
         rest (Err e) l = tt
@@ -178,10 +262,6 @@ counted_goes_on k t d u g = of (is_instance k.contents) g
     of true g = record { numbered = g.numbered; below = g.below; signals = g.signals; bits = g.bits; scopes = g.scopes }
     of false g = g
 
-pub unless : {A : Type 0} (P : Result A Fault → Type 0) → ((e : Fault) → P (Err e)) → (o : Option Fault) (f : ℕ → Result A Fault) → ((n : ℕ) → P (f n)) → P (elim o [ None ↦ f 0 | Some a ↦ Err a ])
-unless P e None f h = h 0
-unless P e (Some a) f h = e a
-
 -- a scope with all within it goes on from the totals that it began with
 pub good_scope : (left : ℕ) (limits : Limits) (source : Source) (k : Task) (t : Totals) → GoodRead t (read_scope left limits source k t)
 good_scope zero limits source k t = tt
@@ -189,7 +269,7 @@ good_scope (suc left) limits source k t =
     unless (GoodRead t) (λ e. tt) (least (limit_faults limits k (counted k t))) _ λ n.
     let s = survey limits source k (counted k t) in
     unless (GoodRead t) (λ e. tt) (least s.faults) _ λ m.
-    of s (good_survey limits source k (counted k t)) (read_pieces (read_scope left limits source) s.pieces s.totals) (good_pieces (read_scope left limits source) (good_scope left limits source) s.pieces s.totals)
+    of s (good_survey limits source k (counted k t)) (read_pieces limits (read_scope left limits source) s.pieces s.totals) (good_pieces limits (read_scope left limits source) (good_scope left limits source) s.pieces s.totals)
   where
     of : (s : Survey) → GoesOn (counted k t) (own_part k s) s.totals → (r : Result ReadPieces Fault) → GoodPieces s.totals r → GoodRead t (then_do r λ p. Ok (record { entries = s.entries; design = scope_design k s p.design; totals = p.totals }))
     of s g (Err e) h = tt

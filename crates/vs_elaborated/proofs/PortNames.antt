@@ -14,9 +14,10 @@ use Rattle.vs_elaborated.specs.Parameters.{Override}
 use Rattle.vs_elaborated.specs.Signals.{is_input}
 use Rattle.vs_elaborated.specs.Generate.{Nested, Made}
 use Rattle.vs_elaborated.specs.Ports.{Port, Direction, directions_in, item_directions, direction_of, header_ports, ports_of, find_port, find_module}
-use Rattle.vs_elaborated.specs.Pieces.{Task, Connection, IntoInput, FromOutput, Piece, Own, Initially, Instance, Within, Said, all_said}
+use Rattle.vs_elaborated.specs.Pieces.{Task, Connection, IntoInput, FromOutput, Piece, Own, OfScopes, Initially, Instance, Within, Said, all_said}
 use Rattle.vs_elaborated.specs.Instances.{Around, output_target, directed, connected, connected_by_order, connected_by_name, connection_name, connection_of, in_port_order, said_connections, said_overrides, instance_said}
-use Rattle.vs_elaborated.specs.Surveys.{Loops, loops_after, items_of, declarations_of, Totals, survey, header_said, assign_said, nested_piece, item_said, items_said}
+use Rattle.vs_elaborated.specs.NamedBlocks.{NamedBlock, named_blocks}
+use Rattle.vs_elaborated.specs.Surveys.{Loops, block_by, loops_after, items_of, declarations_of, Totals, survey, header_said, assign_said, nested_piece, item_said, items_said}
 use Rattle.vs_elaborated.proofs.EachOf.{each_append}
 use Rattle.vs_elaborated.proofs.ValuePieces.{signals_each, header_each}
 use Rattle.vs_elaborated.proofs.SurveyParts.{loops_in, made_in, around_in}
@@ -208,6 +209,7 @@ connections_directed m name (tree.ByName parts) env = ordered_directed (module_d
 
 abbrev pub IsDirectedPiece : Piece → Type 0
 IsDirectedPiece (Own p) = Unit {0}
+IsDirectedPiece (OfScopes b) = Unit {0}
 IsDirectedPiece (Initially place statement) = Unit {0}
 IsDirectedPiece (Instance connections task) = Each (IsDirected (declarations_of task.contents)) connections
 IsDirectedPiece (Within task) = Unit {0}
@@ -227,11 +229,15 @@ blocks_directed : (around : Around) (bs : List Nested) → AreDirectedPieces (ma
 blocks_directed around [] = tt
 blocks_directed around (b ∷ bs) = (tt, blocks_directed around bs)
 
+block_directed : (limits : Limits) (around : Around) (loops : Loops) (b : tree.AlwaysBlock) (ns : List NamedBlock) → AreDirectedPieces (block_by ns limits around loops b).pieces
+block_directed limits around loops b [] = (tt, tt)
+block_directed limits around loops b (n ∷ ns) = (tt, tt)
+
 item_directed : (limits : Limits) (source : Source) (around : Around) (loops : Loops) (item : tree.Item) (made : Made) → AreDirectedPieces (item_said limits source around loops item made).pieces
 item_directed limits source around loops (tree.SignalsItem t) made = signals_each IsDirectedPiece (λ p. tt) (λ q s. tt) around.env t
 item_directed limits source around loops (tree.ParametersItem t) made = blocks_directed around made.blocks
 item_directed limits source around loops (tree.AssignsItem place assigns) made = all_pieces (assign_said around.env place) assigns (λ a. (tt, tt))
-item_directed limits source around loops (tree.AlwaysItem block) made = (tt, tt)
+item_directed limits source around loops (tree.AlwaysItem block) made = block_directed limits around loops block (named_blocks block.statement)
 item_directed limits source around loops (tree.InitialItem block) made = (tt, tt)
 item_directed limits source around loops (tree.GenvarsItem place names) made = blocks_directed around made.blocks
 item_directed limits source around loops (tree.IntegersItem place names) made = blocks_directed around made.blocks

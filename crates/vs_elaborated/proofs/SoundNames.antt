@@ -5,12 +5,12 @@ use Rattle.std.proofs.lemmas.Bool.{leb-true, leb-false, le-leb, ltb-false}
 use Rattle.vs_four.specs.declared.Bit4.TheVariants.{X}
 use Rattle.vs_four.specs.declared.Range.{Range}
 use Rattle.vs_four.specs.Selects.{Part, is_descending, range_length}
-use Rattle.vs_design.specs.Expressions.{Signal, range_or_one, words_length, signal_length, OfSignal as SignalSource, OfConstant, Expression, Literal, Name, Select, Word, Unary, Binary, Choice, Join, Repeat, At, Call, UnaryOp, Plus, Minus, BitNot, LogicalNot, ReduceAnd, ReduceNand, ReduceOr, ReduceNor, ReduceXor, ReduceXnor, Signed, Unsigned, unary_length, Way, InContext, Own, Compared, Shifted, Raised, way, binary_length, width, sign}
+use Rattle.vs_design.specs.Expressions.{Signal, range_or_one, words_length, signal_length, OfSignal as SignalSource, OfConstant, Expression, Literal, Name, Select, Word, WordPart, Unary, Binary, Choice, Join, Repeat, At, Call, UnaryOp, Plus, Minus, BitNot, LogicalNot, ReduceAnd, ReduceNand, ReduceOr, ReduceNor, ReduceXor, ReduceXnor, Signed, Unsigned, unary_length, Way, InContext, Own, Compared, Shifted, Raised, way, binary_length, width, sign}
 use Rattle.vs_design.specs.Values.{constant_value}
 use Rattle.vs_design.specs.Designs.{Design}
 use Rattle.vs_design.specs.Fits.{fits_64}
 use Rattle.vs_design.specs.Footprints.{is_memory}
-use Rattle.vs_design.specs.Elaborated.{is_signal, is_plain, is_lawful_range, are_lawful_words, same_range, is_formed, is_formed_select}
+use Rattle.vs_design.specs.Elaborated.{is_signal, is_plain, has_words, is_lawful_range, are_lawful_words, same_range, is_formed, is_formed_select, is_formed_word_part}
 use Rattle.vs_design.proofs.Lengths.{length_bits_of, length_value, length_assigned}
 use Rattle.vs_design.specs.Clocks.{same_name}
 use Rattle.vs_grammar.specs.Trees as tree
@@ -166,11 +166,20 @@ select_width d (OfConstant bits) part h = last (is_lawful_range (Some part.range
     last true false c h = cc
     last false b c h = cc
 
+word_part_width : (d : Design) (s : Signal) (part : Part) → is_formed_word_part d s part ≡ true → fits_64 part.width ≡ true
+word_part_width d s part h = last (has_words d s) (same_range s.range (Some part.range)) (fits_64 part.width) h
+  where
+    last : (a b c : Bool) → (a && b && c) ≡ true → c ≡ true
+    last true true c h = h
+    last true false c h = cc
+    last false b c h = cc
+
 pub wide : (d : Design) (e : Expression) → is_formed d e ≡ true → 1 ≤ width e
 wide d (Literal bits signed sized) h = fits_some (length bits) (split (fits_64 (length bits)) (sized || (length bits == 32)) h).0
 wide d (Name s) h = signal_some s
 wide d (Select source part index) h = fits_some part.width (select_width d source part (split (is_formed_select d source part) (is_formed d index) h).0)
 wide d (Word signal index) h = range_some signal.range
+wide d (WordPart signal address part index) h = fits_some part.width (word_part_width d signal part (split (is_formed_word_part d signal part) (is_formed d address) (split (is_formed_word_part d signal part && is_formed d address) (is_formed d index) h).0).0)
 wide d (Unary op a) h = unary_some op (width a) (wide d a h)
 wide d (Binary op a b) h = binary_some (way op) (width a) (width b) (wide d a (split (is_formed d a) (is_formed d b) h).0)
 wide d (Choice c p q) h = let k = wide d p (middle (is_formed d c) (is_formed d p) (is_formed d q) h) in omega (arith, k)

@@ -10,7 +10,7 @@ use Rattle.vs_elaborated.specs.Declarations.{Declaration, Named, Sort, SignalOf,
 use Rattle.vs_elaborated.specs.Signals.{Start, said_signal, said_signals, after}
 use Rattle.vs_elaborated.specs.Generate.{Nested, Made}
 use Rattle.vs_elaborated.specs.Constructs.{constructs}
-use Rattle.vs_elaborated.specs.Pieces.{Task, Connection, IntoInput, FromOutput, Piece, Own, Initially, Instance, Within}
+use Rattle.vs_elaborated.specs.Pieces.{Task, Connection, IntoInput, FromOutput, Piece, Own, OfScopes, Initially, Instance, Within}
 use Rattle.vs_elaborated.specs.Instances.{connection_name, instance_said}
 use Rattle.vs_elaborated.specs.Surveys.{Totals, survey, declarations_of}
 use Rattle.vs_elaborated.specs.Sound.{AreSoundEntries, IsShapedContents, AreCounted, MeansSignal, HasPorts, FunctionsAreFormed, FunctionsSeeSound, FaultlessIsFair, SignalsAreCounted, PortsAreSignals, BlocksAreLower, OverridesAreFine, InstancesHavePorts}
@@ -87,6 +87,7 @@ ports_mean d limits source k t x h s (c ∷ cs) g = (port_means d limits source 
 
 piece_ports : (d : Design) (limits : Limits) (source : Source) (p : Piece) → IsDirectedPiece p → HasPorts d limits source p
 piece_ports d limits source (Own p) g = tt
+piece_ports d limits source (OfScopes b) g = tt
 piece_ports d limits source (Initially place statement) g = tt
 piece_ports d limits source (Instance cs k) g = λ totals x h s. ports_mean d limits source k totals x h s cs g
 piece_ports d limits source (Within k) g = tt

@@ -21,8 +21,8 @@ use Rattle.vs_elaborated.specs.Environments.{inside_function, named}
 use Rattle.vs_const.specs.CallDepths.{calls_in}
 use Rattle.vs_elaborated.specs.Heads.{shared_heads}
 use Rattle.vs_elaborated.specs.Functions.{LocalSignal, declared_locals, function_locals, all_locals, header_of, function_names, function_body, size_faults}
-use Rattle.vs_elaborated.specs.Surveys.{block_body, block_statement, block_heads, initial_body, initial_statement, initial_heads}
-use Rattle.vs_elaborated.specs.Runs.{labels_width, labels_sign, run_turns, runs, run_fallback, run_sequence, run_arms, RunsAsUnrolled, BlocksRunAsUnrolled, InitialsRunAsUnrolled, FunctionsRunAsUnrolled}
+use Rattle.vs_elaborated.specs.Surveys.{block_body, scoped_body, scoped_signals, block_statement, block_heads, initial_body, initial_statement, initial_heads}
+use Rattle.vs_elaborated.specs.Runs.{labels_width, labels_sign, run_turns, runs, run_fallback, run_sequence, run_arms, RunsAsUnrolled, BlocksRunAsUnrolled, ScopedBlocksRunAsUnrolled, InitialsRunAsUnrolled, FunctionsRunAsUnrolled}
 
 both_conds : (c : Bool) (x y v w : Effect) → x ≡ v → y ≡ w → (if c then x else y) ≡ (if c then v else w)
 both_conds true x y v w e f = e
@@ -208,6 +208,9 @@ blocks_run bound limits env loops b state l h =
     let s = block_statement limits env loops b in
     let n = both_nil (typed_control b.control (named env)).faults (s.faults ++ shared_heads loops.headed (block_heads env b)) h in
     runs_as_unrolled (limits.copies - loops.copies) bound b.statement (block_body b) (named env) state l (both_nil s.faults (shared_heads loops.headed (block_heads env b)) n.1).0
+
+pub scoped_blocks_run : ScopedBlocksRunAsUnrolled
+scoped_blocks_run bound limits b totals state l h = runs_as_unrolled (limits.copies - totals.loops.copies) bound b.block.statement (scoped_body (scoped_signals b totals) b.block) (named b.env) state l h
 
 pub initials_run : InitialsRunAsUnrolled
 initials_run bound limits env loops b state l h =

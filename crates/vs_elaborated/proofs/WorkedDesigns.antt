@@ -3,7 +3,7 @@ use Rattle.std.specs.Prelude.{refl}
 use Rattle.vs_lexer.specs.Spellings.{signs, keywords, left_out_words, system_names}
 use Rattle.vs_lexer.specs.Tokens.{word_kind, system_kind, sign_kind}
 use Rattle.vs_lexer.specs.Literals.{is_in_range, number_bits, literal_bits, literal_size, is_signed_literal, has_size}
-use Rattle.vs_elaborated.specs.ExampleDesigns.{WholeDesigns, Parameters, Overrides, ConvertedOverrides, Ports, Connections, Numbered, Blocks, Names, LoopsAndFunctions, IntegerVariables, InitialValues}
+use Rattle.vs_elaborated.specs.ExampleDesigns.{WholeDesigns, Parameters, Overrides, ConvertedOverrides, Ports, Connections, Numbered, Blocks, Names, LoopsAndFunctions, IntegerVariables, NamedBlocks, InitialValues}
 use Rattle.vs_elaborated.proofs.WorkedTexts.{elaborates, shows, alike}
 
 pub whole_designs : WholeDesigns
@@ -139,6 +139,16 @@ integer_variables = record {
   outer = shows refl;
   inner = elaborates refl;
   port = elaborates refl;
+}
+
+pub named_blocks : NamedBlocks
+unfolding is_in_range word_kind system_kind sign_kind signs keywords left_out_words system_names literal_bits is_signed_literal has_size literal_size number_bits
+named_blocks = record {
+  scopes = shows refl;
+  signals = shows refl;
+  own = elaborates refl;
+  none = shows refl;
+  function = shows refl;
 }
 
 pub initial_values : InitialValues

@@ -15,6 +15,7 @@ use Rattle.vs_const.specs.Typed.{Typed}
 use Rattle.vs_const.specs.Expressions.{is_clean, constant, number}
 use Rattle.vs_elaborated.specs.Limits.{Limits}
 use Rattle.vs_elaborated.specs.Environments.{Env, named}
+use Rattle.vs_elaborated.specs.NamedBlocks.{named_blocks, names_outside}
 use Rattle.vs_elaborated.specs.Generate.{Made, nothing_made, after_faults, block_of, one_block}
 use Rattle.vs_elaborated.specs.Loops.{holds, loop_made}
 
@@ -115,6 +116,10 @@ is_conditional (tree.GenerateIf place c taken other) = true
 is_conditional (tree.GenerateCase place subject arms other) = true
 is_conditional _ = false
 
+-- an always block makes no generate block, but its named blocks that are scopes have names (12.7)
+abbrev pub names_made : tree.AlwaysBlock → (total : ℕ) → Made
+names_made b total = record { blocks = []; names = names_outside (named_blocks b.statement); faults = []; turns = total }
+
 -- `n` is the construct's number in its scope, and `total` counts the turns of all loops so far
 abbrev mutual
   pub construct : tree.Item → Limits → Env → (n total : ℕ) → Made
@@ -131,6 +136,7 @@ abbrev mutual
         | false ↦ nothing_made c.faults total
         | true ↦ after_faults c.faults (elim c.arm [ None ↦ fallback other limits env n total | Some k ↦ arm_branch arms limits k env n total ])
       ]
+  construct (tree.AlwaysItem b) limits env n total = names_made b total
   construct _ limits env n total = nothing_made [] total
 
   pub branch : tree.GenerateBlock → Limits → Env → (n total : ℕ) → Made

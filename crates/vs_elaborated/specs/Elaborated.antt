@@ -1,18 +1,21 @@
 -- Elaboration of a text from its top: a design, or the first fault (IEEE 1364-2005, clause 12).
-use Rattle.std.specs.Prelude.{ℕ, zero, suc, ◌+◌, ◌*◌, ◌&&◌, List, [], ◌∷◌, ◌++◌, map, length, if◌then◌else◌, nat_lt, Option, Some, None, Result, Ok, Err}
-use Rattle.vs_design.specs.Expressions.{Signal, At, Name as NameOf}
+use Rattle.std.specs.Prelude.{ℕ, zero, suc, ◌+◌, ◌*◌, ◌&&◌, List, [], ◌∷◌, ◌++◌, map, flat_map, sum_by, length, if◌then◌else◌, nat_lt, Option, Some, None, Result, Ok, Err}
+use Rattle.vs_design.specs.Expressions.{Signal, signal_length, At, Name as NameOf}
 use Rattle.vs_design.specs.Statements.{Whole, Statement}
-use Rattle.vs_design.specs.Designs.{InputPort, OutputPort, Process, Continuous, Initial, Design}
+use Rattle.vs_design.specs.Designs.{InputPort, OutputPort, Process, Continuous, Always, Initial, Design}
 use Rattle.vs_grammar.specs.Trees.{Name, Module, Source}
 use Rattle.vs_const.specs.declared.faults.Fault.{Fault}
-use Rattle.vs_const.specs.Faults.{fault_if, least}
-use Rattle.vs_const.specs.declared.rules.Rule.TheVariants.{NoTop, DuplicateModule, InstanceDepth, TooManyInstances}
+use Rattle.vs_const.specs.Faults.{fault, fault_if, least}
+use Rattle.vs_const.specs.declared.rules.Rule.TheVariants.{NoTop, DuplicateModule, InstanceDepth, TooManyInstances, TooManyBits}
 use Rattle.vs_elaborated.specs.Limits.{Limits, the_limits}
-use Rattle.vs_elaborated.specs.Environments.{Declared, OfSignal, Entry, find_entry, no_env}
+use Rattle.vs_elaborated.specs.Environments.{Declared, OfSignal, Entry, find_entry, named, no_env}
 use Rattle.vs_elaborated.specs.Targets.{no_signal}
 use Rattle.vs_elaborated.specs.Ports.{find_module, is_named}
-use Rattle.vs_elaborated.specs.Pieces.{OfModule, Task, is_instance, Connection, IntoInput, FromOutput, Piece, Own, Initially, Instance, Within}
-use Rattle.vs_elaborated.specs.Surveys.{Totals, no_totals, Survey, survey}
+use Rattle.vs_elaborated.specs.Pieces.{OfModule, Task, is_instance, Connection, IntoInput, FromOutput, ScopedBlock, Piece, Own, OfScopes, Initially, Instance, Within}
+use Rattle.vs_elaborated.specs.Surveys.{Totals, no_totals, Survey, survey, scoped_signals, scoped_statement}
+use Rattle.vs_elaborated.specs.Statements.{TypedStatement, typed_control}
+use Rattle.vs_elaborated.specs.Functions.{LocalSignal}
+use Rattle.vs_elaborated.specs.NamedBlocks.{named_blocks, clashes_within, named_scopes}
 
 -- ---- designs one after the other
 
@@ -71,19 +74,61 @@ pub record ReadPieces : Type 0 where
   pub design : Design
   pub totals : Totals
 
+-- an always block with named blocks that are scopes, behind all that was read: these scopes, their signals, and its process (9.8.2)
+abbrev pub scoped_design : ScopedBlock → Totals → List LocalSignal → TypedStatement → Design
+scoped_design b totals ss s =
+    let c = typed_control b.block.control (named b.env) in
+    record {
+      scopes = named_scopes b.scope totals.scopes (named_blocks b.block.statement);
+      signals = map (λ (x : LocalSignal). x.meaning.signal) ss;
+      processes = Always b.block.place c.star c.events s.statement ∷ [];
+      initials = [];
+      functions = [];
+    }
+
+-- the first variable with whose bits there are more than the most
+abbrev pub variables_over : (most total : ℕ) → List LocalSignal → List Fault
+variables_over most total [] = []
+variables_over most total (s ∷ ss) =
+    let sum = total + (if s.meaning.known then signal_length s.meaning.signal else 0) in
+    if nat_lt most sum then fault TooManyBits s.place else variables_over most sum ss
+
+-- the counts behind it
+abbrev pub scoped_totals : ScopedBlock → Totals → List LocalSignal → TypedStatement → Totals
+scoped_totals b totals ss s =
+    record totals {
+      scopes = totals.scopes + length (named_blocks b.block.statement);
+      signals = totals.signals + length ss;
+      bits = totals.bits + sum_by (λ (x : LocalSignal). signal_length x.meaning.signal) ss;
+      loops = record totals.loops { copies = totals.loops.copies + s.copies };
+    }
+
+-- its faults, but for those of its event control and of the integers that head its loops
+abbrev pub scoped_faults : Limits → ScopedBlock → Totals → List Fault
+scoped_faults limits b totals =
+    let ss = scoped_signals b totals in
+    flat_map clashes_within (named_blocks b.block.statement) ++ (flat_map (λ (x : LocalSignal). x.faults) ss ++ ((scoped_statement limits b totals).faults ++ variables_over limits.bits totals.bits ss))
+
+abbrev pub read_scoped : Limits → ScopedBlock → Totals → Result ReadPieces Fault
+read_scoped limits b totals =
+    let ss = scoped_signals b totals in
+    let s = scoped_statement limits b totals in
+    unless_fault (scoped_faults limits b totals) λ u. Ok (record { design = scoped_design b totals ss s; totals = scoped_totals b totals ss s })
+
 -- one piece; `read` reads a scope
-abbrev pub read_piece : (Task → Totals → Result Read Fault) → Piece → Totals → Result ReadPieces Fault
-read_piece read (Own p) totals = Ok (record { design = of_processes (p ∷ []); totals = totals })
-read_piece read (Initially place statement) totals = Ok (record { design = of_initial place statement; totals = totals })
-read_piece read (Instance connections task) totals =
+abbrev pub read_piece : Limits → (Task → Totals → Result Read Fault) → Piece → Totals → Result ReadPieces Fault
+read_piece limits read (Own p) totals = Ok (record { design = of_processes (p ∷ []); totals = totals })
+read_piece limits read (OfScopes b) totals = read_scoped limits b totals
+read_piece limits read (Initially place statement) totals = Ok (record { design = of_initial place statement; totals = totals })
+read_piece limits read (Instance connections task) totals =
     then_do (read task totals) λ r. Ok (record { design = both_designs (of_processes (map (port_assign task.place r.entries) connections)) r.design; totals = r.totals })
-read_piece read (Within task) totals = then_do (read task totals) λ r. Ok (record { design = r.design; totals = r.totals })
+read_piece limits read (Within task) totals = then_do (read task totals) λ r. Ok (record { design = r.design; totals = r.totals })
 
 -- the pieces in text order
-abbrev pub read_pieces : (Task → Totals → Result Read Fault) → List Piece → Totals → Result ReadPieces Fault
-read_pieces read [] totals = Ok (record { design = of_processes []; totals = totals })
-read_pieces read (p ∷ ps) totals =
-    then_do (read_piece read p totals) λ a. then_do (read_pieces read ps a.totals) λ b. Ok (record { design = both_designs a.design b.design; totals = b.totals })
+abbrev pub read_pieces : Limits → (Task → Totals → Result Read Fault) → List Piece → Totals → Result ReadPieces Fault
+read_pieces limits read [] totals = Ok (record { design = of_processes []; totals = totals })
+read_pieces limits read (p ∷ ps) totals =
+    then_do (read_piece limits read p totals) λ a. then_do (read_pieces limits read ps a.totals) λ b. Ok (record { design = both_designs a.design b.design; totals = b.totals })
 
 -- an instance more; its depth and its number come before anything in it
 abbrev pub counted : Task → Totals → Totals
@@ -104,7 +149,7 @@ read_scope (suc left) limits source t totals =
     unless_fault (limit_faults limits t (counted t totals)) λ u.
     let s = survey limits source t (counted t totals) in
     unless_fault s.faults λ v.
-    then_do (read_pieces (read_scope left limits source) s.pieces s.totals) λ r. Ok (record { entries = s.entries; design = scope_design t s r.design; totals = r.totals })
+    then_do (read_pieces limits (read_scope left limits source) s.pieces s.totals) λ r. Ok (record { entries = s.entries; design = scope_design t s r.design; totals = r.totals })
 
 -- ---- the whole
 

@@ -1,5 +1,5 @@
 -- Worked designs: what each rule of elaboration gives.
-use Rattle.std.specs.Prelude.{◌≡◌, ℕ, true, false, List, [], ◌∷◌, ◌++◌, Option, Some, None, map, codes}
+use Rattle.std.specs.Prelude.{◌≡◌, ℕ, Bool, true, false, List, [], ◌∷◌, ◌++◌, Option, Some, None, map, codes}
 use Rattle.vs_four.specs.declared.Bit4.TheVariants.{Zero, One}
 use Rattle.vs_four.specs.declared.Range.{Range}
 use Rattle.vs_design.specs.Expressions.{Signal, signal_length, BitNot, BitAnd, Greater, Header, Name, Word, Unary, Binary, At, Call, NoItem, Item}
@@ -353,6 +353,36 @@ pub record IntegerVariables : Type 0 where
   pub inner : Elaborates the_limits (codes "module top(input a); genvar g; for (g = 0; g < 2; g = g + 1) begin : b integer n; always @* n = a; wire w = n[31]; end endmodule")
   -- its type may stand apart from a port's direction, as a variable's may
   pub port : Elaborates the_limits (codes "module top(n); output [31:0] n; integer n; always @* n = 1; endmodule")
+
+-- ---- named blocks that are scopes (9.8.2)
+
+-- a variable, and of a named block within another
+abbrev pub variable_in : (scope : ℕ) → List ℕ → (number : ℕ) → Option Range → (signed integer : Bool) → (first : ℕ) → Signal
+variable_in scope name number range signed integer first =
+    record { name = name; scope = scope; number = number; net = false; input = false; range = range; signed = signed; first = first; words = None; integer = integer }
+
+-- two within one another, and behind them a generate block
+abbrev pub blocks_text : List ℕ
+blocks_text = codes "module top(input a); reg q; always @* begin : g reg [1:0] t; integer n; t = a; n = t; begin : h reg u; u = n; q = u; end end if (1) begin : k wire w = q; end endmodule"
+
+-- each is a scope where it stands, with its variables
+pub record NamedBlocks : Type 0 where
+  pub scopes : Shows scopes_of (top_scope ∷ block_in 0 (codes "g") ∷ block_in 1 (codes "h") ∷ block_in 0 (codes "k") ∷ []) blocks_text
+  pub signals :
+      Shows signals_of (
+      a0
+      ∷ variable_in 0 (codes "q") 1 None false false 1
+      ∷ variable_in 1 (codes "t") 2 (to_zero 1) false false 2
+      ∷ variable_in 1 (codes "n") 3 (to_zero 31) true true 4
+      ∷ variable_in 2 (codes "u") 4 None false false 36
+      ∷ net_in 3 (codes "w") 5 None 37
+      ∷ []) blocks_text
+  -- what it declares may have the name of what is declared around, and its own name
+  pub own : Elaborates the_limits (codes "module top(input a); reg q, t; always @(t) begin : g reg t, g; t = a; g = t; q = g; end endmodule")
+  -- without a variable it is no scope: with integers of loops alone
+  pub none : Shows scopes_of (top_scope ∷ []) (codes "module top(input a); reg [1:0] q; always @* begin : g integer i; for (i = 0; i < 2; i = i + 1) q[i] = a; end endmodule")
+  -- nor is one in a function
+  pub function : Shows scopes_of (top_scope ∷ []) (codes "module top(input a, output y); function f(input u); begin : g reg t; t = ~u; f = t; end endfunction assign y = f(a); endmodule")
 
 -- ---- initial processes (9.9.1)
 

@@ -92,6 +92,12 @@ pub record RepeatedNames : Type 0 where
   pub named_later : AreRefused DuplicateName (codes "if (1) begin end wire ") (codes "genblk1;")
   pub two_blocks : AreRefused DuplicateName (codes "if (1) begin end if (1) begin : ") (codes "genblk1 end")
   pub two_blocks_later : AreRefused DuplicateName (codes "if (1) begin : genblk2 end if (1) ") (codes "begin end")
+  -- the name of a named block with a variable is one of the scope that it stands in, and so is that of one within another (12.7)
+  pub named_block : AreRefused DuplicateName (codes "reg g; always @* begin : ") (codes "g reg t; t = a; g = t; end")
+  pub named_block_later : AreRefused DuplicateName (codes "reg q; always @* begin : g reg t; t = a; q = t; end wire ") (codes "g;")
+  pub two_named_blocks : AreRefused DuplicateName (codes "reg q, r; always @* begin : g reg t; t = a; q = t; end always @* begin : ") (codes "g reg t; t = a; r = t; end")
+  pub inner_block : AreRefused DuplicateName (codes "reg q; always @* begin : g reg t; t = a; begin : ") (codes "t reg u; u = a; q = u; end end")
+  pub two_inner_blocks : AreRefused DuplicateName (codes "reg q; always @* begin : g reg t; t = a; begin : h reg u; u = t; q = u; end begin : ") (codes "h reg u; u = t; q = u; end end")
   -- a loop meets no value twice (12.4.1)
   pub value : AreRefused DuplicateName (codes "genvar i; ") (codes "for (i = 0; i < 2; i = 0) ;")
   pub value_of_32_bits : AreRefused DuplicateName (codes "genvar i; ") (codes "for (i = 0; i < 1; i = 40'h100000000) ;")
@@ -212,7 +218,7 @@ pub record FunctionRules : Type 0 where
   pub unknown : AreRefused UnknownName (codes "assign y = ") (codes "f(a);")
   -- nets with addresses, and variables of named blocks, aren't taken
   pub net_array : AreRefused WrongKind (codes "wire ") (codes "n [0:1];")
-  pub block_variable : AreRefused WrongKind (codes "always @* begin : b reg ") (codes "r; r = a; end")
+  pub block_variable : AreRefused WrongKind (codes "initial begin : b reg ") (codes "r; r = 1'b0; end")
 
 -- which of several faults is the first: that of the first scope, and there the one at the least place
 pub record FirstFaults : Type 0 where

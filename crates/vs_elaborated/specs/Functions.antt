@@ -16,7 +16,7 @@ use Rattle.vs_const.specs.Meanings.{SignalMeaning, FunctionMeaning, Meaning, ASi
 use Rattle.vs_elaborated.specs.Limits.{Limits}
 use Rattle.vs_elaborated.specs.Environments.{Declared, OfSignal, OfInteger, OfFunction, Entry, Env, inside_function, named, within}
 use Rattle.vs_elaborated.specs.Declarations.{FunctionOf, Declaration}
-use Rattle.vs_elaborated.specs.Parameters.{said_type, is_signed}
+use Rattle.vs_elaborated.specs.Parameters.{said_type, is_signed, is_integer_type}
 use Rattle.vs_const.specs.CallDepths.{calls_in}
 use Rattle.vs_elaborated.specs.Uses.{is_variable_in, is_variable_among}
 use Rattle.vs_elaborated.specs.Statements.{Body, Local, locals_of, scope_locals, repeated_locals, is_integer, unrolled_within}
@@ -82,7 +82,7 @@ local_signal env start role input v =
     record {
       place = v.name.place;
       meaning = record {
-        signal = record { name = v.name.bytes; scope = start.scope; number = start.signal; net = false; input = input; range = r.range; signed = is_signed v.value_type; first = start.bit; words = None; integer = false };
+        signal = record { name = v.name.bytes; scope = start.scope; number = start.signal; net = false; input = input; range = r.range; signed = is_signed v.value_type; first = start.bit; words = None; integer = is_integer_type v.value_type };
         input = input;
         role = role;
         known = r.known;
@@ -151,7 +151,7 @@ function_names scope env f = named (inside_function env (local_entries (function
 
 -- its statement stands in it
 abbrev pub function_body : Locals → Body
-function_body l = record { declared = λ place. meaning_or (signal_at (all_locals l) place); in_function = true; clocked = false; unrolls = true }
+function_body l = record { declared = λ place. meaning_or (signal_at (all_locals l) place); in_function = true; takes_variables = true; clocked = false; unrolls = true }
 
 -- ---- how deep calls nest
 

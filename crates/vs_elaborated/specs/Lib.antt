@@ -10,6 +10,7 @@ pub mod Heads
 pub mod Functions
 pub mod Generate
 pub mod Loops
+pub mod NamedBlocks
 pub mod Constructs
 pub mod Ports
 pub mod Pieces
@@ -19,6 +20,7 @@ pub mod Sound
 pub mod Numbers
 pub mod Runs
 pub mod Elaborated
+pub mod Scoped
 pub mod Laws
 pub mod Worked
 pub mod ExampleRefusals

@@ -10,7 +10,7 @@ use Rattle.vs_elaborated.specs.Limits.{Limits}
 use Rattle.vs_elaborated.specs.Environments.{Declared, OfFunction, Entry, Env, named}
 use Rattle.vs_elaborated.specs.Declarations.{Declaration}
 use Rattle.vs_elaborated.specs.Functions.{function_names, Counts, said_functions}
-use Rattle.vs_elaborated.specs.Pieces.{Task, Piece, Own, Initially, Instance, Within}
+use Rattle.vs_elaborated.specs.Pieces.{Task, Piece, Own, OfScopes, Initially, Instance, Within}
 use Rattle.vs_elaborated.specs.Surveys.{Totals, survey}
 
 -- ---- names
@@ -44,6 +44,7 @@ AreNumberedFrames d fs = Each (AreNumberedEntries d) fs
 -- of what is still to be read
 abbrev pub IsNumberedPiece : Design → Piece → Type 0
 IsNumberedPiece d (Own p) = Unit {0}
+IsNumberedPiece d (OfScopes b) = AreNumberedFrames d b.env.frames
 IsNumberedPiece d (Initially place statement) = Unit {0}
 IsNumberedPiece d (Instance connections task) = AreNumberedFrames d task.env.frames
 IsNumberedPiece d (Within task) = AreNumberedFrames d task.env.frames

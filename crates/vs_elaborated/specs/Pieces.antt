@@ -3,7 +3,7 @@ use Rattle.std.specs.Prelude.{ℕ, Bool, true, false, List, [], ◌∷◌, ◌++
 use Rattle.vs_design.specs.Expressions.{Expression}
 use Rattle.vs_design.specs.Statements.{Target, Statement}
 use Rattle.vs_design.specs.Designs.{Process}
-use Rattle.vs_grammar.specs.Trees.{Module, Item}
+use Rattle.vs_grammar.specs.Trees.{Module, Item, AlwaysBlock}
 use Rattle.vs_const.specs.declared.faults.Fault.{Fault}
 use Rattle.vs_elaborated.specs.Environments.{Env}
 use Rattle.vs_elaborated.specs.Parameters.{Override}
@@ -32,9 +32,17 @@ pub data Connection : Type 0 where
   IntoInput : (name : List ℕ) (e : Expression) → Connection
   FromOutput : (name : List ℕ) (place : ℕ) (target : Target) → Connection
 
--- a process of the scope's own, an initial process that begins at this place, an instance with its connections, or a generate block
+-- An always block with named blocks that are scopes, the scope that it stands in, and what names mean there. It is read when the numbers of these scopes and of their signals are known, which
+-- follow those of the instances and generate blocks before it.
+pub record ScopedBlock : Type 0 where
+  pub scope : ℕ
+  pub env : Env
+  pub block : AlwaysBlock
+
+-- a process of the scope's own, an always block with scopes, an initial process that begins at this place, an instance with its connections, or a generate block
 pub data Piece : Type 0 where
   Own : (process : Process) → Piece
+  OfScopes : (block : ScopedBlock) → Piece
   Initially : (place : ℕ) (statement : Statement) → Piece
   Instance : (connections : List Connection) (task : Task) → Piece
   Within : (task : Task) → Piece

@@ -15,7 +15,8 @@ use Rattle.vs_elaborated.specs.Environments.{Env, inside_function, named}
 use Rattle.vs_elaborated.specs.Targets.{typed_target}
 use Rattle.vs_elaborated.specs.Statements.{Body, typed_list, scope_locals, scoped, given, goes_on, most_turns, unrolled_within}
 use Rattle.vs_elaborated.specs.Functions.{function_locals, function_body, function_names, said_function}
-use Rattle.vs_elaborated.specs.Surveys.{Loops, block_body, block_statement, block_said, initial_body, initial_statement, initial_said}
+use Rattle.vs_elaborated.specs.Pieces.{ScopedBlock}
+use Rattle.vs_elaborated.specs.Surveys.{Loops, Totals, block_body, scoped_body, block_statement, plain_block_said, scoped_signals, scoped_statement, initial_body, initial_statement, initial_said}
 
 -- the length and the sign in which a case compares (9.5)
 abbrev pub labels_width : tree.CaseArms → Find → ℕ → ℕ
@@ -74,8 +75,13 @@ RunsAsUnrolled = (most bound : ℕ) (s : tree.Statement) (b : Body) (find : Find
 
 -- so does that of an always block without a fault, in its scope and in the order of loops
 abbrev pub BlocksRunAsUnrolled : Type 0
-BlocksRunAsUnrolled = (bound : ℕ) (limits : Limits) (env : Env) (loops : Loops) (b : tree.AlwaysBlock) (state : State) → most_turns ≤ bound → (block_said limits env loops b).faults ≡ []
+BlocksRunAsUnrolled = (bound : ℕ) (limits : Limits) (env : Env) (loops : Loops) (b : tree.AlwaysBlock) (state : State) → most_turns ≤ bound → (plain_block_said limits env loops b).faults ≡ []
     → runs bound b.statement (block_body b).declared (named env) state ≡ does (block_statement limits env loops b).statement state
+
+-- and that of one whose named blocks are scopes, behind all that was read
+abbrev pub ScopedBlocksRunAsUnrolled : Type 0
+ScopedBlocksRunAsUnrolled = (bound : ℕ) (limits : Limits) (b : ScopedBlock) (totals : Totals) (state : State) → most_turns ≤ bound → (scoped_statement limits b totals).faults ≡ []
+    → runs bound b.block.statement (scoped_body (scoped_signals b totals) b.block).declared (named b.env) state ≡ does (scoped_statement limits b totals).statement state
 
 -- and that of an initial block
 abbrev pub InitialsRunAsUnrolled : Type 0

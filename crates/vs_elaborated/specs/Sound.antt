@@ -7,7 +7,7 @@ use Rattle.vs_design.specs.Footprints.{is_net}
 use Rattle.vs_design.specs.Elaborated.{inside, is_signal, is_plain, is_lawful_range, is_formed, is_formed_target, has_constant_selects, is_formed_statement, is_formed_process, is_formed_function, has_clocked_words}
 use Rattle.vs_grammar.specs.Trees.{Name, Connections, Function, Item, Module, Source}
 use Rattle.vs_grammar.specs.Trees as tree
-use Rattle.vs_grammar.specs.Shapes.{Each, AreConnections, IsFunction, IsGenerateItem, IsModule}
+use Rattle.vs_grammar.specs.Shapes.{Each, AreConnections, IsControl, IsFunction, IsGenerateItem, IsModule, IsStatement}
 use Rattle.vs_grammar.specs.Depths.{deepest, item_depth}
 use Rattle.vs_const.specs.Meanings.{SignalMeaning, is_local, IsFairValue}
 use Rattle.vs_const.specs.Typed.{Typed}
@@ -15,11 +15,12 @@ use Rattle.vs_const.specs.Sound.{IsSoundFunction, IsSound, AreSound, IsFine}
 use Rattle.vs_elaborated.specs.Limits.{Limits}
 use Rattle.vs_elaborated.specs.Environments.{Declared, Later, OfSignal, OfParameter, OfGenvar, OfInteger, OfFunction, OfScope, Entry, Env, find_entry, signal_means, inside_function, named}
 use Rattle.vs_elaborated.specs.Parameters.{Override}
+use Rattle.vs_elaborated.specs.Statements.{typed_control}
 use Rattle.vs_elaborated.specs.Functions.{function_locals, header_of, function_names, function_body, said_function}
 use Rattle.vs_elaborated.specs.Instances.{Around, connection_name, said_overrides, instance_said}
 use Rattle.vs_elaborated.specs.Generate.{Nested, Made}
 use Rattle.vs_elaborated.specs.Constructs.{constructs}
-use Rattle.vs_elaborated.specs.Pieces.{Contents, OfModule, OfBlock, Task, Connection, IntoInput, FromOutput, Piece, Own, Initially, Instance, Within}
+use Rattle.vs_elaborated.specs.Pieces.{Contents, OfModule, OfBlock, Task, Connection, IntoInput, FromOutput, ScopedBlock, Piece, Own, OfScopes, Initially, Instance, Within}
 use Rattle.vs_elaborated.specs.Surveys.{Totals, overrides_of, survey}
 
 -- ---- names
@@ -77,9 +78,17 @@ pub record IsSoundTask (d : Design) (k : Task) : Type 0 where
   pub overrides : AreFineOverrides d (overrides_of k.contents)
   pub shaped : IsShapedContents k.contents
 
+-- an always block with scopes, of which all that is known before these is without a fault
+pub record IsSoundBlock (d : Design) (b : ScopedBlock) : Type 0 where
+  pub frames : AreSoundFrames d false b.env.frames
+  pub control : IsControl b.block.control
+  pub statement : IsStatement b.block.statement
+  pub clean : (typed_control b.block.control (named b.env)).faults ≡ []
+
 -- a piece without a fault
 abbrev pub IsFinePiece : Design → Piece → Type 0
 IsFinePiece d (Own p) = (is_formed_process d p ≡ true) × (has_clocked_words p ≡ true)
+IsFinePiece d (OfScopes b) = IsSoundBlock d b
 IsFinePiece d (Initially place statement) = is_formed_statement d statement ≡ true
 IsFinePiece d (Instance connections task) = Each (IsFineConnection d) connections × IsSoundTask d task
 IsFinePiece d (Within task) = IsSoundTask d task
@@ -109,6 +118,7 @@ pub record MeansSignal (d : Design) (es : List Entry) (name : List ℕ) : Type 0
 -- each port that an instance connects is a signal in it, if it is as the grammar has it and there is no fault in it (12.3.3)
 abbrev pub HasPorts : Design → Limits → Source → Piece → Type 0
 HasPorts d limits source (Own p) = Unit {0}
+HasPorts d limits source (OfScopes b) = Unit {0}
 HasPorts d limits source (Initially place statement) = Unit {0}
 HasPorts d limits source (Instance connections task) =
     (totals : Totals) → IsShapedContents task.contents → (survey limits source task totals).faults ≡ [] → AreSoundEntries d false (survey limits source task totals).entries

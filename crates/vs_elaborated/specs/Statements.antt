@@ -20,11 +20,12 @@ use Rattle.vs_const.specs.Typed.{Typed}
 use Rattle.vs_const.specs.Expressions.{typed, constant, is_clean}
 use Rattle.vs_elaborated.specs.Targets.{meant_signal, typed_target}
 
--- What a statement stands in, a block or a function: what a variable or an integer of a named block means that is declared at this place (9.8.2), whether it is a function (10.4), whether it is a
+-- What a statement stands in, a block or a function: what a variable or an integer of a named block means that is declared at this place (9.8.2), whether it is a function (10.4), whether variables of named blocks are taken, as they are in functions and in always blocks, whether it is a
 -- clocked block or an initial process, which alone write words of memories (4.9), and whether its loops are unrolled.
 pub record Body : Type 0 where
   pub declared : ℕ → Meaning
   pub in_function : Bool
+  pub takes_variables : Bool
   pub clocked : Bool
   pub unrolls : Bool
 
@@ -153,13 +154,13 @@ abbrev pub repeated_locals : List (List ℕ) → List Local → List Fault
 repeated_locals names [] = []
 repeated_locals names (v ∷ vs) = fault_if (list_any (same_name v.name.bytes) names) DuplicateName v.name.place ++ repeated_locals (v.name.bytes ∷ names) vs
 
--- a named block of an always block has integers alone
-abbrev pub untaken_locals : (in_function : Bool) → List Local → List Fault
+-- a named block of an initial block has integers alone
+abbrev pub untaken_locals : (takes_variables : Bool) → List Local → List Fault
 untaken_locals true vs = []
 untaken_locals false vs = flat_map (λ (v : Local). fault_if (not (is_integer v)) WrongKind v.name.place) vs
 
 abbrev pub local_faults : Body → List Local → List Fault
-local_faults body vs = repeated_locals [] vs ++ untaken_locals body.in_function vs
+local_faults body vs = repeated_locals [] vs ++ untaken_locals body.takes_variables vs
 
 abbrev pub in_block : List Fault → TypedStatement → TypedStatement
 in_block faults s = record s { faults = faults ++ s.faults }

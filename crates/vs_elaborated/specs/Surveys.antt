@@ -10,21 +10,22 @@ use Rattle.vs_grammar.specs.Trees.{Source, items_list, target_place}
 use Rattle.vs_const.specs.declared.faults.Fault.{Fault}
 use Rattle.vs_const.specs.Faults.{fault, fault_if}
 use Rattle.vs_const.specs.declared.rules.Rule.TheVariants.{DuplicateName, TooManyBits, TooManyProcesses, LoopVariable}
-use Rattle.vs_const.specs.Meanings.{Barred}
+use Rattle.vs_const.specs.Meanings.{Meaning, Barred}
 use Rattle.vs_const.specs.Expressions.{typed}
 use Rattle.vs_elaborated.specs.Limits.{Limits}
 use Rattle.vs_elaborated.specs.Environments.{OfScope, Entry, Env, within, with_turn, find_entry, named, Turn}
 use Rattle.vs_elaborated.specs.Targets.{typed_target}
 use Rattle.vs_elaborated.specs.Statements.{Body, TypedStatement, typed_control, assignment, is_clocked_by, unrolled_within}
 use Rattle.vs_elaborated.specs.Heads.{Integer, Head, headed, shared_heads}
-use Rattle.vs_elaborated.specs.Functions.{Counts, said_functions}
+use Rattle.vs_elaborated.specs.Functions.{LocalSignal, signal_at, meaning_or, Counts, said_functions}
+use Rattle.vs_elaborated.specs.NamedBlocks.{NamedBlock, named_blocks, named_signals}
 use Rattle.vs_elaborated.specs.Declarations.{Declaration, items_declared, module_declared, names_of, repeated_names}
 use Rattle.vs_elaborated.specs.Parameters.{Override, first_entries, said_parameters}
 use Rattle.vs_elaborated.specs.Signals.{is_reg, SaidSignal, said_signals, range_faults, array_faults, put_signals}
 use Rattle.vs_elaborated.specs.Generate.{Nested, BlockName, Made}
 use Rattle.vs_elaborated.specs.Constructs.{constructs}
 use Rattle.vs_elaborated.specs.Ports.{header_faults}
-use Rattle.vs_elaborated.specs.Pieces.{Contents, OfModule, OfBlock, Task, Piece, Own, Initially, Instance, Within, Said, nothing_said, one_said, both_said, all_said}
+use Rattle.vs_elaborated.specs.Pieces.{Contents, OfModule, OfBlock, Task, ScopedBlock, Piece, Own, OfScopes, Initially, Instance, Within, Said, nothing_said, one_said, both_said, all_said}
 use Rattle.vs_elaborated.specs.Instances.{Around, instances_said}
 
 -- ---- loops of blocks and of functions (9.6)
@@ -49,7 +50,7 @@ assign_said env place a =
 
 -- An initial process stands by itself, and writes words of memories (9.9.1); an integer of a named block is named within its loop alone.
 abbrev pub initial_body : Body
-initial_body = record { declared = λ place. Barred LoopVariable; in_function = false; clocked = true; unrolls = true }
+initial_body = record { declared = λ place. Barred LoopVariable; in_function = false; takes_variables = false; clocked = true; unrolls = true }
 
 -- `reg q = e` is `initial q = e` in its place (6.2.1)
 abbrev pub value_said : Env → tree.Name → tree.Expr → Said
@@ -78,9 +79,17 @@ abbrev pub ports_said : Env → tree.Header → Said
 ports_said env (tree.DeclaredPorts ports) = all_said (signals_said env) ports
 ports_said env _ = nothing_said []
 
--- An always block stands by itself: an integer of a named block is named within its loop alone, and no variable is taken.
+-- an always block, in whose named blocks the variables mean this
+abbrev pub body_with : (declared : ℕ → Meaning) → tree.AlwaysBlock → Body
+body_with declared b = record { declared = declared; in_function = false; takes_variables = true; clocked = is_clocked_by b.control; unrolls = true }
+
+-- one without named blocks that are scopes: an integer of a named block is named within its loop alone
 abbrev pub block_body : tree.AlwaysBlock → Body
-block_body b = record { declared = λ place. Barred LoopVariable; in_function = false; clocked = is_clocked_by b.control; unrolls = true }
+block_body b = body_with (λ place. Barred LoopVariable) b
+
+-- and one whose named blocks are scopes with these signals: a variable of one means the signal that is declared at its place (9.8.2)
+abbrev pub scoped_body : List LocalSignal → tree.AlwaysBlock → Body
+scoped_body ss b = body_with (λ place. meaning_or (signal_at ss place)) b
 
 -- the statement of an always block, behind so many copies
 abbrev pub block_statement : Limits → Env → Loops → tree.AlwaysBlock → TypedStatement
@@ -90,12 +99,30 @@ block_statement limits env loops b = unrolled_within (limits.copies - loops.copi
 abbrev pub block_heads : Env → tree.AlwaysBlock → List Head
 block_heads env b = headed b.statement [] env
 
--- an always block (9.9.2)
-abbrev pub block_said : Limits → Env → Loops → tree.AlwaysBlock → Said
-block_said limits env loops b =
+-- an always block without named blocks that are scopes (9.9.2)
+abbrev pub plain_block_said : Limits → Env → Loops → tree.AlwaysBlock → Said
+plain_block_said limits env loops b =
     let c = typed_control b.control (named env) in
     let s = block_statement limits env loops b in
     one_said (Own (Always b.place c.star c.events s.statement)) (c.faults ++ (s.faults ++ shared_heads loops.headed (block_heads env b)))
+
+-- one with such blocks, whose statement is looked at where these are read
+abbrev pub scoped_block_said : Around → Loops → tree.AlwaysBlock → Said
+scoped_block_said around loops b =
+    one_said (OfScopes (record { scope = around.scope; env = around.env; block = b })) ((typed_control b.control (named around.env)).faults ++ shared_heads loops.headed (block_heads around.env b))
+
+-- an always block, by its named blocks that are scopes
+abbrev pub block_by : List NamedBlock → Limits → Around → Loops → tree.AlwaysBlock → Said
+block_by [] limits around loops b = plain_block_said limits around.env loops b
+block_by (n ∷ ns) limits around loops b = scoped_block_said around loops b
+
+abbrev pub block_said : Limits → Around → Loops → tree.AlwaysBlock → Said
+block_said limits around loops b = block_by (named_blocks b.statement) limits around loops b
+
+-- how many statements its loops copy: those of one with such blocks are counted where these are read
+abbrev pub copies_by : List NamedBlock → Limits → Env → Loops → tree.AlwaysBlock → ℕ
+copies_by [] limits env loops b = (block_statement limits env loops b).copies
+copies_by (n ∷ ns) limits env loops b = 0
 
 -- the statement of an initial block, behind so many copies
 abbrev pub initial_statement : Limits → Env → Loops → tree.InitialBlock → TypedStatement
@@ -114,7 +141,7 @@ initial_said limits env loops b =
 -- behind an item: an always block and an initial block have loops
 abbrev pub loops_after : Limits → Env → Loops → tree.Item → Loops
 loops_after limits env loops (tree.AlwaysItem b) =
-    record { copies = loops.copies + (block_statement limits env loops b).copies; headed = loops.headed ++ map (λ (h : Head). h.integer) (block_heads env b) }
+    record { copies = loops.copies + copies_by (named_blocks b.statement) limits env loops b; headed = loops.headed ++ map (λ (h : Head). h.integer) (block_heads env b) }
 loops_after limits env loops (tree.InitialItem b) =
     record { copies = loops.copies + (initial_statement limits env loops b).copies; headed = loops.headed ++ map (λ (h : Head). h.integer) (initial_heads env b) }
 loops_after limits env loops item = loops
@@ -137,7 +164,7 @@ nested_piece around b = Within (record { name = b.name; parent = Some around.sco
 abbrev pub item_said : Limits → Source → Around → Loops → tree.Item → Made → Said
 item_said limits source around loops (tree.SignalsItem t) made = signals_said around.env t
 item_said limits source around loops (tree.AssignsItem place assigns) made = all_said (assign_said around.env place) assigns
-item_said limits source around loops (tree.AlwaysItem block) made = block_said limits around.env loops block
+item_said limits source around loops (tree.AlwaysItem block) made = block_said limits around loops block
 item_said limits source around loops (tree.InitialItem block) made = initial_said limits around.env loops block
 item_said limits source around loops (tree.InstancesItem t) made = instances_said source around t
 item_said limits source around loops item made = record { pieces = map (nested_piece around) made.blocks; faults = [] }
@@ -185,6 +212,13 @@ pub record Totals : Type 0 where
 abbrev pub no_totals : Totals
 no_totals = record { scopes = 0; signals = 0; bits = 0; instances = 0; turns = 0; functions = 0; loops = no_loops; processes = 0 }
 
+-- an always block with named blocks that are scopes, behind all that was read: the signals of these, and its statement, which names them
+abbrev pub scoped_signals : ScopedBlock → Totals → List LocalSignal
+scoped_signals b totals = named_signals b.env (record { scope = totals.scopes; signal = totals.signals; bit = totals.bits }) (named_blocks b.block.statement)
+
+abbrev pub scoped_statement : Limits → ScopedBlock → Totals → TypedStatement
+scoped_statement limits b totals = unrolled_within (limits.copies - totals.loops.copies) b.block.statement (scoped_body (scoped_signals b totals) b.block) (named b.env)
+
 -- before the functions of a scope
 abbrev pub counts_of : Totals → Counts
 counts_of totals = record { copies = totals.loops.copies; functions = totals.functions }
@@ -199,6 +233,7 @@ bits_over most total (s ∷ ss) =
 -- where its processes begin in the text
 abbrev pub piece_place : Piece → ℕ
 piece_place (Own p) = process_place p
+piece_place (OfScopes b) = b.block.place
 piece_place (Initially place statement) = place
 piece_place (Instance connections task) = task.place
 piece_place (Within task) = 0
@@ -206,6 +241,7 @@ piece_place (Within task) = 0
 -- an instance has one for each connected port (12.3.9.2)
 abbrev pub piece_processes : Piece → ℕ
 piece_processes (Own p) = 1
+piece_processes (OfScopes b) = 1
 piece_processes (Initially place statement) = 1
 piece_processes (Instance connections task) = length connections
 piece_processes (Within task) = 0

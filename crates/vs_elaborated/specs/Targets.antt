@@ -1,7 +1,7 @@
 -- What an assign or an assignment writes (IEEE 1364-2005, table 6-1).
 use Rattle.std.specs.Prelude.{ℕ, Bool, true, false, not, ◌&&◌, ◌||◌, List, [], ◌++◌, if◌then◌else◌, Option, Some, None}
 use Rattle.vs_design.specs.Expressions.{Signal}
-use Rattle.vs_design.specs.Statements.{Target, Whole, PartOf, WordOf, Both}
+use Rattle.vs_design.specs.Statements.{Target, Whole, PartOf, WordOf, WordPartOf, Both}
 use Rattle.vs_grammar.specs.Trees as tree
 use Rattle.vs_grammar.specs.Trees.{expr_place}
 use Rattle.vs_const.specs.declared.faults.Fault.{Fault}
@@ -9,9 +9,9 @@ use Rattle.vs_const.specs.Faults.{fault, fault_if}
 use Rattle.vs_const.specs.declared.rules.Rule.TheVariants.{WrongKind, LoopVariable, FunctionRule}
 use Rattle.vs_const.specs.declared.rules.Rule.{Rule}
 use Rattle.vs_const.specs.Meanings.{SignalMeaning, Meaning, AValue, ASignal, AMemory, Find, steady, is_local}
-use Rattle.vs_const.specs.Selects.{Base, no_base, signal_base, is_scalar, Taken, taken, slice_taken, first_needed, first_names, wrong_rule}
+use Rattle.vs_const.specs.Selects.{Base, no_base, signal_base, is_scalar, Taken, taken, slice_taken, first_needed, first_names, word_range, wrong_rule}
 use Rattle.vs_const.specs.Typed.{Typed}
-use Rattle.vs_const.specs.Expressions.{typed}
+use Rattle.vs_const.specs.Expressions.{typed, taken_by}
 
 -- what stands where no signal is named
 abbrev pub no_signal : Signal
@@ -59,6 +59,18 @@ abbrev pub bit_target : (procedural : Bool) → (place : ℕ) → Meaning → Ty
 bit_target procedural place (AMemory m) i = word_target procedural place m i
 bit_target procedural place m i = let b = target_base procedural place true m in part_target (meant_signal m) b (taken b.range true 1 i i.faults)
 
+-- bits of a word (5.2.2)
+abbrev pub word_part_target : (procedural : Bool) → (place : ℕ) → SignalMeaning → Typed → Taken → TypedTarget
+word_part_target procedural place m a t = record {
+  target = WordPartOf m.signal a.expression t.part t.index;
+  faults = fault_if (is_wrong_target procedural m) WrongKind place ++ (fault_if (is_scalar m) WrongKind place ++ (a.faults ++ t.faults));
+}
+
+-- `name[address]` with a further select: of a memory
+abbrev pub further_target : (procedural : Bool) → (place : ℕ) → Meaning → Typed → Taken → TypedTarget
+further_target procedural place (AMemory m) a t = word_part_target procedural place m a t
+further_target procedural place m a t = record { target = Whole no_signal; faults = fault (unwritten_rule m) place }
+
 -- the index of an assign's target is a constant
 abbrev pub selected_target : tree.Select → tree.Name → Find → Bool → TypedTarget
 selected_target tree.Whole name find procedural =
@@ -67,7 +79,9 @@ selected_target (tree.BitAt bracket index) name find procedural = bit_target pro
 selected_target (tree.Slice bracket kind e f) name find procedural =
     let b = target_base procedural name.place true (find name.bytes) in
     part_target (meant_signal (find name.bytes)) b (slice_taken b.range bracket kind (expr_place e) (typed e (first_names kind find) (first_needed kind (not procedural))) (expr_place f) (typed f (steady find) true))
-selected_target (tree.OfWord bracket address part) name find procedural = record { target = Whole no_signal; faults = fault (unwritten_rule (find name.bytes)) name.place }
+selected_target (tree.OfWord bracket address part) name find procedural =
+    let m = find name.bytes in
+    further_target procedural name.place m (typed address find (not procedural)) (taken_by (word_range m) part find (not procedural))
 
 -- the left one has the higher bits
 abbrev pub both_targets : TypedTarget → TypedTarget → TypedTarget

@@ -1,8 +1,8 @@
 -- What worked texts elaborate to. In all of them the top is called `top`.
 use Rattle.std.specs.Prelude.{◌≡◌, ℕ, List, ◌++◌, filter, length, map, codes, nat_lt, Result, Ok, Err}
 use Rattle.vs_lexer.specs.declared.token.Token.{Token}
-use Rattle.vs_design.specs.Expressions.{Expression, Literal, Name, Select, Word, Unary, Binary, Choice, Join, Repeat, At, Call, Items, NoItem, Item}
-use Rattle.vs_design.specs.Statements.{Target, Whole, PartOf, WordOf, Both, Statement, Empty, Assignment, Then, If, Case, Arms, Arm, Default}
+use Rattle.vs_design.specs.Expressions.{Expression, Literal, Name, Select, Word, WordPart, Unary, Binary, Choice, Join, Repeat, At, Call, Items, NoItem, Item}
+use Rattle.vs_design.specs.Statements.{Target, Whole, PartOf, WordOf, WordPartOf, Both, Statement, Empty, Assignment, Then, If, Case, Arms, Arm, Default}
 use Rattle.vs_design.specs.Designs.{Process, Continuous, Always, Initial, Design}
 use Rattle.vs_grammar.specs.Trees.{Source}
 use Rattle.vs_grammar.specs.Spelled.{Spells}
@@ -62,6 +62,7 @@ abbrev mutual
   unplaced (Name signal) = Name signal
   unplaced (Select source part index) = Select source part (unplaced index)
   unplaced (Word signal index) = Word signal (unplaced index)
+  unplaced (WordPart signal address part index) = WordPart signal (unplaced address) part (unplaced index)
   unplaced (Unary op a) = Unary op (unplaced a)
   unplaced (Binary op a b) = Binary op (unplaced a) (unplaced b)
   unplaced (Choice c p q) = Choice (unplaced c) (unplaced p) (unplaced q)
@@ -80,6 +81,7 @@ abbrev mutual
   unplaced_target (Whole signal) = Whole signal
   unplaced_target (PartOf signal part index) = PartOf signal part (unplaced index)
   unplaced_target (WordOf signal index) = WordOf signal (unplaced index)
+  unplaced_target (WordPartOf signal address part index) = WordPartOf signal (unplaced address) part (unplaced index)
   unplaced_target (Both high low) = Both (unplaced_target high) (unplaced_target low)
 
   pub unplaced_statement : Statement → Statement

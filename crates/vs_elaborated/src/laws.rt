@@ -1,10 +1,11 @@
 //! What holds of every elaborated design, and worked texts.
 
-ghost use Rattle.vs_elaborated.specs.ExampleDesigns.{WholeDesigns, Parameters, Overrides, ConvertedOverrides, Ports, Connections, Numbered, Blocks, Names, LoopsAndFunctions, IntegerVariables, InitialValues};
+ghost use Rattle.vs_elaborated.specs.ExampleDesigns.{WholeDesigns, Parameters, Overrides, ConvertedOverrides, Ports, Connections, Numbered, Blocks, Names, LoopsAndFunctions, IntegerVariables, NamedBlocks, InitialValues};
 ghost use Rattle.vs_elaborated.specs.ExampleRefusals.{NotConstants, UnknownConstants, WrongModules, UnknownNames, RepeatedNames, BadRanges, WrongConnections, WrongKinds, OtherKinds, LoopVariables, FunctionRules, FirstFaults, Limited};
 ghost use Rattle.vs_elaborated.specs.Laws.{DepthIsEnough, ElaboratedIsLawful};
 ghost use Rattle.vs_elaborated.specs.Numbers.{FunctionNamesAreNumbered, FunctionsAreCounted, FunctionsAreNumbered, MoreFunctionsStand, NamesAreNumbered, NumbersStay, ScopesAreNumbered};
-ghost use Rattle.vs_elaborated.specs.Runs.{BlocksRunAsUnrolled, FunctionsRunAsUnrolled, InitialsRunAsUnrolled, RunsAsUnrolled};
+ghost use Rattle.vs_elaborated.specs.Runs.{BlocksRunAsUnrolled, FunctionsRunAsUnrolled, InitialsRunAsUnrolled, RunsAsUnrolled, ScopedBlocksRunAsUnrolled};
+ghost use Rattle.vs_elaborated.specs.Scoped.{BlocksAreShaped, BlocksComeBefore, VariablesAreCounted, VariablesAreFew, VariablesAreSound};
 ghost use Rattle.vs_elaborated.specs.Sound.{BlocksAreLower, FaultlessIsFair, FunctionsAreFormed, FunctionsSeeSound, InstancesHavePorts, NamesAreSound, OverridesAreFine, PortsAreSignals, SignalsAreCounted};
 
 /// Every design that a text elaborates to is lawful (IEEE 1364-2005, clause 12), and no text has scopes deeper within one another than are read.
@@ -47,11 +48,23 @@ pub fn number_law()
     ensures more { MoreFunctionsStand }
 {}
 
+/// What holds of named blocks that are scopes (IEEE 1364-2005, 9.8.2): their variables have types of the grammar, each block stands in one before it or in
+/// none, and the variables are numbered behind all that was read; where there is no fault these have no more bits than the limit, and in a design that has
+/// them each means a signal of it.
+pub fn named_law()
+    ensures shaped { BlocksAreShaped }
+    ensures before { BlocksComeBefore }
+    ensures counted { VariablesAreCounted }
+    ensures few { VariablesAreFew }
+    ensures sound { VariablesAreSound }
+{}
+
 /// The statement of an always block, of an initial block or of a function that has no fault does as it is written, with the integers of its loops as numbers that are tested
 /// and stepped, what its unrolled one does, from every state (IEEE 1364-2005, 9.6).
 pub fn unroll_law()
     ensures statements { RunsAsUnrolled }
     ensures blocks { BlocksRunAsUnrolled }
+    ensures scoped { ScopedBlocksRunAsUnrolled }
     ensures initials { InitialsRunAsUnrolled }
     ensures functions { FunctionsRunAsUnrolled }
 {}
@@ -69,6 +82,7 @@ pub fn design_examples()
     ensures names { Names }
     ensures loops_and_functions { LoopsAndFunctions }
     ensures integer_variables { IntegerVariables }
+    ensures named_blocks { NamedBlocks }
     ensures initial_values { InitialValues }
 {}
 

@@ -6,6 +6,6 @@
 mod laws;
 
 pub use laws::{
-    design_examples, elaborated_law, instance_law, number_law, refusal_examples, scope_law,
-    unroll_law,
+    design_examples, elaborated_law, instance_law, named_law, number_law, refusal_examples,
+    scope_law, unroll_law,
 };

@@ -1,10 +1,10 @@
 -- An input's pairs, and the planes that they are packed from.
 use Rattle.std.proofs.Common.{◌≡◌, ◌≢◌, ℕ, zero, suc, ◌+◌, ◌-◌, ◌*◌, ◌/◌, ◌%◌, ◌^◌, ◌<◌, ◌≤◌, ◌==◌, Bool, true, false, List, [], ◌∷◌, ◌++◌, length, get_or, set, take, drop, map, replicate, sum, refl, sym, ap, ap₂, ◌∙◌, subst, inl, inr, arith}
 use Rattle.std.proofs.lemmas.Bool.{cases_eq, cases_lt}
-use Rattle.std.proofs.lemmas.List.{length-replicate, get_or_past, get_or_read, get_or-set_same, get_or-set_other, take-map, map-append, append_assoc, length-append, length-drop, length-take-le, get_or-take, get_or-drop, ext_get_or}
+use Rattle.std.proofs.lemmas.List.{length-replicate, get_or_past, get_or_read, get_or-set_same, get_or-set_other, length-map, map-set, take-map, map-append, append_assoc, length-append, length-drop, length-take-le, get_or-take, get_or-drop, ext_get_or}
 use Rattle.std.proofs.Math.Seq.{take-add, take-append_seam}
 use Rattle.std.proofs.lemmas.Nat.{pow_pos}
-use Rattle.std.proofs.lemmas.Nat.Bits.{bit_at_lowest, shr_and_one}
+use Rattle.std.proofs.lemmas.Nat.Bits.{bit_at-lt, bit_at_lowest, shr_and_one}
 use Rattle.std.proofs.Math.Nat.{pow-suc}
 use Rattle.std.specs.Prelude.{bit_and}
 use Rattle.std.specs.Int.{bit_at}
@@ -18,7 +18,8 @@ use Rattle.vs_stim.specs.Known.{Known}
 use Rattle.vs_stim.specs.Row.{sizes}
 use Rattle.vs_feed.specs.Lanes.{ended, lane_at, AreLanes}
 use Rattle.vs_feed.specs.Fed.{driven, driven_value, HaveBits, IsWide, AreFed}
-use Rattle.vs_feed.proofs.Feeds.{IsPlaced, length_driven, fed_bit, placed, offset_more, offset_within, value_size}
+use Rattle.vs_plane.proofs.ColumnBits.{get_or-planes}
+use Rattle.vs_feed.proofs.Feeds.{unknown_at, IsPlaced, length_driven, fed_bit, placed, offset_more, offset_within, value_size}
 
 -- planes of ones are x
 unknown_planes : (n k : ℕ) → n ≤ k → bits_of_planes n (2 ^ k - 1) (2 ^ k - 1) ≡ replicate n X
@@ -213,3 +214,54 @@ input_fed {W} lane lanes first count number m ks pairs news bits input same long
           ∙ sym (take-add first count all)
           ∙ ap (λ n. take (first + count) (driven n (lane_at ks i))) (sym total);
     }
+
+-- ---- the only stimulus
+
+-- bit m of lane i, where lane 0 has these planes and the others x
+abbrev pub lone_bit : ℕ → ℕ → ℕ → ℕ → Bit4
+lone_bit value unknown m zero = decode (bit_at value m == 1) (bit_at unknown m == 1)
+lone_bit value unknown m (suc i) = X
+
+-- the first pairs have these bits
+pub record AreLone {W : Type 0} (lane : W → ℕ → Bool) (lanes done value unknown : ℕ) (pairs : List (Pair W)) : Type 0 where
+  pub each : (i m : ℕ) → i < lanes → m < done → get_or (map (λ p. pair_lane lane p i) pairs) m X ≡ lone_bit value unknown m i
+
+pub none_lone : {W : Type 0} (lane : W → ℕ → Bool) (lanes value unknown : ℕ) (pairs : List (Pair W)) → AreLone lane lanes 0 value unknown pairs
+none_lone lane lanes value unknown pairs = record { each = λ i m h l. absurd (let e : ⊥ = omega arith in e) }
+
+pub lone_more : {W : Type 0} (lane : W → ℕ → Bool) (lanes done value unknown : ℕ) (pairs : List (Pair W)) (new : Pair W) → done < length pairs
+    → pair_lane lane new 0 ≡ decode (bit_at value done == 1) (bit_at unknown done == 1) → ((i : ℕ) → 0 < i → i < lanes → pair_lane lane new i ≡ X)
+    → AreLone lane lanes done value unknown pairs → AreLone lane lanes (done + 1) value unknown (set pairs done new)
+lone_more {W} lane lanes done value unknown pairs new room first others so_far = record {
+  each = λ i m h l.
+      let f = λ (p : Pair W). pair_lane lane p i in
+      ap (λ (bs : List Bit4). get_or bs m X) (map-set f pairs done new)
+      ∙ elim (cases_eq m done) as (λ _. get_or (set (map f pairs) done (f new)) m X ≡ lone_bit value unknown m i) [
+        | inl e ↦ subst (λ (n : ℕ). get_or (set (map f pairs) done (f new)) n X ≡ lone_bit value unknown n i) (sym e)
+            (get_or-set_same (map f pairs) done (f new) X (omega (arith, length-map pairs f)) ∙ here i h)
+        | inr ne ↦ get_or-set_other (map f pairs) done m (f new) X ne ∙ so_far.each i m h (omega arith)
+      ];
+}
+  where
+    here : (i : ℕ) → i < lanes → pair_lane lane new i ≡ lone_bit value unknown done i
+    here zero h = first
+    here (suc i) h = others (suc i) (omega arith) h
+
+-- and all of them are the input's value
+pub lone_all : {W : Type 0} (lane : W → ℕ → Bool) (lanes count value unknown : ℕ) (pairs : List (Pair W)) (ks : List Known) (number i : ℕ)
+    → length pairs ≡ count → length ks ≡ 1 → i < lanes → IsWide number count ks → count ≤ 64 → bits_of_planes count value unknown ≡ driven_value count (lane_at ks 0) number
+    → ((j m : ℕ) → j < lanes → m < count → get_or (map (λ p. pair_lane lane p j) pairs) m X ≡ lone_bit value unknown m j)
+    → map (λ p. pair_lane lane p i) pairs ≡ driven_value count (lane_at ks i) number
+lone_all {W} lane lanes count value unknown pairs ks number i long lone h wide most first each =
+    ext_get_or X (map (λ (p : Pair W). pair_lane lane p i) pairs) (driven_value count (lane_at ks i) number)
+    (length-map pairs (λ (p : Pair W). pair_lane lane p i) ∙ long ∙ sym (value_length count number ks i wide))
+    (λ m l.
+    let below : m < count = omega (arith, l, length-map pairs (λ (p : Pair W). pair_lane lane p i), long) in
+    each i m h below ∙ bit i m below)
+  where
+    bit : (j m : ℕ) → m < count → lone_bit value unknown m j ≡ get_or (driven_value count (lane_at ks j) number) m X
+    bit zero m below =
+        sym (get_or-planes count value unknown m below ∙ decode_is (bit_at value m) (bit_at unknown m) (bit_at-lt value m) (bit_at-lt unknown m))
+        ∙ ap (λ (bs : List Bit4). get_or bs m X) first
+    bit (suc j) m below =
+        sym (unknown_at count m) ∙ sym (ap (λ (bs : List Bit4). get_or bs m X) (value_ended count (lane_at ks (suc j)) number (past_ended ks (suc j) (omega arith))))

@@ -3,6 +3,7 @@
 ghost use Rattle.std.specs.Prelude.{◌≡◌, ◌≢◌, ℕ, ◌+◌, ◌*◌, ◌/◌, ◌%◌, ◌<◌, ◌≤◌, [], ◌∷◌, length, map, slice_index, slice_index_or, ◌==◌};
 ghost use Rattle.std.specs.Int.{bit_at};
 ghost use Rattle.vs_desk.specs.Places.{most_lanes};
+ghost use Rattle.vs_four.specs.declared.Bit4.TheVariants.{X};
 ghost use Rattle.vs_four.specs.Planes.{bits_of_planes};
 ghost use Rattle.vs_plane.specs.Lanes.{decode, pair_lane};
 ghost use Rattle.vs_feed.specs.Lanes.{lane_at, AreLanes};
@@ -97,13 +98,46 @@ fn feed_group<W: Lanes>(stimuli: &[Stimulus], input: usize, k: u32, pairs: &mut 
     }
 }
 
-/// Packs an input into its pairs, one for each bit, 64 lanes at a time.
-fn feed_input<W: Lanes>(stimuli: &[Stimulus], input: usize, pairs: &mut [Pair<W>])
+/// The pair with this bit, by its two planes, in lane 0, and x in the others.
+#[inline]
+fn lone_pair<W: Lanes>(value: bool, unknown: bool) -> Pair<W>
+    requires { 0 < W.LANES }
+    ensures first { pair_lane W.lane result 0 ≡ decode value unknown }
+    ensures others { (i : ℕ) → 0 < i → i < W.LANES → pair_lane W.lane result i ≡ X }
+{
+    Pair {
+        value: W::all().with(0, value),
+        unknown: W::all().with(0, unknown),
+    }
+}
+
+/// Packs an input of the only stimulus into its pairs, one for each bit.
+fn feed_lone<W: Lanes>(stimuli: &[Stimulus], input: usize, pairs: &mut [Pair<W>])
+    requires lone { length stimuli.now ≡ 1 }
+    requires some { 0 < W.LANES }
     requires input { IsWide input (length pairs.old) stimuli.now }
     requires most { length pairs.old ≤ 64 }
     ensures count { length pairs.new ≡ length pairs.old }
     ensures packed { (i : ℕ) → i < W.LANES → map (λ p. pair_lane W.lane p i) pairs.new ≡ driven_value (length pairs.old) (lane_at stimuli.now i) input }
 {
+    let (value, unknown) = planes_of(stimuli, input, 0);
+    for n in 0..pairs.len() {
+        pairs[n] = lone_pair((value >> n) & 1 == 1, (unknown >> n) & 1 == 1);
+    }
+}
+
+/// Packs an input into its pairs, one for each bit: of the only stimulus bit by bit, of more 64 lanes at a time.
+fn feed_input<W: Lanes>(stimuli: &[Stimulus], input: usize, pairs: &mut [Pair<W>])
+    requires some { 0 < W.LANES }
+    requires input { IsWide input (length pairs.old) stimuli.now }
+    requires most { length pairs.old ≤ 64 }
+    ensures count { length pairs.new ≡ length pairs.old }
+    ensures packed { (i : ℕ) → i < W.LANES → map (λ p. pair_lane W.lane p i) pairs.new ≡ driven_value (length pairs.old) (lane_at stimuli.now i) input }
+{
+    if stimuli.len() == 1 {
+        feed_lone(stimuli, input, pairs);
+        return;
+    }
     for k in 0..W::LANES / 64 {
         feed_group(stimuli, input, k, pairs);
     }

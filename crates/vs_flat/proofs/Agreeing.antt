@@ -9,7 +9,7 @@ use Rattle.vs_design.specs.Expressions as E
 use Rattle.vs_design.specs.Statements as T
 use Rattle.vs_design.specs.Designs as D
 use Rattle.vs_flat.specs.declared.expressions.Node.{Node}
-use Rattle.vs_flat.specs.declared.expressions.Node.TheVariants.{Literal, Name, Bit, Part as PartSelect, Word, Unary, Binary, Choice, Join, Local, Call}
+use Rattle.vs_flat.specs.declared.expressions.Node.TheVariants.{Literal, Name, Bit, Part as PartSelect, Word, WordPart, Unary, Binary, Choice, Join, Local, Call}
 use Rattle.vs_flat.specs.declared.processes.Event.{Event}
 use Rattle.vs_flat.specs.declared.processes.Kind.{Kind}
 use Rattle.vs_flat.specs.declared.processes.Kind.TheVariants as K
@@ -91,6 +91,7 @@ agreed_by s t f g (Name m) h i = tt
 agreed_by s t f g (Bit of range index) h i = tt
 agreed_by s t f g (PartSelect of range base up width) h i = tt
 agreed_by s t f g (Word m index) h i = tt
+agreed_by s t f g (WordPart m address range base up width) h i = tt
 agreed_by s t f g (Unary op a) h i = tt
 agreed_by s t f g (Binary op a b) h i = tt
 agreed_by s t f g (Choice c p q) h i = tt
@@ -115,6 +116,13 @@ node_agrees signals nodes s t f g (Word m index) ss ff c h =
     let e = ss m (first_below signals m [] b.0) in
     let i = ff index (first_below nodes index [] b.1) in
     ap (λ x. E.Word x (f index)) e ∙ ap (λ x. E.Word (t.signal m) x) i
+node_agrees signals nodes s t f g (WordPart m address range base up width) ss ff c h =
+    let b = node_parts signals nodes (WordPart m address range base up width) h in
+    let part : Part = record { range = range; up = up; width = width } in
+    let e = ss m (first_below signals m [] b.0) in
+    let a = ff address (first_below nodes address (base ∷ []) b.1) in
+    let i = ff base (first_below nodes base [] (rest_below nodes address (base ∷ []) b.1)) in
+    ap (λ x. E.WordPart x (f address) part (f base)) e ∙ ap (λ x. E.WordPart (t.signal m) x part (f base)) a ∙ ap (λ x. E.WordPart (t.signal m) (g address) part x) i
 node_agrees signals nodes s t f g (Unary op a) ss ff c h = ap (E.Unary op) (ff a (first_below nodes a [] h))
 node_agrees signals nodes s t f g (Binary op a b) ss ff c h =
     let left : f a ≡ g a = ff a (first_below nodes a (b ∷ []) h) in

@@ -6,7 +6,7 @@ use Rattle.std.proofs.lemmas.Bool.{lt-ltb, ltb-true, leb-true, le-leb}
 use Rattle.std.proofs.lemmas.List.Folds.{list_all-append}
 use Rattle.vs_flat.specs.declared.placed.Placed.{Placed}
 use Rattle.vs_flat.specs.declared.expressions.Node.{Node}
-use Rattle.vs_flat.specs.declared.expressions.Node.TheVariants.{Literal, Name, Bit, Part, Word, Unary, Binary, Choice, Join, Local, Call}
+use Rattle.vs_flat.specs.declared.expressions.Node.TheVariants.{Literal, Name, Bit, Part, Word, WordPart, Unary, Binary, Choice, Join, Local, Call}
 use Rattle.vs_flat.specs.declared.functions.Function.{Function}
 use Rattle.vs_flat.specs.declared.functions.Declared.{Declared}
 use Rattle.vs_flat.specs.declared.functions.Body.{Body}
@@ -232,6 +232,7 @@ calls_more_bodies functions bodies b i (Name m) h = refl
 calls_more_bodies functions bodies b i (Bit of range index) h = refl
 calls_more_bodies functions bodies b i (Part of range base up width) h = refl
 calls_more_bodies functions bodies b i (Word m index) h = refl
+calls_more_bodies functions bodies b i (WordPart m address range base up width) h = refl
 calls_more_bodies functions bodies b i (Unary op a) h = refl
 calls_more_bodies functions bodies b i (Binary op a c) h = refl
 calls_more_bodies functions bodies b i (Choice c p q) h = refl
@@ -245,6 +246,7 @@ calls_more_functions functions d bodies i (Name m) h = refl
 calls_more_functions functions d bodies i (Bit of range index) h = refl
 calls_more_functions functions d bodies i (Part of range base up width) h = refl
 calls_more_functions functions d bodies i (Word m index) h = refl
+calls_more_functions functions d bodies i (WordPart m address range base up width) h = refl
 calls_more_functions functions d bodies i (Unary op a) h = refl
 calls_more_functions functions d bodies i (Binary op a c) h = refl
 calls_more_functions functions d bodies i (Choice c p q) h = refl
@@ -280,6 +282,7 @@ covered_calls a (Name m) e h = refl
 covered_calls a (Bit of range index) e h = refl
 covered_calls a (Part of range base up width) e h = refl
 covered_calls a (Word m index) e h = refl
+covered_calls a (WordPart m address range base up width) e h = refl
 covered_calls a (Unary op x) e h = refl
 covered_calls a (Binary op x y) e h = refl
 covered_calls a (Choice c p q) e h = refl

@@ -73,6 +73,7 @@ named_target (E.Literal bits signed sized) h = cc
 named_target (E.Name signal) h = refl
 named_target (E.Select source part index) h = cc
 named_target (E.Word signal index) h = cc
+named_target (E.WordPart signal address part index) h = cc
 named_target (E.Unary op a) h = cc
 named_target (E.Binary op a b) h = cc
 named_target (E.Choice c p q) h = cc

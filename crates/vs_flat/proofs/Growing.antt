@@ -457,6 +457,7 @@ node_calls a e i n at = go n.item (node_calls_at a e i n at)
     go (N.Bit of range index) h = refl
     go (N.Part of range base up width) h = refl
     go (N.Word m index) h = refl
+    go (N.WordPart m address range base up width) h = refl
     go (N.Unary op x) h = refl
     go (N.Binary op x y) h = refl
     go (N.Choice c p q) h = refl

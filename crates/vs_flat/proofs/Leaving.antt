@@ -10,11 +10,11 @@ use Rattle.std.proofs.lemmas.List.Concat.{flat_map-cons}
 use Rattle.std.proofs.lemmas.List.Folds.{list_all-append}
 use Rattle.std.proofs.lemmas.List.Sums.{sum_by-append, fold-append}
 use Rattle.vs_four.specs.Selects.{Part}
-use Rattle.vs_design.specs.Expressions.{Signal, Source, OfSignal, OfConstant, Expression, Literal, Name, Select, Word, Unary, Binary, Choice, Join, Repeat, At, Call, Items, NoItem, Item, Header}
+use Rattle.vs_design.specs.Expressions.{Signal, Source, OfSignal, OfConstant, Expression, Literal, Name, Select, Word, WordPart, Unary, Binary, Choice, Join, Repeat, At, Call, Items, NoItem, Item, Header}
 use Rattle.vs_design.specs.Statements as T
-use Rattle.vs_design.specs.Statements.{Target, Whole, PartOf, WordOf, Both}
+use Rattle.vs_design.specs.Statements.{Target, Whole, PartOf, WordOf, WordPartOf, Both}
 use Rattle.vs_design.specs.Designs as D
-use Rattle.vs_design.specs.Elaborated.{is_nil, inside, is_plain, has_words, is_formed_select, is_formed_header, are_as_many, is_formed, are_formed, is_formed_target, is_formed_statement, are_formed_arms, has_items, is_formed_function, are_formed_events, is_formed_port, is_formed_process, has_constant_selects, has_clocked_words, is_formed_initial, are_behind, IsLawfulDesign}
+use Rattle.vs_design.specs.Elaborated.{is_nil, inside, is_plain, has_words, is_formed_select, is_formed_word_part, is_formed_header, are_as_many, is_formed, are_formed, is_formed_target, is_formed_statement, are_formed_arms, has_items, is_formed_function, are_formed_events, is_formed_port, is_formed_process, has_constant_selects, has_clocked_words, is_formed_initial, are_behind, IsLawfulDesign}
 use Rattle.vs_design.specs.Fits.{fits_64}
 use Rattle.vs_design.specs.Footprints.{is_net, is_variable}
 use Rattle.vs_design.specs.Rules.{mixed_in}
@@ -129,6 +129,7 @@ module _ (d : D.Design) (ps : List D.Process) (is : List D.Initial) (fs : List T
     expression_formed (Name signal) = refl
     expression_formed (Select source part index) = ap₂ (λ (b c : Bool). b && c) (select_formed source part) (expression_formed index)
     expression_formed (Word signal index) = ap (λ (b : Bool). has_words d signal && b) (expression_formed index)
+    expression_formed (WordPart signal address part index) = ap₂ (λ (b c : Bool). is_formed_word_part d signal part && b && c) (expression_formed address) (expression_formed index)
     expression_formed (Unary op a) = expression_formed a
     expression_formed (Binary op a b) = ap₂ (λ (b c : Bool). b && c) (expression_formed a) (expression_formed b)
     expression_formed (Choice c p q) = ap₂ (λ (b c : Bool). b && c) (ap₂ (λ (b c : Bool). b && c) (expression_formed c) (expression_formed p)) (expression_formed q)
@@ -146,6 +147,7 @@ module _ (d : D.Design) (ps : List D.Process) (is : List D.Initial) (fs : List T
   target_formed allowed (Whole signal) = refl
   target_formed allowed (PartOf signal part index) = ap (λ (b : Bool). is_formed_select d (OfSignal signal) part && allowed signal && b) (expression_formed index)
   target_formed allowed (WordOf signal index) = ap (λ (b : Bool). has_words d signal && allowed signal && b) (expression_formed index)
+  target_formed allowed (WordPartOf signal address part index) = ap₂ (λ (b c : Bool). is_formed_word_part d signal part && allowed signal && b && c) (expression_formed address) (expression_formed index)
   target_formed allowed (Both high low) = ap₂ (λ (b c : Bool). b && c) (target_formed allowed high) (target_formed allowed low)
 
   mutual

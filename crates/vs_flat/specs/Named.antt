@@ -2,7 +2,7 @@
 use Rattle.std.specs.Prelude.{ℕ, Bool, true, Option, None, Some, ◌&&◌, List, [], ◌∷◌, ◌++◌, map, length, nat_lt, option_to_list}
 use Rattle.std.specs.List.{list_all, flat_map}
 use Rattle.vs_flat.specs.declared.expressions.Node.{Node}
-use Rattle.vs_flat.specs.declared.expressions.Node.TheVariants.{Literal, Name, Bit, Part, Word, Unary, Binary, Choice, Join, Local, Call}
+use Rattle.vs_flat.specs.declared.expressions.Node.TheVariants.{Literal, Name, Bit, Part, Word, WordPart, Unary, Binary, Choice, Join, Local, Call}
 use Rattle.vs_flat.specs.declared.processes.Scope.{Scope}
 use Rattle.vs_flat.specs.declared.processes.Signal.{Signal}
 use Rattle.vs_flat.specs.declared.processes.Process.{Process}
@@ -23,6 +23,7 @@ node_expressions (Name signal) = []
 node_expressions (Bit of range index) = of ∷ index ∷ []
 node_expressions (Part of range base up width) = of ∷ base ∷ []
 node_expressions (Word signal index) = index ∷ []
+node_expressions (WordPart signal address range base up width) = address ∷ base ∷ []
 node_expressions (Unary op a) = a ∷ []
 node_expressions (Binary op a b) = a ∷ b ∷ []
 node_expressions (Choice c p q) = c ∷ p ∷ q ∷ []
@@ -33,6 +34,7 @@ node_expressions (Call function arguments) = arguments
 abbrev pub node_signals : Node → List ℕ
 node_signals (Name signal) = signal ∷ []
 node_signals (Word signal index) = signal ∷ []
+node_signals (WordPart signal address range base up width) = signal ∷ []
 node_signals _ = []
 
 abbrev pub statement_expressions : Statement → List ℕ

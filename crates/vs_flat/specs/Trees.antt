@@ -5,7 +5,7 @@ use Rattle.vs_design.specs.Expressions as E
 use Rattle.vs_design.specs.Statements as T
 use Rattle.vs_flat.specs.declared.placed.Placed.{Placed}
 use Rattle.vs_flat.specs.declared.expressions.Node.{Node}
-use Rattle.vs_flat.specs.declared.expressions.Node.TheVariants.{Literal, Name, Bit, Part, Word, Unary, Binary, Choice, Join, Local, Call}
+use Rattle.vs_flat.specs.declared.expressions.Node.TheVariants.{Literal, Name, Bit, Part, Word, WordPart, Unary, Binary, Choice, Join, Local, Call}
 use Rattle.vs_flat.specs.declared.processes.Signal.{Signal}
 use Rattle.vs_flat.specs.declared.statements.Arm.{Arm}
 use Rattle.vs_flat.specs.declared.statements.Statement.{Statement}
@@ -55,6 +55,7 @@ node_tree names tree (Name n) = E.Name (names.signal n)
 node_tree names tree (Bit of range index) = E.Select (source_of (tree of)) (one_bit range) (tree index)
 node_tree names tree (Part of range base up width) = E.Select (source_of (tree of)) (record { range = range; up = up; width = width }) (tree base)
 node_tree names tree (Word n index) = E.Word (names.signal n) (tree index)
+node_tree names tree (WordPart n address range base up width) = E.WordPart (names.signal n) (tree address) (record { range = range; up = up; width = width }) (tree base)
 node_tree names tree (Unary op a) = E.Unary op (tree a)
 node_tree names tree (Binary op a b) = E.Binary op (tree a) (tree b)
 node_tree names tree (Choice c p q) = E.Choice (tree c) (tree p) (tree q)

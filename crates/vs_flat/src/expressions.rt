@@ -40,6 +40,15 @@ pub enum Node {
         signal: u32,
         index: u32,
     },
+    /// `width` bits of a word of a memory (IEEE 1364-2005, 5.2.2): the memory is a signal by its number, `address` the word's address, and `range` the declared bounds of each word. They are `[base +: width]` where it goes up, else `[base -: width]`; a bit select is of one bit, upwards.
+    WordPart {
+        signal: u32,
+        address: u32,
+        range: Range,
+        base: u32,
+        up: bool,
+        width: u32,
+    },
     /// An operator of one operand.
     Unary {
         op: UnaryOp,

@@ -3,8 +3,8 @@ use Rattle.std.proofs.Common.{◌≡◌, ◌+◌, ◌*◌, true, min, length, ar
 use Rattle.std.specs.Prelude.{◌&&◌, ◌==◌}
 use Rattle.std.specs.List.{list_all}
 use Rattle.vs_four.specs.Selects.{range_length}
-use Rattle.vs_design.specs.Expressions.{Expression, Literal, Name, Select, Word, Unary, Binary, Choice, Join, Repeat, At, Call, signal_length, word_length, width}
-use Rattle.vs_design.specs.Fits.{source_length, fit_items, fits_signal, fits_statement, fits, fits_64}
+use Rattle.vs_design.specs.Expressions.{Expression, Literal, Name, Select, Word, WordPart, Unary, Binary, Choice, Join, Repeat, At, Call, signal_length, word_length, width}
+use Rattle.vs_design.specs.Fits.{source_length, fit_items, fits_signal, fits_statement, fits, fits_64, fits_word_part}
 use Rattle.vs_design.proofs.WidthExact.{width_most}
 use Rattle.vs_sets.proofs.Fit.{and_left, and_right, left3, middle3, is64_of, same_number}
 use Rattle.vs_interpret.specs.Fitting.{HasFitting}
@@ -21,6 +21,14 @@ fitting (Select source part index) p = (
   and_right (fits_64 part.width && (range_length part.range == source_length source)) (fits index) p,
 )
 fitting (Word signal index) p = (is64_of (word_length signal) (and_left (fits_64 (word_length signal)) (fits index) p), and_right (fits_64 (word_length signal)) (fits index) p)
+fitting (WordPart signal address part index) p =
+    let front = and_left (fits_word_part signal part && fits address) (fits index) p in
+    let own = and_left (fits_word_part signal part) (fits address) front in (
+      is64_of part.width (and_left (fits_64 part.width) _ own),
+      same_number _ _ (and_right (fits_64 part.width) _ own),
+      and_right (fits_word_part signal part) (fits address) front,
+      and_right (fits_word_part signal part && fits address) (fits index) p,
+    )
 fitting (Unary op a) p = p
 fitting (Binary op a b) p = (and_left (fits a) (fits b) p, and_right (fits a) (fits b) p)
 fitting (Choice c a b) p = (left3 (fits c) (fits a) (fits b) p, middle3 (fits c) (fits a) (fits b) p, and_right (fits c && fits a) (fits b) p)

@@ -11,13 +11,14 @@ use Rattle.vs_four.specs.Selects.{Part, place_of, places, range_length}
 use Rattle.vs_net.specs.Network.{State, Write}
 use Rattle.vs_design.specs.Bodies.{pair_up, target_writes}
 use Rattle.std.specs.Prelude.{◌&&◌}
-use Rattle.vs_design.specs.Expressions.{Expression, Source, OfSignal, Signal, Select, Word, addresses, signal_length, word_length, sign, width}
+use Rattle.vs_design.specs.Expressions.{Expression, Source, OfSignal, Signal, Select, Word, WordPart, addresses, signal_length, word_length, sign, width}
 use Rattle.vs_design.specs.Fits.{fits_64, is_fit}
 use Rattle.vs_design.specs.Within.{names_within, signal_within, target_within}
-use Rattle.vs_design.specs.Values.{count_from, own_value, spread}
+use Rattle.vs_design.specs.TreeLaws.{PartsOfWord, PartsOfNone}
+use Rattle.vs_design.specs.Values.{address_place, count_from, own_value, spread}
 use Rattle.vs_flat.specs.Trees.{joined}
 use Rattle.vs_sets.specs.TargetsOf.{IsTarget, target_tree}
-use Rattle.vs_sets.proofs.Fit.{and_right}
+use Rattle.vs_sets.proofs.Fit.{and_left, and_right}
 use Rattle.vs_sets.proofs.WordSteps.{word_ends}
 use Rattle.vs_sets.proofs.Widths.{words_are}
 use Rattle.vs_sets.proofs.TargetFacts.{both_facts, joined_more, target_few, target_length}
@@ -94,6 +95,28 @@ word_writes s index first len place range signed address vs state old new begins
     is ∙ ap₂ (λ m n. old ++ pair_up (bits_from m (spread n place)) vs) begins long
     ∙ ap (λ p. old ++ pair_up (bits_from s.first (spread (word_length s) p)) vs)
     (place_is ∙ ap₂ (λ r g. if all_known address then place_of r (integer g address) else None) range_is signed_is ∙ ap (λ i. if all_known i then place_of (addresses s) (integer (sign index) i) else None) address_is)
+
+-- ---- parts of words
+
+no_pairs : (n : ℕ) (vs : BitList) → pair_up (Rattle.std.specs.Prelude.replicate n None) vs ≡ []
+no_pairs zero vs = refl
+no_pairs (suc n) [] = refl
+no_pairs (suc n) (v ∷ vs) = no_pairs n vs
+
+module _ (s : Signal) (address : Expression) (part : Part) (index : Expression) where
+  pub part_writes : PartsOfWord → (n first : ℕ) (ps : List (Option ℕ)) (vs : BitList) (state : State) (old new : List Write) → range_length part.range ≡ word_length s → address_place s (sign address) (own_value address state) ≡ Some n
+      → first ≡ s.first + n * word_length s → ps ≡ places part (sign index) (own_value index state) → new ≡ old ++ pair_up (bits_from first ps) vs → new ≡ old ++ target_writes (target_tree (WordPart s address part index)) vs state
+  part_writes law n first ps vs state old new long place begins places_are is =
+      is ∙ ap₂ (λ m qs. old ++ pair_up (bits_from m qs) vs) begins places_are
+      ∙ ap (λ qs. old ++ pair_up qs vs) (sym (law s (sign address) (own_value address state) part (sign index) (own_value index state) n long place))
+
+  pub part_unwritten : PartsOfNone → (vs : BitList) (state : State) (old : List Write) → address_place s (sign address) (own_value address state) ≡ None → old ≡ old ++ target_writes (target_tree (WordPart s address part index)) vs state
+  part_unwritten law vs state old none =
+      sym (append-nil old) ∙ ap (λ ws. old ++ ws) (sym (ap (λ qs. pair_up qs vs) (law s (sign address) (own_value address state) part (sign index) (own_value index state) none) ∙ no_pairs part.width vs))
+
+  pub part_indices : (n : ℕ) → target_within n (target_tree (WordPart s address part index)) ≡ true → (names_within n address ≡ true) × (names_within n index ≡ true)
+  part_indices n h =
+      (and_right (signal_within n s) (names_within n address) (and_left (signal_within n s && names_within n address) (names_within n index) h), and_right (signal_within n s && names_within n address) (names_within n index) h)
 
 -- ---- the first part of a concatenation, and the rest
 

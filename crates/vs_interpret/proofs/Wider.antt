@@ -1,8 +1,8 @@
 -- What names bits among the first ones alone does so where there are more.
 use Rattle.std.proofs.Common.{◌≡◌, ℕ, ◌+◌, ◌≤◌, true, ◌&&◌, refl, arith}
 use Rattle.std.proofs.lemmas.Bool.{leb-true, le-leb}
-use Rattle.vs_design.specs.Expressions.{Signal, signal_length, Source, OfSignal, OfConstant, Expression, Literal, Name, Select, Word, Unary, Binary, Choice, Join, Repeat, At, Call, Items, NoItem, Item}
-use Rattle.vs_design.specs.Statements.{Target, Whole, PartOf, WordOf, Both, Statement, Empty, Assignment, Then, If, Case, Arms, Arm, Default}
+use Rattle.vs_design.specs.Expressions.{Signal, signal_length, Source, OfSignal, OfConstant, Expression, Literal, Name, Select, Word, WordPart, Unary, Binary, Choice, Join, Repeat, At, Call, Items, NoItem, Item}
+use Rattle.vs_design.specs.Statements.{Target, Whole, PartOf, WordOf, WordPartOf, Both, Statement, Empty, Assignment, Then, If, Case, Arms, Arm, Default}
 use Rattle.vs_design.specs.Within.{signal_within, source_within, names_within, items_within, target_within, statement_within, arms_within}
 use Rattle.vs_design.proofs.Lists.{and_both}
 use Rattle.vs_design.proofs.WidthExact.{and_true}
@@ -25,6 +25,10 @@ module _ (m n : ℕ) (l : m ≤ n) where
     wider_names (Word signal index) h =
         let p = and_both (signal_within m signal) (names_within m index) h in
         and_true _ _ (wider_signal signal p.0) (wider_names index p.1)
+    wider_names (WordPart signal address part index) h =
+        let p = and_both (signal_within m signal && names_within m address) (names_within m index) h in
+        let q = and_both (signal_within m signal) (names_within m address) p.0 in
+        and_true _ _ (and_true _ _ (wider_signal signal q.0) (wider_names address q.1)) (wider_names index p.1)
     wider_names (Unary op a) h = wider_names a h
     wider_names (Binary op a b) h =
         let p = and_both (names_within m a) (names_within m b) h in
@@ -54,6 +58,10 @@ module _ (m n : ℕ) (l : m ≤ n) where
   wider_target (WordOf signal index) h =
       let p = and_both (signal_within m signal) (names_within m index) h in
       and_true _ _ (wider_signal signal p.0) (wider_names index p.1)
+  wider_target (WordPartOf signal address part index) h =
+      let p = and_both (signal_within m signal && names_within m address) (names_within m index) h in
+      let q = and_both (signal_within m signal) (names_within m address) p.0 in
+      and_true _ _ (and_true _ _ (wider_signal signal q.0) (wider_names address q.1)) (wider_names index p.1)
   wider_target (Both high low) h =
       let p = and_both (target_within m high) (target_within m low) h in
       and_true _ _ (wider_target high p.0) (wider_target low p.1)

@@ -14,9 +14,10 @@ ghost use Rattle.vs_shape.specs.Gathered.{bits_from};
 
 use crate::evaluator::Evaluator;
 use std::alloc::AllocError;
+use vs_design::word_part_law;
 use vs_flat::Node;
 use vs_four::{Bit4, Bits};
-use vs_sets::{memory_of, named_span};
+use vs_sets::{memory_of, named_span, word_start};
 use vs_shape::{Part, Places, first_copy, places_of, word_place};
 use vs_writes::{Update, Write};
 
@@ -142,6 +143,40 @@ impl Evaluator<'_> {
         push_word(out, memory.first, place, value)
     }
 
+    /// Adds writes to the bits of a part of a word of a memory in target e, by its address and its index as they are now (IEEE 1364-2005, 5.2.2).
+    #[cycle(evaluating)]
+    fn push_word_part(
+        &self,
+        e: u32,
+        signal: u32,
+        address: u32,
+        part: Part,
+        index: u32,
+        value: &[Bit4],
+        out: &mut Update,
+    ) -> Result<(), AllocError>
+        requires there { e < length self.now.shapes.now.nodes }
+        requires memory { signal < length self.now.shapes.now.signals }
+        requires address_before { address < e }
+        requires index_before { index < e }
+        requires target { IsTarget (E.WordPart (signal_of self.now.shapes.now signal) (tree_of self.now.shapes.now address) part (tree_of self.now.shapes.now index)) }
+        requires within { target_within (length self.now.values.now) (target_tree (E.WordPart (signal_of self.now.shapes.now signal) (tree_of self.now.shapes.now address) part (tree_of self.now.shapes.now index))) ≡ true }
+        requires many { length value.now ≡ part.width }
+        ensures { OnOk result (out.new ≡ out.old ++ B.target_writes (target_tree (E.WordPart (signal_of self.now.shapes.now signal) (tree_of self.now.shapes.now address) part (tree_of self.now.shapes.now index))) value.now (state_of self.now.values.now)) }
+    {
+        word_part_law();
+        let memory = memory_of(self.shapes, signal);
+        let at = self.own_value(address)?;
+        let by = self.own_value(index)?;
+        match word_place(memory.addresses, self.shapes.shape(address).signed, at) {
+            None => Ok(()),
+            Some(n) => {
+                let places = places_of(part, self.shapes.shape(index).signed, by);
+                push_places(out, word_start(memory, n), &places, value)
+            }
+        }
+    }
+
     /// Adds writes of a value to the bits of target e, by its indices as they are now.
     #[cycle(evaluating)]
     pub(crate) fn push_target(
@@ -183,6 +218,21 @@ impl Evaluator<'_> {
                 self.push_select(e, *of, part, *base, value, out)
             }
             Node::Word { signal, index } => self.push_word(e, *signal, *index, value, out),
+            Node::WordPart {
+                signal,
+                address,
+                range,
+                base,
+                up,
+                width,
+            } => {
+                let part = Part {
+                    range: *range,
+                    up: *up,
+                    width: *width,
+                };
+                self.push_word_part(e, *signal, *address, part, *base, value, out)
+            }
             Node::Join { parts } => self.push_parts(e, first_copy(parts.as_slice()), value, out),
             _ => unreachable!(),
         }

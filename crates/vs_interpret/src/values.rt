@@ -7,7 +7,7 @@ ghost use Rattle.vs_net.specs.Network.{write_all};
 ghost use Rattle.vs_design.specs.Expressions as E;
 ghost use Rattle.vs_design.specs.Fits.{fits, source_length};
 ghost use Rattle.vs_design.specs.Values as V;
-ghost use Rattle.vs_design.specs.Within.{names_within, source_within};
+ghost use Rattle.vs_design.specs.Within.{names_within, signal_within, source_within};
 ghost use Rattle.vs_flat.specs.Arena.{bit_count, declared_at};
 ghost use Rattle.vs_flat.specs.Named.{locals_in};
 ghost use Rattle.vs_flat.specs.Targets.{source_of};
@@ -16,7 +16,7 @@ ghost use Rattle.vs_interpret.specs.Called.{IsCallee};
 ghost use Rattle.vs_writes.specs.Held.{state_of};
 ghost use Rattle.vs_sets.specs.Calls.{IsCall, arguments_of, function_of};
 ghost use Rattle.vs_sets.specs.FitParts.{Is64};
-ghost use Rattle.vs_sets.specs.Nodes.{EachBelow, tree_of};
+ghost use Rattle.vs_sets.specs.Nodes.{EachBelow, signal_of, tree_of};
 
 use crate::calls::{Callee, called, local_span};
 use crate::evaluator::Evaluator;
@@ -53,6 +53,31 @@ impl Evaluator<'_> {
         let vector = self.source_value(of);
         let signed = self.shapes.shape(index).signed;
         selected(vector, part.range, address, signed, part.up, part.width)
+    }
+
+    /// The value of a part of a word of a memory (IEEE 1364-2005, 5.2.2), by those of its address and of its index.
+    fn word_part(
+        &self,
+        signal: u32,
+        address: u32,
+        part: Part,
+        index: u32,
+        address_value: Bits,
+        index_value: Bits,
+    ) -> Bits
+        requires memory { signal < length self.now.shapes.now.signals }
+        requires address_there { address < length self.now.shapes.now.nodes }
+        requires index_there { index < length self.now.shapes.now.nodes }
+        requires within { signal_within (length self.now.values.now) (signal_of self.now.shapes.now signal) ≡ true }
+        requires few { Is64 part.width }
+        requires range { range_length part.range ≡ E.word_length (signal_of self.now.shapes.now signal) }
+        ensures value { result ≡ select part (E.sign (tree_of self.now.shapes.now index)) (V.select_word (signal_of self.now.shapes.now signal) (E.sign (tree_of self.now.shapes.now address)) (V.read (state_of self.now.values.now) (V.bits_of_signal (signal_of self.now.shapes.now signal))) address_value) index_value }
+        ensures length { length result ≡ part.width }
+    {
+        let signed = self.shapes.shape(address).signed;
+        let word = self.word_value(signal, signed, address_value);
+        let signed = self.shapes.shape(index).signed;
+        selected(word, part.range, index_value, signed, part.up, part.width)
     }
 
     /// The value of expression e in a context of at most 64 bits.
@@ -149,6 +174,24 @@ impl Evaluator<'_> {
                 let address = self.own_value(*index)?;
                 let signed = self.shapes.shape(*index).signed;
                 Ok(in_context(self.word_value(*signal, signed, address), context))
+            }
+            Node::WordPart {
+                signal,
+                address,
+                range,
+                base,
+                up,
+                width,
+            } => {
+                let part = Part {
+                    range: *range,
+                    up: *up,
+                    width: *width,
+                };
+                let place = self.own_value(*address)?;
+                let index = self.own_value(*base)?;
+                let value = self.word_part(*signal, *address, part, *base, place, index);
+                Ok(in_context(value, context))
             }
             Node::Unary { op, a } => self.unary(e, *op, *a, context),
             Node::Binary { op, a, b } => self.binary(e, *op, *a, *b, context),

@@ -18,9 +18,11 @@ use Rattle.vs_elaborated.specs.Instances.{Around}
 use Rattle.vs_elaborated.specs.Limits.{Limits}
 use Rattle.vs_elaborated.specs.Heads.{Head, shared_heads}
 use Rattle.vs_elaborated.specs.Signals.{is_reg}
-use Rattle.vs_elaborated.specs.Surveys.{Loops, assign_said, declarator_said, signals_said, ports_said, block_body, block_heads, block_said, initial_body, initial_heads, initial_said, item_said, items_said, loops_after, loops_behind}
+use Rattle.vs_elaborated.specs.NamedBlocks.{NamedBlock, named_blocks}
+use Rattle.vs_elaborated.specs.Surveys.{Loops, assign_said, declarator_said, signals_said, ports_said, block_body, block_by, block_heads, block_said, copies_by, initial_body, initial_heads, initial_said, item_said, items_said, loops_after, loops_behind}
 use Rattle.vs_items.specs.declared.counts.Count.{Count}
 use Rattle.vs_items.specs.Counts.{IsCounted}
+use Rattle.vs_items.specs.Blocks.{block_faults, faults_by}
 use Rattle.vs_items.specs.Loops.{SeeTheSame}
 use Rattle.vs_items.specs.Items.{assign_faults, value_faults, declarator_faults}
 use Rattle.vs_items.proofs.HeadFacts.{heads_alike}
@@ -61,11 +63,29 @@ module _ (e1 e2 : Env) (h : named e1 ≡ named e2) where
   ports_alike (tree.PlainPorts names) = refl
   ports_alike (tree.DeclaredPorts ports) = all_ports_alike ports
 
+-- those of a block are what an item of it says
+pub block_faults_are : (limits : Limits) (around : Around) (loops : Loops) (b : tree.AlwaysBlock) → (block_said limits around loops b).faults ≡ block_faults limits around.env loops b
+block_faults_are limits around loops b = of (named_blocks b.statement)
+  where
+    of : (ns : List NamedBlock) → (block_by ns limits around loops b).faults ≡ (typed_control b.control (named around.env)).faults ++ (faults_by ns limits around.env loops b ++ shared_heads loops.headed (block_heads around.env b))
+    of [] = refl
+    of (n ∷ ns) = refl
+
 module _ (limits : Limits) (loops : Loops) (e1 e2 : Env) (h : SeeTheSame e1 e2) where
-  pub block_alike : (b : tree.AlwaysBlock) → (block_said limits e1 loops b).faults ≡ (block_said limits e2 loops b).faults
+  pub block_alike : (b : tree.AlwaysBlock) → block_faults limits e1 loops b ≡ block_faults limits e2 loops b
   block_alike b =
-      ap (λ (find : Find). (typed_control b.control find).faults ++ ((unrolled_within (limits.copies - loops.copies) b.statement (block_body b) find).faults ++ shared_heads loops.headed (block_heads e1 b))) h.names
-      ∙ ap (λ (hs : List Head). (typed_control b.control (named e2)).faults ++ ((unrolled_within (limits.copies - loops.copies) b.statement (block_body b) (named e2)).faults ++ shared_heads loops.headed hs)) (heads_alike e1 e2 h.finds b.statement [])
+      let ns = named_blocks b.statement in
+      ap (λ (find : Find). (typed_control b.control find).faults ++ (faults_by ns limits e1 loops b ++ shared_heads loops.headed (block_heads e1 b))) h.names
+      ∙ ap (λ (fs : List Fault). (typed_control b.control (named e2)).faults ++ (fs ++ shared_heads loops.headed (block_heads e1 b))) (of ns)
+      ∙ ap (λ (hs : List Head). (typed_control b.control (named e2)).faults ++ (faults_by ns limits e2 loops b ++ shared_heads loops.headed hs)) (heads_alike e1 e2 h.finds b.statement [])
+    where
+      of : (ns : List NamedBlock) → faults_by ns limits e1 loops b ≡ faults_by ns limits e2 loops b
+      of [] = ap (λ (find : Find). (unrolled_within (limits.copies - loops.copies) b.statement (block_body b) find).faults) h.names
+      of (n ∷ ns) = refl
+
+  copies_alike : (b : tree.AlwaysBlock) (ns : List NamedBlock) → copies_by ns limits e1 loops b ≡ copies_by ns limits e2 loops b
+  copies_alike b [] = ap (λ (find : Find). (unrolled_within (limits.copies - loops.copies) b.statement (block_body b) find).copies) h.names
+  copies_alike b (n ∷ ns) = refl
 
   pub initial_alike : (b : tree.InitialBlock) → (initial_said limits e1 loops b).faults ≡ (initial_said limits e2 loops b).faults
   initial_alike b =
@@ -78,8 +98,8 @@ module _ (limits : Limits) (loops : Loops) (e1 e2 : Env) (h : SeeTheSame e1 e2) 
   after_alike (tree.AssignsItem place assigns) = refl
   after_alike (tree.AlwaysItem b) =
       let behind : ℕ → List Head → Loops = λ n hs. record { copies = loops.copies + n; headed = loops.headed ++ map (λ (x : Head). x.integer) hs } in
-      ap (λ (find : Find). behind (unrolled_within (limits.copies - loops.copies) b.statement (block_body b) find).copies (block_heads e1 b)) h.names
-      ∙ ap (λ hs. behind (unrolled_within (limits.copies - loops.copies) b.statement (block_body b) (named e2)).copies hs) (heads_alike e1 e2 h.finds b.statement [])
+      ap (λ (n : ℕ). behind n (block_heads e1 b)) (copies_alike b (named_blocks b.statement))
+      ∙ ap (λ hs. behind (copies_by (named_blocks b.statement) limits e2 loops b) hs) (heads_alike e1 e2 h.finds b.statement [])
   after_alike (tree.InitialItem b) =
       let behind : ℕ → List Head → Loops = λ n hs. record { copies = loops.copies + n; headed = loops.headed ++ map (λ (x : Head). x.integer) hs } in
       ap (λ (find : Find). behind (unrolled_within (limits.copies - loops.copies) b.statement initial_body find).copies (initial_heads e1 b)) h.names

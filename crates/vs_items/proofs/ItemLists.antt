@@ -10,11 +10,15 @@ use Rattle.vs_ast.specs.declared.items.AlwaysBlock.{AlwaysBlock}
 use Rattle.vs_ast.specs.declared.items.InitialBlock.{InitialBlock}
 use Rattle.vs_ast.specs.declared.items.Instances.{Instances}
 use Rattle.vs_ast.specs.Views as view
+use Rattle.vs_design.specs.Designs.{Always}
+use Rattle.vs_elaborated.specs.Environments.{named}
+use Rattle.vs_elaborated.specs.Statements.{typed_control}
+use Rattle.vs_elaborated.specs.NamedBlocks.{NamedBlock}
 use Rattle.vs_elaborated.specs.Generate.{Nested, Made, nothing_made}
-use Rattle.vs_elaborated.specs.Pieces.{Piece}
+use Rattle.vs_elaborated.specs.Pieces.{Piece, Own, OfScopes}
 use Rattle.vs_elaborated.specs.Instances.{Around}
 use Rattle.vs_elaborated.specs.Limits.{Limits}
-use Rattle.vs_elaborated.specs.Surveys.{Loops, nested_piece, item_said, items_said, loops_after, loops_behind}
+use Rattle.vs_elaborated.specs.Surveys.{Loops, piece_place, piece_processes, block_statement, block_by, nested_piece, item_said, items_said, loops_after, loops_behind}
 use Rattle.vs_items.specs.declared.counts.Count.{Count}
 use Rattle.vs_items.specs.Counts.{IsCounted}
 use Rattle.vs_items.proofs.CountSteps.{counted_nothing, counted_within}
@@ -36,6 +40,14 @@ made_at ms i = get_or ms i (nothing_made [] 0)
 
 pub made_more : (ms : List Made) (i : ℕ) → i < length ms → take (i + 1) ms ≡ take i ms ++ made_at ms i ∷ []
 made_more ms i h = ap (λ n. take n ms) (add-one i) ∙ take-suc ms i (nothing_made [] 0) h
+
+-- an always block is one piece that has one process, whether its named blocks are scopes or not
+pub block_counted : (ns : List NamedBlock) (limits : Limits) (around : Around) (loops : Loops) (b : tree.AlwaysBlock) (c : Count) (before : ℕ) (ps : List Piece)
+    → ((p : Piece) → piece_processes p ≡ 1 → piece_place p ≡ b.place → IsCounted c before (ps ++ p ∷ [])) → IsCounted c before (ps ++ (block_by ns limits around loops b).pieces)
+block_counted [] limits around loops b c before ps h =
+    let e = typed_control b.control (named around.env) in
+    h (Own (Always b.place e.star e.events (block_statement limits around.env loops b).statement)) refl refl
+block_counted (n ∷ ns) limits around loops b c before ps h = h (OfScopes (record { scope = around.scope; env = around.env; block = b })) refl refl
 
 -- one item more is counted
 pub item_counted : (limits : Limits) (source : tree.Source) (around : Around) (loops : Loops) (items : List Item) (made : List Made) (i : ℕ) (x : Item) (c : Count) (before : ℕ) (ps : List Piece)

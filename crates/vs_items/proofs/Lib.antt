@@ -20,6 +20,6 @@ mod ItemLists
 mod HeadFacts
 mod HeadSteps
 mod LoopSteps
-mod BlockSteps
+pub mod BlockSteps
 mod BodyFaults
 mod FineConnections

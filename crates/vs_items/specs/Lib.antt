@@ -3,6 +3,7 @@ pub mod Ports
 pub mod PortTables
 pub mod Interfaces
 pub mod Modules
+pub mod Blocks
 pub mod Connected
 pub mod Connections
 pub mod Fine

@@ -20,6 +20,7 @@ mod overriding;
 mod ports;
 mod values;
 
+pub use blocks::scoped_fault;
 pub use bodies::{SaidItems, said_items};
 pub use connections::{Connection, connections_of};
 pub use interfaces::Interface;

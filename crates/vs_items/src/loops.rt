@@ -74,6 +74,19 @@ impl Loops {
         self.copies = copies;
     }
 
+    /// So many statements more that loops copy. An error is more than 32 bits count, which are too many.
+    pub(crate) fn add_copies(&mut self, copies: u32) -> Result<(), AllocError>
+        ensures { OnOk result (self.new ≡ record { copies = self.old.copies + copies; headed = self.old.headed }) }
+    {
+        match self.copies().checked_add(copies) {
+            None => Err(AllocError),
+            Some(sum) => {
+                self.set_copies(sum);
+                Ok(())
+            }
+        }
+    }
+
     /// Whether an integer heads a loop of a block before.
     fn is_headed(&self, i: Integer) -> bool
         ensures { result ≡ list_any (spec.same_integer (integer_of i)) self.now.headed }

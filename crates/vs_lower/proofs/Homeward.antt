@@ -9,15 +9,15 @@ use Rattle.std.proofs.lemmas.List.FromFn.{length-range_with_len}
 use Rattle.std.proofs.lemmas.List.Sums.{sum_by-append}
 use Rattle.vs_four.specs.Logic.{BitList, all_known}
 use Rattle.vs_four.specs.Numbers.{integer}
-use Rattle.vs_four.specs.Selects.{Part, places, place_of, indices, indices_up, indices_down, is_descending, least_index, greatest_index}
+use Rattle.vs_four.specs.Selects.{Part, places, place_of, indices, indices_up, indices_down, is_descending, least_index, greatest_index, at_place}
 use Rattle.vs_design.specs.Bodies.{assignment_writes, bits_at, effect_of}
 use Rattle.vs_design.specs.Designs.{Continuous, Port}
 use Rattle.vs_design.specs.Elaborated.{has_constant_selects}
 use Rattle.vs_design.specs.Expressions.{Expression, Signal, sign, signal_length, word_length}
 use Rattle.vs_design.specs.Footprints.{contains, read_bits, target_bits, somes}
 use Rattle.vs_design.specs.Sizes.{distinct}
-use Rattle.vs_design.specs.Statements.{Target, Whole, PartOf, WordOf, Both, target_width}
-use Rattle.vs_design.specs.Values.{constant_value, count_from, address_place, spread, word_places}
+use Rattle.vs_design.specs.Statements.{Target, Whole, PartOf, WordOf, WordPartOf, Both, target_width}
+use Rattle.vs_design.specs.Values.{constant_value, count_from, address_place, spread, word_places, word_part_places}
 use Rattle.vs_program.specs.Lowered.{Layout, home}
 use Rattle.vs_code.specs.Calls.{Call, IsCall, call_cost, length_of}
 use Rattle.vs_lower.specs.Assigned.{AddsRun, IsAssignReady, assign_most}
@@ -100,6 +100,11 @@ fixed_length (WordOf signal index) h =
     let ps = word_places signal (sign index) v in
     let is : target_bits (WordOf signal index) ≡ somes (bits_at signal ps) = chosen_bits signal index ps true h in
     omega (arith, ap (λ (bs : List ℕ). length bs) is, somes_length (bits_at signal ps), length-map ps (λ p. option_map (λ n. signal.first + n) p), spread_length (word_length signal) (address_place signal (sign index) v))
+fixed_length (WordPartOf signal address part index) h =
+    let ps = word_part_places signal (sign address) (constant_value address) part (sign index) (constant_value index) in
+    let is : target_bits (WordPartOf signal address part index) ≡ somes (bits_at signal ps) = rw h refl in
+    let taken = length-map (places part (sign index) (constant_value index)) (at_place None (word_places signal (sign address) (constant_value address))) in
+    omega (arith, ap (λ (bs : List ℕ). length bs) is, somes_length (bits_at signal ps), length-map ps (λ p. option_map (λ n. signal.first + n) p), taken, places_length part (sign index) (constant_value index))
 fixed_length (Both high low) h =
     let p = both_true (has_constant_selects high) (has_constant_selects low) h in
     omega (arith, fixed_length high p.0, fixed_length low p.1, length-append (target_bits high) (target_bits low))

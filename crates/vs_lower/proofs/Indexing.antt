@@ -1,16 +1,18 @@
 -- The indices of a target's parts.
-use Rattle.std.proofs.Common.{◌≡◌, ℕ, zero, suc, ◌+◌, ◌<◌, ◌≤◌, true, List, [], ◌∷◌, ◌++◌, map, length, take, get_or, sum_by, sym, ap, ◌∙◌, subst, refl, arith, append-nil}
+use Rattle.std.proofs.Common.{◌≡◌, ℕ, zero, suc, ◌+◌, ◌<◌, ◌≤◌, true, List, [], ◌∷◌, ◌++◌, map, length, take, drop, get_or, sum_by, sym, ap, ap₂, ◌∙◌, subst, refl, arith, append-nil, Result, Ok, Err}
+use Rattle.std.specs.Prelude.{IfOk}
 use Rattle.std.specs.List.{All, flat_map}
-use Rattle.std.proofs.lemmas.List.{take_more, length-map}
+use Rattle.std.proofs.lemmas.List.{take_more, length-map, map-append}
 use Rattle.std.proofs.lemmas.List.Concat.{flat_map-append}
 use Rattle.std.proofs.lemmas.List.Sums.{sum_by-append, sum_by-cons}
-use Rattle.std.proofs.lemmas.List.Elements.{All-nil, All-cons}
+use Rattle.std.proofs.lemmas.List.Elements.{All-nil, All-cons, All-append, All-head, All-tail}
 use Rattle.vs_four.specs.Logic.{BitList}
 use Rattle.vs_net.specs.Network as N
 use Rattle.vs_design.specs.Expressions.{Expression, Signal, width, sign}
 use Rattle.vs_design.specs.Fits.{is_fit}
+use Rattle.vs_design.specs.Values.{own_value}
 use Rattle.vs_design.specs.Sizes.{weight}
-use Rattle.vs_design.specs.Statements.{Target, Whole, PartOf, WordOf}
+use Rattle.vs_design.specs.Statements.{Target, Whole, PartOf, WordOf, WordPartOf}
 use Rattle.vs_design.specs.TreeLaws.{ConstantValue}
 use Rattle.vs_four.specs.Selects.{Part}
 use Rattle.vs_lower.specs.declared.leaves.Leaf.{Leaf}
@@ -19,7 +21,7 @@ use Rattle.vs_values.specs.Coded.{Coding}
 use Rattle.vs_lower.specs.Done.{index_values}
 use Rattle.vs_values.specs.Ready.{IsReady}
 use Rattle.vs_values.specs.Valued.{AddsValue}
-use Rattle.vs_lower.specs.Written.{HasRoom, IsIndex, IsIndexed, AreIndexed, index_weight, AddsIndex, AddsIndices}
+use Rattle.vs_lower.specs.Written.{HasRoom, IsIndex, IsIndexed, AreIndexed, index_weight, AddsIndex, AddsIndices, AreReady, AddsBoth}
 use Rattle.vs_values.proofs.Adding.{values_none, values_more, values_as, env_more}
 use Rattle.vs_values.proofs.Readying.{stores_of, two_added}
 use Rattle.vs_values.proofs.Taking.{index_is}
@@ -52,6 +54,70 @@ adds_part_index law env code after signal part index ti v = record { calls = v.c
 pub adds_word_index : ConstantValue → (env : List ℕ) (code after : Coding) (signal : Signal) (index : Expression) (ti : List ℕ)
     → AddsValue env code.calls code.next after.calls after.next index (width index) (sign index) ti → AddsIndex env code after (WordOf signal index) ti
 adds_word_index law env code after signal index ti v = record { calls = v.calls; is = v.is; values = v.value.values; indexed = index_known law env code after index ti v }
+
+-- ---- of a part of a word, both
+
+pub if_ok : {V W : Type 0} {P Q : V → Type 0} (r : Result V W) → IfOk r P → ((v : V) → P v → Q v) → IfOk r Q
+if_ok (Ok v) h k = k v h
+if_ok (Err e) h k = h
+
+pub ready_first : (env : List ℕ) (code : Coding) (address index : Expression) (w : ℕ) → w ≡ width address → AreReady env code address index → IsReady env code address w
+ready_first env code address index w e r =
+    subst (IsReady env code address) (sym e) (record { is_env = r.room.is_env; has_bits = r.address_names; fit = r.address_fit; wide = omega arith; at_most_64 = r.address_most; light = omega (arith, r.room.light); slots = omega (arith, r.room.slots); few = omega (arith, r.room.few) })
+
+pub ready_second : (env : List ℕ) (code middle : Coding) (address index : Expression) (ta : List ℕ) (w : ℕ) → w ≡ width index → AreReady env code address index → AddsValue env code.calls code.next middle.calls middle.next address (width address) (sign address) ta
+    → IsReady env middle index w
+ready_second env code middle address index ta w e r v =
+    let added = v.value.values.added in
+    subst (IsReady env middle index) (sym e) (record {
+      is_env = env_more env code.next middle.next added.grown r.room.is_env;
+      has_bits = r.index_names;
+      fit = r.index_fit;
+      wide = omega arith;
+      at_most_64 = r.index_most;
+      light = omega (arith, r.room.light);
+      slots = omega (arith, r.room.slots, added.paid, added.stores);
+      few = omega (arith, r.room.few, added.stores, stores_of code.calls v.calls middle.calls v.is);
+    })
+
+front : (n : ℕ) (xs ys : List ℕ) → length xs ≡ n → take n (xs ++ ys) ≡ xs
+front zero [] ys l = refl
+front zero (x ∷ xs) ys l = absurd (omega arith)
+front (suc n) [] ys l = absurd (omega arith)
+front (suc n) (x ∷ xs) ys l = ap (λ (zs : List ℕ). x ∷ zs) (front n xs ys (omega arith))
+
+back : (n : ℕ) (xs ys : List ℕ) → length xs ≡ n → drop n (xs ++ ys) ≡ ys
+back zero [] ys l = refl
+back zero (x ∷ xs) ys l = absurd (omega arith)
+back (suc n) [] ys l = absurd (omega arith)
+back (suc n) (x ∷ xs) ys l = back n xs ys (omega arith)
+
+two_lists : (a b x y : BitList) → (a ∷ b ∷ []) ≡ (x ∷ y ∷ []) → (a ≡ x) × (b ≡ y)
+two_lists a b x y h = (cc, cc)
+
+pub adds_word_part_index : ConstantValue → (env : List ℕ) (code after : Coding) (signal : Signal) (address : Expression) (part : Part) (index : Expression) (ti : List ℕ) → IsEnv env code.next
+    → AddsBoth env code after address index ti → AddsIndex env code after (WordPartOf signal address part index) ti
+adds_word_part_index law env code after signal address part index ti e b =
+    let target = WordPartOf signal address part index in
+    let u = b.first in
+    let v = b.second in
+    let n = after.next in
+    let P : List ℕ → Type 0 = λ to. All (λ slot. slot < n) to in
+    let both = values_more env code.next u.calls (b.ta ∷ []) b.middle.next (weight address (width address)) (λ state. own_value address state ∷ []) v.calls (b.tb ∷ []) n (weight index (width index)) (λ state. own_value index state ∷ []) e u.value.values v.value.values in
+    let below : P (b.ta ++ b.tb) = All-append (λ slot. slot < n) b.ta b.tb (All-head P b.ta (b.tb ∷ []) both.below) (All-head P b.tb [] (All-tail P b.ta (b.tb ∷ []) both.below)) in
+    subst (AddsIndex env code after target) (sym b.is) (record {
+      calls = u.calls ++ v.calls;
+      is = two_added code.calls u.calls v.calls b.middle.calls after.calls u.is v.is;
+      values = values_as env code.next (u.calls ++ v.calls) (b.ta ∷ b.tb ∷ []) n (weight address (width address) + weight index (width index)) (λ state. own_value address state ∷ own_value index state ∷ []) ((b.ta ++ b.tb) ∷ []) (index_weight target)
+          (λ state. index_values target state) e both (omega arith) (All-cons P (b.ta ++ b.tb) [] below (All-nil P))
+          (λ slots state h k.
+          let q = two_lists (map slots b.ta) (map slots b.tb) (own_value address state) (own_value index state) k in
+          ap (λ (x : BitList). x ∷ []) (map-append slots b.ta b.tb ∙ ap₂ (λ (x y : BitList). x ++ y) q.0 q.1));
+      indexed = (
+        subst (IsIndex address) (sym (front (width address) b.ta b.tb u.value.length)) (index_known law env code b.middle address b.ta u),
+        subst (IsIndex index) (sym (back (width address) b.ta b.tb u.value.length)) (index_known law env b.middle after index b.tb v),
+      );
+    })
 
 -- ---- of several
 

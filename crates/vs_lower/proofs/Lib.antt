@@ -15,6 +15,8 @@ mod Scattered
 mod Fallible
 mod Partwise
 mod Wordwise
+mod Columns
+mod WordWrites
 mod Indexing
 mod Rejoined
 mod Settling

@@ -5,12 +5,12 @@ use Rattle.std.proofs.lemmas.List.{length-map}
 use Rattle.std.proofs.lemmas.List.Elements.{All-nil, All-cons, All-head, All-tail, All-weaker, All-map, All-replicate}
 use Rattle.std.proofs.lemmas.List.FromFn.{length-range_with_len}
 use Rattle.vs_four.specs.Logic.{BitList}
-use Rattle.vs_four.specs.Selects.{Part, range_length, places, write_places}
+use Rattle.vs_four.specs.Selects.{Part, range_length, places, write_places, at_place}
 use Rattle.vs_design.specs.Expressions.{Signal, signal_length, word_length, addresses, Expression, width, sign, is_constant}
-use Rattle.vs_design.specs.Values.{bits_of_signal, count_from, constant_value, address_place, spread, word_places}
-use Rattle.vs_design.specs.Statements.{Target, Whole, PartOf, WordOf}
+use Rattle.vs_design.specs.Values.{bits_of_signal, count_from, constant_value, address_place, spread, word_places, word_part_places}
+use Rattle.vs_design.specs.Statements.{Target, Whole, PartOf, WordOf, WordPartOf}
 use Rattle.vs_design.specs.Bodies.{bits_at}
-use Rattle.vs_design.specs.Fits.{fits_64, fits_target, is_fit, fits, divides_constants}
+use Rattle.vs_design.specs.Fits.{fits_64, fits_target, is_fit, fits, divides_constants, fits_word_part}
 use Rattle.vs_design.specs.Footprints.{contains, somes, target_bits}
 use Rattle.vs_design.specs.Sizes.{address_weight}
 use Rattle.vs_kern_select.specs.declared.costs.Kernel.{Kernel}
@@ -107,14 +107,14 @@ run_within : (n first k : ℕ) → first + k ≤ n → All (IsWithin n) (map Som
 run_within n first zero h = All-nil (IsWithin n)
 run_within n first (suc k) h = All-cons (IsWithin n) (Some first) (map Some (count_from (suc first) k)) (omega arith) (run_within n (suc first) k (omega arith))
 
-place_within : (signal : Signal) (s : Bool) (address : BitList) → IsWithin (range_length (addresses signal)) (address_place signal s address)
+pub place_within : (signal : Signal) (s : Bool) (address : BitList) → IsWithin (range_length (addresses signal)) (address_place signal s address)
 place_within signal s address = at (address_place signal s address) refl
   where
     at : (o : Option ℕ) → address_place signal s address ≡ o → IsWithin (range_length (addresses signal)) o
     at None e = tt
     at (Some n) e = place_less signal s address n e
 
-word_within : (signal : Signal) (place : Option ℕ) → IsWithin (range_length (addresses signal)) place → All (IsWithin (signal_length signal)) (spread (word_length signal) place)
+pub word_within : (signal : Signal) (place : Option ℕ) → IsWithin (range_length (addresses signal)) place → All (IsWithin (signal_length signal)) (spread (word_length signal) place)
 word_within signal None h = All-replicate (IsWithin (signal_length signal)) (word_length signal) None tt
 word_within signal (Some n) h = run_within (signal_length signal) (n * word_length signal) (word_length signal) (word_ends signal n h)
 
@@ -126,6 +126,53 @@ word_selecting signal index = record {
   varied = λ h. chosen_bits signal index (word_places signal (sign index) (constant_value index)) false h;
   within = λ x. word_within signal (address_place signal (sign index) x) (place_within signal (sign index) x);
 }
+
+-- ---- parts of words
+
+pub record IsFitWordPart (signal : Signal) (address : Expression) (part : Part) (index : Expression) : Type 0 where
+  pub some : 1 ≤ part.width
+  pub most : part.width ≤ 64
+  pub range : range_length part.range ≡ word_length signal
+  pub address_fit : is_fit address ≡ true
+  pub address_some : 1 ≤ width address
+  pub address_most : width address ≤ 64
+  pub index_fit : is_fit index ≡ true
+  pub index_some : 1 ≤ width index
+  pub index_most : width index ≤ 64
+
+pub fit_word_part : (signal : Signal) (address : Expression) (part : Part) (index : Expression) → fits_target (WordPartOf signal address part index) ≡ true → IsFitWordPart signal address part index
+fit_word_part signal address part index h =
+    let x = both_true (fits_word_part signal part && is_fit address) (is_fit index) h in
+    let y = both_true (fits_word_part signal part) (is_fit address) x.0 in
+    let z = both_true (fits_64 part.width) (range_length part.range == word_length signal) y.0 in
+    let w = fits_64_is part.width z.0 in
+    let k = fits_length address (both_true (fits address) (divides_constants address) y.1).0 in
+    let l = fits_length index (both_true (fits index) (divides_constants index) x.1).0 in
+    record {
+      some = w.0;
+      most = w.1;
+      range = eqb-true (range_length part.range) (word_length signal) z.1;
+      address_fit = y.1;
+      address_some = k.0;
+      address_most = k.1;
+      index_fit = x.1;
+      index_some = l.0;
+      index_most = l.1;
+    }
+
+-- what is at some of these places is one of them
+one_within : (n : ℕ) (ps : List (Option ℕ)) (q : Option ℕ) → All (IsWithin n) ps → IsWithin n (at_place None ps q)
+one_within n ps None h = tt
+one_within n [] (Some k) h = tt
+one_within n (p ∷ ps) (Some zero) h = All-head (IsWithin n) p ps h
+one_within n (p ∷ ps) (Some (suc k)) h = one_within n ps (Some k) (All-tail (IsWithin n) p ps h)
+
+taken_within : (n : ℕ) (ps qs : List (Option ℕ)) → All (IsWithin n) ps → All (IsWithin n) (map (at_place None ps) qs)
+taken_within n ps [] h = All-nil (IsWithin n)
+taken_within n ps (q ∷ qs) h = All-cons (IsWithin n) (at_place None ps q) (map (at_place None ps) qs) (one_within n ps q h) (taken_within n ps qs h)
+
+pub word_part_within : (signal : Signal) (g : Bool) (us : BitList) (part : Part) (j : Bool) (vs : BitList) → All (IsWithin (signal_length signal)) (word_part_places signal g us part j vs)
+word_part_within signal g us part j vs = taken_within (signal_length signal) (word_places signal g us) (places part j vs) (word_within signal (address_place signal g us) (place_within signal g us))
 
 -- ---- what is added
 
@@ -171,7 +218,7 @@ pub record IsWriter (kernel : Kernel) (target : Target) (signal : Signal) (index
   pub index_most : width index ≤ 64
   pub most : long ≤ 64
 
-part_takes : (n m i k : ℕ) → n ≡ m → 1 ≤ i → 1 ≤ k → (n == m && nat_le 1 i && nat_le 1 k && n == n) ≡ true
+pub part_takes : (n m i k : ℕ) → n ≡ m → 1 ≤ i → 1 ≤ k → (n == m && nat_le 1 i && nat_le 1 k && n == n) ≡ true
 part_takes n m i k e h l = grind arith
 
 part_pays : (n k i : ℕ) → 1 ≤ k → n ≤ k * (n * (i + 1))

@@ -28,6 +28,7 @@ one_index : (a : Arena) (leaf : Leaf) (state : N.State) → length (index_values
 one_index a (L.Whole signal) state = refl
 one_index a (L.Select signal range up width index) state = refl
 one_index a (L.Word signal index) state = refl
+one_index a (L.WordPart signal address range up width index) state = refl
 
 in_drop : (n : ℕ) (xs : List ℕ) (x : ℕ) → Contains (drop n xs) x → Contains xs x
 in_drop zero xs x c = c

@@ -11,7 +11,7 @@ use Rattle.vs_net.specs.Network as N
 use Rattle.vs_design.specs.Expressions as E
 use Rattle.vs_design.specs.Expressions.{width, sign, is_constant}
 use Rattle.vs_design.specs.Fits.{fits_64, fits_target}
-use Rattle.vs_design.specs.Statements.{Target, Whole, PartOf, WordOf, Both, target_width}
+use Rattle.vs_design.specs.Statements.{Target, Whole, PartOf, WordOf, WordPartOf, Both, target_width}
 use Rattle.vs_design.specs.Bodies.{target_writes}
 use Rattle.vs_design.specs.Footprints.{contains, target_bits}
 use Rattle.vs_design.specs.Sizes.{target_weight}
@@ -32,6 +32,7 @@ pub some_leaf : (t : Target) → 1 ≤ length (leaves_of t)
 some_leaf (Whole signal) = omega arith
 some_leaf (PartOf signal part index) = omega arith
 some_leaf (WordOf signal index) = omega arith
+some_leaf (WordPartOf signal address part index) = omega arith
 some_leaf (Both high low) = omega (arith, some_leaf high, some_length (leaves_of high) (leaves_of low))
   where
     some_length : (xs ys : List Target) → length xs ≤ length (xs ++ ys)
@@ -42,6 +43,7 @@ pub leaf_widths : (t : Target) → target_width t ≡ sum_by target_width (leave
 leaf_widths (Whole signal) = sym (sum_by-cons target_width (Whole signal) [] ∙ omega arith)
 leaf_widths (PartOf signal part index) = sym (sum_by-cons target_width (PartOf signal part index) [] ∙ omega arith)
 leaf_widths (WordOf signal index) = sym (sum_by-cons target_width (WordOf signal index) [] ∙ omega arith)
+leaf_widths (WordPartOf signal address part index) = sym (sum_by-cons target_width (WordPartOf signal address part index) [] ∙ omega arith)
 leaf_widths (Both high low) = omega (arith, leaf_widths high, leaf_widths low, sum_by-append target_width (leaves_of high) (leaves_of low))
 
 split_weight : (signal : E.Signal) (part : _) (index : E.Expression) (b : Bool) → is_constant index ≡ b → target_weight (PartOf signal part index) ≡ write_weight (PartOf signal part index) + index_weight (PartOf signal part index)
@@ -52,6 +54,13 @@ word_weight : (signal : E.Signal) (index : E.Expression) (b : Bool) → is_const
 word_weight signal index true h = grind (arith, constant_weight index (width index) h)
 word_weight signal index false h = grind arith
 
+word_part_weight : (signal : E.Signal) (address : E.Expression) (part : _) (index : E.Expression) (a b : Bool) → is_constant address ≡ a → is_constant index ≡ b
+    → target_weight (WordPartOf signal address part index) ≡ write_weight (WordPartOf signal address part index) + index_weight (WordPartOf signal address part index)
+word_part_weight signal address part index true true g h = grind (arith, constant_weight address (width address) g, constant_weight index (width index) h)
+word_part_weight signal address part index true false g h = grind (arith, constant_weight address (width address) g)
+word_part_weight signal address part index false true g h = grind (arith, constant_weight index (width index) h)
+word_part_weight signal address part index false false g h = grind arith
+
 pub leaf_weights : (t : Target) → target_weight t ≡ sum_by write_weight (leaves_of t) + sum_by index_weight (leaves_of t)
 leaf_weights (Whole signal) = sym (omega (arith, sum_by-cons write_weight (Whole signal) [], sum_by-cons index_weight (Whole signal) []))
 leaf_weights (PartOf signal part index) =
@@ -60,12 +69,16 @@ leaf_weights (PartOf signal part index) =
 leaf_weights (WordOf signal index) =
     let here = word_weight signal index (is_constant index) refl in
     omega (arith, here, sum_by-cons write_weight (WordOf signal index) [], sum_by-cons index_weight (WordOf signal index) [])
+leaf_weights (WordPartOf signal address part index) =
+    let here = word_part_weight signal address part index (is_constant address) (is_constant index) refl refl in
+    omega (arith, here, sum_by-cons write_weight (WordPartOf signal address part index) [], sum_by-cons index_weight (WordPartOf signal address part index) [])
 leaf_weights (Both high low) = omega (arith, leaf_weights high, leaf_weights low, sum_by-append write_weight (leaves_of high) (leaves_of low), sum_by-append index_weight (leaves_of high) (leaves_of low))
 
 pub leaf_fits : (t : Target) → fits_target t ≡ true → All (λ x. fits_target x ≡ true) (leaves_of t)
 leaf_fits (Whole signal) h = All-cons (λ x. fits_target x ≡ true) (Whole signal) [] h (All-nil (λ x. fits_target x ≡ true))
 leaf_fits (PartOf signal part index) h = All-cons (λ x. fits_target x ≡ true) (PartOf signal part index) [] h (All-nil (λ x. fits_target x ≡ true))
 leaf_fits (WordOf signal index) h = All-cons (λ x. fits_target x ≡ true) (WordOf signal index) [] h (All-nil (λ x. fits_target x ≡ true))
+leaf_fits (WordPartOf signal address part index) h = All-cons (λ x. fits_target x ≡ true) (WordPartOf signal address part index) [] h (All-nil (λ x. fits_target x ≡ true))
 leaf_fits (Both high low) h =
     let p = both_true (fits_64 (target_width high + target_width low) && fits_target high) (fits_target low) h in
     let q = both_true (fits_64 (target_width high + target_width low)) (fits_target high) p.0 in
@@ -75,6 +88,7 @@ pub leaf_indices : (t : Target) (state : N.State) → index_values t state ≡ f
 leaf_indices (Whole signal) state = sym (append-nil ([] ∷ []))
 leaf_indices (PartOf signal part index) state = sym (append-nil (index_values (PartOf signal part index) state))
 leaf_indices (WordOf signal index) state = sym (append-nil (index_values (WordOf signal index) state))
+leaf_indices (WordPartOf signal address part index) state = sym (append-nil (index_values (WordPartOf signal address part index) state))
 leaf_indices (Both high low) state =
     ap (λ (vs : List BitList). vs ++ index_values low state) (leaf_indices high state)
     ∙ ap (λ (vs : List BitList). flat_map (λ x. index_values x state) (leaves_of high) ++ vs) (leaf_indices low state)
@@ -94,6 +108,7 @@ leaf_bits : (t : Target) → target_bits t ≡ flat_map target_bits (leaves_of t
 leaf_bits (Whole signal) = sym (append-nil (target_bits (Whole signal)))
 leaf_bits (PartOf signal part index) = sym (append-nil (target_bits (PartOf signal part index)))
 leaf_bits (WordOf signal index) = sym (append-nil (target_bits (WordOf signal index)))
+leaf_bits (WordPartOf signal address part index) = sym (append-nil (target_bits (WordPartOf signal address part index)))
 leaf_bits (Both high low) =
     ap (λ (bs : List ℕ). bs ++ target_bits low) (leaf_bits high) ∙ ap (λ (bs : List ℕ). flat_map target_bits (leaves_of high) ++ bs) (leaf_bits low) ∙ sym (flat_map-append target_bits (leaves_of high) (leaves_of low))
 
@@ -139,6 +154,7 @@ joined_writes : (t : Target) (v : BitList) (s : N.State) → target_writes t v s
 joined_writes (Whole signal) v s = refl
 joined_writes (PartOf signal part index) v s = refl
 joined_writes (WordOf signal index) v s = refl
+joined_writes (WordPartOf signal address part index) v s = refl
 joined_writes (Both high low) v s =
     let k : target_width low ≡ target_width (joined_target (leaves_of low)) = leaf_widths low ∙ sym (joined_width (leaves_of low) (some_leaf low)) in
     ap (λ (n : ℕ). target_writes high (drop n v) s ++ target_writes low (take n v) s) k
@@ -183,6 +199,7 @@ width_of_target (E.Name signal) s = refl
 width_of_target (E.Select (E.OfSignal signal) part index) s = refl
 width_of_target (E.Select (E.OfConstant bits) part index) s = cc
 width_of_target (E.Word signal index) s = refl
+width_of_target (E.WordPart signal address part index) s = refl
 width_of_target (E.Unary op a) s = cc
 width_of_target (E.Binary op a b) s = cc
 width_of_target (E.Choice c p q) s = cc

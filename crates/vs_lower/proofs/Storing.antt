@@ -7,9 +7,9 @@ use Rattle.std.proofs.lemmas.List.FromFn.{length-range_with_len}
 use Rattle.vs_four.specs.Logic.{BitList}
 use Rattle.vs_net.specs.Network as N
 use Rattle.vs_design.specs.Expressions.{Expression, word_length, width, sign}
-use Rattle.vs_design.specs.Fits.{fits_64, fits, divides_constants, is_fit, fits_target}
+use Rattle.vs_design.specs.Fits.{fits_64, fits, divides_constants, is_fit, fits_target, fits_word_part}
 use Rattle.vs_design.specs.Values.{assigned_value}
-use Rattle.vs_design.specs.Statements.{Target, Whole, PartOf, WordOf, Both, target_width}
+use Rattle.vs_design.specs.Statements.{Target, Whole, PartOf, WordOf, WordPartOf, Both, target_width}
 use Rattle.vs_design.specs.Bodies.{assignment_writes, effect_of}
 use Rattle.vs_design.specs.Footprints.{read_bits, target_bits}
 use Rattle.vs_design.specs.Sizes.{weight}
@@ -46,6 +46,8 @@ pub target_length : (t : Target) → fits_target t ≡ true → (1 ≤ target_wi
 target_length (Whole signal) h = fits_64_is _ h
 target_length (PartOf signal part index) h = fits_64_is part.width (both_true (fits_64 part.width) _ (both_true _ (is_fit index) h).0).0
 target_length (WordOf signal index) h = fits_64_is _ (both_true (fits_64 (word_length signal)) (is_fit index) h).0
+target_length (WordPartOf signal address part index) h =
+    fits_64_is part.width (both_true (fits_64 part.width) _ (both_true (fits_word_part signal part) (is_fit address) (both_true _ (is_fit index) h).0).0).0
 target_length (Both high low) h = fits_64_is (target_width high + target_width low) (both_true (fits_64 (target_width high + target_width low)) (fits_target high) (both_true _ (fits_target low) h).0).0
 
 -- the length of a target that fits is not capped
@@ -108,6 +110,7 @@ leaf_within : (n : ℕ) (t : Target) → target_within n t ≡ true → All (λ 
 leaf_within n (Whole signal) h = All-cons (λ x. target_within n x ≡ true) (Whole signal) [] h (All-nil (λ x. target_within n x ≡ true))
 leaf_within n (PartOf signal part index) h = All-cons (λ x. target_within n x ≡ true) (PartOf signal part index) [] h (All-nil (λ x. target_within n x ≡ true))
 leaf_within n (WordOf signal index) h = All-cons (λ x. target_within n x ≡ true) (WordOf signal index) [] h (All-nil (λ x. target_within n x ≡ true))
+leaf_within n (WordPartOf signal address part index) h = All-cons (λ x. target_within n x ≡ true) (WordPartOf signal address part index) [] h (All-nil (λ x. target_within n x ≡ true))
 leaf_within n (Both high low) h =
     let p = both_true (target_within n high) (target_within n low) h in
     All-append (λ x. target_within n x ≡ true) (leaves_of high) (leaves_of low) (leaf_within n high p.0) (leaf_within n low p.1)

@@ -217,14 +217,14 @@ in_run (suc n) (suc q) first h =
     (λ e. ap (λ b. b || contains (count_from (suc first) n) (first + suc q)) e)
     (λ e. ap (λ b. b || contains (count_from (suc first) n) (first + suc q)) e ∙ ap (contains (count_from (suc first) n)) at ∙ in_run n q (suc first) (omega arith))
 
-written_run : (bits : List ℕ) (vs : BitList) (b : ℕ) → length vs ≡ length bits → is_written (pair_up (map Some bits) vs) b ≡ contains bits b
+pub written_run : (bits : List ℕ) (vs : BitList) (b : ℕ) → length vs ≡ length bits → is_written (pair_up (map Some bits) vs) b ≡ contains bits b
 unfolding is_written
 written_run [] [] b l = refl
 written_run [] (v ∷ vs) b l = refl
 written_run (c ∷ bits) [] b l = absurd (omega arith)
 written_run (c ∷ bits) (v ∷ vs) b l = ap (λ q. (b == c) || q) (written_run bits vs b (omega arith))
 
-length_places : (a : BitList) (ps : List (Option ℕ)) (vs : BitList) → length (write_places a ps vs) ≡ length a
+pub length_places : (a : BitList) (ps : List (Option ℕ)) (vs : BitList) → length (write_places a ps vs) ≡ length a
 length_places a [] vs = refl
 length_places a (p ∷ ps) [] = refl
 length_places a (None ∷ ps) (v ∷ vs) = length_places a ps vs

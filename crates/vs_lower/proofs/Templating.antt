@@ -13,12 +13,12 @@ use Rattle.vs_design.specs.Designs.{Design}
 use Rattle.vs_design.specs.Elaborated.{IsLawfulDesign, have_bits_from, inside, is_formed_function, is_formed_header, is_formed_statement, is_nil}
 use Rattle.vs_design.specs.Expressions.{Signal, signal_length, Expression, Header, is_constant, local_signals, sign}
 use Rattle.vs_design.specs.Fits.{fits_64, fits_arms, fits_statement, fits_target, fit_items, is_fit}
-use Rattle.vs_design.specs.Footprints.{arms_bits, contains, somes, statement_bits, target_bits}
+use Rattle.vs_design.specs.Footprints.{arms_bits, contains, somes, statement_bits, target_bits, addressed_bits}
 use Rattle.vs_design.specs.Rules.{mixed_in}
 use Rattle.vs_design.specs.Sizes.{statement_weight}
-use Rattle.vs_design.specs.Statements.{Function, Target, Whole, PartOf, WordOf, Both, target_width, Statement, Empty, Assignment, Then, If, Case, Arms, Arm, Default}
+use Rattle.vs_design.specs.Statements.{Function, Target, Whole, PartOf, WordOf, WordPartOf, Both, target_width, Statement, Empty, Assignment, Then, If, Case, Arms, Arm, Default}
 use Rattle.vs_design.specs.Bodies.{bits_at, body}
-use Rattle.vs_design.specs.Values.{bits_of_signal, constant_value, count_from, word_places}
+use Rattle.vs_design.specs.Values.{bits_of_signal, constant_value, count_from, word_places, word_part_places}
 use Rattle.vs_design.specs.Within.{FunctionIsWithin, arms_within, items_within, names_within, signal_within, statement_within, target_within}
 use Rattle.vs_flat.specs.declared.functions.Body.{Body}
 use Rattle.vs_flat.specs.Arena.{Arena, body_at}
@@ -38,7 +38,7 @@ use Rattle.vs_values.proofs.Values.{both_true}
 use Rattle.vs_lower.proofs.Apart.{unmixed_apart}
 use Rattle.vs_lower.specs.Stated.{AddsStatement, AreInside, IsStatementReady}
 use Rattle.vs_lower.proofs.Joining.{picked, picked_are, picked_below}
-use Rattle.vs_lower.proofs.Partwise.{fit_part, part_selecting, somes_within, word_selecting}
+use Rattle.vs_lower.proofs.Partwise.{fit_part, part_selecting, somes_within, word_selecting, word_part_within}
 use Rattle.vs_lower.proofs.Placing.{by_test}
 use Rattle.vs_lower.proofs.Reaching.{within_is}
 use Rattle.vs_lower.proofs.Targets.{IsWithin}
@@ -71,6 +71,21 @@ target_inside n (PartOf s part index) f w b h =
     chosen_inside n s (places part (sign index) (constant_value index)) (is_constant index) (both_true (signal_within n s) (names_within n index) w).0 ((part_selecting s part index p.range).within (constant_value index)) b h
 target_inside n (WordOf s index) f w b h =
     chosen_inside n s (word_places s (sign index) (constant_value index)) (is_constant index) (both_true (signal_within n s) (names_within n index) w).0 ((word_selecting s index).within (constant_value index)) b h
+target_inside n (WordPartOf s address part index) f w b h = at (is_constant address) (is_constant index) h
+  where
+    inside : signal_within n s ≡ true
+    inside = (both_true (signal_within n s) (names_within n address) (both_true (signal_within n s && names_within n address) (names_within n index) w).0).0
+
+    ps : List (Option ℕ)
+    ps = word_part_places s (sign address) (constant_value address) part (sign index) (constant_value index)
+
+    addressed : contains (addressed_bits s address) b ≡ true → b < n
+    addressed i = chosen_inside n s (word_places s (sign address) (constant_value address)) (is_constant address) inside ((word_selecting s address).within (constant_value address)) b i
+
+    at : (j k : Bool) → contains (if (j && k) then somes (bits_at s ps) else addressed_bits s address) b ≡ true → b < n
+    at true true i = signal_inside n s inside b (somes_within s ps b (word_part_within s (sign address) (constant_value address) part (sign index) (constant_value index)) i)
+    at true false i = addressed i
+    at false k i = addressed i
 target_inside n (Both high low) f w b h =
     let p = both_true (fits_64 (target_width high + target_width low) && fits_target high) (fits_target low) f in
     let q = both_true (fits_64 (target_width high + target_width low)) (fits_target high) p.0 in

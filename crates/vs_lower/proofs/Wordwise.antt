@@ -8,7 +8,7 @@ use Rattle.vs_design.specs.Bodies.{bits_at}
 use Rattle.vs_values.specs.Environments.{placed}
 use Rattle.vs_values.proofs.Wording.{first_of}
 
-run_from : (first m k : ℕ) → map (λ p. option_map (λ n. first + n) p) (map Some (count_from m k)) ≡ map Some (count_from (first + m) k)
+pub run_from : (first m k : ℕ) → map (λ p. option_map (λ n. first + n) p) (map Some (count_from m k)) ≡ map Some (count_from (first + m) k)
 run_from first m zero = refl
 run_from first m (suc k) =
     let z : first + suc m ≡ suc (first + m) = omega arith in

@@ -4,7 +4,7 @@ use Rattle.vs_net.specs.Network as N
 use Rattle.vs_code.specs.Calls.{Call, State, AreCalled}
 use Rattle.vs_four.specs.Logic.{BitList}
 use Rattle.vs_design.specs.Values.{own_value}
-use Rattle.vs_design.specs.Statements.{Target, Whole, PartOf, WordOf, Both, Statement}
+use Rattle.vs_design.specs.Statements.{Target, Whole, PartOf, WordOf, WordPartOf, Both, Statement}
 use Rattle.vs_design.specs.Bodies.{target_writes, body}
 use Rattle.vs_design.specs.Footprints.{contains, target_bits}
 use Rattle.vs_design.specs.Races.{blocking_bits, nonblocking_bits}
@@ -40,11 +40,12 @@ pub record IsCondition (now tv : List ℕ) (sv : N.State → BitList) (mark : �
 abbrev pub IsStatementDone : (now later : List ℕ) (mark : ℕ) (st : Statement) (calls : List Call) (now_after later_after : List ℕ) (next : ℕ) → Type 0
 IsStatementDone now later mark st calls now_after later_after next = IsDone now later [] (λ state. []) mark (body st) (blocking_bits st) (nonblocking_bits st) (statement_weight st) calls now_after later_after next
 
--- the values of the indices of a target's parts, in the order of the text; a whole signal has an empty one
+-- the values of the indices of a target's parts, in the order of the text; a whole signal has an empty one, and a part of a word its address and its index, one after the other
 abbrev pub index_values : Target → N.State → List BitList
 index_values (Whole signal) state = [] ∷ []
 index_values (PartOf signal part index) state = own_value index state ∷ []
 index_values (WordOf signal index) state = own_value index state ∷ []
+index_values (WordPartOf signal address part index) state = (own_value address state ++ own_value index state) ∷ []
 index_values (Both high low) state = index_values high state ++ index_values low state
 
 -- What calls do that write a value, in the slots `tv`, to a target whose indices are in the slots `tis`

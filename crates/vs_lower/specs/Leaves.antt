@@ -1,7 +1,7 @@
 -- The parts of a target that are no concatenations, in the order of the text.
 use Rattle.std.specs.Prelude.{◌≡◌, ℕ, ◌<◌, length, All, List, [], ◌∷◌, ◌++◌, map}
 use Rattle.vs_design.specs.Expressions.{Signal}
-use Rattle.vs_design.specs.Statements.{Target, Whole, PartOf, WordOf, Both}
+use Rattle.vs_design.specs.Statements.{Target, Whole, PartOf, WordOf, WordPartOf, Both}
 use Rattle.vs_flat.specs.Arena.{Arena, declared_at}
 use Rattle.vs_flat.specs.DesignOf.{arena_signals, arena_trees, local_of}
 use Rattle.vs_flat.specs.Named.{locals_in}
@@ -16,6 +16,7 @@ abbrev pub leaves_of : Target → List Target
 leaves_of (Whole signal) = Whole signal ∷ []
 leaves_of (PartOf signal part index) = PartOf signal part index ∷ []
 leaves_of (WordOf signal index) = WordOf signal index ∷ []
+leaves_of (WordPartOf signal address part index) = WordPartOf signal address part index ∷ []
 leaves_of (Both high low) = leaves_of high ++ leaves_of low
 
 -- the concatenation of these, which are some
@@ -43,12 +44,15 @@ abbrev pub leaf_target : Arena → Leaf → Target
 leaf_target a (L.Whole signal) = Whole (named_signal a signal)
 leaf_target a (L.Select signal range up width index) = PartOf (named_signal a signal) (record { range = range; up = up; width = width }) (tree_at (arena_trees a) index)
 leaf_target a (L.Word signal index) = WordOf (signal_at (arena_signals a) signal) (tree_at (arena_trees a) index)
+leaf_target a (L.WordPart signal address range up width index) =
+    WordPartOf (signal_at (arena_signals a) signal) (tree_at (arena_trees a) address) (record { range = range; up = up; width = width }) (tree_at (arena_trees a) index)
 
 -- what it names is there, and its index calls functions that have been looked at alone
 abbrev pub IsInside : Templated → Leaf → Type 0
 IsInside t (L.Whole signal) = IsNamed t.arena signal
 IsInside t (L.Select signal range up width index) = IsNamed t.arena signal × (index < node_bound t)
 IsInside t (L.Word signal index) = (signal < length t.arena.signals) × (index < node_bound t)
+IsInside t (L.WordPart signal address range up width index) = (signal < length t.arena.signals) × (address < node_bound t) × (index < node_bound t)
 
 -- parts of these targets stand behind those before
 pub record AddsLeaves (t : Templated) (old new : List Leaf) (targets : List Target) : Type 0 where

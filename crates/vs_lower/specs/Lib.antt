@@ -4,6 +4,7 @@ pub mod Joined
 pub mod Cases
 pub mod Leaves
 pub mod Written
+pub mod Parts
 pub mod Assigned
 pub mod Tested
 pub mod Stated

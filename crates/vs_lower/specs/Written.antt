@@ -1,18 +1,19 @@
 -- What the lowering of the parts of a target needs and gives.
-use Rattle.std.specs.Prelude.{◌≡◌, ℕ, ◌+◌, ◌*◌, ◌<◌, ◌≤◌, ◌^◌, true, List, [], ◌∷◌, ◌++◌, length, map, All, sum_by, if◌then◌else◌}
+use Rattle.std.specs.Prelude.{◌≡◌, ℕ, ◌+◌, ◌*◌, ◌<◌, ◌≤◌, ◌^◌, true, List, [], ◌∷◌, ◌++◌, length, map, take, drop, All, sum_by, if◌then◌else◌}
 use Rattle.std.specs.List.{flat_map}
 use Rattle.vs_four.specs.Selects.{range_length}
-use Rattle.vs_design.specs.Expressions.{Expression, width, is_constant}
+use Rattle.vs_design.specs.Expressions.{Expression, width, sign, is_constant}
 use Rattle.vs_design.specs.Values.{constant_value}
-use Rattle.vs_design.specs.Statements.{Target, PartOf, WordOf, target_width}
-use Rattle.vs_design.specs.Fits.{fits_target}
+use Rattle.vs_design.specs.Statements.{Target, PartOf, WordOf, WordPartOf, target_width}
+use Rattle.vs_design.specs.Fits.{fits_target, is_fit}
 use Rattle.vs_design.specs.Sizes.{weight, address_weight}
-use Rattle.vs_design.specs.Within.{target_within}
+use Rattle.vs_design.specs.Within.{names_within, target_within}
 use Rattle.vs_code.specs.Calls.{Call, length_of}
 use Rattle.vs_values.specs.Added.{IsEnv, AreValues}
 use Rattle.vs_values.specs.Coded.{Coding}
 use Rattle.vs_values.specs.Constants.{AreConstant, constant_bits}
 use Rattle.vs_values.specs.Templates.{Templated}
+use Rattle.vs_values.specs.Valued.{AddsValue}
 use Rattle.vs_lower.specs.Done.{index_values, IsWritten}
 use Rattle.vs_lower.specs.declared.leaves.Leaf.{Leaf}
 use Rattle.vs_lower.specs.Leaves.{leaf_target, IsInside}
@@ -36,6 +37,7 @@ pub record IsIndex (index : Expression) (ti : List ℕ) : Type 0 where
 abbrev pub IsIndexed : Target → List ℕ → Type 0
 IsIndexed (PartOf signal part index) ti = IsIndex index ti
 IsIndexed (WordOf signal index) ti = IsIndex index ti
+IsIndexed (WordPartOf signal address part index) ti = IsIndex address (take (width address) ti) × IsIndex index (drop (width address) ti)
 IsIndexed target ti = Unit {0}
 
 abbrev pub AreIndexed : List Target → List (List ℕ) → Type 0
@@ -46,6 +48,7 @@ AreIndexed ts tis = ⊥
 abbrev pub index_weight : Target → ℕ
 index_weight (PartOf signal part index) = weight index (width index)
 index_weight (WordOf signal index) = weight index (width index)
+index_weight (WordPartOf signal address part index) = weight address (width address) + weight index (width index)
 index_weight target = 0
 
 -- what is added for these slots of a part's index
@@ -54,6 +57,25 @@ pub record AddsIndex (env : List ℕ) (old new : Coding) (target : Target) (ti :
   pub is : new.calls ≡ old.calls ++ calls
   pub values : AreValues env old.next calls (ti ∷ []) new.next (index_weight target) (λ state. index_values target state)
   pub indexed : IsIndexed target ti
+
+-- two expressions may be lowered, one after the other
+pub record AreReady (env : List ℕ) (code : Coding) (address index : Expression) : Type 0 where
+  pub address_fit : is_fit address ≡ true
+  pub address_most : width address ≤ 64
+  pub address_names : names_within (length env) address ≡ true
+  pub index_fit : is_fit index ≡ true
+  pub index_most : width index ≤ 64
+  pub index_names : names_within (length env) index ≡ true
+  pub room : HasRoom env code (weight address (width address) + weight index (width index))
+
+-- and were: their slots, one after the other
+pub record AddsBoth (env : List ℕ) (old new : Coding) (address index : Expression) (ti : List ℕ) : Type 0 where
+  pub middle : Coding
+  pub ta : List ℕ
+  pub tb : List ℕ
+  pub is : ti ≡ ta ++ tb
+  pub first : AddsValue env old.calls old.next middle.calls middle.next address (width address) (sign address) ta
+  pub second : AddsValue env middle.calls middle.next new.calls new.next index (width index) (sign index) tb
 
 -- and for those of the indices of several parts
 pub record AddsIndices (env : List ℕ) (old new : Coding) (targets : List Target) (tis : List (List ℕ)) : Type 0 where
@@ -68,6 +90,8 @@ pub record AddsIndices (env : List ℕ) (old new : Coding) (targets : List Targe
 abbrev pub write_weight : Target → ℕ
 write_weight (PartOf signal part index) = if is_constant index then 0 else part.width * (range_length part.range * (width index + 1))
 write_weight (WordOf signal index) = if is_constant index then 0 else address_weight signal (width index)
+write_weight (WordPartOf signal address part index) =
+    (if is_constant address then 0 else address_weight signal (width address)) + (if is_constant index then 0 else part.width * (range_length part.range * (width index + 1)))
 write_weight target = 0
 
 -- what a call of the write of a value, in the slots `value`, to the parts of a target needs

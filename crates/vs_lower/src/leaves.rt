@@ -16,7 +16,7 @@ use vs_four::Range;
 use vs_shape::first_copy;
 use vs_values::Templates;
 
-/// A part of a target that is no concatenation (IEEE 1364-2005, table 6-1): a whole signal, a bit or part select of one, or a word of a memory. Indices are named by their numbers.
+/// A part of a target that is no concatenation (IEEE 1364-2005, table 6-1): a whole signal, a bit or part select of one, a word of a memory, or bits of one. Indices are named by their numbers.
 #[derive(Clone, Copy)]
 pub(crate) enum Leaf {
     Whole {
@@ -31,6 +31,14 @@ pub(crate) enum Leaf {
     },
     Word {
         signal: u32,
+        index: u32,
+    },
+    WordPart {
+        signal: u32,
+        address: u32,
+        range: Range,
+        up: bool,
+        width: u32,
         index: u32,
     },
 }
@@ -88,6 +96,24 @@ fn add_leaves(templates: &Templates, target: u32, leaves: &mut Vec<Leaf>) -> Res
             leaves.push(Leaf::Word {
                 signal: *signal,
                 index: *index,
+            })?;
+            Ok(())
+        }
+        Node::WordPart {
+            signal,
+            address,
+            range,
+            base,
+            up,
+            width,
+        } => {
+            leaves.push(Leaf::WordPart {
+                signal: *signal,
+                address: *address,
+                range: *range,
+                up: *up,
+                width: *width,
+                index: *base,
             })?;
             Ok(())
         }

@@ -14,6 +14,7 @@ mod indices;
 mod leaves;
 mod lowered;
 mod named;
+mod parts;
 mod reach;
 mod resets;
 mod sleepers;

@@ -21,6 +21,7 @@ ghost use Rattle.vs_lower.specs.Written.{AddsWrites, AreIndexed, HasRoom, IsInde
 
 use crate::leaves::Leaf;
 use crate::named::{Named, declared, named_bits};
+use crate::parts::{WordPart, write_part};
 use crate::reach::reach;
 use std::alloc::{AllocError, Global};
 use vs_base::List;
@@ -51,7 +52,7 @@ fn set_at(
 }
 
 /// Gives the bits at these places of the signal that begins with bit `first` these slots, one after the other.
-fn place_at(
+pub(crate) fn place_at(
     env: &mut Environment,
     first: u32,
     places: &Places,
@@ -144,7 +145,7 @@ fn place_word(
 }
 
 /// Calls the kernel of a write by a variable index, and answers the new slots of the signal.
-fn written_slots(
+pub(crate) fn written_slots(
     alloc: Global,
     kernel: AnyKernel,
     under: Vec<u32>,
@@ -162,7 +163,7 @@ fn written_slots(
 }
 
 /// Writes by a variable index: each bit of the signal gets a new slot.
-fn call_write(
+pub(crate) fn call_write(
     alloc: Global,
     templates: &Templates,
     env: &mut Environment,
@@ -231,6 +232,7 @@ fn leaf_width(templates: &Templates, leaf: Leaf) -> u32
         Leaf::Whole { signal } => bits_of(declared(templates, signal)),
         Leaf::Select { width, .. } => width,
         Leaf::Word { signal, .. } => word_width(templates, signal),
+        Leaf::WordPart { width, .. } => width,
     }
 }
 
@@ -282,6 +284,26 @@ fn write_leaf(
         }
         Leaf::Word { signal, index: at } => {
             write_word(alloc, templates, env, signal, at, index, value, code)
+        }
+        Leaf::WordPart {
+            signal,
+            address,
+            range,
+            up,
+            index: at,
+            ..
+        } => {
+            let part = WordPart {
+                signal,
+                address,
+                index: at,
+                selection: Selection {
+                    range,
+                    signed: templates.signed(at),
+                    up,
+                },
+            };
+            write_part(alloc, templates, env, part, index, value, code)
         }
     }
 }

@@ -1,7 +1,7 @@
 -- The bits of the rows after a turn.
 use Rattle.std.proofs.Common.{◌≡◌, ℕ, zero, suc, ◌+◌, ◌-◌, ◌*◌, ◌/◌, ◌%◌, ◌^◌, ◌<◌, ◌≤◌, Bool, true, ◌&&◌, ◌==◌, nat_lt, ◌≢◌, List, [], ◌∷◌, length, get_or, set, replicate, refl, ◌∙◌, sym, ap, subst, arith, ◌⊎◌, inl, inr}
 use Rattle.std.proofs.Math.Nat.{div-add-mod', div-div-eq-div-mul, div-eq-sub-div, div-eq_of_lt}
-use Rattle.std.proofs.lemmas.Nat.{pow-add, pow_pos, or_lt, and_le_r}
+use Rattle.std.proofs.lemmas.Nat.{pow-add, pow_pos, or_lt, and_le_r, le_or_l, le_or_r}
 use Rattle.std.proofs.lemmas.Bool.{cases_lt, and_parts, eqb-true, ltb-true}
 use Rattle.std.proofs.lemmas.List.{get_or-set_same, get_or-set_other, length-set}
 use Rattle.std.proofs.lemmas.Nat.Bits.{bit_at-lt, bit_at-zero, bit_at_and, bit_at_or, bit_at_not, bit_at_cat_low, bit_at_cat_high}
@@ -252,3 +252,26 @@ each_comes = refl
 
 pub six_turns : (before after : List ℕ) → Chain shifts before after → AreColumns before after
 six_turns before after chain = record { bits = λ r c hr hc. chained shifts before after r c c r chain (all_below_at (λ c. comes_from shifts r c c r) 64 c (all_below_at (λ r. all_below (λ c. comes_from shifts r c c r) 64) 64 r each_comes hr) hc) }
+
+-- ---- rows of zeros
+
+abbrev all_zero : ℕ → List ℕ
+all_zero n = replicate n 0
+
+zeros : (n r : ℕ) → get_or (all_zero n) r 0 ≡ 0
+zeros zero r = refl
+zeros (suc n) zero = refl
+zeros (suc n) (suc r) = zeros n r
+
+pub zero_columns : (rows : List ℕ) → ((r : ℕ) → r < 64 → get_or rows r 0 ≡ 0) → AreColumns rows (all_zero 64)
+zero_columns rows none = record {
+  bits = λ r c in_rows in_columns.
+      ap (λ (x : ℕ). bit_at x c) (zeros 64 r) ∙ bit_at-zero c ∙ sym (ap (λ (x : ℕ). bit_at x r) (none c in_columns) ∙ bit_at-zero r);
+}
+
+-- a row more, and what all rows have
+pub no_more : (rows : List ℕ) (n bits : ℕ) → ((r : ℕ) → r < n → get_or rows r 0 ≤ bits) → (r : ℕ) → r < n + 1 → get_or rows r 0 ≤ bit_or bits (get_or rows n 0)
+no_more rows n bits so_far r h = elim (cases_lt r n) [
+  | inl earlier ↦ omega (arith, so_far r earlier, le_or_l bits (get_or rows n 0))
+  | inr here ↦ let e : r ≡ n = omega arith in rw e (le_or_r bits (get_or rows n 0))
+]

@@ -1,9 +1,33 @@
 //! The columns of a square of 64 rows of 64 bits.
-ghost use Rattle.std.specs.Prelude.{ℕ, ◌<◌, ◌^◌, slice_index};
+ghost use Rattle.std.specs.Prelude.{◌≡◌, ℕ, ◌<◌, ◌^◌, true, slice_index};
 ghost use Rattle.vs_plane.specs.Squares.{AreColumns, IsMask, IsTurned};
 
 /// The columns of these rows: bit `c` of word `r` is bit `r` of row `c`.
 pub(crate) fn columns(rows: &[u64; 64]) -> [u64; 64]
+    ensures columns { AreColumns rows.now result }
+    ensures fits { (r : ℕ) → slice_index result r < 2 ^ 64 }
+{
+    // Most unknown planes are 0.
+    if are_zero(rows) {
+        [0; 64]
+    } else {
+        turned(rows)
+    }
+}
+
+/// Whether all bits are 0.
+fn are_zero(rows: &[u64; 64]) -> bool
+    ensures { result ≡ true → (r : ℕ) → r < 64 → slice_index rows.now r ≡ 0 }
+{
+    let mut bits = 0;
+    for i in 0..64 {
+        bits |= rows[i];
+    }
+    bits == 0
+}
+
+/// The columns, by six turns.
+fn turned(rows: &[u64; 64]) -> [u64; 64]
     ensures columns { AreColumns rows.now result }
     ensures fits { (r : ℕ) → slice_index result r < 2 ^ 64 }
 {

@@ -11,10 +11,11 @@ use Rattle.vs_elaborated.specs.Environments.{OfScope, find_entry}
 use Rattle.vs_elaborated.specs.Environments as environment
 use Rattle.vs_elaborated.specs.Generate.{BlockName}
 use Rattle.vs_elaborated.specs.Surveys.{clash_with, has_name, block_faults, block_entries}
+use Rattle.vs_scope.specs.declared.made.BlockName.{BlockName as BlockNameOf}
 use Rattle.vs_scope.specs.declared.made.Made.{Made}
 use Rattle.vs_scope.specs.declared.names.Entry.{Entry}
-use Rattle.vs_scope.specs.Clashes.{NameAt, block_text, blocks_of, has_name_at, clash_faults, AreNew}
-use Rattle.vs_scope.specs.Made.{block_names}
+use Rattle.vs_scope.specs.Clashes.{NameAt, block_text, text_of, blocks_of, has_name_at, clash_faults, AreNew}
+use Rattle.vs_scope.specs.Made.{block_name, names_of}
 use Rattle.vs_maps.specs.Maps.{Pair, value_at, with_value}
 use Rattle.vs_scope.specs.SoFar.{IsFirstSoFar}
 use Rattle.vs_scope.specs.Surveys.{MeanTheSame}
@@ -57,13 +58,23 @@ clash_is es seen (b ∷ bs) =
     ∙ ap (λ (x : List Fault). (clash_with b.place (find_entry es b.name) ++ fault_if (has_name b.name seen) DuplicateName b.place) ++ x) (clash_is es (b ∷ seen) bs)
 
 -- the names from an item on
-pub texts_from : (ms : List Made) (i : ℕ) (m : Made) (done more whole : List NameAt) → i < length ms → m ≡ get_or ms i m → more ≡ done ++ map block_text (block_names m.name)
-    → done ++ map block_text (blocks_of (drop i ms)) ≡ whole → more ++ map block_text (blocks_of (drop (suc i) ms)) ≡ whole
-texts_from ms i m done more whole h e is before =
-    let rest = map block_text (blocks_of (drop (suc i) ms)) in
-    ap (λ (x : List NameAt). x ++ rest) is ∙ append_assoc done (map block_text (block_names m.name)) rest
-    ∙ ap (λ (x : List NameAt). done ++ x) (sym (map-append block_text (block_names m.name) (blocks_of (drop (suc i) ms))))
-    ∙ ap (λ (x : List Made). done ++ map block_text (blocks_of x)) (sym (from_place ms i m h e)) ∙ before
+pub names_from : (ms : List Made) (i : ℕ) (m : Made) (done more : List BlockNameOf) (whole : List BlockName) → i < length ms → m ≡ get_or ms i m → more ≡ done ++ m.names.items
+    → map block_name done ++ blocks_of (drop i ms) ≡ whole → map block_name more ++ blocks_of (drop (suc i) ms) ≡ whole
+names_from ms i m done more whole h e is before =
+    let rest = blocks_of (drop (suc i) ms) in
+    ap (λ (x : List BlockNameOf). map block_name x ++ rest) is ∙ ap (λ (x : List BlockName). x ++ rest) (map-append block_name done m.names.items) ∙ append_assoc (map block_name done) (names_of m) rest
+    ∙ ap (λ (x : List Made). map block_name done ++ blocks_of x) (sym (from_place ms i m h e)) ∙ before
+
+-- and as text
+pub texts_from : (ns : List BlockNameOf) (i : ℕ) (n : BlockNameOf) (done more whole : List NameAt) → i < length ns → n ≡ get_or ns i n → more ≡ done ++ text_of n ∷ []
+    → done ++ map text_of (drop i ns) ≡ whole → more ++ map text_of (drop (suc i) ns) ≡ whole
+texts_from ns i n done more whole h e is before =
+    let rest = map text_of (drop (suc i) ns) in
+    ap (λ (x : List NameAt). x ++ rest) is ∙ append_assoc done (text_of n ∷ []) rest ∙ ap (λ (x : List BlockNameOf). done ++ map text_of x) (sym (from_place ns i n h e)) ∙ before
+
+pub texts_are : (ns : List BlockNameOf) → map text_of ns ≡ map block_text (map block_name ns)
+texts_are [] = refl
+texts_are (n ∷ ns) = ap (λ (x : List NameAt). text_of n ∷ x) (texts_are ns)
 
 -- ---- look-ups
 
@@ -132,8 +143,11 @@ declared_more start now next some rest all h same new = record {
 pub declared_end : (start now all : List environment.Entry) → AreDeclared start now [] all → MeanTheSame now (start ++ all) × (AreNew start all → now ≡ start ++ all)
 declared_end start now all h = (λ n. ap (λ (x : List environment.Entry). find_entry x n) (sym (append_none now)) ∙ h.same n, λ k. sym (append_none now) ∙ (h.new k).1)
 
-pub entries_from : (ms : List Made) (i : ℕ) (m : Made) → i < length ms → m ≡ get_or ms i m → block_entries (blocks_of (drop i ms)) ≡ block_entries (block_names m.name) ++ block_entries (blocks_of (drop (suc i) ms))
-entries_from ms i m h e = ap (λ (x : List Made). block_entries (blocks_of x)) (from_place ms i m h e) ∙ flat_map-append _ (block_names m.name) (blocks_of (drop (suc i) ms))
+entries_both : (xs ys : List BlockName) → block_entries (xs ++ ys) ≡ block_entries xs ++ block_entries ys
+entries_both xs ys = flat_map-append _ xs ys
+
+pub entries_from : (ns : List BlockNameOf) (i : ℕ) (n : BlockNameOf) → i < length ns → n ≡ get_or ns i n → block_entries (map block_name (drop i ns)) ≡ block_entries (block_name n ∷ []) ++ block_entries (map block_name (drop (suc i) ns))
+entries_from ns i n h e = ap (λ (x : List BlockNameOf). block_entries (map block_name x)) (from_place ns i n h e) ∙ entries_both (block_name n ∷ []) (map block_name (drop (suc i) ns))
 
 -- ---- no clash
 

@@ -152,6 +152,14 @@ block_same None (Some s) h = cc
 block_same (Some c) None h = cc
 block_same (Some c) (Some s) h = let is : local_meaning c ≡ s.meaning = cc in ap ASignal is
 
+-- what is declared at a place, of these local signals
+pub declared_blocks : (c : Locals) (ls : List spec.LocalSignal) → map placed_local c.signals.items ≡ map placed_local_of ls → AreNumbered c.places c.signals.items → (place : ℕ) → own_meaning (local_at c place) ≡ spec.meaning_or (spec.signal_at ls place)
+declared_blocks c ls s k place = block_same (local_at c place) (spec.signal_at ls place) (ap (option local_meaning) (k.each place) ∙ first_same c.signals.items ls place s)
+
+-- without names of its own
+pub names_around : (i : Inside) → pairs i.locals.names ≡ [] → inside_names i ≡ named (view_env i.here)
+names_around i h = fun_ext (λ name. ap (λ ps. own_or i.locals (value_at name ps) (named (view_env i.here) name)) h)
+
 own_same : (outer : Env) (es : List Entry) (place : ℕ) (a : Option LocalSignal) (b : Option spec.LocalSignal) → option local_meaning a ≡ option (λ (s : spec.LocalSignal). s.meaning) b → IsOwn b
     → own_meaning a ≡ declared_meaning (inside_function outer es) place (spec.declared_or b)
 own_same outer es place None None h k = refl

@@ -38,6 +38,9 @@ pub mod OwnNames
 pub mod LocalLists
 pub mod LocalBlocks
 pub mod InsideNames
+pub mod NamedSignals
+pub mod NamedSteps
+pub mod BlockNames
 pub mod SaidFunctions
 pub mod PutShapes
 pub mod FunctionsAgain

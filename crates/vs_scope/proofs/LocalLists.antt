@@ -76,7 +76,7 @@ behind_both : (s : spec.Start) (xs ys : List spec.LocalSignal) → spec.behind_a
 behind_both s [] ys = refl
 behind_both s (x ∷ xs) ys = behind_both (spec.behind s x) xs ys
 
-faults_both : (xs ys : List spec.LocalSignal) → local_faults (xs ++ ys) ≡ local_faults xs ++ local_faults ys
+pub faults_both : (xs ys : List spec.LocalSignal) → local_faults (xs ++ ys) ≡ local_faults xs ++ local_faults ys
 faults_both [] ys = refl
 faults_both (x ∷ xs) ys = ap (λ (r : List Fault). x.faults ++ r) (faults_both xs ys) ∙ sym (append_assoc x.faults (local_faults xs) (local_faults ys))
 

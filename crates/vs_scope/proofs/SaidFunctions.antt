@@ -59,12 +59,12 @@ clean_is (f ∷ fs) = refl
 -- a statement in its function
 statement_said : (outer : Env) (most scope : ℕ) (f : tree.Function) (i : Inside) (c : StatementSaid) → view_env i.here ≡ inside_function outer []
     → AreLocals i.locals (spec.function_locals scope (inside_function outer []) f) (spec.declared_locals f)
-    → IsSaid c (statements.unrolled_within most f.statement (record { declared = inside_declared i; in_function = true; clocked = false; unrolls = true }) (inside_names i))
+    → IsSaid c (statements.unrolled_within most f.statement (record { declared = inside_declared i; in_function = true; takes_variables = true; clocked = false; unrolls = true }) (inside_names i))
     → IsSaid c (statements.unrolled_within most f.statement (spec.function_body (spec.function_locals scope (inside_function outer []) f)) (spec.function_names scope outer f))
 statement_said outer most scope f i c e a h =
     let l = spec.function_locals scope (inside_function outer []) f in
     subst (λ find. IsSaid c (statements.unrolled_within most f.statement (spec.function_body l) find)) (names_inside i scope outer f e a)
-    (subst (λ declared. IsSaid c (statements.unrolled_within most f.statement (record { declared = declared; in_function = true; clocked = false; unrolls = true }) (inside_names i))) (declared_inside i l (spec.declared_locals f) a) h)
+    (subst (λ declared. IsSaid c (statements.unrolled_within most f.statement (record { declared = declared; in_function = true; takes_variables = true; clocked = false; unrolls = true }) (inside_names i))) (declared_inside i l (spec.declared_locals f) a) h)
 
 -- what its local signals say, in short
 abbrev pub header_said : SaidLocals → SaidHeader
@@ -72,7 +72,7 @@ header_said s = record { inputs = s.locals.inputs; range = s.result_range; signe
 
 pub function_said : (outer : Env) (number most scope : ℕ) (f : tree.Function) (i : Inside) (s : SaidLocals) (c : StatementSaid) (r : SaidFunction) → view_env i.here ≡ inside_function outer [] → i.locals ≡ s.locals
     → IsSaidLocals s (spec.function_locals scope (inside_function outer []) f) (spec.declared_locals f)
-    → IsSaid c (statements.unrolled_within most f.statement (record { declared = inside_declared i; in_function = true; clocked = false; unrolls = true }) (inside_names i))
+    → IsSaid c (statements.unrolled_within most f.statement (record { declared = inside_declared i; in_function = true; takes_variables = true; clocked = false; unrolls = true }) (inside_names i))
     → IsOfParts r f.place number (header_said s) c
     → IsSaidFunction r (spec.said_function number most scope outer f)
 function_said outer number most scope f i s c r e same locals h is =

@@ -98,7 +98,7 @@ blocks_same cs ms h = sym (of_code cs) ∙ ap (flat_map (λ (k : code.Kept). k.n
   where
     of_code : (cs : List Made) → flat_map (λ (k : code.Kept). k.names) (map code.made cs) ≡ blocks_of cs
     of_code [] = refl
-    of_code (c ∷ cs) = ap (λ (r : List generate.BlockName). code.block_names c.name ++ r) (of_code cs)
+    of_code (c ∷ cs) = ap (λ (r : List generate.BlockName). code.names_of c ++ r) (of_code cs)
 
     of_said : (ms : List generate.Made) → flat_map (λ (k : code.Kept). k.names) (map code.kept ms) ≡ flat_map (λ (m : generate.Made). m.names) ms
     of_said [] = refl

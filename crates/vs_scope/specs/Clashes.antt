@@ -10,8 +10,9 @@ use Rattle.vs_elaborated.specs.Environments.{Entry, OfScope, find_entry}
 use Rattle.vs_elaborated.specs.Generate.{BlockName}
 use Rattle.vs_elaborated.specs.Surveys.{clash_with}
 use Rattle.vs_scope.specs.declared.clashes.NamedBlock.{NamedBlock}
+use Rattle.vs_scope.specs.declared.made.BlockName.{BlockName as BlockNameOf}
 use Rattle.vs_scope.specs.declared.made.Made.{Made}
-use Rattle.vs_scope.specs.Made.{block_names}
+use Rattle.vs_scope.specs.Made.{block_name, names_of}
 use Rattle.vs_maps.specs.Maps.{Pair}
 use Rattle.vs_maps.specs.MapViews.{pairs}
 use Rattle.vs_scope.specs.declared.names.Entry.{Entry as EntryOf}
@@ -31,9 +32,13 @@ block_of b = record { name = b.text.items; place = b.place }
 abbrev pub block_text : BlockName → NameAt
 block_text b = record { name = b.name; place = b.place }
 
+-- as the code has it
+abbrev pub text_of : BlockNameOf → NameAt
+text_of b = block_text (block_name b)
+
 -- the names of all blocks that items make
 abbrev pub blocks_of : List Made → List BlockName
-blocks_of ms = flat_map (λ (m : Made). block_names m.name) ms
+blocks_of ms = flat_map names_of ms
 
 -- whether one has this name
 abbrev pub has_name_at : List ℕ → List NameAt → Bool

@@ -8,6 +8,7 @@ pub mod Locals
 pub mod OwnNames
 pub mod LocalLists
 pub mod Inside
+pub mod NamedBlocks
 pub mod Frames
 pub mod Laws
 pub mod Contents

@@ -32,7 +32,7 @@ local_start s = record { scope = s.scope; signal = s.signal; bit = s.bit }
 -- a local signal
 abbrev pub local_meaning : LocalSignal → SignalMeaning
 local_meaning s = record {
-  signal = record { name = s.name.now; scope = s.scope; number = s.number; net = false; input = s.input; range = s.range; signed = s.signed; first = s.first; words = None; integer = false };
+  signal = record { name = s.name.now; scope = s.scope; number = s.number; net = false; input = s.input; range = s.range; signed = s.signed; first = s.first; words = None; integer = s.integer };
   input = s.input;
   role = s.role;
   known = s.known;

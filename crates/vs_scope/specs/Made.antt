@@ -1,5 +1,5 @@
 -- What the code's generate blocks stand for.
-use Rattle.std.specs.Prelude.{ℕ, true, false, List, [], ◌∷◌, ◌++◌, map, codes, Option, Some, None}
+use Rattle.std.specs.Prelude.{ℕ, true, false, List, ◌++◌, map, codes, Option}
 use Rattle.vs_ast.specs.Views as view
 use Rattle.vs_ast.specs.Views.{option}
 use Rattle.vs_grammar.specs.Shapes.{Each, IsGenerateItem}
@@ -23,10 +23,9 @@ abbrev pub block_name : BlockName → spec.BlockName
 block_name (Written n) = record { name = (view.name n.now).bytes; place = n.now.place; written = true }
 block_name (Numbered number place) = record { name = codes "genblk" ++ decimal number; place = place; written = false }
 
--- one, or none
-abbrev pub block_names : Option BlockName → List spec.BlockName
-block_names None = []
-block_names (Some b) = block_name b ∷ []
+-- those that an item declares
+abbrev pub names_of : Made → List spec.BlockName
+names_of m = map block_name m.names.items
 
 -- what is kept of what an item makes: of its faults the first
 pub record Kept : Type 0 where
@@ -37,7 +36,7 @@ pub record Kept : Type 0 where
 
 -- as the code has it
 abbrev pub made : Made → Kept
-made m = record { blocks = map nested m.blocks.items; names = block_names m.name; fault = m.fault; turns = m.turns }
+made m = record { blocks = map nested m.blocks.items; names = names_of m; fault = m.fault; turns = m.turns }
 
 -- as it is said
 abbrev pub kept : spec.Made → Kept

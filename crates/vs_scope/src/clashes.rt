@@ -5,7 +5,7 @@ ghost use Rattle.vs_ast.specs.Views as view;
 ghost use Rattle.vs_const.specs.Faults.{least, fault_if};
 ghost use Rattle.vs_elaborated.specs.Environments.{find_entry};
 ghost use Rattle.vs_elaborated.specs.Surveys as spec;
-ghost use Rattle.vs_scope.specs.Clashes.{AreNew, IsBehind, block_of, block_text, blocks_of, clash_faults, label_entry};
+ghost use Rattle.vs_scope.specs.Clashes.{AreNew, IsBehind, block_of, blocks_of, clash_faults, label_entry, text_of};
 ghost use Rattle.vs_scope.specs.Made as code;
 ghost use Rattle.vs_maps.specs.Sets.{has};
 ghost use Rattle.vs_scope.specs.Surveys.{MeanTheSame};
@@ -36,34 +36,40 @@ fn block_place(name: BlockName<'_>) -> u32
     }
 }
 
-/// One name more, if there is one.
+/// One name more.
 fn push_name(
     blocks: &mut Vec<NamedBlock>,
     alloc: Global,
-    name: Option<BlockName<'_>>,
+    name: BlockName<'_>,
 ) -> Result<(), AllocError>
-    ensures { OnOk result (map block_of blocks.new.items ≡ map block_of blocks.old.items ++ map block_text (code.block_names name.entry)) }
+    ensures { OnOk result (map block_of blocks.new.items ≡ map block_of blocks.old.items ++ text_of name.entry ∷ []) }
 {
-    match name {
-        None => Ok(()),
-        Some(name) => {
-            let text = name_text(alloc, name)?;
-            let place = block_place(name);
-            blocks.push(NamedBlock { text, place })?;
-            Ok(())
-        }
-    }
+    let text = name_text(alloc, name)?;
+    let place = block_place(name);
+    blocks.push(NamedBlock { text, place })?;
+    Ok(())
 }
 
-/// The names of all blocks as text.
-fn named_blocks(alloc: Global, made: &[Made<'_>]) -> Result<Vec<NamedBlock>, AllocError>
-    ensures { IfOk result (λ bs. map block_of bs.items ≡ map block_text (blocks_of made.now)) }
+/// These names as text.
+fn named_blocks(alloc: Global, names: &[BlockName<'_>]) -> Result<Vec<NamedBlock>, AllocError>
+    ensures { IfOk result (λ bs. map block_of bs.items ≡ map text_of names.now) }
 {
     let mut blocks = Vec::new(alloc);
-    for m in made {
-        push_name(&mut blocks, alloc, m.name)?;
+    for name in names {
+        push_name(&mut blocks, alloc, *name)?;
     }
     Ok(blocks)
+}
+
+/// The names that all items declare.
+fn all_names<'a>(alloc: Global, made: &[Made<'a>]) -> Result<Vec<BlockName<'a>>, AllocError>
+    ensures { IfOk result (λ names. map code.block_name names.items ≡ blocks_of made.now) }
+{
+    let mut names = Vec::new(alloc);
+    for m in made {
+        names.extend_from_slice(m.names.as_slice())?;
+    }
+    Ok(names)
 }
 
 /// The fault of a block's name that is declared, too: the later one has it.
@@ -121,27 +127,26 @@ impl<'a> Names<'a> {
         Ok(())
     }
 
-    /// The name of a construct's blocks, if there is one that is written.
-    fn declare_name(&mut self, name: Option<BlockName<'a>>) -> Result<(), AllocError>
-        ensures same { OnOk result (MeanTheSame (entries self.new) (entries self.old ++ spec.block_entries (code.block_names name.entry))) }
-        ensures new { OnOk result (AreNew (entries self.old) (spec.block_entries (code.block_names name.entry)) → entries self.new ≡ entries self.old ++ spec.block_entries (code.block_names name.entry)) }
+    /// The name of blocks, if it is written.
+    fn declare_name(&mut self, name: BlockName<'a>) -> Result<(), AllocError>
+        ensures same { OnOk result (MeanTheSame (entries self.new) (entries self.old ++ spec.block_entries (code.block_name name.entry ∷ []))) }
+        ensures new { OnOk result (AreNew (entries self.old) (spec.block_entries (code.block_name name.entry ∷ [])) → entries self.new ≡ entries self.old ++ spec.block_entries (code.block_name name.entry ∷ [])) }
         ensures behind { OnOk result (IsBehind self.old self.new) }
     {
         match name {
-            None => Ok(()),
-            Some(BlockName::Numbered { .. }) => Ok(()),
-            Some(BlockName::Written(label)) => self.declare_block(label),
+            BlockName::Numbered { .. } => Ok(()),
+            BlockName::Written(label) => self.declare_block(label),
         }
     }
 
     /// The names of blocks that are written, where they aren't declared already.
-    fn declare_blocks(&mut self, made: &[Made<'a>]) -> Result<(), AllocError>
-        ensures same { OnOk result (MeanTheSame (entries self.new) (entries self.old ++ spec.block_entries (blocks_of made.now))) }
-        ensures new { OnOk result (AreNew (entries self.old) (spec.block_entries (blocks_of made.now)) → entries self.new ≡ entries self.old ++ spec.block_entries (blocks_of made.now)) }
+    fn declare_blocks(&mut self, names: &[BlockName<'a>]) -> Result<(), AllocError>
+        ensures same { OnOk result (MeanTheSame (entries self.new) (entries self.old ++ spec.block_entries (map code.block_name names.now))) }
+        ensures new { OnOk result (AreNew (entries self.old) (spec.block_entries (map code.block_name names.now)) → entries self.new ≡ entries self.old ++ spec.block_entries (map code.block_name names.now)) }
         ensures behind { OnOk result (IsBehind self.old self.new) }
     {
-        for m in made {
-            self.declare_name(m.name)?;
+        for name in names {
+            self.declare_name(*name)?;
         }
         Ok(())
     }
@@ -157,9 +162,10 @@ impl<'a> Names<'a> {
         ensures new { IfOk result (λ f. f ≡ None → entries self.new ≡ entries self.old ++ spec.block_entries (blocks_of made.now)) }
         ensures behind { OnOk result (IsBehind self.old self.new) }
     {
-        let blocks = named_blocks(alloc, made)?;
+        let names = all_names(alloc, made)?;
+        let blocks = named_blocks(alloc, names.as_slice())?;
         let fault = clash_fault(alloc, self, blocks.as_slice())?;
-        self.declare_blocks(made)?;
+        self.declare_blocks(names.as_slice())?;
         Ok(fault)
     }
 }

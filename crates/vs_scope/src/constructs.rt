@@ -17,6 +17,7 @@ ghost use Rattle.vs_scope.specs.Frames.{view_env};
 ghost use Rattle.vs_scope.specs.Made as code;
 ghost use Rattle.vs_scope.specs.Made.{made, kept};
 
+use crate::block_scopes::{named_blocks, outside_names};
 use crate::cases::{SaidCase, said_case};
 use crate::contents::{BlockItems, Contents};
 use crate::counts::one_more;
@@ -26,7 +27,7 @@ use crate::numbers::number;
 use crate::places::View;
 use crate::turns::holds;
 use std::alloc::{AllocError, Global};
-use vs_ast::{Expr, GenerateArm, GenerateBlock, Item, Name};
+use vs_ast::{AlwaysBlock, Expr, GenerateArm, GenerateBlock, Item, Name};
 use vs_const::{Fault, first_of};
 
 /// The name of a block, by its construct's number in the scope (12.4.3).
@@ -196,6 +197,20 @@ fn is_construct(item: &Item) -> bool
     }
 }
 
+/// What an always block makes: the names of its named blocks that are scopes and stand in no other (12.7).
+fn names_made<'a>(alloc: Global, b: &'a AlwaysBlock, total: u32) -> Result<Made<'a>, AllocError>
+    ensures { IfOk result (λ m. made m ≡ kept (spec.names_made (view.always_block b.now) total)) }
+{
+    let blocks = named_blocks(alloc, &b.statement)?;
+    let names = outside_names(alloc, blocks.as_slice())?;
+    Ok(Made {
+        blocks: Vec::new(alloc),
+        names,
+        fault: None,
+        turns: total,
+    })
+}
+
 /// What an item makes. `n` is its number among the scope's constructs, and `total` counts the turns of all loops so far.
 #[cycle(constructs)]
 fn construct<'a>(
@@ -231,6 +246,7 @@ fn construct<'a>(
             let c = chosen_arm(alloc, subject, arms.as_slice(), fallback(other), here)?;
             branch(alloc, c, here, n, total)
         }
+        Item::Always(b) => names_made(alloc, b, total),
         _ => Ok(nothing_made(alloc, None, total)),
     }
 }

@@ -161,6 +161,7 @@ pub(crate) fn said_function<'a>(
     let inside = Inside { here, locals };
     let kind = BodyKind {
         in_function: true,
+        takes_variables: true,
         clocked: false,
     };
     let said = check_statement(alloc, &f.statement, kind, &inside, most)?;

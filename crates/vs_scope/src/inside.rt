@@ -112,7 +112,10 @@ impl Surroundings for Inside<'_, '_> {
 }
 
 /// The numbers of local signals by the places of their declarations.
-fn numbered(alloc: Global, signals: &[LocalSignal<'_>]) -> Result<PlaceMap<usize>, AllocError>
+pub(crate) fn numbered(
+    alloc: Global,
+    signals: &[LocalSignal<'_>],
+) -> Result<PlaceMap<usize>, AllocError>
     ensures { IfOk result (λ places. AreNumbered places signals.now) }
 {
     let mut places = PlaceMap::new(alloc);

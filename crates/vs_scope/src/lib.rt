@@ -4,6 +4,7 @@
 
 mod again;
 mod bits;
+mod block_scopes;
 mod cases;
 mod clashes;
 mod collect;
@@ -33,6 +34,9 @@ mod turns;
 mod values;
 mod whole;
 
+pub use block_scopes::{
+    NamedBlock, SaidBlocks, named_blocks, variables_fault, within_blocks, within_fault,
+};
 pub use contents::{BlockItems, Contents};
 pub use counts::Counts;
 pub use frames::{Frame, Turn};

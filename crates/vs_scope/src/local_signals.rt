@@ -14,7 +14,7 @@ ghost use Rattle.vs_scope.specs.LocalLists.{AreShapedLocals, IsSigned};
 use crate::counts::one_more;
 use crate::locals::{Local, input_locals, own_locals};
 use crate::names::LocalSignal;
-use crate::numbers::{is_signed, said_type};
+use crate::numbers::{is_integer, is_signed, said_type};
 use crate::places::View;
 use crate::signals::length_or_one;
 use std::alloc::{AllocError, Global};
@@ -37,7 +37,7 @@ pub(crate) struct SaidLocal<'a> {
 }
 
 /// How many bits a local signal has.
-fn local_length(s: &LocalSignal<'_>) -> u64
+pub(crate) fn local_length(s: &LocalSignal<'_>) -> u64
     ensures { result ≡ signal_length (local_meaning s.now).signal }
 {
     length_or_one(s.range)
@@ -64,6 +64,7 @@ pub(crate) fn said_local<'a>(
         input,
         range: range.range,
         signed: is_signed(v.value_type),
+        integer: is_integer(v.value_type),
         first: start.bit,
         role,
         known: range.known,

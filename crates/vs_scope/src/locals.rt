@@ -1,6 +1,6 @@
 //! What a function declares in its own name space, and what the named blocks in it declare (IEEE 1364-2005, 9.8.2 and 10.4.1).
 
-ghost use Rattle.std.specs.Prelude.{◌≡◌, ◌&&◌, ◌++◌, ◌∷◌, [], ℕ, IfOk, OnOk, List, map, flat_map, not, if◌then◌else◌};
+ghost use Rattle.std.specs.Prelude.{◌≡◌, ◌&&◌, ◌++◌, ◌∷◌, [], ℕ, IfOk, OnOk, List, Some, map, flat_map, not, if◌then◌else◌};
 ghost use Rattle.vs_ast.specs.Views as view;
 ghost use Rattle.vs_const.specs.Faults.{least};
 ghost use Rattle.vs_elaborated.specs.Statements as statements;
@@ -100,6 +100,32 @@ fn push_used_among<'a>(
     Ok(())
 }
 
+/// All that a named block declares by itself.
+pub(crate) fn block_declared<'a>(
+    alloc: Global,
+    scope: &'a BlockScope,
+) -> Result<Vec<Local<'a>>, AllocError>
+    ensures { IfOk result (λ list. map local list.items ≡ statements.scope_locals (Some (view.block_scope scope.now))) }
+{
+    let mut all = Vec::new(alloc);
+    push_declarations(&mut all, &scope.variables)?;
+    Ok(all)
+}
+
+/// The variables that a named block declares by itself: an integer is one where it heads no loop in these statements and is assigned.
+pub(crate) fn scope_variables<'a>(
+    alloc: Global,
+    scope: &'a BlockScope,
+    parts: &[Statement],
+) -> Result<Vec<Local<'a>>, AllocError>
+    ensures { IfOk result (λ list. map local list.items ≡ spec.variables_of (is_variable_among (view.statements parts.now)) (statements.scope_locals (Some (view.block_scope scope.now)))) }
+{
+    let all = block_declared(alloc, scope)?;
+    let mut list = Vec::new(alloc);
+    push_used_among(&mut list, all.as_slice(), parts)?;
+    Ok(list)
+}
+
 /// What a named block declares by itself; one without a name declares nothing.
 fn scope_locals<'a>(
     alloc: Global,
@@ -115,7 +141,7 @@ fn scope_locals<'a>(
     Ok(list)
 }
 
-/// The variables that a named block declares by itself: an integer is one where it heads no loop in these statements and is assigned.
+/// Those of what may be a named block.
 fn push_scope<'a>(
     list: &mut Vec<Local<'a>>,
     alloc: Global,

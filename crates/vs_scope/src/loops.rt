@@ -116,10 +116,19 @@ fn turn_blocks<'a>(
 }
 
 /// The name of a loop's blocks; a loop without a turn declares none.
-fn turn_name<'a>(name: BlockName<'a>, values: &[u32]) -> Option<BlockName<'a>>
-    ensures { code.block_names result ≡ spec.turn_names (code.block_name name.entry) values.now }
+fn turn_names<'a>(
+    alloc: Global,
+    name: BlockName<'a>,
+    values: &[u32],
+) -> Result<Vec<BlockName<'a>>, AllocError>
+    ensures { IfOk result (λ ns. map code.block_name ns.items ≡ spec.turn_names (code.block_name name.entry) values.now) }
 {
-    if values.is_empty() { None } else { Some(name) }
+    let mut names = Vec::new(alloc);
+    if values.is_empty() {
+        return Ok(names);
+    }
+    names.push(name)?;
+    Ok(names)
 }
 
 /// The blocks of a loop's turns, behind this fault; a loop over `;` makes none.
@@ -138,9 +147,10 @@ fn loop_blocks<'a>(
         None => Ok(nothing_made(alloc, all, turns.count)),
         Some(b) => {
             let blocks = turn_blocks(alloc, b, genvar, turns.values.as_slice())?;
+            let names = turn_names(alloc, b.name, turns.values.as_slice())?;
             Ok(Made {
                 blocks,
-                name: turn_name(b.name, turns.values.as_slice()),
+                names,
                 fault: all,
                 turns: turns.count,
             })

@@ -23,7 +23,7 @@ pub struct Nested<'a> {
     pub turn: Option<Turn>,
 }
 
-/// The name that a construct's blocks declare in their scope (12.4.3).
+/// The name that a construct's blocks declare in their scope (12.4.3), or a named block of an always block that is a scope (12.7).
 #[derive(Clone, Copy)]
 pub enum BlockName<'a> {
     Written(&'a Name),
@@ -32,12 +32,12 @@ pub enum BlockName<'a> {
     Numbered { number: u32, place: u32 },
 }
 
-/// What an item of a scope makes: nothing where it is no generate construct. `name` is there where a block is, `fault` is the first rule that the
-/// construct breaks, and `turns` counts those of all loops of the design so far.
+/// What an item of a scope makes: blocks where it is a generate construct, and the names of these or of the named blocks of an always block. `fault` is the
+/// first rule that the construct breaks, and `turns` counts those of all loops of the design so far.
 #[derive(Drop)]
 pub struct Made<'a> {
     pub blocks: Vec<Nested<'a>>,
-    pub name: Option<BlockName<'a>>,
+    pub names: Vec<BlockName<'a>>,
     pub fault: Option<Fault>,
     pub turns: u32,
 }
@@ -55,7 +55,7 @@ pub(crate) fn nothing_made<'a>(alloc: Global, fault: Option<Fault>, turns: u32) 
 {
     Made {
         blocks: Vec::new(alloc),
-        name: None,
+        names: Vec::new(alloc),
         fault,
         turns,
     }
@@ -67,7 +67,7 @@ pub(crate) fn after_fault<'a>(fault: Option<Fault>, m: Made<'a>) -> Made<'a>
 {
     Made {
         blocks: m.blocks,
-        name: m.name,
+        names: m.names,
         fault: first_of(fault, m.fault),
         turns: m.turns,
     }
@@ -91,9 +91,11 @@ pub(crate) fn one_block<'a>(
                 items: b.items,
                 turn: None,
             })?;
+            let mut names = Vec::new(alloc);
+            names.push(b.name)?;
             Ok(Made {
                 blocks,
-                name: Some(b.name),
+                names,
                 fault: None,
                 turns,
             })

@@ -1,6 +1,6 @@
 //! The names of a scope, and what each of them was declared as (IEEE 1364-2005, 12.7).
 
-ghost use Rattle.std.specs.Prelude.{◌≡◌, ◌≤◌, None, Some, MatchOption};
+ghost use Rattle.std.specs.Prelude.{◌≡◌, ◌≤◌, [], None, Some, MatchOption};
 ghost use Rattle.std.specs.Option.{ForSome, option_copied};
 ghost use Rattle.vs_four.specs.Selects.{range_length};
 ghost use Rattle.vs_const.specs.Meanings.{IsFairValue};
@@ -9,6 +9,7 @@ ghost use Rattle.vs_maps.specs.Maps.{value_at};
 ghost use Rattle.vs_maps.specs.MapViews.{pairs};
 
 use crate::counts::Counts;
+use std::alloc::Global;
 use vs_ast::{Expr, Function, Name, Parameters, Signals};
 use vs_const::{Constant, FunctionShape, Role};
 use vs_four::Range;
@@ -69,9 +70,9 @@ pub struct Signal<'a> {
     ghost few: { ForSome words (λ r. range_length r ≤ 1024) },
 }
 
-/// A local signal of a function (10.4.1): an input of it, its result or a variable of its own, as `role` and `input` say. `number` and `first` are its
-/// number and that of its first bit among the function's local signals, `known` says that no fault leaves its range undefined, and `place` is that of its
-/// declaration.
+/// A local signal of a function (10.4.1): an input of it, its result or a variable of its own, as `role` and `input` say; or a variable of a named block of
+/// an always block (9.8.2). `number` and `first` are its number and that of its first bit, among the function's local signals or in the design, `known` says
+/// that no fault leaves its range undefined, `integer` that it is declared as an integer (4.8), and `place` is that of its declaration.
 #[derive(Clone, Copy)]
 pub struct LocalSignal<'a> {
     pub name: &'a [u8],
@@ -81,6 +82,7 @@ pub struct LocalSignal<'a> {
     pub input: bool,
     pub range: Option<Range>,
     pub signed: bool,
+    pub integer: bool,
     pub first: u64,
     pub role: Role,
     pub known: bool,
@@ -141,7 +143,26 @@ pub struct Names<'a> {
 }
 
 impl<'a> Names<'a> {
+    ghost use Rattle.vs_scope.specs.Complete.{IsIncomplete};
     ghost use Rattle.vs_scope.specs.Views.{entries, entry_of};
+
+    /// The names of a scope of this number in which no expression stands: that of a named block.
+    pub fn none(alloc: Global, scope: u32) -> Names<'a>
+        ensures entries { entries result ≡ [] }
+        ensures incomplete { IsIncomplete result }
+        ensures scope { result.scope ≡ scope }
+    {
+        Names {
+            map: NameMap::new(alloc),
+            scope,
+            counts: Counts {
+                copies: 0,
+                functions: 0,
+            },
+            functions: Vec::new(alloc),
+            plain: 0,
+        }
+    }
 
     /// The declaration of this name, if there is one.
     pub fn find(&self, name: &[u8]) -> Option<&Entry<'a>>

@@ -112,6 +112,13 @@ pub(crate) fn is_signed(value_type: &ValueType) -> bool
     }
 }
 
+/// Whether it is that of an integer (4.8).
+pub(crate) fn is_integer(value_type: &ValueType) -> bool
+    ensures { result ≡ spec.is_integer_type (view.value_type value_type.now) }
+{
+    matches!(value_type, ValueType::Integer)
+}
+
 /// The addresses whose bounds are constants.
 fn addressed(
     alloc: Global,

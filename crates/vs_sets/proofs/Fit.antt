@@ -4,9 +4,9 @@ use Rattle.std.specs.Prelude.{◌&&◌, ◌||◌, ◌==◌, nat_le}
 use Rattle.std.specs.List.{list_all}
 use Rattle.std.proofs.lemmas.Bool.Decides.{nat_tests}
 use Rattle.vs_four.specs.Selects.{range_length}
-use Rattle.vs_design.specs.Expressions.{Expression, Literal, Name, Select, Word, Unary, Binary, Choice, Join, Repeat, At, Call, signal_length, word_length, width, is_constant, UnaryOp, unary_length, binary_length, Way, InContext, Own, Compared, Shifted, Raised, way}
+use Rattle.vs_design.specs.Expressions.{Expression, Literal, Name, Select, Word, WordPart, Unary, Binary, Choice, Join, Repeat, At, Call, signal_length, word_length, width, is_constant, UnaryOp, unary_length, binary_length, Way, InContext, Own, Compared, Shifted, Raised, way}
 use Rattle.vs_design.specs.Expressions as E
-use Rattle.vs_design.specs.Fits.{source_length, is_fit, fit_items, fits_signal, fits_statement, is_division, fits, divides_constants, fits_64}
+use Rattle.vs_design.specs.Fits.{source_length, is_fit, fit_items, fits_signal, fits_statement, is_division, fits, divides_constants, fits_64, fits_word_part}
 use Rattle.vs_sets.specs.FitParts.{Is64, FitParts}
 
 -- ---- both tests
@@ -55,6 +55,14 @@ parts (Select source part index) p q =
     let range = middle3 (fits_64 part.width) (range_length part.range == source_length source) (fits index) p in
     (is64_of part.width wide, same_number _ _ range, fit index (and_right (fits_64 part.width && (range_length part.range == source_length source)) (fits index) p) q)
 parts (Word signal index) p q = (is64_of (word_length signal) (and_left (fits_64 (word_length signal)) (fits index) p), fit index (and_right (fits_64 (word_length signal)) (fits index) p) q)
+parts (WordPart signal address part index) p q =
+    let front = and_left (fits_word_part signal part && fits address) (fits index) p in
+    let own = and_left (fits_word_part signal part) (fits address) front in (
+      is64_of part.width (and_left (fits_64 part.width) _ own),
+      same_number _ _ (and_right (fits_64 part.width) _ own),
+      fit address (and_right (fits_word_part signal part) (fits address) front) (and_left (divides_constants address) _ q),
+      fit index (and_right (fits_word_part signal part && fits address) (fits index) p) (and_right (divides_constants address) _ q),
+    )
 parts (Unary op a) p q = fit a p q
 parts (Binary op a b) p q =
     let divides = not (is_division op) || (is_constant a && is_constant b) in
@@ -117,6 +125,7 @@ width64 (Literal bits signed sized) p = is64_of (length bits) p
 width64 (Name signal) p = is64_of (signal_length signal) p
 width64 (Select source part index) p = is64_of part.width (left3 (fits_64 part.width) (range_length part.range == source_length source) (fits index) p)
 width64 (Word signal index) p = is64_of (word_length signal) (and_left (fits_64 (word_length signal)) (fits index) p)
+width64 (WordPart signal address part index) p = is64_of part.width (and_left (fits_64 part.width) _ (left3 (fits_word_part signal part) (fits address) (fits index) p))
 width64 (Unary op a) p = unary_is64 op (width a) (width64 a p)
 width64 (Binary op a b) p = binary_is64 (way op) (width a) (width b) (width64 a (and_left _ _ p)) (width64 b (and_right (fits a) (fits b) p))
 width64 (Choice c a b) p =

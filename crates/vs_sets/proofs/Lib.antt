@@ -9,6 +9,7 @@ pub mod Limits
 pub mod Joins
 pub mod Families
 pub mod TargetFacts
+pub mod PartWrites
 pub mod BranchSteps
 pub mod Unwritten
 pub mod CaseSteps

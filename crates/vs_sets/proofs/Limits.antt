@@ -26,6 +26,8 @@ within_parts n (E.Literal bits signed sized) h = tt
 within_parts n (E.Name signal) h = h
 within_parts n (E.Select source part index) h = (and_left (source_within n source) _ h, and_right (source_within n source) _ h)
 within_parts n (E.Word signal index) h = (and_left (signal_within n signal) _ h, and_right (signal_within n signal) _ h)
+within_parts n (E.WordPart signal address part index) h =
+    (and_left (signal_within n signal) _ (and_left (signal_within n signal && names_within n address) _ h), and_right (signal_within n signal) _ (and_left (signal_within n signal && names_within n address) _ h), and_right (signal_within n signal && names_within n address) _ h)
 within_parts n (E.Unary op a) h = h
 within_parts n (E.Binary op a b) h = (and_left (names_within n a) _ h, and_right (names_within n a) _ h)
 within_parts n (E.Choice c p q) h = (and_left _ _ (and_left (names_within n c && names_within n p) _ h), and_right (names_within n c) _ (and_left (names_within n c && names_within n p) _ h), and_right (names_within n c && names_within n p) _ h)

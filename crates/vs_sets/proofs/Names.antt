@@ -60,6 +60,9 @@ signal_within counts a n lawful h =
     let k = within_from 0 (arena_signals a) n lawful.design.bits_numbered (omega (arith, (counts a).signals)) in
     omega (arith, k)
 
+pub signal_short_end : CountsStay → (a : Arena) (n : ℕ) → IsLawful a → n < length a.signals → (signal_of a n).first + E.signal_length (signal_of a n) ≤ 1048576
+signal_short_end counts a n lawful h = omega (arith, signal_within counts a n lawful h, lawful.design.few_bits)
+
 pub signal_short : CountsStay → (a : Arena) (n : ℕ) → IsLawful a → n < length a.signals → E.signal_length (signal_of a n) ≤ 1048576
 signal_short counts a n lawful h = omega (arith, signal_within counts a n lawful h, lawful.design.few_bits)
 

@@ -18,11 +18,11 @@ use Rattle.vs_design.specs.Within.{names_within, signal_within, target_within}
 use Rattle.vs_sets.specs.Tables.{bits_from}
 use Rattle.vs_sets.proofs.Limits.{signal_ends}
 use Rattle.std.specs.Prelude.{unwrap_or}
-use Rattle.vs_design.specs.Expressions.{Expression, Source, OfSignal, OfConstant, Signal, signal_length, word_length, Literal, Name, Select, Word, Unary, Binary, Choice, Join, Repeat, At, Call, width}
-use Rattle.vs_design.specs.Statements.{Target, Whole, PartOf, WordOf, Both, target_width}
+use Rattle.vs_design.specs.Expressions.{Expression, Source, OfSignal, OfConstant, Signal, signal_length, word_length, Literal, Name, Select, Word, WordPart, Unary, Binary, Choice, Join, Repeat, At, Call, width}
+use Rattle.vs_design.specs.Statements.{Target, Whole, PartOf, WordOf, WordPartOf, Both, target_width}
 use Rattle.vs_flat.specs.Targets.{target_of, both_of}
 use Rattle.vs_flat.specs.Trees.{joined, no_signal}
-use Rattle.vs_design.specs.Fits.{is_fit, fits_target, fits_64}
+use Rattle.vs_design.specs.Fits.{is_fit, fits_target, fits_64, fits_word_part}
 use Rattle.vs_sets.specs.FitParts.{Is64}
 use Rattle.vs_sets.specs.Nodes.{EachBelow}
 use Rattle.vs_sets.specs.TargetsOf.{IsTarget, target_tree}
@@ -87,6 +87,7 @@ width_at (Name signal) t h = let same : t ≡ Whole signal = cc in ap target_wid
 width_at (Select (OfSignal signal) p index) t h = let same : t ≡ PartOf signal p index = cc in ap target_width same
 width_at (Select (OfConstant bits) p index) t h = absurd (let z : ⊥ = cc in z)
 width_at (Word signal index) t h = let same : t ≡ WordOf signal index = cc in ap target_width same
+width_at (WordPart signal address p index) t h = let same : t ≡ WordPartOf signal address p index = cc in ap target_width same
 width_at (Unary op a) t h = absurd (let z : ⊥ = cc in z)
 width_at (Binary op a b) t h = absurd (let z : ⊥ = cc in z)
 width_at (Choice c p q) t h = absurd (let z : ⊥ = cc in z)
@@ -109,6 +110,7 @@ few_bits : (t : Target) → fits_target t ≡ true → Is64 (target_width t)
 few_bits (Whole signal) h = is64_of (signal_length signal) h
 few_bits (PartOf signal p index) h = is64_of p.width (and_left (fits_64 p.width) _ (and_left (fits_64 p.width && (range_length p.range == signal_length signal)) (is_fit index) h))
 few_bits (WordOf signal index) h = is64_of (word_length signal) (and_left (fits_64 (word_length signal)) (is_fit index) h)
+few_bits (WordPartOf signal address p index) h = is64_of p.width (and_left (fits_64 p.width) _ (and_left (fits_word_part signal p) _ (and_left (fits_word_part signal p && is_fit address) (is_fit index) h)))
 few_bits (Both high low) h = is64_of (target_width high + target_width low) (and_left (fits_64 (target_width high + target_width low)) _ (and_left (fits_64 (target_width high + target_width low) && fits_target high) (fits_target low) h))
 
 pub target_few : (e : Expression) → IsTarget e → Is64 (width e)
@@ -175,6 +177,28 @@ part_ends n src s p index e h =
 
 pub word_ends_at : (n : ℕ) (s : Signal) (index : Expression) → target_within n (target_tree (Word s index)) ≡ true → s.first + signal_length s ≤ n
 word_ends_at n s index h = signal_ends n s (and_left (signal_within n s) (names_within n index) h)
+
+-- a part of a word that is a target
+pub record WordPartFacts (signal : Signal) (address : Expression) (p : Part) (index : Expression) : Type 0 where
+  pub range : range_length p.range ≡ word_length signal
+  pub few : Is64 p.width
+  pub address_fit : is_fit address ≡ true
+  pub index_fit : is_fit index ≡ true
+
+pub word_part_facts : (s : Signal) (address : Expression) (p : Part) (index : Expression) → IsTarget (WordPart s address p index) → WordPartFacts s address p index
+word_part_facts s address p index target =
+    let h : fits_target (WordPartOf s address p index) ≡ true = target.fits in
+    let front = and_left (fits_word_part s p && is_fit address) (is_fit index) h in
+    let own = and_left (fits_word_part s p) (is_fit address) front in
+    record {
+      range = same_number (range_length p.range) (word_length s) (and_right (fits_64 p.width) _ own);
+      few = is64_of p.width (and_left (fits_64 p.width) _ own);
+      address_fit = and_right (fits_word_part s p) (is_fit address) front;
+      index_fit = and_right (fits_word_part s p && is_fit address) (is_fit index) h;
+    }
+
+pub word_part_ends_at : (n : ℕ) (s : Signal) (address : Expression) (p : Part) (index : Expression) → target_within n (target_tree (WordPart s address p index)) ≡ true → s.first + signal_length s ≤ n
+word_part_ends_at n s address p index h = signal_ends n s (and_left (signal_within n s) _ (and_left (signal_within n s && names_within n address) (names_within n index) h))
 
 pub both_within : (tree : ℕ → Expression) (parts : List ℕ) (f : ℕ) (rest : List ℕ) (n : ℕ) → parts ≡ f ∷ rest → 0 < length rest → IsTarget (joined (map tree parts)) → target_within n (target_tree (joined (map tree parts))) ≡ true
     → (target_within n (target_tree (tree f)) ≡ true) × (target_within n (target_tree (joined (map tree rest))) ≡ true)

@@ -1,6 +1,6 @@
 -- A bit that a statement doesn't write keeps its set, and branches join as unions.
 use Rattle.std.proofs.Common.{◌≡◌, ℕ, Bool, true, false, List, [], ◌∷◌, ◌++◌, map, take, drop, Option, Some, None, refl, sym, ap, ap₂, ◌∙◌}
-use Rattle.std.specs.Prelude.{◌||◌, ◌==◌, if◌then◌else◌}
+use Rattle.std.specs.Prelude.{◌&&◌, ◌||◌, ◌==◌, if◌then◌else◌}
 use Rattle.std.specs.List.{list_any}
 use mathlib.Core.Path.{fun_ext}
 use Rattle.std.proofs.lemmas.List.Folds.{list_any-append}
@@ -8,10 +8,10 @@ use Rattle.std.proofs.lemmas.Bool.{cond-false}
 use Rattle.vs_net.specs.Network.{put}
 use Rattle.vs_four.specs.Selects.{places}
 use Rattle.vs_design.specs.Expressions.{sign, is_constant}
-use Rattle.vs_design.specs.Values.{bits_of_signal, word_places, constant_value}
-use Rattle.vs_design.specs.Statements.{Target, Whole, PartOf, WordOf, Both, target_width, CaseKind, Statement, Empty, Assignment, Then, If, Case, Arms, Arm, Default, case_width, case_sign}
+use Rattle.vs_design.specs.Values.{bits_of_signal, word_places, word_part_places, constant_value}
+use Rattle.vs_design.specs.Statements.{Target, Whole, PartOf, WordOf, WordPartOf, Both, target_width, CaseKind, Statement, Empty, Assignment, Then, If, Case, Arms, Arm, Default, case_width, case_sign}
 use Rattle.vs_design.specs.Bodies.{bits_at}
-use Rattle.vs_design.specs.Footprints.{contains, somes, target_bits, statement_bits, arms_bits}
+use Rattle.vs_design.specs.Footprints.{contains, somes, addressed_bits, target_bits, statement_bits, arms_bits}
 use Rattle.vs_design.specs.Sets.{Set4, none, union, is_only_one, all_of, set_or}
 use Rattle.vs_design.specs.Lifted.{Family, lifted, own_sets, assigned_sets}
 use Rattle.vs_design.specs.LiftedBodies.{put_each, widen, write_sets, either, join_branches, join_arms, item_sets, lifted_body, lifted_arms}
@@ -63,6 +63,14 @@ write_other (WordOf signal index) ss f b h = at (is_constant index) h where
       → (if k then put_each (bits_at signal (word_places signal (sign index) (constant_value index))) ss f else widen (bits_of_signal signal) (all_of ss) f) b ≡ f b
   at true h = each_other (bits_at signal (word_places signal (sign index) (constant_value index))) ss f b h
   at false h = cond-false (contains (bits_of_signal signal) b) _ _ h
+write_other (WordPartOf signal address p index) ss f b h = at (is_constant address) (is_constant index) refl h where
+  ps : List (Option ℕ)
+  ps = bits_at signal (word_part_places signal (sign address) (constant_value address) p (sign index) (constant_value index))
+
+  at : (j k : Bool) → is_constant address ≡ j → contains (if (j && k) then somes ps else addressed_bits signal address) b ≡ false → (if (j && k) then put_each ps ss f else widen (addressed_bits signal address) (all_of ss) f) b ≡ f b
+  at true true e h = each_other ps ss f b h
+  at true false e h = cond-false (contains (addressed_bits signal address) b) _ _ h
+  at false k e h = cond-false (contains (addressed_bits signal address) b) _ _ h
 write_other (Both high low) ss f b h =
     write_other low (take (target_width low) ss) (write_sets high (drop (target_width low) ss) f) b (right_lacks (target_bits high) (target_bits low) b h)
     ∙ write_other high (drop (target_width low) ss) f b (left_lacks (target_bits high) (target_bits low) b h)

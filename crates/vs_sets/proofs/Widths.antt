@@ -12,7 +12,7 @@ use Rattle.vs_four.specs.Shifts.{move_up, move_down, distance}
 use Rattle.vs_four.specs.Selects.{Part, range_length, one_bit, is_descending, indices, indices_up, indices_down, places, at_place, least_index, greatest_index}
 use Rattle.vs_design.specs.Sets.{Set4, only, union, all_words, variable, any_result, any_value, set_shift_by, set_shift, set_choose, set_or}
 use Rattle.vs_design.specs.Expressions as E
-use Rattle.vs_design.specs.Expressions.{Expression, Literal, Name, Select, Word, Unary, Binary, Choice, Join, Repeat, At, Call, UnaryOp, BinaryOp, unary_length, binary_length, unary_way, way, width, sign, is_constant, signal_length, word_length, addresses}
+use Rattle.vs_design.specs.Expressions.{Expression, Literal, Name, Select, Word, WordPart, Unary, Binary, Choice, Join, Repeat, At, Call, UnaryOp, BinaryOp, unary_length, binary_length, unary_way, way, width, sign, is_constant, signal_length, word_length, addresses}
 use Rattle.vs_design.specs.Values.{left_width, right_width, left_sign, right_sign, count_from, bits_of_signal, address_place, spread, word_places, value, constant_value}
 use Rattle.vs_design.specs.Lifted.{Family, Lift, FromSets, Moved, Divided, lift_of, lift_operator, lift_quotient, lift_shift, fill_set, is_left, extend_sets, lift_unary, lift_binary, set_select, set_word, surely_inside, source_sets, lifted, argument_sets, lifted_body, own_sets}
 use Rattle.vs_design.specs.TreeLaws.{ValueLength}
@@ -234,6 +234,10 @@ length-lifted law (Select source part index) w s sets h =
 length-lifted law (Word signal index) w s sets h =
     let ss = set_word signal index (lifted index (width index) (sign index) sets) (map sets (bits_of_signal signal)) in
     length-extend_sets w s ss (omega (arith, length-set_word signal index (lifted index (width index) (sign index) sets) (map sets (bits_of_signal signal)) (length-signal sets signal)))
+length-lifted law (WordPart signal address part index) w s sets h =
+    let word = set_word signal address (lifted address (width address) (sign address) sets) (map sets (bits_of_signal signal)) in
+    let ss = set_select part index (lifted index (width index) (sign index) sets) word in
+    length-extend_sets w s ss (omega (arith, length-set_select part index (lifted index (width index) (sign index) sets) word))
 length-lifted law (Unary op a) w s sets h =
     let inner = left_width (unary_way op) w (width a) 0 in
     let own = left_sign (unary_way op) s (sign a) false in

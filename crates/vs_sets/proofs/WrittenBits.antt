@@ -8,13 +8,13 @@ use Rattle.std.proofs.lemmas.List.Folds.{list_any-append}
 use Rattle.vs_four.specs.declared.Range.{Range}
 use Rattle.vs_four.specs.Logic.{BitList, all_known}
 use Rattle.vs_four.specs.Numbers.{integer}
-use Rattle.vs_four.specs.Selects.{Part, range_length, below, place_of, places, indices}
-use Rattle.vs_design.specs.Expressions.{Signal, signal_length, word_length, addresses, is_constant, sign}
+use Rattle.vs_four.specs.Selects.{Part, range_length, below, place_of, at_place, places, indices}
+use Rattle.vs_design.specs.Expressions.{Signal, signal_length, word_length, addresses, Expression, is_constant, sign}
 use Rattle.vs_design.specs.Effects.{bits_at}
 use Rattle.vs_design.specs.Fits.{is_fit, fits_64, fits_target, fits_statement, fits_arms, fit_items}
-use Rattle.vs_design.specs.Footprints.{contains, somes, target_bits, statement_bits, arms_bits}
-use Rattle.vs_design.specs.Statements.{Target, Whole, PartOf, WordOf, Both, target_width, Statement, Empty, Assignment, Then, If, Case, Arms, Arm, Default}
-use Rattle.vs_design.specs.Values.{bits_of_signal, constant_value, count_from, spread, address_place, word_places}
+use Rattle.vs_design.specs.Footprints.{contains, somes, addressed_bits, target_bits, statement_bits, arms_bits}
+use Rattle.vs_design.specs.Statements.{Target, Whole, PartOf, WordOf, WordPartOf, Both, target_width, Statement, Empty, Assignment, Then, If, Case, Arms, Arm, Default}
+use Rattle.vs_design.specs.Values.{bits_of_signal, constant_value, count_from, spread, address_place, word_places, word_part_places}
 use Rattle.vs_design.specs.Within.{signal_within, names_within, items_within, target_within, statement_within, arms_within}
 use Rattle.vs_sets.proofs.Families.{same_or_other}
 use Rattle.vs_sets.proofs.FlagSteps.{count_member}
@@ -88,6 +88,17 @@ spread_short count k (Some n) h =
     let ends : suc n * k ≤ count * k = mul-le-mul_right k (more n count h) in
     run_short (count * k) (n * k) k (omega (arith, ends))
 
+-- what is at some of these places is one of them
+place_short : (len : ℕ) (ps : List (Option ℕ)) (q : Option ℕ) → list_all (short len) ps ≡ true → short len (at_place None ps q) ≡ true
+place_short len ps None h = refl
+place_short len [] (Some n) h = refl
+place_short len (p ∷ ps) (Some zero) h = and_left (short len p) _ h
+place_short len (p ∷ ps) (Some (suc n)) h = place_short len ps (Some n) (and_right (short len p) _ h)
+
+taken_short : (len : ℕ) (ps qs : List (Option ℕ)) → list_all (short len) ps ≡ true → list_all (short len) (map (at_place None ps) qs) ≡ true
+taken_short len ps [] h = refl
+taken_short len ps (q ∷ qs) h = and_both (short len (at_place None ps q)) _ (place_short len ps q h) (taken_short len ps qs h)
+
 address_short : (s : Signal) (signed : Bool) (v : BitList) → short (range_length (addresses s)) (address_place s signed v) ≡ true
 address_short s signed v = at (all_known v) where
   at : (k : Bool) → short (range_length (addresses s)) (if k then place_of (addresses s) (integer signed v) else None) ≡ true
@@ -98,6 +109,18 @@ address_short s signed v = at (all_known v) where
 
 signal_bits : (n : ℕ) (s : Signal) (b : ℕ) → signal_within n s ≡ true → contains (bits_of_signal s) b ≡ true → b < n
 signal_bits n s b within h = let end_ = at_most (s.first + signal_length s) n within in let k = count_member s.first (signal_length s) b h in omega (arith, end_, k)
+
+word_bits_within : (n : ℕ) (s : Signal) (index : Expression) (b : ℕ) → signal_within n s ≡ true → contains (addressed_bits s index) b ≡ true → b < n
+word_bits_within n s index b within h = at (is_constant index) h where
+  ends : s.first + signal_length s ≤ n
+  ends = at_most (s.first + signal_length s) n within
+
+  at : (k : Bool) → contains (if k then somes (bits_at s (word_places s (sign index) (constant_value index))) else bits_of_signal s) b ≡ true → b < n
+  at true i =
+      let l = bits_short s.first (range_length (addresses s) * word_length s) (word_places s (sign index) (constant_value index)) b
+      (spread_short (range_length (addresses s)) (word_length s) (address_place s (sign index) (constant_value index)) (address_short s (sign index) (constant_value index))) i in
+      omega (arith, l, words_are s, ends)
+  at false i = signal_bits n s b within i
 
 target_bits_within : (n : ℕ) (t : Target) (b : ℕ) → fits_target t ≡ true → target_within n t ≡ true → contains (target_bits t) b ≡ true → b < n
 target_bits_within n (Whole s) b fit within h = signal_bits n s b within h
@@ -111,16 +134,22 @@ target_bits_within n (PartOf s p index) b fit within h = at (is_constant index) 
   at : (k : Bool) → contains (if k then somes (bits_at s (places p (sign index) (constant_value index))) else bits_of_signal s) b ≡ true → b < n
   at true i = let l = bits_short s.first (range_length p.range) (places p (sign index) (constant_value index)) b (part_short p (sign index) (constant_value index)) i in omega (arith, l, range, ends)
   at false i = signal_bits n s b (and_left (signal_within n s) (names_within n index) within) i
-target_bits_within n (WordOf s index) b fit within h = at (is_constant index) h where
-  ends : s.first + signal_length s ≤ n
-  ends = at_most (s.first + signal_length s) n (and_left (signal_within n s) (names_within n index) within)
+target_bits_within n (WordOf s index) b fit within h = word_bits_within n s index b (and_left (signal_within n s) (names_within n index) within) h
+target_bits_within n (WordPartOf s address p index) b fit within h = at (is_constant address) (is_constant index) h where
+  inside : signal_within n s ≡ true
+  inside = and_left (signal_within n s) _ (and_left (signal_within n s && names_within n address) (names_within n index) within)
 
-  at : (k : Bool) → contains (if k then somes (bits_at s (word_places s (sign index) (constant_value index))) else bits_of_signal s) b ≡ true → b < n
-  at true i =
-      let l = bits_short s.first (range_length (addresses s) * word_length s) (word_places s (sign index) (constant_value index)) b
-      (spread_short (range_length (addresses s)) (word_length s) (address_place s (sign index) (constant_value index)) (address_short s (sign index) (constant_value index))) i in
+  ends : s.first + signal_length s ≤ n
+  ends = at_most (s.first + signal_length s) n inside
+
+  at : (j k : Bool) → contains (if (j && k) then somes (bits_at s (word_part_places s (sign address) (constant_value address) p (sign index) (constant_value index))) else addressed_bits s address) b ≡ true → b < n
+  at true true i =
+      let l = bits_short s.first (range_length (addresses s) * word_length s) (word_part_places s (sign address) (constant_value address) p (sign index) (constant_value index)) b
+      (taken_short (range_length (addresses s) * word_length s) (word_places s (sign address) (constant_value address)) (places p (sign index) (constant_value index))
+      (spread_short (range_length (addresses s)) (word_length s) (address_place s (sign address) (constant_value address)) (address_short s (sign address) (constant_value address)))) i in
       omega (arith, l, words_are s, ends)
-  at false i = signal_bits n s b (and_left (signal_within n s) (names_within n index) within) i
+  at true false i = word_bits_within n s address b inside i
+  at false k i = word_bits_within n s address b inside i
 target_bits_within n (Both high low) b fit within h =
     let first = and_left (fits_64 (target_width high + target_width low) && fits_target high) (fits_target low) fit in
     by_part (either_part (target_bits high) (target_bits low) b h)

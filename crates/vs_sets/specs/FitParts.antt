@@ -2,7 +2,7 @@
 use Rattle.std.specs.Prelude.{◌≡◌, ◌≤◌, ◌+◌, ◌*◌, ℕ, true, length}
 use Rattle.std.specs.List.{list_all}
 use Rattle.vs_four.specs.Selects.{range_length}
-use Rattle.vs_design.specs.Expressions.{Expression, Literal, Name, Select, Word, Unary, Binary, Choice, Join, Repeat, At, Call, signal_length, word_length, width, is_constant}
+use Rattle.vs_design.specs.Expressions.{Expression, Literal, Name, Select, Word, WordPart, Unary, Binary, Choice, Join, Repeat, At, Call, signal_length, word_length, width, is_constant}
 use Rattle.vs_design.specs.Fits.{source_length, is_fit, fit_items, fits_signal, fits_statement, is_division}
 
 -- from 1 to 64 bits
@@ -15,6 +15,7 @@ FitParts (Literal bits signed sized) = Is64 (length bits)
 FitParts (Name signal) = Is64 (signal_length signal)
 FitParts (Select source part index) = Is64 part.width × (range_length part.range ≡ source_length source) × (is_fit index ≡ true)
 FitParts (Word signal index) = Is64 (word_length signal) × (is_fit index ≡ true)
+FitParts (WordPart signal address part index) = Is64 part.width × (range_length part.range ≡ word_length signal) × (is_fit address ≡ true) × (is_fit index ≡ true)
 FitParts (Unary op a) = is_fit a ≡ true
 FitParts (Binary op a b) = (is_fit a ≡ true) × (is_fit b ≡ true) × (is_division op ≡ true → is_constant (Binary op a b) ≡ true)
 FitParts (Choice c p q) = (is_fit c ≡ true) × (is_fit p ≡ true) × (is_fit q ≡ true)

@@ -36,4 +36,4 @@ pub use set4::Set4;
 pub use sleepers::sleeping;
 pub use table::{are_only_x, fill};
 pub use targets::assign;
-pub use words::{Memory, memory_of};
+pub use words::{Memory, memory_of, word_start};

@@ -49,6 +49,24 @@ fn extended(list: SetList, context: Context) -> SetList
 }
 
 impl Lifter<'_> {
+    /// The sets of a select of a vector of these sets (IEEE 1364-2005, 5.2.1), by those of its index.
+    fn taken(&self, vector: &SetList, part: Part, index: u32, index_sets: &SetList) -> SetList
+        requires index_there { index < length self.now.shapes.now.nodes }
+        requires fit { is_fit (tree_of self.now.shapes.now index) ≡ true }
+        requires few { Is64 part.width }
+        requires many { length index_sets.now ≡ E.width (tree_of self.now.shapes.now index) }
+        ensures { result ≡ L.set_select part (tree_of self.now.shapes.now index) index_sets.now vector.now }
+    {
+        let shape = self.shapes.shape(index);
+        if shape.constant {
+            let places = places_of(part, shape.signed, self.shapes.constant_value(index));
+            return at_places(&places, vector.as_slice());
+        }
+        let sure = surely_inside(part, shape.signed, index_sets.as_slice());
+        let set = variable(index_sets.as_slice(), sure, all_of(vector.as_slice()));
+        SetList::replicated(part.width as usize, set)
+    }
+
     /// The sets of a select (IEEE 1364-2005, 5.2.1), by those of its index.
     fn select(&self, of: u32, part: Part, index: u32, index_sets: &SetList) -> SetList
         requires of_there { of < length self.now.shapes.now.nodes }
@@ -61,14 +79,7 @@ impl Lifter<'_> {
         ensures { result ≡ L.set_select part (tree_of self.now.shapes.now index) index_sets.now (L.source_sets (family_of self.now.table.now) (source_of (tree_of self.now.shapes.now of))) }
     {
         let vector = self.source_sets(of);
-        let shape = self.shapes.shape(index);
-        if shape.constant {
-            let places = places_of(part, shape.signed, self.shapes.constant_value(index));
-            return at_places(&places, vector.as_slice());
-        }
-        let sure = surely_inside(part, shape.signed, index_sets.as_slice());
-        let set = variable(index_sets.as_slice(), sure, all_of(vector.as_slice()));
-        SetList::replicated(part.width as usize, set)
+        self.taken(&vector, part, index, index_sets)
     }
 
     /// The sets of a word of a memory (IEEE 1364-2005, 4.9.3), by those of its address.
@@ -177,6 +188,24 @@ impl Lifter<'_> {
             Node::Word { signal, index } => {
                 let sets = self.lifted(*index, own_context(self.shapes, *index))?;
                 Ok(extended(self.word(*signal, *index, &sets), context))
+            }
+            Node::WordPart {
+                signal,
+                address,
+                range,
+                base,
+                up,
+                width,
+            } => {
+                let part = Part {
+                    range: *range,
+                    up: *up,
+                    width: *width,
+                };
+                let sets = self.lifted(*address, own_context(self.shapes, *address))?;
+                let word = self.word(*signal, *address, &sets);
+                let sets = self.lifted(*base, own_context(self.shapes, *base))?;
+                Ok(extended(self.taken(&word, part, *base, &sets), context))
             }
             Node::Unary { op, a } => self.unary(e, *op, *a, context),
             Node::Binary { op, a, b } => match set_lift(*op) {

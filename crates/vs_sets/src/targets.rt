@@ -1,24 +1,29 @@
 //! Writing the sets of a value to a target (IEEE 1364-2005, clause 6 and 9.2).
 
-ghost use Rattle.std.specs.Prelude.{◌≡◌, ◌≤◌, ◌<◌, ◌+◌, ◌-◌, ℕ, length, map, max, true, Some, OnOk};
+ghost use Rattle.std.specs.Prelude.{◌≡◌, ◌≤◌, ◌<◌, ◌+◌, ◌*◌, ◌-◌, ℕ, if◌then◌else◌, length, map, max, true, Some, OnOk};
+ghost use Rattle.vs_four.specs.Selects.{range_length, places};
 ghost use Rattle.vs_design.specs.Expressions as E;
 ghost use Rattle.vs_design.specs.Statements as T;
 ghost use Rattle.vs_design.specs.Fits.{is_fit, fits_target};
 ghost use Rattle.vs_design.specs.Lifted as L;
-ghost use Rattle.vs_design.specs.LiftedBodies.{write_sets, assign_sets};
+ghost use Rattle.vs_design.specs.LiftedBodies.{put_each, widen, write_sets, assign_sets};
+ghost use Rattle.vs_design.specs.Sets.{all_of};
+ghost use Rattle.vs_design.specs.Values.{constant_value, count_from};
 ghost use Rattle.vs_design.specs.Within.{names_within, signal_within, target_within};
 ghost use Rattle.vs_flat.specs.Targets.{source_of, target_of};
 ghost use Rattle.vs_flat.specs.Trees.{joined};
+ghost use Rattle.vs_sets.specs.FitParts.{Is64};
 ghost use Rattle.vs_sets.specs.Nodes.{EachBelow, tree_of, signal_of};
 ghost use Rattle.vs_sets.specs.TargetsOf.{IsTarget, target_tree};
-ghost use Rattle.vs_sets.specs.Tables.{family_of};
+ghost use Rattle.vs_sets.specs.Tables.{bits_from, family_of};
 
 use crate::Set4;
 use crate::folds::all_of;
 use crate::lifter::{Lifter, named_span, span_of};
 use crate::table::{put_places, put_run, widen_run};
-use crate::words::{memory_of, put_word};
+use crate::words::{Memory, memory_of, put_word};
 use std::alloc::{AllocError, Global};
+use vs_design::word_part_law;
 use vs_flat::Node;
 use vs_shape::{Part, Shapes, first_copy, places_of, word_place};
 
@@ -58,6 +63,21 @@ fn write(shapes: &Shapes, e: u32, sets: &[Set4], table: &mut [Set4])
             write_part(shapes, *of, part, *base, sets, table);
         }
         Node::Word { signal, index } => write_word(shapes, *signal, *index, sets, table),
+        Node::WordPart {
+            signal,
+            address,
+            range,
+            base,
+            up,
+            width,
+        } => {
+            let part = Part {
+                range: *range,
+                up: *up,
+                width: *width,
+            };
+            write_word_part(shapes, *signal, *address, part, *base, sets, table);
+        }
         Node::Join { parts } => write_parts(shapes, e, first_copy(parts.as_slice()), sets, table),
         _ => unreachable!(),
     }
@@ -100,6 +120,91 @@ fn write_word(shapes: &Shapes, signal: u32, index: u32, sets: &[Set4], table: &m
     } else {
         let span = span_of(shapes, signal);
         widen_run(table, span.first, span.len, all_of(sets));
+    }
+}
+
+/// Writes sets to a part of a word of a memory (IEEE 1364-2005, 5.2.2): by a constant address and a constant index to its bits, by any other each bit of the
+/// words that the address may name may have any of them.
+fn write_word_part(
+    shapes: &Shapes,
+    signal: u32,
+    address: u32,
+    part: Part,
+    index: u32,
+    sets: &[Set4],
+    table: &mut [Set4],
+)
+    requires within { target_within (length table.old) (target_tree (E.WordPart (signal_of shapes.now signal) (tree_of shapes.now address) part (tree_of shapes.now index))) ≡ true }
+    requires memory { signal < length shapes.now.signals }
+    requires address_there { address < length shapes.now.nodes }
+    requires index_there { index < length shapes.now.nodes }
+    requires target { IsTarget (E.WordPart (signal_of shapes.now signal) (tree_of shapes.now address) part (tree_of shapes.now index)) }
+    requires many { length sets.now ≡ part.width }
+    ensures { family_of table.new ≡ write_sets (target_tree (E.WordPart (signal_of shapes.now signal) (tree_of shapes.now address) part (tree_of shapes.now index))) sets.now (family_of table.old) }
+{
+    let at = shapes.shape(address);
+    if at.constant {
+        write_part_at(shapes, signal, address, part, index, sets, table);
+    } else {
+        let span = span_of(shapes, signal);
+        widen_run(table, span.first, span.len, all_of(sets));
+    }
+}
+
+/// Writes sets to a part of the word at a constant address, where there is one.
+fn write_part_at(
+    shapes: &Shapes,
+    signal: u32,
+    address: u32,
+    part: Part,
+    index: u32,
+    sets: &[Set4],
+    table: &mut [Set4],
+)
+    requires within { target_within (length table.old) (target_tree (E.WordPart (signal_of shapes.now signal) (tree_of shapes.now address) part (tree_of shapes.now index))) ≡ true }
+    requires memory { signal < length shapes.now.signals }
+    requires address_there { address < length shapes.now.nodes }
+    requires index_there { index < length shapes.now.nodes }
+    requires target { IsTarget (E.WordPart (signal_of shapes.now signal) (tree_of shapes.now address) part (tree_of shapes.now index)) }
+    requires many { length sets.now ≡ part.width }
+    requires constant { E.is_constant (tree_of shapes.now address) ≡ true }
+    ensures { family_of table.new ≡ write_sets (target_tree (E.WordPart (signal_of shapes.now signal) (tree_of shapes.now address) part (tree_of shapes.now index))) sets.now (family_of table.old) }
+{
+    word_part_law();
+    let memory = memory_of(shapes, signal);
+    let at = shapes.shape(address);
+    match word_place(memory.addresses, at.signed, shapes.constant_value(address)) {
+        None => {}
+        Some(n) => write_in_word(shapes, memory, n, part, index, sets, table),
+    }
+}
+
+/// Writes sets to a part of the word at this place.
+fn write_in_word(
+    shapes: &Shapes,
+    memory: Memory,
+    n: usize,
+    part: Part,
+    index: u32,
+    sets: &[Set4],
+    table: &mut [Set4],
+)
+    requires inside { memory.first + (n * memory.len + memory.len) ≤ length table.old }
+    requires index_there { index < length shapes.now.nodes }
+    requires fit { is_fit (tree_of shapes.now index) ≡ true }
+    requires few { Is64 part.width }
+    requires long { range_length part.range ≡ memory.len }
+    requires many { length sets.now ≡ part.width }
+    ensures { family_of table.new ≡ (if E.is_constant (tree_of shapes.now index) then put_each (bits_from (memory.first + n * memory.len) (places part (E.sign (tree_of shapes.now index)) (constant_value (tree_of shapes.now index)))) sets.now (family_of table.old)
+        else widen (count_from (memory.first + n * memory.len) memory.len) (all_of sets.now) (family_of table.old)) }
+{
+    let first = memory.first + n * memory.len;
+    let by = shapes.shape(index);
+    if by.constant {
+        let places = places_of(part, by.signed, shapes.constant_value(index));
+        put_places(table, first, &places, sets);
+    } else {
+        widen_run(table, first, memory.len, all_of(sets));
     }
 }
 

@@ -1,6 +1,6 @@
 //! Words of memories (IEEE 1364-2005, 4.9): the sets that they may have, and writing sets to them.
 
-ghost use Rattle.std.specs.Prelude.{◌≡◌, ◌≤◌, ◌<◌, ◌+◌, ◌*◌, ℕ, length, map, Some};
+ghost use Rattle.std.specs.Prelude.{◌≡◌, ◌≤◌, ◌<◌, ◌+◌, ◌*◌, ◌^◌, ℕ, length, map, Some};
 ghost use Rattle.vs_four.specs.declared.Bit4.TheVariants.{X};
 ghost use Rattle.vs_four.specs.Logic.{map2};
 ghost use Rattle.vs_four.specs.Selects.{at_place, range_length};
@@ -37,6 +37,7 @@ pub fn memory_of(shapes: &Shapes, n: u32) -> Memory
     ensures addresses { result.addresses ≡ E.addresses (signal_of shapes.now n) }
     ensures len { result.len ≡ E.word_length (signal_of shapes.now n) }
     ensures within { result.first + range_length result.addresses * result.len ≤ bit_count (design_of shapes.now) }
+    ensures small { result.first + range_length result.addresses * result.len ≤ 1048576 }
     ensures few { Is64 result.len }
 {
     trees_law();
@@ -46,6 +47,14 @@ pub fn memory_of(shapes: &Shapes, n: u32) -> Memory
         addresses: addresses_of(signal),
         len: length_of(signal.range) as usize,
     }
+}
+
+/// The number of the first bit of the word at this place.
+pub fn word_start(memory: Memory, n: usize) -> usize
+    requires { memory.first + n * memory.len < 2 ^ 64 }
+    ensures { result ≡ memory.first + n * memory.len }
+{
+    memory.first + n * memory.len
 }
 
 /// The sets of the word at this place of a memory of these sets: x alone where there is none.

@@ -17,7 +17,7 @@ use Rattle.vs_flat.specs.Trees.{joined, first_copy, copy_count}
 use Rattle.vs_shape.specs.Nodes.{tree_of, place_of, tree_of_node}
 use Rattle.vs_design.specs.Statements.{Target, Both}
 use Rattle.vs_design.specs.Footprints.{target_signals}
-use Rattle.vs_shape.specs.Gathered.{bits_from, gathered_items, gathered, gathered_source, gathered_target}
+use Rattle.vs_shape.specs.Gathered.{bits_from, gathered_items, gathered, gathered_source, gathered_word_part, gathered_target}
 use Rattle.vs_shape.proofs.Names.{and_both}
 
 pub tree_is : (a kept : Arena) (e : ℕ) (n m : Node) → kept ≡ a → tree_of kept e ≡ E.At (place_of kept e) (tree_of_node kept n) → n ≡ m → tree_of a e ≡ E.At (place_of a e) (tree_of_node a m)
@@ -127,6 +127,16 @@ choice_gathered w c p q = gathered_choice w c p q
 pub both_gathered : (w : Bool) (s t : Target) → gathered_target w (Both s t) ≡ gathered_target w s ++ gathered_target w t
 both_gathered true s t = signals_bits-append (target_signals s) (target_signals t)
 both_gathered false s t = refl
+
+-- ---- a part of a word
+
+pub word_part_gathered : (w : Bool) (s : E.Signal) (a : E.Expression) (part : Part) (i : E.Expression) → gathered w (E.WordPart s a part i) ≡ gathered_word_part w s a part i ++ (gathered w a ++ gathered w i)
+word_part_gathered true s a part i = ap (λ bs. bits_of_signal s ++ bs) (signals_bits-append (read_signals a) (read_signals i))
+word_part_gathered false s a part i = refl
+
+pub indices_gathered : (w : Bool) (s : E.Signal) (a : E.Expression) (part : Part) (i : E.Expression) → gathered_target w (T.WordPartOf s a part i) ≡ gathered w a ++ gathered w i
+indices_gathered true s a part i = signals_bits-append (read_signals a) (read_signals i)
+indices_gathered false s a part i = refl
 
 -- ---- the arguments of a call
 

@@ -16,3 +16,4 @@ pub mod Walking
 pub mod Rising
 pub mod PlaceSteps
 pub mod Among
+pub mod WordParts

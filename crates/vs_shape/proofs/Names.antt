@@ -4,7 +4,7 @@ use Rattle.std.specs.Prelude.{option_map, slice_get}
 use Rattle.std.proofs.lemmas.Bool.{ltb-true}
 use Rattle.vs_flat.specs.declared.placed.Placed.{Placed}
 use Rattle.vs_flat.specs.declared.expressions.Node.{Node}
-use Rattle.vs_flat.specs.declared.expressions.Node.TheVariants.{Literal, Name, Bit, Part, Word, Unary, Binary, Choice, Join, Local, Call}
+use Rattle.vs_flat.specs.declared.expressions.Node.TheVariants.{Literal, Name, Bit, Part, Word, WordPart, Unary, Binary, Choice, Join, Local, Call}
 use Rattle.vs_flat.specs.Arena.{Arena, node_at, declared_at}
 use Rattle.vs_flat.specs.declared.functions.Declared.{Declared}
 use Rattle.vs_flat.specs.Lawful.{IsLawful}
@@ -35,6 +35,9 @@ has_names signals e (Part of range base up width) h = (first_below e of (base �
 has_names signals e (Word signal index) h =
     let p = and_both (all_below signals (signal ∷ [])) (all_below e (index ∷ [])) h in
     (first_below signals signal [] p.0, first_below e index [] p.1)
+has_names signals e (WordPart signal address range base up width) h =
+    let p = and_both (all_below signals (signal ∷ [])) (all_below e (address ∷ base ∷ [])) h in
+    (first_below signals signal [] p.0, first_below e address (base ∷ []) p.1, first_below e base [] (rest_below e address (base ∷ []) p.1))
 has_names signals e (Unary op a) h = first_below e a [] h
 has_names signals e (Binary op a b) h = (first_below e a (b ∷ []) h, first_below e b [] (rest_below e a (b ∷ []) h))
 has_names signals e (Choice c p q) h =
@@ -63,6 +66,7 @@ has_calls a (Name signal) m h = tt
 has_calls a (Bit of range index) m h = tt
 has_calls a (Part of range base up width) m h = tt
 has_calls a (Word signal index) m h = tt
+has_calls a (WordPart signal address range base up width) m h = tt
 has_calls a (Unary op x) m h = tt
 has_calls a (Binary op x y) m h = tt
 has_calls a (Choice c p q) m h = tt

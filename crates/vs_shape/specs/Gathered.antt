@@ -4,7 +4,7 @@ use Rattle.vs_four.specs.Selects.{Part}
 use Rattle.vs_design.specs.Expressions.{Signal, Source, Expression, Items}
 use Rattle.vs_design.specs.Values.{bits_of_signal}
 use Rattle.vs_design.specs.Statements.{Target, Statement, Arms}
-use Rattle.vs_design.specs.Footprints.{source_bits, source_signals, addressed_bits, read_bits, read_signals, target_bits, target_reads, target_signals, items_reads, items_signals, statement_bits, statement_reads, statement_signals, arms_bits, arms_reads, arms_signals, signals_bits}
+use Rattle.vs_design.specs.Footprints.{source_bits, source_signals, addressed_bits, word_part_bits, read_bits, read_signals, target_bits, target_reads, target_signals, items_reads, items_signals, statement_bits, statement_reads, statement_signals, arms_bits, arms_reads, arms_signals, signals_bits}
 use Rattle.vs_design.specs.Races.{blocking_bits, arms_blocking, nonblocking_bits, arms_nonblocking}
 use Rattle.vs_shape.specs.declared.bodies.Walk.{Walk}
 use Rattle.vs_shape.specs.declared.bodies.Walk.TheVariants as W
@@ -20,6 +20,10 @@ gathered_source false source part index = source_bits source part index
 abbrev pub gathered_word : Bool → Signal → Expression → List ℕ
 gathered_word true signal index = bits_of_signal signal
 gathered_word false signal index = addressed_bits signal index
+
+abbrev pub gathered_word_part : Bool → Signal → Expression → Part → Expression → List ℕ
+gathered_word_part true signal address part index = bits_of_signal signal
+gathered_word_part false signal address part index = word_part_bits signal address part index
 
 abbrev pub gathered : Bool → Expression → List ℕ
 gathered true e = signals_bits (read_signals e)

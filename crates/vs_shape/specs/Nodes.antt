@@ -2,7 +2,7 @@
 use Rattle.std.specs.Prelude.{◌<◌, ℕ, List, length, slice_index, unwrap_or}
 use Rattle.vs_design.specs.Expressions as E
 use Rattle.vs_flat.specs.declared.expressions.Node.{Node}
-use Rattle.vs_flat.specs.declared.expressions.Node.TheVariants.{Literal, Name, Bit, Part, Word, Unary, Binary, Choice, Join, Local, Call}
+use Rattle.vs_flat.specs.declared.expressions.Node.TheVariants.{Literal, Name, Bit, Part, Word, WordPart, Unary, Binary, Choice, Join, Local, Call}
 use Rattle.vs_flat.specs.Arena.{Arena, node_place, declared_at}
 use Rattle.vs_flat.specs.Named.{locals_in}
 use Rattle.vs_flat.specs.Trees.{tree_at, node_tree}
@@ -18,6 +18,7 @@ HasNames signals e (Name signal) = signal < signals
 HasNames signals e (Bit of range index) = (of < e) × (index < e)
 HasNames signals e (Part of range base up width) = (of < e) × (base < e)
 HasNames signals e (Word signal index) = (signal < signals) × (index < e)
+HasNames signals e (WordPart signal address range base up width) = (signal < signals) × (address < e) × (base < e)
 HasNames signals e (Unary op a) = a < e
 HasNames signals e (Binary op a b) = (a < e) × (b < e)
 HasNames signals e (Choice c p q) = (c < e) × (p < e) × (q < e)

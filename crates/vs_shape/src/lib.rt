@@ -18,4 +18,4 @@ pub use nodes::{copy_count, first_copy, local_of, node_of, statement_of};
 pub use places::{Part, Places, places_of};
 pub use shape::Shape;
 pub use shapes::Shapes;
-pub use words::{addresses_of, word_place};
+pub use words::{addresses_of, word_place, word_start};

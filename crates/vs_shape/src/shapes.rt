@@ -1,8 +1,9 @@
 //! The shapes of a design's expressions.
 
-ghost use Rattle.std.specs.Prelude.{◌≡◌, ◌<◌, ◌≤◌, ◌&&◌, not, min, length};
+ghost use Rattle.std.specs.Prelude.{◌≡◌, ◌<◌, ◌≤◌, ◌&&◌, Bool, not, min, length};
+ghost use Rattle.vs_four.specs.declared.Range.{Range};
 ghost use Rattle.vs_four.specs.Selects.{Part};
-ghost use Rattle.vs_design.specs.Expressions.{Expression, Name, Select, Word, Call, Items, is_constant};
+ghost use Rattle.vs_design.specs.Expressions.{Signal, Expression, Name, Select, Word, WordPart, Call, Items, is_constant};
 ghost use Rattle.vs_design.specs.Statements.{Statement};
 ghost use Rattle.vs_flat.specs.Arena.{declared_at};
 ghost use Rattle.vs_flat.specs.Named.{locals_in};
@@ -126,6 +127,7 @@ impl Shapes {
                 width,
             } => select_shape(&self.flat, *of, (*width).min(65) as u8, self.shape(*base)),
             Node::Word { signal, .. } => word_shape(&self.flat, *signal),
+            Node::WordPart { width, .. } => word_part_shape(*width),
             Node::Unary { op, a } => unary_shape(*op, self.shape(*a)),
             Node::Binary { op, a, b } => binary_shape(*op, self.shape(*a), self.shape(*b)),
             Node::Choice { c, p, q } => {
@@ -170,6 +172,17 @@ fn word_shape(flat: &Flat, signal: u32) -> Shape
     Shape {
         width: word_width(s.range),
         signed: s.signed,
+        constant: false,
+    }
+}
+
+/// The shape of so many bits of a word of a memory.
+fn word_part_shape(width: u32) -> Shape
+    ensures { (signal : Signal) (address index : Expression) (range : Range) (up : Bool) → result ≡ shape_of (WordPart signal address (record { range = range; up = up; width = width }) index) }
+{
+    Shape {
+        width: width.min(65) as u8,
+        signed: false,
         constant: false,
     }
 }

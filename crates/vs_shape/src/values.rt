@@ -69,9 +69,11 @@ impl Shapes {
         let flat = self.flat();
         match node_of(flat, e) {
             Node::Literal { bits, sized, .. } => extended_literal(*bits, w, signed, *sized),
-            Node::Name { .. } | Node::Word { .. } | Node::Local { .. } | Node::Call { .. } => {
-                extended(Bits::of(&[Bit4::X]), w, signed)
-            }
+            Node::Name { .. }
+            | Node::Word { .. }
+            | Node::WordPart { .. }
+            | Node::Local { .. }
+            | Node::Call { .. } => { extended(Bits::of(&[Bit4::X]), w, signed) }
             Node::Bit { of, range, index } => {
                 self.select_value(*of, *index, *range, true, 1, w, signed)
             }

@@ -1,11 +1,12 @@
 //! Walks over expressions and targets that gather bits (IEEE 1364-2005, 9.7.5 and 11.6.1).
 
-ghost use Rattle.std.specs.Prelude.{ℕ, ◌≡◌, ◌<◌, ◌≤◌, ◌++◌, ◌+◌, ◌^◌, true, length, map, is_some, OnOk};
+ghost use Rattle.std.specs.Prelude.{ℕ, ◌&&◌, ◌≡◌, ◌<◌, ◌≤◌, ◌++◌, ◌+◌, ◌^◌, true, length, map, is_some, OnOk};
 ghost use Rattle.vs_four.specs.Selects.{range_length};
-ghost use Rattle.vs_design.specs.Expressions.{OfSignal};
+ghost use Rattle.vs_design.specs.Expressions.{OfSignal, is_constant, sign};
 ghost use Rattle.vs_design.specs.Fits.{fits, fits_64};
-ghost use Rattle.vs_design.specs.Values.{bits_of_signal};
-ghost use Rattle.vs_design.specs.Footprints.{target_bits};
+ghost use Rattle.vs_design.specs.Bodies.{bits_at};
+ghost use Rattle.vs_design.specs.Values.{bits_of_signal, constant_value, word_part_places};
+ghost use Rattle.vs_design.specs.Footprints.{somes, target_bits};
 ghost use Rattle.vs_flat.specs.Arena.{signal_length, declared_at};
 ghost use Rattle.vs_flat.specs.Named.{locals_in};
 ghost use Rattle.vs_flat.specs.Lawful.{IsLawful};
@@ -13,15 +14,16 @@ ghost use Rattle.vs_flat.specs.Targets.{source_of};
 ghost use Rattle.vs_flat.specs.Trees.{signal_of, signal_at, target_tree};
 ghost use Rattle.vs_flat.specs.DesignOf.{arena_signals, local_of};
 ghost use Rattle.vs_shape.specs.Nodes.{EachBelow, tree_of};
-ghost use Rattle.vs_shape.specs.Walked.{IsSourceFit, IsTarget};
-ghost use Rattle.vs_shape.specs.Gathered.{gathered, gathered_source, gathered_word, gathered_target};
+ghost use Rattle.vs_shape.specs.Walked.{IsSourceFit, IsTarget, IsWordPartFit};
+ghost use Rattle.vs_shape.specs.Gathered.{gathered, gathered_source, gathered_word, gathered_word_part, gathered_target};
 
 use crate::bits::{push_places, push_run};
 use crate::nodes::{first_copy, local_of, node_of};
 use crate::places::{Part, places_of};
 use crate::shapes::Shapes;
-use crate::words::{addresses_of, push_word, word_place};
+use crate::words::{addresses_of, push_word, word_place, word_start};
 use std::alloc::AllocError;
+use vs_design::word_part_law;
 use vs_flat::{Flat, Node, Signal, bits_of, length_of, trees_law};
 use vs_four::Range;
 
@@ -138,6 +140,73 @@ impl Shapes {
         push_word(out, s.first_bit, length_of(s.range), place)
     }
 
+    /// Whether both are constants.
+    fn are_constant(&self, a: u32, b: u32) -> bool
+        requires first { a < length self.now.nodes }
+        requires second { b < length self.now.nodes }
+        ensures { result ≡ (is_constant (tree_of self.now a) && is_constant (tree_of self.now b)) }
+    {
+        self.shape(a).constant && self.shape(b).constant
+    }
+
+    /// Adds the bits of a part of a word that its memory has; `whole` adds all bits of the memory whatever the address and the index.
+    fn push_word_part(
+        &self,
+        signal: u32,
+        address: u32,
+        part: Part,
+        base: u32,
+        whole: bool,
+        out: &mut Vec<u32>,
+    ) -> Result<(), AllocError>
+        requires memory { signal < length self.now.signals }
+        requires there { address < length self.now.nodes }
+        requires index { base < length self.now.nodes }
+        requires fit { IsWordPartFit (signal_at (arena_signals self.now) signal) (tree_of self.now address) part (tree_of self.now base) }
+        ensures { OnOk result (out.new.items ≡ out.old.items ++ gathered_word_part whole (signal_at (arena_signals self.now) signal) (tree_of self.now address) part (tree_of self.now base)) }
+    {
+        if whole {
+            return self.push_signal(signal, out);
+        }
+        if !self.are_constant(address, base) {
+            return self.push_addressed(signal, address, false, out);
+        }
+        self.push_fixed_part(signal, address, part, base, out)
+    }
+
+    /// Adds the bits of a part of a word by a constant address and a constant index.
+    fn push_fixed_part(
+        &self,
+        signal: u32,
+        address: u32,
+        part: Part,
+        base: u32,
+        out: &mut Vec<u32>,
+    ) -> Result<(), AllocError>
+        requires memory { signal < length self.now.signals }
+        requires there { address < length self.now.nodes }
+        requires index { base < length self.now.nodes }
+        requires fit { IsWordPartFit (signal_at (arena_signals self.now) signal) (tree_of self.now address) part (tree_of self.now base) }
+        requires constant_address { is_constant (tree_of self.now address) ≡ true }
+        requires constant { is_constant (tree_of self.now base) ≡ true }
+        ensures { OnOk result (out.new.items ≡ out.old.items ++ somes (bits_at (signal_at (arena_signals self.now) signal) (word_part_places (signal_at (arena_signals self.now) signal) (sign (tree_of self.now address)) (constant_value (tree_of self.now address)) part (sign (tree_of self.now base)) (constant_value (tree_of self.now base))))) }
+    {
+        trees_law();
+        word_part_law();
+        let s = self.flat().signal(signal);
+        let at = self.constant_value(address);
+        let place = word_place(addresses_of(s), self.shape(address).signed, at);
+        match place {
+            None => Ok(()),
+            Some(n) => {
+                let start = word_start(s.first_bit, length_of(s.range), n);
+                let by = self.constant_value(base);
+                let places = places_of(part, self.shape(base).signed, by);
+                push_places(out, start, &places)
+            }
+        }
+    }
+
     /// Adds the bits that expression e reads; `whole` adds all bits of each signal that it names.
     pub fn push_reads(&self, e: u32, whole: bool, out: &mut Vec<u32>) -> Result<(), AllocError>
         requires there { e < length self.now.nodes }
@@ -166,6 +235,23 @@ impl Shapes {
             Node::Word { signal, index } => {
                 self.push_addressed(*signal, *index, whole, out)?;
                 self.push_reads(*index, whole, out)
+            }
+            Node::WordPart {
+                signal,
+                address,
+                range,
+                base,
+                up,
+                width,
+            } => {
+                let part = Part {
+                    range: *range,
+                    up: *up,
+                    width: *width,
+                };
+                self.push_word_part(*signal, *address, part, *base, whole, out)?;
+                self.push_reads(*address, whole, out)?;
+                self.push_reads(*base, whole, out)
             }
             Node::Unary { op: _, a } => self.push_reads(*a, whole, out),
             Node::Binary { op: _, a, b } => {
@@ -213,6 +299,21 @@ impl Shapes {
                 width,
             } => self.push_source(*of, *base, *range, *up, *width, false, out),
             Node::Word { signal, index } => self.push_addressed(*signal, *index, false, out),
+            Node::WordPart {
+                signal,
+                address,
+                range,
+                base,
+                up,
+                width,
+            } => {
+                let part = Part {
+                    range: *range,
+                    up: *up,
+                    width: *width,
+                };
+                self.push_word_part(*signal, *address, part, *base, false, out)
+            }
             Node::Join { parts } => {
                 for part in first_copy(parts.as_slice()) {
                     self.push_target(*part, out)?;
@@ -239,6 +340,10 @@ impl Shapes {
             Node::Bit { index, .. } => self.push_reads(*index, whole, out),
             Node::Part { base, .. } => self.push_reads(*base, whole, out),
             Node::Word { index, .. } => self.push_reads(*index, whole, out),
+            Node::WordPart { address, base, .. } => {
+                self.push_reads(*address, whole, out)?;
+                self.push_reads(*base, whole, out)
+            }
             Node::Join { parts } => {
                 for part in first_copy(parts.as_slice()) {
                     self.push_target_reads(*part, whole, out)?;

@@ -38,6 +38,15 @@ pub fn word_place(addresses: Range, signed: bool, address: Bits) -> Option<usize
     places_of(part, signed, address).get(0)
 }
 
+/// The first bit of the word at this place, of `len` bits, of the memory that begins with bit `first`.
+pub fn word_start(first: u32, len: u32, n: usize) -> u32
+    requires { first + n * len < 2 ^ 32 }
+    ensures { result ≡ first + n * len }
+{
+    let start = first as usize + n * len as usize;
+    start as u32
+}
+
 /// Adds the bits of the word at this place, of `len` bits, of the memory that begins with bit `first`; where there is no place there are none.
 pub(crate) fn push_word(
     out: &mut Vec<u32>,

@@ -1,7 +1,7 @@
 -- Branches that name no signal.
 use Rattle.std.proofs.Common.{◌≡◌, Bool, true, false, ◌||◌, List, [], ◌∷◌, ◌++◌, ◌&&◌, refl, sym}
-use Rattle.vs_design.specs.Expressions.{Signal, OfSignal, OfConstant, Expression, Literal, Name, Select, Word, Unary, Binary, Choice, Join, Repeat, At, Call, Items, NoItem, Item, is_constant}
-use Rattle.vs_design.specs.Statements.{Target, Whole, PartOf, WordOf, Both, Statement, Empty, Assignment, Then, If, Case, Arms, Arm, Default}
+use Rattle.vs_design.specs.Expressions.{Signal, OfSignal, OfConstant, Expression, Literal, Name, Select, Word, WordPart, Unary, Binary, Choice, Join, Repeat, At, Call, Items, NoItem, Item, is_constant}
+use Rattle.vs_design.specs.Statements.{Target, Whole, PartOf, WordOf, WordPartOf, Both, Statement, Empty, Assignment, Then, If, Case, Arms, Arm, Default}
 use Rattle.vs_design.specs.Footprints.{read_signals, target_signals, items_signals, statement_signals, arms_signals}
 use Rattle.vs_design.specs.Elaborated.{has_constant_selects}
 use Rattle.vs_design.specs.Resets.{are_constant, arms_constant, is_fixed}
@@ -30,6 +30,7 @@ constant_of (Name signal) n h = cc
 constant_of (Select (OfSignal signal) part index) n h = cc
 constant_of (Select (OfConstant bits) part index) n h = constant_of index n h
 constant_of (Word signal index) n h = cc
+constant_of (WordPart signal address part index) n h = cc
 constant_of (Unary op a) n h = constant_of a n h
 constant_of (Binary op a b) n h =
     let k = neither (read_signals a) (read_signals b) h in
@@ -51,6 +52,9 @@ selects_of : (t : Target) → target_calls t ≡ false → target_signals t ≡ 
 selects_of (Whole signal) n h = refl
 selects_of (PartOf signal part index) n h = constant_of index n h
 selects_of (WordOf signal index) n h = constant_of index n h
+selects_of (WordPartOf signal address part index) n h =
+    let k = neither (read_signals address) (read_signals index) h in
+    and_true (is_constant address) (is_constant index) (constant_of address (no_left (calls address) (calls index) n) k.0) (constant_of index (no_right (calls address) (calls index) n) k.1)
 selects_of (Both high low) n h =
     let k = neither (target_signals high) (target_signals low) h in
     and_true (has_constant_selects high) (has_constant_selects low) (selects_of high (no_left (target_calls high) (target_calls low) n) k.0) (selects_of low (no_right (target_calls high) (target_calls low) n) k.1)
@@ -111,6 +115,7 @@ constant_quiet (Name signal) h = cc
 constant_quiet (Select (OfSignal signal) part index) h = cc
 constant_quiet (Select (OfConstant bits) part index) h = constant_quiet index h
 constant_quiet (Word signal index) h = cc
+constant_quiet (WordPart signal address part index) h = cc
 constant_quiet (Unary op a) h = constant_quiet a h
 constant_quiet (Binary op a b) h = let p = and_both (is_constant a) (is_constant b) h in two_quiet (read_signals a) (read_signals b) (calls a) (calls b) (constant_quiet a p.0) (constant_quiet b p.1)
 constant_quiet (Choice c p q) h =
@@ -129,6 +134,8 @@ selects_quiet : (t : Target) → has_constant_selects t ≡ true → IsQuiet (ta
 selects_quiet (Whole signal) h = (refl, refl)
 selects_quiet (PartOf signal part index) h = constant_quiet index h
 selects_quiet (WordOf signal index) h = constant_quiet index h
+selects_quiet (WordPartOf signal address part index) h =
+    let p = and_both (is_constant address) (is_constant index) h in two_quiet (read_signals address) (read_signals index) (calls address) (calls index) (constant_quiet address p.0) (constant_quiet index p.1)
 selects_quiet (Both high low) h =
     let p = and_both (has_constant_selects high) (has_constant_selects low) h in two_quiet (target_signals high) (target_signals low) (target_calls high) (target_calls low) (selects_quiet high p.0) (selects_quiet low p.1)
 

@@ -3,8 +3,8 @@ use Rattle.std.proofs.Common.{◌≡◌, ℕ, zero, suc, ◌+◌, ◌*◌, ◌<�
 use Rattle.std.specs.Prelude.{◌==◌, ◌&&◌, nat_lt, unwrap_or, slice_get}
 use Rattle.std.proofs.lemmas.Bool.Decides.{nat_tests}
 use Rattle.std.proofs.lemmas.List.{append-nil, drop_more}
-use Rattle.vs_design.specs.Expressions.{Expression, Literal, Name, Select, Word, Unary, Binary, Choice, Join, Repeat, At, Call, items_of, OfSignal, OfConstant, width}
-use Rattle.vs_design.specs.Statements.{Target, Whole, PartOf, WordOf, Both, target_width, Statement}
+use Rattle.vs_design.specs.Expressions.{Expression, Literal, Name, Select, Word, WordPart, Unary, Binary, Choice, Join, Repeat, At, Call, items_of, OfSignal, OfConstant, width}
+use Rattle.vs_design.specs.Statements.{Target, Whole, PartOf, WordOf, WordPartOf, Both, target_width, Statement}
 use Rattle.vs_flat.specs.declared.statements.Arm as F
 use Rattle.vs_flat.specs.Targets.{target_of, both_of}
 use Rattle.vs_flat.specs.Trees.{joined, no_signal, target_tree, sequence, arms_tree}
@@ -99,6 +99,7 @@ width_at (Name signal) t h = let same : t ≡ Whole signal = cc in ap target_wid
 width_at (Select (OfSignal signal) p index) t h = let same : t ≡ PartOf signal p index = cc in ap target_width same
 width_at (Select (OfConstant bits) p index) t h = absurd (let z : ⊥ = cc in z)
 width_at (Word signal index) t h = let same : t ≡ WordOf signal index = cc in ap target_width same
+width_at (WordPart signal address p index) t h = let same : t ≡ WordPartOf signal address p index = cc in ap target_width same
 width_at (Unary op a) t h = absurd (let z : ⊥ = cc in z)
 width_at (Binary op a b) t h = absurd (let z : ⊥ = cc in z)
 width_at (Choice c p q) t h = absurd (let z : ⊥ = cc in z)

@@ -3,7 +3,7 @@ use Rattle.std.proofs.Common.{◌≡◌, ℕ, zero, suc, ◌+◌, ◌*◌, ◌<�
 use Rattle.std.specs.Prelude.{nat_lt}
 use Rattle.std.proofs.lemmas.Bool.Decides.{nat_tests}
 use Rattle.std.proofs.lemmas.List.{append-nil, drop_more}
-use Rattle.vs_design.specs.Expressions.{Expression, Literal, Name, Select, Word, Unary, Binary, Choice, Join, Repeat, At, Call, width}
+use Rattle.vs_design.specs.Expressions.{Expression, Literal, Name, Select, Word, WordPart, Unary, Binary, Choice, Join, Repeat, At, Call, width}
 use Rattle.vs_design.specs.Refusals.{least_with, over_64}
 use Rattle.vs_flat.specs.Trees.{joined, copy_count}
 use Rattle.vs_shape.specs.Nodes.{EachBelow}
@@ -116,6 +116,7 @@ placed_node rule at place x best plain = go rule x plain where
   go Wide (Name signal) p = alone (width (Name signal))
   go Wide (Select source part index) p = twice (width (Select source part index)) (places_of Wide place index)
   go Wide (Word signal index) p = twice (width (Word signal index)) (places_of Wide place index)
+  go Wide (WordPart signal address part index) p = twice (width (WordPart signal address part index)) (places_of Wide place address ++ places_of Wide place index)
   go Wide (Unary op a) p = twice (width (Unary op a)) (places_of Wide place a)
   go Wide (Binary op a b) p = twice (width (Binary op a b)) (places_of Wide place a ++ places_of Wide place b)
   go Wide (Choice c d e) p = twice (width (Choice c d e)) (places_of Wide place c ++ (places_of Wide place d ++ places_of Wide place e))
@@ -127,6 +128,7 @@ placed_node rule at place x best plain = go rule x plain where
   go Division (Name signal) p = none []
   go Division (Select source part index) p = none (places_of Division place index)
   go Division (Word signal index) p = none (places_of Division place index)
+  go Division (WordPart signal address part index) p = none (places_of Division place address ++ places_of Division place index)
   go Division (Unary op a) p = none (places_of Division place a)
   go Division (Binary op a b) p = from_append best (head_places Division place (Binary op a b)) (places_of Division place a ++ places_of Division place b)
   go Division (Choice c d e) p = none (places_of Division place c ++ (places_of Division place d ++ places_of Division place e))

@@ -4,7 +4,7 @@ use Rattle.std.specs.Prelude.{option_map, slice_get}
 use Rattle.std.proofs.lemmas.Bool.{ltb-true}
 use Rattle.vs_flat.specs.declared.placed.Placed.{Placed}
 use Rattle.vs_flat.specs.declared.expressions.Node.{Node}
-use Rattle.vs_flat.specs.declared.expressions.Node.TheVariants.{Literal, Name, Bit, Part, Word, Unary, Binary, Choice, Join, Local, Call}
+use Rattle.vs_flat.specs.declared.expressions.Node.TheVariants.{Literal, Name, Bit, Part, Word, WordPart, Unary, Binary, Choice, Join, Local, Call}
 use Rattle.vs_flat.specs.declared.functions.Body.{Body}
 use Rattle.vs_flat.specs.declared.statements.Statement.{Statement}
 use Rattle.vs_flat.specs.Arena.{Arena, body_at, node_at, statement_at}
@@ -83,6 +83,7 @@ calls_first there before a names count e few h (Name signal) is = tt
 calls_first there before a names count e few h (Bit of range index) is = tt
 calls_first there before a names count e few h (Part of range base up width) is = tt
 calls_first there before a names count e few h (Word signal index) is = tt
+calls_first there before a names count e few h (WordPart signal address range base up width) is = tt
 calls_first there before a names count e few h (Unary op x) is = tt
 calls_first there before a names count e few h (Binary op x y) is = tt
 calls_first there before a names count e few h (Choice c p q) is = tt

@@ -1,6 +1,6 @@
 -- The places of what is refused, by rule, and the least of them.
 use Rattle.std.specs.Prelude.{◌≡◌, ◌<◌, ◌≤◌, ℕ, length, not, ◌&&◌, List, [], ◌∷◌, ◌++◌, if◌then◌else◌, Option, Some, None, slice_index_or}
-use Rattle.vs_design.specs.Expressions.{Expression, Literal, Name, Select, Word, Unary, Binary, Choice, Join, Repeat, At, Call, Items, BinaryOp, width, is_constant}
+use Rattle.vs_design.specs.Expressions.{Expression, Literal, Name, Select, Word, WordPart, Unary, Binary, Choice, Join, Repeat, At, Call, Items, BinaryOp, width, is_constant}
 use Rattle.vs_design.specs.Statements.{Target, target_width, Statement, Arms}
 use Rattle.vs_flat.specs.declared.processes.Kind.{Kind}
 use Rattle.vs_flat.specs.declared.processes.Kind.TheVariants as K
@@ -54,6 +54,7 @@ rest_places rule at (Literal bits signed sized) = []
 rest_places rule at (Name signal) = []
 rest_places rule at (Select source part index) = places_of rule at index
 rest_places rule at (Word signal index) = places_of rule at index
+rest_places rule at (WordPart signal address part index) = places_of rule at address ++ places_of rule at index
 rest_places rule at (Unary op a) = places_of rule at a
 rest_places rule at (Binary op a b) = places_of rule at a ++ places_of rule at b
 rest_places rule at (Choice c p q) = places_of rule at c ++ (places_of rule at p ++ places_of rule at q)

@@ -30,6 +30,12 @@ fn has_constant_selects(shapes: &Shapes, e: u32) -> bool
         Node::Bit { index, .. } | Node::Part { base: index, .. } | Node::Word { index, .. } => {
             shapes.shape(*index).constant
         }
+        Node::WordPart { address, base, .. } => {
+            both(
+                shapes.shape(*address).constant,
+                shapes.shape(*base).constant,
+            )
+        }
         Node::Join { parts } => {
             let mut all = true;
             for part in first_copy(parts.as_slice()) {

@@ -33,6 +33,10 @@ fn least_target(
         Node::Bit { index, .. } | Node::Part { base: index, .. } | Node::Word { index, .. } => {
             least_in(shapes, rule, table, *index, best)
         }
+        Node::WordPart { address, base, .. } => {
+            let first = least_in(shapes, rule, table, *address, best);
+            least_in(shapes, rule, table, *base, first)
+        }
         Node::Join { parts } => {
             for part in first_copy(parts.as_slice()) {
                 least = least_target(shapes, rule, table, *part, least);

@@ -148,5 +148,9 @@ pub(crate) fn least_in(
             }
             least_callee(table, *function, least)
         }
+        Node::WordPart { address, base, .. } => {
+            least = least_in(shapes, rule, table, *address, least);
+            least_in(shapes, rule, table, *base, least)
+        }
     }
 }

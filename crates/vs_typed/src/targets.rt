@@ -60,6 +60,17 @@ pub(crate) fn add_target(shapes: &Shapes, table: &[Option<u64>], e: u32, total: 
             width,
         } => add_index(shapes, table, *range, u64::from(*width), *base, total),
         Node::Word { signal, index } => add_word(shapes, table, e, *signal, *index, total),
+        Node::WordPart {
+            signal,
+            address,
+            range,
+            base,
+            up: _,
+            width,
+        } => {
+            let word = add_word(shapes, table, e, *signal, *address, total);
+            add_index(shapes, table, *range, u64::from(*width), *base, word)
+        }
         Node::Join { parts } => {
             for part in first_copy(parts.as_slice()) {
                 sum = add_target(shapes, table, *part, sum);

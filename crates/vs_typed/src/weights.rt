@@ -130,6 +130,17 @@ pub(crate) fn add_weight(shapes: &Shapes, table: &[Option<u64>], e: u32, w: u64,
             width,
         } => add_select(shapes, table, e, *range, u64::from(*width), *base, total),
         Node::Word { signal, index } => add_word(shapes, table, e, *signal, *index, total),
+        Node::WordPart {
+            signal,
+            address,
+            range,
+            base,
+            up: _,
+            width,
+        } => {
+            let word = add_word(shapes, table, e, *signal, *address, total);
+            add_select(shapes, table, e, *range, u64::from(*width), *base, word)
+        }
         Node::Unary { op, a } => {
             let x = as_operand(shapes, table.len(), *a);
             if x.constant {

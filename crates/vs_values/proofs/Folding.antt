@@ -11,7 +11,7 @@ use Rattle.vs_four.specs.Numbers.{if_known}
 use Rattle.vs_four.specs.Shifts.{move_up, move_down, distance, shift_left}
 use Rattle.vs_four.specs.Selects.{Part, range_length, at_place, places, select}
 use Rattle.vs_base.specs.Applied.{HasLengths}
-use Rattle.vs_design.specs.Expressions.{Way, InContext, Own, Compared, Shifted, Raised, OfSignal, OfConstant, BinaryOp, ShiftLeft, ShiftRight, ShiftLeftArith, ShiftRightArith, Expression, Literal, Name, Select, Word, Unary, Binary, Choice, Join, Repeat, At, Call, way, unary_way, width, is_constant}
+use Rattle.vs_design.specs.Expressions.{Way, InContext, Own, Compared, Shifted, Raised, OfSignal, OfConstant, BinaryOp, ShiftLeft, ShiftRight, ShiftLeftArith, ShiftRightArith, Expression, Literal, Name, Select, Word, WordPart, Unary, Binary, Choice, Join, Repeat, At, Call, way, unary_way, width, is_constant}
 use Rattle.vs_design.specs.Values.{apply_binary, left_width, right_width}
 use Rattle.vs_design.specs.Sizes.{weight, is_shift, unary_weight, binary_weight}
 use Rattle.vs_code.specs.Calls.{State}
@@ -74,6 +74,7 @@ constant_weight (Join high low) w h =
     both_true false b h = absurd (true≢false (sym h))
 constant_weight (Repeat count a) w h = constant_weight a (width a) h
 constant_weight (Word signal index) w h = cc
+constant_weight (WordPart signal address part index) w h = cc
 constant_weight (At place e) w h = constant_weight e w h
 constant_weight (Call header statement arguments) w h = cc
 

@@ -27,6 +27,7 @@ mod Places
 mod Paying
 pub mod Taking
 pub mod Wording
+pub mod PartWording
 mod Multiplying
 mod Summed
 mod Summing

@@ -5,9 +5,9 @@ use Rattle.std.proofs.lemmas.List.{length-map}
 use Rattle.std.proofs.lemmas.List.Sums.{sum_by-append}
 use Rattle.std.proofs.lemmas.List.Elements.{All-nil, All-cons, All-weaker, All-head}
 use Rattle.vs_four.specs.Logic.{BitList}
-use Rattle.vs_design.specs.Expressions.{signal_length, word_length, BinaryOp, Expression, Literal, Name, Select, Word, Unary, Binary, Choice, Join, Repeat, At, Way, InContext, Own, Compared, Shifted, Raised, way, unary_length, UnaryOp, binary_length, width, sign, is_constant}
+use Rattle.vs_design.specs.Expressions.{signal_length, word_length, BinaryOp, Expression, Literal, Name, Select, Word, WordPart, Unary, Binary, Choice, Join, Repeat, At, Way, InContext, Own, Compared, Shifted, Raised, way, unary_length, UnaryOp, binary_length, width, sign, is_constant}
 use Rattle.vs_design.specs.Expressions as E
-use Rattle.vs_design.specs.Fits.{fits_64, fits_signal, fits, fit_items, fits_statement, is_division, divides_constants, is_fit}
+use Rattle.vs_design.specs.Fits.{fits_64, fits_signal, fits, fit_items, fits_statement, is_division, divides_constants, is_fit, fits_word_part}
 use Rattle.vs_design.specs.Sizes.{weight, is_shift}
 use Rattle.vs_design.specs.Values.{left_width, right_width, left_sign, right_sign, apply_binary}
 use Rattle.vs_design.specs.Footprints.{read_bits}
@@ -63,6 +63,8 @@ fits_length (Choice c p q) h =
 fits_length (Join high low) h = fits_64_is (width high + width low) (both_true _ _ (both_true _ (fits low) h).0).0
 fits_length (Repeat count a) h = fits_64_is (count * width a) (both_true _ (fits a) h).0
 fits_length (Word signal index) h = fits_64_is _ (both_true (fits_64 (word_length signal)) (fits index) h).0
+fits_length (WordPart signal address part index) h =
+    fits_64_is part.width (both_true (fits_64 part.width) _ (both_true (fits_word_part signal part) (fits address) (both_true _ (fits index) h).0).0).0
 fits_length (At place e) h = fits_length e h
 fits_length (E.Call header statement arguments) h =
     let p = both_true (fits_64 (signal_length header.result) && list_all fits_signal header.inputs && fit_items arguments) (fits_statement statement) h in

@@ -189,7 +189,7 @@ places_length : (p : Part) (s : Bool) (index : BitList) → length (places p s i
 places_length p s index = elim (all_known index) as (λ k. length (if k then map (place_of p.range) (indices p (integer s index)) else replicate p.width None) ≡ p.width)
     [ true ↦ length-map (indices p (integer s index)) (place_of p.range) ∙ indices_length p (integer s index) | false ↦ length-replicate {A = Option ℕ} p.width None ]
 
-selected_length : (p : Part) (s : Bool) (from : List ℕ) (index : BitList) → length (selected_slots p s from index) ≡ p.width
+pub selected_length : (p : Part) (s : Bool) (from : List ℕ) (index : BitList) → length (selected_slots p s from index) ≡ p.width
 selected_length p s from index = length-map (places p s index) (at_place 2 from) ∙ places_length p s index
 
 pub below_signal : (env : List ℕ) (m : ℕ) (source : Source) → IsEnv env m → SourceInside (length env) source → All (λ slot. slot < m) (source_slots env source)

@@ -33,12 +33,12 @@ use crate::slots::{are_constant, constant_bits, constant_slots, extended};
 use crate::sources::{chosen_bits, source};
 use crate::templates::Templates;
 use crate::typed::own_of;
-use crate::words::chosen_word;
+use crate::words::{chosen_word, word_width};
 use std::alloc::{AllocError, Global};
 use vs_base::{BinaryOp, Context, UnaryOp, Way};
 use vs_code::AnyKernel;
 use vs_design::value_law;
-use vs_flat::Node;
+use vs_flat::{Node, trees_law};
 use vs_four::Range;
 use vs_shape::first_copy;
 
@@ -360,6 +360,42 @@ fn word(
     chosen_word(alloc, templates, env, signal, i, own.signed, context, code)
 }
 
+/// Adds the calls of a part of a word of a memory, and answers the slots of its value: those of the word, and then of a select of it.
+#[cycle(expressions)]
+fn word_part(
+    alloc: Global,
+    templates: &Templates,
+    env: &Environment,
+    signal: u32,
+    address: u32,
+    index: u32,
+    range: Range,
+    up: bool,
+    width: u32,
+    context: Context,
+    code: &mut Code,
+) -> Result<Vec<u32>, AllocError>
+    requires signal { signal < length templates.now.arena.signals }
+    requires address { address < node_bound templates.now }
+    requires index { index < node_bound templates.now }
+    requires ready { IsReady env.now code.old (E.WordPart (signal_at (arena_signals templates.now.arena) signal) (tree_at (arena_trees templates.now.arena) address) (record { range = range; up = up; width = width }) (tree_at (arena_trees templates.now.arena) index)) context.width }
+    ensures { IfOk result (λ to. AddsValue env.now code.old.calls code.old.next code.new.calls code.new.next (E.WordPart (signal_at (arena_signals templates.now.arena) signal) (tree_at (arena_trees templates.now.arena) address) (record { range = range; up = up; width = width }) (tree_at (arena_trees templates.now.arena) index)) context.width context.signed to.items) }
+{
+    trees_law();
+    templates.flat();
+    let whole = Context {
+        width: word_width(templates, signal),
+        signed: false,
+    };
+    let own = own_of(templates, address);
+    let a = lower(alloc, templates, env, address, own, code)?;
+    value_law();
+    let from = chosen_word(alloc, templates, env, signal, a, own.signed, whole, code)?;
+    let by = own_of(templates, index);
+    let i = lower(alloc, templates, env, index, by, code)?;
+    chosen_bits(alloc, from, i, by.signed, range, up, width, context, code)
+}
+
 /// Adds the calls of a concatenation of one copy, and answers the slots of its value. Its parts come before node e.
 #[cycle(expressions)]
 fn concatenated(
@@ -505,6 +541,16 @@ pub fn lower(
             local(alloc, templates, env, *function, *signal, context)
         }
         Node::Word { signal, index } => word(alloc, templates, env, *signal, *index, context, code),
+        Node::WordPart {
+            signal,
+            address,
+            range,
+            base,
+            up,
+            width,
+        } => word_part(
+            alloc, templates, env, *signal, *address, *base, *range, *up, *width, context, code,
+        ),
         Node::Binary { op, a, b } => binary(alloc, templates, env, *op, *a, *b, context, code),
         Node::Unary { op, a } => unary(alloc, templates, env, *op, *a, context, code),
         Node::Choice { c, p, q } => choice(alloc, templates, env, *c, *p, *q, context, code),

@@ -13,8 +13,8 @@ use Rattle.vs_net.specs.Network.{State, Write, put, write_all, is_written}
 use Rattle.vs_net.specs.Queue.{Slot}
 use Rattle.vs_net.specs.Solution.{IsSolution}
 use Rattle.vs_net.proofs.Basics.{write_all_other}
-use Rattle.vs_design.specs.Expressions.{Signal, signal_length, Expression, Literal, Name, Select, Word, Unary, Binary, Choice, Join, Repeat, At, Call, width, sign}
-use Rattle.vs_design.specs.Statements.{Target, Whole, PartOf, WordOf, Both}
+use Rattle.vs_design.specs.Expressions.{Signal, signal_length, Expression, Literal, Name, Select, Word, WordPart, Unary, Binary, Choice, Join, Repeat, At, Call, width, sign}
+use Rattle.vs_design.specs.Statements.{Target, Whole, PartOf, WordOf, WordPartOf, Both}
 use Rattle.vs_design.specs.Designs.{Port, Written, InputPort, OutputPort, Process, Continuous, Always, Design}
 use Rattle.vs_design.specs.Clocks.{clock_bits, name_of}
 use Rattle.vs_design.specs.Values.{count_from, bits_of_signal, read, value, assigned_value}
@@ -72,10 +72,12 @@ join_facts (Continuous place Written target_place target e) m n h = absurd (no_p
 join_facts (Continuous place InputPort target_place (Whole to) e) m n h = join_by place InputPort target_place to e m n (name_of e) refl h
 join_facts (Continuous place InputPort target_place (PartOf to part index) e) m n h = absurd (no_pair m n h)
 join_facts (Continuous place InputPort target_place (WordOf to index) e) m n h = absurd (no_pair m n h)
+join_facts (Continuous place InputPort target_place (WordPartOf to address part index) e) m n h = absurd (no_pair m n h)
 join_facts (Continuous place InputPort target_place (Both high low) e) m n h = absurd (no_pair m n h)
 join_facts (Continuous place OutputPort target_place (Whole to) e) m n h = join_by place OutputPort target_place to e m n (name_of e) refl h
 join_facts (Continuous place OutputPort target_place (PartOf to part index) e) m n h = absurd (no_pair m n h)
 join_facts (Continuous place OutputPort target_place (WordOf to index) e) m n h = absurd (no_pair m n h)
+join_facts (Continuous place OutputPort target_place (WordPartOf to address part index) e) m n h = absurd (no_pair m n h)
 join_facts (Continuous place OutputPort target_place (Both high low) e) m n h = absurd (no_pair m n h)
 join_facts (Always place star events statement) m n h = absurd (no_pair m n h)
 
@@ -90,6 +92,7 @@ formed_name d (At place e) s h f = formed_name d e s h f
 formed_name d (Literal bits signed sized) s h f = cc
 formed_name d (Select source part index) s h f = cc
 formed_name d (Word signal index) s h f = cc
+formed_name d (WordPart signal address part index) s h f = cc
 formed_name d (Unary op a) s h f = cc
 formed_name d (Binary op a b) s h f = cc
 formed_name d (Choice c p q) s h f = cc

@@ -24,7 +24,7 @@ use Rattle.vs_flat.specs.Targets.{source_of, target_of, both_of, place_of}
 use Rattle.vs_flat.specs.Trees as F
 use Rattle.vs_flat.specs.Trees.{Names, signals_from, signal_of, tree_at, node_tree, target_tree, first_copy, copy_count, joined}
 use Rattle.vs_flat.specs.declared.expressions.Node.{Node}
-use Rattle.vs_flat.specs.declared.expressions.Node.TheVariants.{Literal, Name, Bit, Part, Word, Unary, Binary, Choice, Join, Local, Call}
+use Rattle.vs_flat.specs.declared.expressions.Node.TheVariants.{Literal, Name, Bit, Part, Word, WordPart, Unary, Binary, Choice, Join, Local, Call}
 use Rattle.vs_flat.specs.declared.processes.Signal.{Signal}
 use Rattle.vs_flat.specs.declared.processes.Process.{Process}
 use Rattle.vs_flat.specs.declared.processes.Port.{Port}
@@ -94,6 +94,7 @@ no_part names tree (Name n) h = refl
 no_part names tree (Bit of range index) h = selected (source_of (tree of)) _ (tree index)
 no_part names tree (Part of range base up width) h = selected (source_of (tree of)) _ (tree base)
 no_part names tree (Word n index) h = refl
+no_part names tree (WordPart n address range base up width) h = refl
 no_part names tree (Unary op x) h = refl
 no_part names tree (Binary op x y) h = refl
 no_part names tree (Choice c p q) h = refl
@@ -119,6 +120,7 @@ one_part names tree (Name n) part h = cc
 one_part names tree (Bit of range index) part h = cc
 one_part names tree (Part of range base up width) part h = cc
 one_part names tree (Word n index) part h = cc
+one_part names tree (WordPart n address range base up width) part h = cc
 one_part names tree (Unary op x) part h = cc
 one_part names tree (Binary op x y) part h = cc
 one_part names tree (Choice c p q) part h = cc
@@ -138,6 +140,7 @@ part_of (Name n) part h = cc
 part_of (Bit of range index) part h = cc
 part_of (Part of range base up width) part h = cc
 part_of (Word n index) part h = cc
+part_of (WordPart n address range base up width) part h = cc
 part_of (Unary op x) part h = cc
 part_of (Binary op x y) part h = cc
 part_of (Choice c p q) part h = cc
@@ -178,11 +181,13 @@ named_none place target_place P.Input (T.Whole to) e None named h = ap (λ x. eq
 named_none place target_place P.Input (T.Whole to) e (Some from) named h = absurd (no_pair from.number to.number h)
 named_none place target_place P.Input (T.PartOf to part index) e o named h = refl
 named_none place target_place P.Input (T.WordOf to index) e o named h = refl
+named_none place target_place P.Input (T.WordPartOf to address part index) e o named h = refl
 named_none place target_place P.Input (T.Both high low) e o named h = refl
 named_none place target_place P.Output (T.Whole to) e None named h = ap (λ x. equally_long x to) named
 named_none place target_place P.Output (T.Whole to) e (Some from) named h = absurd (no_pair from.number to.number h)
 named_none place target_place P.Output (T.PartOf to part index) e o named h = refl
 named_none place target_place P.Output (T.WordOf to index) e o named h = refl
+named_none place target_place P.Output (T.WordPartOf to address part index) e o named h = refl
 named_none place target_place P.Output (T.Both high low) e o named h = refl
 
 -- where both are
@@ -201,44 +206,27 @@ pair_first a b m n h = ap (λ (o : Option (ℕ × ℕ)). elim o [ None ↦ a | S
 pair_second : (a b m n : ℕ) → ◌≡◌ {A = Option (ℕ × ℕ)} (Some (a, b)) (Some (m, n)) → b ≡ n
 pair_second a b m n h = ap (λ (o : Option (ℕ × ℕ)). elim o [ None ↦ b | Some p ↦ p.1 ]) h
 
+-- where the target is no whole signal
+lone : (o : Option E.Signal) (one other : ℕ) → pair_of (option_map (λ (s : E.Signal). s.number) o) None ≡ Some (one, other) → ⊥
+lone None one other k = cc
+lone (Some s) one other k = cc
+
 named_some : (port : Port) (t : T.Target) (e : E.Expression) (o : Option E.Signal) (one other : ℕ) → name_of e ≡ o → named_by port (option_map (λ (s : E.Signal). s.number) o) (whole_number t) ≡ Some (one, other) → AreNamed port t e one other
 named_some P.Written t e o one other named h = cc
 named_some P.Input (T.Whole to) e None one other named h = cc
 named_some P.Input (T.Whole to) e (Some from) one other named h =
     record { from = from; to = to; named = named; whole = refl; from_number = pair_first from.number to.number one other h; to_number = pair_second from.number to.number one other h; join_is = λ place target_place. ap (λ x. equally_long x to) named }
 named_some P.Input (T.PartOf to part index) e o one other named h = absurd (lone o one other h)
-  where
-    lone : (o : Option E.Signal) (one other : ℕ) → pair_of (option_map (λ (s : E.Signal). s.number) o) None ≡ Some (one, other) → ⊥
-    lone None one other k = cc
-    lone (Some s) one other k = cc
 named_some P.Input (T.WordOf to index) e o one other named h = absurd (lone o one other h)
-  where
-    lone : (o : Option E.Signal) (one other : ℕ) → pair_of (option_map (λ (s : E.Signal). s.number) o) None ≡ Some (one, other) → ⊥
-    lone None one other k = cc
-    lone (Some s) one other k = cc
+named_some P.Input (T.WordPartOf to address part index) e o one other named h = absurd (lone o one other h)
 named_some P.Input (T.Both high low) e o one other named h = absurd (lone o one other h)
-  where
-    lone : (o : Option E.Signal) (one other : ℕ) → pair_of (option_map (λ (s : E.Signal). s.number) o) None ≡ Some (one, other) → ⊥
-    lone None one other k = cc
-    lone (Some s) one other k = cc
 named_some P.Output (T.Whole to) e None one other named h = cc
 named_some P.Output (T.Whole to) e (Some from) one other named h =
     record { from = from; to = to; named = named; whole = refl; from_number = pair_first from.number to.number one other h; to_number = pair_second from.number to.number one other h; join_is = λ place target_place. ap (λ x. equally_long x to) named }
 named_some P.Output (T.PartOf to part index) e o one other named h = absurd (lone o one other h)
-  where
-    lone : (o : Option E.Signal) (one other : ℕ) → pair_of (option_map (λ (s : E.Signal). s.number) o) None ≡ Some (one, other) → ⊥
-    lone None one other k = cc
-    lone (Some s) one other k = cc
 named_some P.Output (T.WordOf to index) e o one other named h = absurd (lone o one other h)
-  where
-    lone : (o : Option E.Signal) (one other : ℕ) → pair_of (option_map (λ (s : E.Signal). s.number) o) None ≡ Some (one, other) → ⊥
-    lone None one other k = cc
-    lone (Some s) one other k = cc
+named_some P.Output (T.WordPartOf to address part index) e o one other named h = absurd (lone o one other h)
 named_some P.Output (T.Both high low) e o one other named h = absurd (lone o one other h)
-  where
-    lone : (o : Option E.Signal) (one other : ℕ) → pair_of (option_map (λ (s : E.Signal). s.number) o) None ≡ Some (one, other) → ⊥
-    lone None one other k = cc
-    lone (Some s) one other k = cc
 
 -- what is read of a process: nothing that it joins, or the numbers of two signals of the design that are no memories
 pub record JoinsNone (a : Arena) (p : ℕ) : Type 0 where

@@ -1,5 +1,5 @@
 -- The lines of changes, one after the other.
-use Rattle.std.proofs.Common.{◌≡◌, ℕ, zero, suc, ◌+◌, ◌*◌, ◌<◌, ◌≤◌, Bool, if◌then◌else◌, List, [], ◌∷◌, ◌++◌, append-nil, length, map, get_or, slice_get, Some, refl, sym, ap, ap₂, ◌∙◌, subst, arith}
+use Rattle.std.proofs.Common.{◌≡◌, ℕ, zero, suc, ◌+◌, ◌*◌, ◌<◌, ◌≤◌, Bool, true, false, if◌then◌else◌, List, [], ◌∷◌, ◌++◌, append-nil, length, map, get_or, slice_get, Some, refl, sym, ap, ap₂, ◌∙◌, subst, arith}
 use Rattle.std.proofs.Math.Nat.{mul-le-mul_right, suc-mul}
 use Rattle.std.proofs.lemmas.Grind.{flat_map-append}
 use Rattle.std.proofs.lemmas.List.{length-append}
@@ -48,11 +48,16 @@ pub slice_get-last : {A : Type 0} (xs : List A) (y : A) → slice_get (xs ++ y �
 slice_get-last [] y = refl
 slice_get-last (x ∷ xs) y = slice_get-last xs y
 
+-- a line that is there only if so
+where_so : (t : Bool) (signal : ℕ) (v value : BitList) → (t ≡ true → v ≡ value) → (if t then value_line signal v else []) ≡ (if t then value_line signal value else [])
+where_so true signal v value is = ap (value_line signal) (is refl)
+where_so false signal v value is = refl
+
 -- one change more, behind the rows of the others
 pub one_more : {W : Type 0} (lane : W → ℕ → Bool) (lanes i : ℕ) (old new : Changes W) (change : Change W) (value : BitList) → i < lanes
     → new.changed.items ≡ old.changed.items ++ change ∷ []
     → ((n : ℕ) → n < length old.changed.items * lanes → slice_get new.values.items n ≡ slice_get old.values.items n)
-    → change_value lane i (get_or new.values.items (length old.changed.items * lanes + i) []) change.bit ≡ value
+    → (lane change.lanes i ≡ true → change_value lane i (get_or new.values.items (length old.changed.items * lanes + i) []) change.bit ≡ value)
     → changes_text lane lanes new i ≡ changes_text lane lanes old i ++ (if lane change.lanes i then value_line change.signal value else [])
 unfolding changes_text
 one_more lane lanes i old new change value in_lanes added before is =
@@ -69,7 +74,7 @@ one_more lane lanes i old new change value in_lanes added before is =
     let last : g n ≡ (if lane change.lanes i then value_line change.signal value else []) =
     ap (λ (x : Option (Change _)). elim x [ None ↦ [] | Some it ↦ change_line lane i (get_or new.values.items (n * lanes + i) []) it ])
     (ap (λ (l : List (Change _)). slice_get l n) added ∙ slice_get-last old.changed.items change)
-    ∙ ap (λ (v : BitList). if lane change.lanes i then value_line change.signal v else []) is in
+    ∙ where_so (lane change.lanes i) change.signal _ value is in
     ap (λ (k : ℕ). flat_map g (count_from 0 k)) long
     ∙ ap (flat_map g) (count_from-more 0 n)
     ∙ flat_map-append g (count_from 0 n) ((0 + n) ∷ [])

@@ -1,6 +1,6 @@
 //! What a slot changed.
 
-ghost use Rattle.std.specs.Prelude.{◌≡◌, ℕ, ◌<◌, ◌≤◌, ◌+◌, ◌*◌, ◌++◌, [], length, slice_get, slice_index_or, Some, IfOk, if◌then◌else◌, vec_capacity};
+ghost use Rattle.std.specs.Prelude.{◌≡◌, ℕ, ◌<◌, ◌≤◌, ◌+◌, ◌*◌, ◌++◌, [], length, slice_get, slice_index_or, Some, true, IfOk, IfSome, if◌then◌else◌, vec_capacity};
 ghost use Rattle.vs_design.specs.Values.{read};
 ghost use Rattle.vs_engine.specs.Lanes.{state};
 ghost use Rattle.vs_plane.specs.Lanes.{slot_lane};
@@ -22,8 +22,8 @@ pub(crate) struct Change<W: Word> {
     pub(crate) bit: Option<Pair<W>>,
 }
 
-/// The signals that changed in some lane in a slot, in the order of their numbers, and the values that each of more bits than one has in all lanes. Those of
-/// the signal that changed n-th stand in row n, where a row has a value for each lane.
+/// The signals that changed in some lane in a slot, in the order of their numbers, and the values that each of more bits than one has in the lanes in which it
+/// changed. Those of the signal that changed n-th stand in row n, where a row has a value for each lane.
 #[derive(Drop)]
 pub(crate) struct Changes<W: Word> {
     changed: Vec<Change<W>>,
@@ -75,7 +75,7 @@ impl<W: Lanes> Changes<W> {
         ensures room { (signals : ℕ) → AreOf W.LANES signals self.old → length self.old.changed.items < signals → number < signals
             → AreOf W.LANES signals self.new }
     {
-        let bit = self.keep_values(engine, signal, planes);
+        let bit = self.keep_values(engine, signal, lanes, planes);
         self.changed.push_reserved(Change {
             signal: number,
             lanes,
@@ -83,12 +83,13 @@ impl<W: Lanes> Changes<W> {
         });
     }
 
-    /// Keeps the values of a signal, whose planes these are, for the next change: answers the planes of its only bit, or reads those of
-    /// more into the change's row.
+    /// Keeps the values that a signal, whose planes these are, has in these lanes, for the next change: answers the planes of its only
+    /// bit, or reads those of more into the change's row.
     fn keep_values(
         &mut self,
         engine: &Engine<W>,
         signal: u32,
+        lanes: W,
         planes: &[Pair<W>],
     ) -> Option<Pair<W>>
         requires signal { signal < length engine.now.program.signals }
@@ -100,17 +101,53 @@ impl<W: Lanes> Changes<W> {
         ensures long { length self.new.values.items ≡ length self.old.values.items }
         ensures before { (m : ℕ) → m < length self.old.changed.items * W.LANES
             → slice_get self.new.values.items m ≡ slice_get self.old.values.items m }
-        ensures value { (s : Span) (i : ℕ) → slice_get engine.now.program.signals signal ≡ Some s → i < W.LANES
+        ensures value { (s : Span) (i : ℕ) → slice_get engine.now.program.signals signal ≡ Some s → i < W.LANES → W.lane lanes i ≡ true
             → change_value W.lane i (slice_index_or self.new.values.items (length self.old.changed.items * W.LANES + i) []) result
             ≡ read (state W.lane engine.now i) (span_bits s) }
     {
         if planes.len() == 1 {
             return Some(planes[0]);
         }
+        if let Some(lane) = only_lane(lanes) {
+            self.keep_lane(engine, signal, lane);
+            return None;
+        }
+        self.keep_row(engine, signal);
+        None
+    }
+
+    /// Reads the value of a signal in a lane into the next change's row.
+    fn keep_lane(&mut self, engine: &Engine<W>, signal: u32, lane: u32)
+        requires signal { signal < length engine.now.program.signals }
+        requires lane { lane < W.LANES }
+        requires values { (length self.old.changed.items + 1) * W.LANES ≤ length self.old.values.items }
+        ensures changed { self.new.changed ≡ self.old.changed }
+        ensures long { length self.new.values.items ≡ length self.old.values.items }
+        ensures before { (m : ℕ) → m < length self.old.changed.items * W.LANES
+            → slice_get self.new.values.items m ≡ slice_get self.old.values.items m }
+        ensures value { (s : Span) → slice_get engine.now.program.signals signal ≡ Some s
+            → slice_index_or self.new.values.items (length self.old.changed.items * W.LANES + lane) []
+            ≡ read (state W.lane engine.now lane) (span_bits s) }
+    {
+        let place = self.changed.len() * W::LANES as usize + lane as usize;
+        self.values[place] = engine.value(lane, signal);
+    }
+
+    /// Reads the values of a signal in all lanes into the next change's row.
+    fn keep_row(&mut self, engine: &Engine<W>, signal: u32)
+        requires signal { signal < length engine.now.program.signals }
+        requires values { (length self.old.changed.items + 1) * W.LANES ≤ length self.old.values.items }
+        ensures changed { self.new.changed ≡ self.old.changed }
+        ensures long { length self.new.values.items ≡ length self.old.values.items }
+        ensures before { (m : ℕ) → m < length self.old.changed.items * W.LANES
+            → slice_get self.new.values.items m ≡ slice_get self.old.values.items m }
+        ensures value { (s : Span) (i : ℕ) → slice_get engine.now.program.signals signal ≡ Some s → i < W.LANES
+            → slice_index_or self.new.values.items (length self.old.changed.items * W.LANES + i) []
+            ≡ read (state W.lane engine.now i) (span_bits s) }
+    {
         let from = self.changed.len() * W::LANES as usize;
         let to = from + W::LANES as usize;
         engine.values(signal, &mut self.values[from..to]);
-        None
     }
 
     /// How many signals changed in some lane.
@@ -138,4 +175,28 @@ impl<W: Lanes> Changes<W> {
     {
         self.values[n * W::LANES as usize + lane as usize]
     }
+}
+
+/// The only one of these lanes, if there is no other.
+fn only_lane<W: Lanes>(lanes: W) -> Option<u32>
+    ensures within { IfSome result (λ lane. lane < W.LANES) }
+    ensures only { IfSome result (λ lane. (i : ℕ) → i < W.LANES → W.lane lanes i ≡ true → i ≡ lane) }
+{
+    let lane = first_lane(lanes);
+    if lane < W::LANES && !lanes.with(lane, false).any() {
+        Some(lane)
+    } else {
+        None
+    }
+}
+
+/// The first one of these lanes, or 0 where there is none.
+fn first_lane<W: Lanes>(lanes: W) -> u32 {
+    for k in 0..W::LANES / 64 {
+        let bits = lanes.sixty_four(k);
+        if bits != 0 {
+            return 64 * k + bits.trailing_zeros();
+        }
+    }
+    0
 }

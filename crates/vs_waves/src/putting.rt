@@ -55,6 +55,9 @@ pub(crate) fn put_text<D: Desk>(
         (λ n. take n block.new) result }
 {
     put_law();
+    if text.is_empty() {
+        return Ok(filled);
+    }
     let mut filled = filled;
     let mut from = 0;
     while text.len() - from > block.len() - filled {

@@ -46,7 +46,7 @@ right_has xs ys b h = list_any-append (λ c. b == c) xs ys ∙ or_right (contain
 equal : (m n : ℕ) → m ≡ n → (m == n) ≡ true
 equal m n h = grind (arith, nat_tests, h)
 
-place_has : (first : ℕ) (ps : List (Option ℕ)) (k m : ℕ) → get_or ps k None ≡ Some m → contains (somes (map (λ p. option_map (λ n. first + n) p) ps)) (first + m) ≡ true
+pub place_has : (first : ℕ) (ps : List (Option ℕ)) (k m : ℕ) → get_or ps k None ≡ Some m → contains (somes (map (λ p. option_map (λ n. first + n) p) ps)) (first + m) ≡ true
 place_has first [] k m h = absurd (let z : ⊥ = cc in z)
 place_has first (None ∷ ps) zero m h = absurd (let z : ⊥ = cc in z)
 place_has first (None ∷ ps) (suc k) m h = place_has first ps k m h

@@ -5,8 +5,8 @@ use mathlib.Core.Bool.{beq}
 use Rattle.std.proofs.lemmas.List.{drop_more}
 use Rattle.vs_four.specs.Logic.{BitList}
 use Rattle.vs_net.specs.Network.{State, Write, Update, Effect, write_all, flatten}
-use Rattle.vs_design.specs.Expressions.{Signal, OfSignal, OfConstant, Expression, Literal, Name, Select, Word, Unary, Binary, Choice, Join, Repeat, At, Call, Items, NoItem, Item, items_of, is_constant}
-use Rattle.vs_design.specs.Statements.{Target, Whole, PartOf, WordOf, Both, CaseKind, Statement, Empty, Assignment, Then, If, Case, Arms, Arm, Default}
+use Rattle.vs_design.specs.Expressions.{Signal, OfSignal, OfConstant, Expression, Literal, Name, Select, Word, WordPart, Unary, Binary, Choice, Join, Repeat, At, Call, Items, NoItem, Item, items_of, is_constant}
+use Rattle.vs_design.specs.Statements.{Target, Whole, PartOf, WordOf, WordPartOf, Both, CaseKind, Statement, Empty, Assignment, Then, If, Case, Arms, Arm, Default}
 use Rattle.vs_design.specs.Bodies.{assignment_writes, body, arms_body, is_taken}
 use Rattle.vs_design.specs.Calls.{calls, items_call, target_calls, statement_calls, arms_call}
 use Rattle.vs_design.specs.Elaborated.{has_constant_selects}
@@ -51,6 +51,7 @@ constant_by (Name signal) n h = absurd (let z : ⊥ = cc in z)
 constant_by (Select (OfSignal signal) part index) n h = absurd (let z : ⊥ = cc in z)
 constant_by (Select (OfConstant bits) part index) n h = constant_by index n h
 constant_by (Word signal index) n h = absurd (let z : ⊥ = cc in z)
+constant_by (WordPart signal address part index) n h = absurd (let z : ⊥ = cc in z)
 constant_by (Unary op a) n h = constant_by a n h
 constant_by (Binary op a b) n h =
     and_both (is_constant a) (is_constant b) (constant_by a (not_left (calls a) (calls b) n) (none_left (read_signals a) (read_signals b) h)) (constant_by b (not_right (calls a) (calls b) n) (none_right (read_signals a) (read_signals b) h))
@@ -234,6 +235,7 @@ mutual
   expression_reads (Select (OfSignal signal) part index) h = absurd (let z : ⊥ = cc in z)
   expression_reads (Select (OfConstant bits) part index) h = expression_reads index h
   expression_reads (Word signal index) h = absurd (let z : ⊥ = cc in z)
+  expression_reads (WordPart signal address part index) h = absurd (let z : ⊥ = cc in z)
   expression_reads (Unary op a) h = expression_reads a h
   expression_reads (Binary op a b) h = both_nil (read_bits a) (read_bits b) (expression_reads a (none_left (read_signals a) (read_signals b) h)) (expression_reads b (none_right (read_signals a) (read_signals b) h))
   expression_reads (Choice c p q) h =
@@ -253,6 +255,7 @@ target_read : (t : Target) → has_none (target_signals t) ≡ true → target_r
 target_read (Whole signal) h = refl
 target_read (PartOf signal part index) h = expression_reads index h
 target_read (WordOf signal index) h = expression_reads index h
+target_read (WordPartOf signal address part index) h = both_nil (read_bits address) (read_bits index) (expression_reads address (none_left (read_signals address) (read_signals index) h)) (expression_reads index (none_right (read_signals address) (read_signals index) h))
 target_read (Both high low) h = both_nil (target_reads high) (target_reads low) (target_read high (none_left (target_signals high) (target_signals low) h)) (target_read low (none_right (target_signals high) (target_signals low) h))
 
 mutual

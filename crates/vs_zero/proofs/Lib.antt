@@ -2,6 +2,7 @@ pub mod Writing
 pub mod TargetFacts
 pub mod CaseSteps
 pub mod Below
+pub mod PartWrites
 pub mod Fixing
 pub mod Valued
 pub mod Updating

@@ -97,7 +97,7 @@ places_done first ps value k s h = ap (λ qs. written (bits_from first qs) (drop
 
 -- ---- words of memories
 
-no_writes : (first n : ℕ) (value : BitList) (s : State) → written (bits_from first (replicate n None)) value s ≡ s
+pub no_writes : (first n : ℕ) (value : BitList) (s : State) → written (bits_from first (replicate n None)) value s ≡ s
 no_writes first zero value s = nowhere value s
 no_writes first (suc n) [] s = written_nothing (bits_from first (replicate (suc n) None)) s
 no_writes first (suc n) (v ∷ vs) s = no_writes first n vs s

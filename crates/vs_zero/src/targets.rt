@@ -14,9 +14,10 @@ ghost use Rattle.vs_sets.specs.TargetsOf.{IsTarget, target_tree};
 ghost use Rattle.vs_zero.specs.Constants.{TargetBelow};
 ghost use Rattle.vs_zero.specs.States.{state_of, unknown, written};
 
+use vs_design::word_part_law;
 use vs_flat::Node;
 use vs_four::Bit4;
-use vs_sets::{memory_of, named_span};
+use vs_sets::{memory_of, named_span, word_start};
 use vs_shape::{Part, Places, Shapes, first_copy, places_of, word_place};
 
 /// Writes the bits of a value one after the other, from this bit on.
@@ -84,6 +85,40 @@ fn put_word(shapes: &Shapes, signal: u32, index: u32, value: &[Bit4], state: &mu
     put_word_at(state, memory.first, place, value);
 }
 
+/// Writes a value to a part of a word of a memory by a constant address and a constant index (IEEE 1364-2005, 5.2.2). By an address that is out of range, or
+/// has an x or z bit, nothing is written.
+fn put_word_part(
+    shapes: &Shapes,
+    signal: u32,
+    address: u32,
+    part: Part,
+    index: u32,
+    value: &[Bit4],
+    state: &mut [Bit4],
+)
+    requires within { TargetBelow (length state.old) (target_tree (E.WordPart (signal_of shapes.now signal) (tree_of shapes.now address) part (tree_of shapes.now index))) }
+    requires memory { signal < length shapes.now.signals }
+    requires address_there { address < length shapes.now.nodes }
+    requires index_there { index < length shapes.now.nodes }
+    requires target { IsTarget (E.WordPart (signal_of shapes.now signal) (tree_of shapes.now address) part (tree_of shapes.now index)) }
+    requires constant_address { E.is_constant (tree_of shapes.now address) ≡ true }
+    requires constant { E.is_constant (tree_of shapes.now index) ≡ true }
+    requires many { length value.now ≡ part.width }
+    ensures { state_of state.new ≡ write_all (state_of state.old) (target_writes (target_tree (E.WordPart (signal_of shapes.now signal) (tree_of shapes.now address) part (tree_of shapes.now index))) value.now unknown) }
+{
+    word_part_law();
+    let memory = memory_of(shapes, signal);
+    let signed = shapes.shape(address).signed;
+    match word_place(memory.addresses, signed, shapes.constant_value(address)) {
+        None => {}
+        Some(n) => {
+            let by = shapes.shape(index).signed;
+            let places = places_of(part, by, shapes.constant_value(index));
+            put_places(state, word_start(memory, n), &places, value);
+        }
+    }
+}
+
 /// Writes a value to the target that expression e is.
 #[cycle(writing)]
 pub(crate) fn put(shapes: &Shapes, e: u32, value: &[Bit4], state: &mut [Bit4])
@@ -121,6 +156,21 @@ pub(crate) fn put(shapes: &Shapes, e: u32, value: &[Bit4], state: &mut [Bit4])
             put_select(shapes, *of, part, *base, value, state);
         }
         Node::Word { signal, index } => put_word(shapes, *signal, *index, value, state),
+        Node::WordPart {
+            signal,
+            address,
+            range,
+            base,
+            up,
+            width,
+        } => {
+            let part = Part {
+                range: *range,
+                up: *up,
+                width: *width,
+            };
+            put_word_part(shapes, *signal, *address, part, *base, value, state);
+        }
         Node::Join { parts } => put_parts(shapes, e, first_copy(parts.as_slice()), value, state),
         _ => unreachable!(),
     }

@@ -1,9 +1,9 @@
-use Rattle.std.proofs.Common.{◌≡◌, ◌<◌, ◌-◌, ◌++◌, ℕ, true, length, map, take, drop, get_or, List, Some, refl, sym, ap, ap₂, ◌∙◌, subst, arith, inl, inr}
+use Rattle.std.proofs.Common.{◌≡◌, ◌<◌, ◌-◌, ◌+◌, ◌*◌, ◌++◌, ℕ, true, length, map, take, drop, get_or, List, Some, refl, sym, ap, ap₂, ◌∙◌, subst, arith, inl, inr}
 use Rattle.std.specs.Prelude.{if◌then◌else◌, max, slice_get}
 use Rattle.std.proofs.lemmas.List.{length-map}
 use Rattle.vs_four.specs.Lengths.{extend, cut}
-use Rattle.vs_four.specs.Logic.{truth}
-use Rattle.vs_four.specs.Selects.{places}
+use Rattle.vs_four.specs.Logic.{BitList, truth}
+use Rattle.vs_four.specs.Selects.{Part, places, range_length, select}
 use Rattle.vs_four.specs.Tables.{is_one}
 use Rattle.vs_net.specs.Network.{State, is_written, write_all}
 use Rattle.vs_design.specs.Bodies as B
@@ -11,21 +11,26 @@ use Rattle.vs_design.specs.Expressions as E
 use Rattle.vs_design.specs.Fits.{fit_items, fits_arms, fits_statement}
 use Rattle.vs_design.specs.Statements.{Case, arms_width, arms_sign, target_width}
 use Rattle.vs_design.specs.Values as V
+use Rattle.vs_design.specs.Values.{address_place}
 use Rattle.vs_design.specs.Within.{arms_within, items_within, statement_within, target_within}
 use Rattle.vs_design.proofs.Lengths.{length_count}
+use Rattle.vs_flat.specs.declared.expressions.Node.{Node}
+use Rattle.vs_flat.specs.declared.expressions.Node.TheVariants as N
 use Rattle.vs_flat.specs.declared.statements.Arm.{Arm}
 use Rattle.vs_flat.specs.declared.statements.Statement.{Statement}
 use Rattle.vs_flat.specs.Targets.{source_of}
 use Rattle.vs_flat.specs.Trees.{branch, joined, sequence}
 use Rattle.vs_sets.specs.Calls.{IsCall, arguments_of, function_of}
 use Rattle.vs_sets.specs.Matches.{IsOneOf, are_within}
-use Rattle.vs_sets.specs.Nodes.{EachBelow, signal_of, tree_of}
+use Rattle.vs_sets.specs.Nodes.{EachBelow, place_of, signal_of, tree_of, tree_of_node}
 use Rattle.vs_sets.specs.StatementParts.{FitStatement, HasStatementNames, HasTargets, WithinStatement, arms_of, place_of_statement, statement_of, statement_of_node}
 use Rattle.vs_sets.specs.TargetsOf.{IsTarget, target_tree}
 use Rattle.vs_sets.proofs.Arguments.{argument_facts, item_within, part_within}
 use Rattle.vs_sets.proofs.CaseSteps.{arm_fit, arm_items_within, arm_within, arms_grow, each_fit_item, each_within, get_is, items_at-is}
 use Rattle.vs_sets.proofs.Fit.{fits-from_fit}
-use Rattle.vs_sets.proofs.TargetFacts.{both_within, first_below, part_ends, part_facts, part_signal, rest_below, target_length, word_ends_at}
+use Rattle.vs_sets.proofs.TargetFacts.{both_within, first_below, part_ends, part_facts, part_signal, rest_below, target_length, word_ends_at, word_part_facts}
+use Rattle.vs_sets.proofs.WordSteps.{word_ends}
+use Rattle.vs_shape.proofs.WordParts.{place_at}
 use Rattle.vs_shape.specs.declared.shape.Shape.{Shape}
 use Rattle.vs_writes.specs.Held.{state_of}
 use Rattle.vs_interpret.specs.Runs.{EachRuns}
@@ -37,7 +42,7 @@ use Rattle.vs_interpret.proofs.Operators.{unary_result, binary_result}
 use Rattle.vs_interpret.proofs.PartValues.{part_fits, room_for_part, all_parts, length_all_parts}
 use Rattle.vs_interpret.proofs.Results.{on_ok, if_ok, always}
 use Rattle.vs_interpret.proofs.Running.{effect_step, effect_end, state_step, state_end, waits, quiet, no_effects}
-use Rattle.vs_interpret.proofs.TargetSteps.{both_writes, index_within, one_part, parts_few, select_writes, some_rest, split_facts, word_index, word_room, word_writes}
+use Rattle.vs_interpret.proofs.TargetSteps.{both_writes, index_within, one_part, part_indices, part_unwritten, part_writes, parts_few, select_writes, some_rest, split_facts, word_index, word_room, word_writes}
 use Rattle.vs_interpret.proofs.WordSteps.{all_unset, seam}
 use Rattle.vs_interpret.proofs.+evaluating.Goals as goal
 
@@ -47,6 +52,23 @@ pub evaluator::Evaluator::value-returns-clause-length : goal.evaluator::Evaluato
 evaluator::Evaluator::value-returns-clause-length t c =
     if_ok c.node_value.result c.node_value.ensures
     (λ v e. ap length e ∙ c.value_law.ensures.length (tree_of c.args.self.now.shapes.now c.args.e) c.args.context.width c.args.context.signed (state_of c.args.self.now.values.now) c.requires.wide)
+
+pub evaluator::Evaluator::node_value-returns-in_ok-index-in-WordPart : goal.evaluator::Evaluator::node_value-returns-in_ok-index-in-WordPart
+evaluator::Evaluator::node_value-returns-in_ok-index-in-WordPart t c =
+    let a = c.args.self.now.shapes.now in
+    let state = state_of c.args.self.now.values.now in
+    let w = c.args.context.width in
+    let signed = c.args.context.signed in
+    let s = signal_of a c.in-WordPart.signal in
+    let address = tree_of a c.in-WordPart.address in
+    let index = tree_of a c.in-WordPart.base in
+    let part : Part = record { range = c.in-WordPart.range; up = c.in-WordPart.up; width = c.in-WordPart.width } in
+    let taken : BitList → BitList → BitList = λ x y. select part (E.sign index) (V.select_word s (E.sign address) (V.read state (V.bits_of_signal s)) x) y in
+    let tree : tree_of a c.args.e ≡ E.At (place_of a c.args.e) (tree_of_node a (N.WordPart c.in-WordPart.signal c.in-WordPart.address c.in-WordPart.range c.in-WordPart.base c.in-WordPart.up c.in-WordPart.width)) =
+    c.node.ensures.tree ∙ ap (λ (m : Node). E.At (place_of a c.args.e) (tree_of_node a m)) c.in-WordPart.is in
+    c.in_context-in-WordPart.ensures
+    ∙ ap (λ (v : BitList). extend w signed v) (c.word_part-value.ensures.value ∙ ap₂ taken c.in_ok-place-in-WordPart.ensures.value c.in_ok-index-in-WordPart.ensures.value)
+    ∙ ap (λ (x : E.Expression). V.value x w signed state) (sym tree)
 
 pub evaluator::Evaluator::own_value-returns-clause-value : goal.evaluator::Evaluator::own_value-returns-clause-value
 evaluator::Evaluator::own_value-returns-clause-value t c =
@@ -434,6 +456,86 @@ evaluator::Evaluator::push_word-returns t c =
     on_ok c.push_word.result c.push_word.ensures
     (λ e. word_writes s index c.memory_of-memory.result.first (length c.args.value.now) c.word_place-place.result c.memory_of-memory.result.addresses c.shape-signed.result.signed c.in_ok-address.address c.args.value.now (state_of c.args.self.now.values.now) c.args.out.now c.push_word.new.out
     memory.first c.requires.many c.word_place-place.ensures.value memory.addresses (ap (λ (x : Shape). x.signed) c.shape-signed.ensures) c.in_ok-address.ensures.value e)
+
+pub evaluator::Evaluator::push_word_part-own_value-requires : goal.evaluator::Evaluator::push_word_part-own_value-requires
+evaluator::Evaluator::push_word_part-own_value-requires t c =
+    let a = c.args.self.now.shapes.now in
+    let s = signal_of a c.args.signal in
+    let address = tree_of a c.args.address in
+    let index = tree_of a c.args.index in
+    let facts = word_part_facts s address c.args.part index c.requires.target in
+    let names = part_indices s address c.args.part index (length c.args.self.now.values.now) c.requires.within in
+    (omega (arith, c.requires.address_before), (omega (arith, c.requires.address_before, c.requires.there), (fits-from_fit address facts.address_fit, names.0)))
+
+pub evaluator::Evaluator::push_word_part-own_value-requires-2 : goal.evaluator::Evaluator::push_word_part-own_value-requires-2
+evaluator::Evaluator::push_word_part-own_value-requires-2 t c =
+    let a = c.args.self.now.shapes.now in
+    let s = signal_of a c.args.signal in
+    let address = tree_of a c.args.address in
+    let index = tree_of a c.args.index in
+    let facts = word_part_facts s address c.args.part index c.requires.target in
+    let names = part_indices s address c.args.part index (length c.args.self.now.values.now) c.requires.within in
+    (omega (arith, c.requires.index_before), (omega (arith, c.requires.index_before, c.requires.there), (fits-from_fit index facts.index_fit, names.1)))
+
+pub evaluator::Evaluator::push_word_part-places_of-places-requires : goal.evaluator::Evaluator::push_word_part-places_of-places-requires
+evaluator::Evaluator::push_word_part-places_of-places-requires t c =
+    let a = c.args.self.now.shapes.now in
+    let s = signal_of a c.args.signal in
+    let address = tree_of a c.args.address in
+    let index = tree_of a c.args.index in
+    let facts = word_part_facts s address c.args.part index c.requires.target in
+    record { some = facts.few.0; most = facts.few.1 }
+
+pub evaluator::Evaluator::push_word_part-word_start-requires : goal.evaluator::Evaluator::push_word_part-word_start-requires
+evaluator::Evaluator::push_word_part-word_start-requires t c =
+    let memory = c.memory_of-memory in
+    let ends = word_ends (range_length memory.result.addresses) memory.result.len c.in-Some.n (c.word_place.ensures.inside c.in-Some.n c.in-Some.is) in
+    omega (arith, ends, memory.ensures.small)
+
+pub evaluator::Evaluator::push_word_part-push_places-requires : goal.evaluator::Evaluator::push_word_part-push_places-requires
+evaluator::Evaluator::push_word_part-push_places-requires t c =
+    let a = c.args.self.now.shapes.now in
+    let s = signal_of a c.args.signal in
+    let address = tree_of a c.args.address in
+    let index = tree_of a c.args.index in
+    let facts = word_part_facts s address c.args.part index c.requires.target in
+    let memory = c.memory_of-memory in
+    let ends = word_ends (range_length memory.result.addresses) memory.result.len c.in-Some.n (c.word_place.ensures.inside c.in-Some.n c.in-Some.is) in
+    let long : range_length c.args.part.range ≡ memory.result.len = facts.range ∙ sym memory.ensures.len in
+    record {
+      as_many = c.requires.many ∙ sym c.places_of-places.ensures.length;
+      inside = λ k n h. let below = c.places_of-places.ensures.inside k n h in omega (arith, below, long, ends, memory.ensures.small, c.word_start.ensures);
+    }
+
+pub evaluator::Evaluator::push_word_part-returns-in-None : goal.evaluator::Evaluator::push_word_part-returns-in-None
+evaluator::Evaluator::push_word_part-returns-in-None t c =
+    let a = c.args.self.now.shapes.now in
+    let s = signal_of a c.args.signal in
+    let address = tree_of a c.args.address in
+    let index = tree_of a c.args.index in
+    let state = state_of c.args.self.now.values.now in
+    let memory = c.memory_of-memory in
+    let place : address_place s (E.sign address) (V.own_value address state) ≡ c.word_place.result =
+    place_at s (E.sign address) (V.own_value address state) memory.result.addresses c.shape.result.signed c.in_ok-at.at c.word_place.result memory.ensures.addresses (ap (λ (x : Shape). x.signed) c.shape.ensures) c.in_ok-at.ensures.value c.word_place.ensures.value
+    in
+    part_unwritten s address c.args.part index c.word_part_law.ensures.none c.args.value.now state c.args.out.now (place ∙ c.in-None.is)
+
+pub evaluator::Evaluator::push_word_part-returns-in-Some : goal.evaluator::Evaluator::push_word_part-returns-in-Some
+evaluator::Evaluator::push_word_part-returns-in-Some t c =
+    let a = c.args.self.now.shapes.now in
+    let s = signal_of a c.args.signal in
+    let address = tree_of a c.args.address in
+    let index = tree_of a c.args.index in
+    let facts = word_part_facts s address c.args.part index c.requires.target in
+    let state = state_of c.args.self.now.values.now in
+    let memory = c.memory_of-memory in
+    let place : address_place s (E.sign address) (V.own_value address state) ≡ c.word_place.result =
+    place_at s (E.sign address) (V.own_value address state) memory.result.addresses c.shape.result.signed c.in_ok-at.at c.word_place.result memory.ensures.addresses (ap (λ (x : Shape). x.signed) c.shape.ensures) c.in_ok-at.ensures.value c.word_place.ensures.value
+    in
+    let begins : c.word_start.result ≡ s.first + c.in-Some.n * E.word_length s = c.word_start.ensures ∙ ap₂ (λ f l. f + c.in-Some.n * l) memory.ensures.first memory.ensures.len in
+    let found = c.places_of-places.ensures.value ∙ ap₂ (λ g v. places c.args.part g v) (ap (λ (x : Shape). x.signed) c.shape-in-Some.ensures) c.in_ok-by.ensures.value in
+    on_ok c.push_places.result c.push_places.ensures
+    (λ e. part_writes s address c.args.part index c.word_part_law.ensures.words c.in-Some.n c.word_start.result c.places_of-places.result c.args.value.now state c.args.out.now c.push_places.new.out facts.range (place ∙ c.in-Some.is) begins found e)
 
 pub evaluator::Evaluator::push_parts-push_target-requires : goal.evaluator::Evaluator::push_parts-push_target-requires
 evaluator::Evaluator::push_parts-push_target-requires t c =

@@ -25,6 +25,9 @@ decreases-evaluator::Evaluator::push_select l = of_expression l.e 0
 abbrev pub decreases-evaluator::Evaluator::push_word : goal.decreases-evaluator::Evaluator::push_word
 decreases-evaluator::Evaluator::push_word l = of_expression l.e 0
 
+abbrev pub decreases-evaluator::Evaluator::push_word_part : goal.decreases-evaluator::Evaluator::push_word_part
+decreases-evaluator::Evaluator::push_word_part l = of_expression l.e 0
+
 abbrev pub decreases-evaluator::Evaluator::unary : goal.decreases-evaluator::Evaluator::unary
 decreases-evaluator::Evaluator::unary l = of_expression l.e 1
 

@@ -1,10 +1,11 @@
-use Rattle.std.proofs.Common.{◌≡◌, ◌≤◌, ◌<◌, ◌+◌, ◌-◌, ◌*◌, ◌++◌, ℕ, length, map, take, drop, false, List, [], ◌∷◌, get_or, replicate, Some, Result, Ok, Err, refl, sym, ap, ap₂, ◌∙◌, subst, arith, inl, inr}
+use Rattle.std.proofs.Common.{◌≡◌, ◌≤◌, ◌<◌, ◌+◌, ◌-◌, ◌*◌, ◌++◌, ℕ, Bool, length, map, take, drop, false, List, [], ◌∷◌, get_or, replicate, Some, Result, Ok, Err, refl, sym, ap, ap₂, ◌∙◌, subst, arith, inl, inr}
 use Rattle.std.specs.Prelude.{All, IfOk, OnOk}
 use Rattle.std.specs.List.{list_any}
 use Rattle.std.proofs.lemmas.Bool.{cond-true, cond-false}
 use Rattle.std.proofs.lemmas.List.{take-append-drop}
 use Rattle.std.proofs.lemmas.List.Elements.{All-push, All-take, All-drop}
 use Rattle.vs_four.specs.declared.Bit4.TheVariants.{X}
+use Rattle.vs_four.specs.Selects.{Part}
 use Rattle.vs_design.specs.Expressions as E
 use Rattle.vs_design.specs.Statements.{arms_width, arms_sign, case_width, case_sign}
 use Rattle.vs_design.specs.Fits.{fit_items, fits_statement}
@@ -12,9 +13,10 @@ use Rattle.vs_design.specs.Lifted as L
 use Rattle.vs_design.specs.LiftedBodies.{item_sets, lifted_body, write_sets}
 use Rattle.vs_design.specs.Sets.{Set4, is_only_one, only, set_or}
 use Rattle.vs_design.specs.Sleepers.{arms_at_once, at_once}
-use Rattle.vs_design.specs.Values.{count_from}
+use Rattle.vs_design.specs.Values.{bits_of_signal, count_from}
 use Rattle.vs_design.specs.Within.{items_within}
 use Rattle.vs_flat.specs.declared.expressions.Node.{Node}
+use Rattle.vs_flat.specs.declared.expressions.Node.TheVariants as N
 use Rattle.vs_flat.specs.declared.statements.Statement.{Statement}
 use Rattle.vs_flat.specs.declared.statements.Arm.{Arm}
 use Rattle.vs_flat.specs.Trees.{branch, copy_count, first_copy, joined}
@@ -22,7 +24,7 @@ use Rattle.vs_sets.specs.Branches.{branch_sets, taken_arms, taken_branches}
 use Rattle.vs_sets.specs.Calls.{IsCall, arguments_of, function_of}
 use Rattle.vs_sets.specs.FitParts.{FitParts}
 use Rattle.vs_sets.specs.Matches.{IsOneOf, are_within, branches_of}
-use Rattle.vs_sets.specs.Nodes.{EachBelow, tree_of, tree_of_node}
+use Rattle.vs_sets.specs.Nodes.{EachBelow, place_of, signal_of, tree_of, tree_of_node}
 use Rattle.vs_sets.specs.PartSets.{part_sets}
 use Rattle.vs_sets.specs.StatementParts.{BranchFacts, Covers, EachRuns, FitStatement, HasStatementNames, WithinStatement, arms_of, place_of_statement, statement_of, statement_of_node}
 use Rattle.vs_sets.specs.Tables.{family_of}
@@ -54,6 +56,31 @@ lifter::Lifter::lifted-returns-clause-length t c =
     let a = c.args.self.now.shapes.now in
     if_ok c.lifted_node.result c.lifted_node.ensures
     (λ v e. ap length e ∙ length-lifted c.value_law.ensures.length (tree_of a c.args.e) c.args.context.width c.args.context.signed (family_of c.args.self.now.table.now) c.requires.wide)
+
+-- a part of a word, by the sets of its address, of the word and of its index
+part_lifted : (s : E.Signal) (address : E.Expression) (part : Part) (index : E.Expression) (w : ℕ) (signed : Bool) (f : L.Family) (at word by vector out : List Set4) → at ≡ L.own_sets address f
+    → word ≡ L.set_word s address at (map f (bits_of_signal s)) → by ≡ L.own_sets index f → vector ≡ L.set_select part index by word → out ≡ L.extend_sets w signed vector → out ≡ L.lifted (E.WordPart s address part index) w signed f
+part_lifted s address part index w signed f at word by vector out at_is word_is by_is vector_is out_is =
+    let whole : word ≡ L.set_word s address (L.own_sets address f) (map f (bits_of_signal s)) = word_is ∙ ap (λ (a : List Set4). L.set_word s address a (map f (bits_of_signal s))) at_is in
+    out_is ∙ ap (λ (v : List Set4). L.extend_sets w signed v) (vector_is ∙ ap₂ (λ (i v : List Set4). L.set_select part index i v) by_is whole)
+
+pub lifter::Lifter::lifted_node-returns-in_ok-sets-in-WordPart-2 : goal.lifter::Lifter::lifted_node-returns-in_ok-sets-in-WordPart-2
+lifter::Lifter::lifted_node-returns-in_ok-sets-in-WordPart-2 t c =
+    let a = c.args.self.now.shapes.now in
+    let f = family_of c.args.self.now.table.now in
+    let w = c.args.context.width in
+    let signed = c.args.context.signed in
+    let address = tree_of a c.in-WordPart.address in
+    let index = tree_of a c.in-WordPart.base in
+    let part : Part = record { range = c.in-WordPart.range; up = c.in-WordPart.up; width = c.in-WordPart.width } in
+    let tree : tree_of a c.args.e ≡ E.At (place_of a c.args.e) (tree_of_node a (N.WordPart c.in-WordPart.signal c.in-WordPart.address c.in-WordPart.range c.in-WordPart.base c.in-WordPart.up c.in-WordPart.width)) =
+    c.node.ensures.tree ∙ ap (λ (m : Node). E.At (place_of a c.args.e) (tree_of_node a m)) c.in-WordPart.is in
+    part_lifted (signal_of a c.in-WordPart.signal) address part index w signed f c.in_ok-sets-in-WordPart.sets c.word-word.result c.in_ok-sets-in-WordPart-2.sets c.taken.result c.extended-in-WordPart.result
+    (c.in_ok-sets-in-WordPart.ensures.value ∙ ap₂ (λ (k : ℕ) (s : Bool). L.lifted address k s f) c.own_context-in-WordPart.ensures.width c.own_context-in-WordPart.ensures.signed)
+    c.word-word.ensures
+    (c.in_ok-sets-in-WordPart-2.ensures.value ∙ ap₂ (λ (k : ℕ) (s : Bool). L.lifted index k s f) c.own_context-in-WordPart-2.ensures.width c.own_context-in-WordPart-2.ensures.signed)
+    c.taken.ensures c.extended-in-WordPart.ensures
+    ∙ ap (λ (x : E.Expression). L.lifted x w signed f) (sym tree)
 
 pub lifter::Lifter::lifted_node-repeated-requires : goal.lifter::Lifter::lifted_node-repeated-requires
 lifter::Lifter::lifted_node-repeated-requires t c =

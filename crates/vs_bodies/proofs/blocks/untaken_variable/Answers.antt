@@ -4,7 +4,7 @@ use Rattle.vs_bodies.proofs.Declaring.{none_untaken, name_untaken, all_untaken, 
 use Rattle.vs_bodies.proofs.blocks.untaken_variable.Goals as goal
 
 pub returns-then-are_taken : goal.returns-then-are_taken
-returns-then-are_taken c = ap least (sym (taken c.args.v.now c.args.in_function c.is_integer-integers.result (sym c.are_taken.ensures ∙ c.if-are_taken.true) c.is_integer-integers.ensures))
+returns-then-are_taken c = ap least (sym (taken c.args.v.now c.args.takes_variables c.is_integer-integers.result (sym c.are_taken.ensures ∙ c.if-are_taken.true) c.is_integer-integers.ensures))
 
 pub loop-n-init : goal.loop-n-init
 loop-n-init c = none_untaken c.deref-n-items.result.now
@@ -15,5 +15,5 @@ loop-n-preserved c =
 
 pub returns : goal.returns
 returns c =
-    let no = neither c.args.in_function c.is_integer-integers.result (sym c.are_taken.ensures ∙ c.if-are_taken.false) in
-    all_untaken c.args.v.now c.deref-n-items.result.now c.args.in_function c.loop-n.n-index c.loop-n.fault c.deref-n-items.ensures.value c.loop-n-test.false no.0 (λ n. sym (c.is_integer-integers.ensures n) ∙ no.1) c.loop-n.invariant
+    let no = neither c.args.takes_variables c.is_integer-integers.result (sym c.are_taken.ensures ∙ c.if-are_taken.false) in
+    all_untaken c.args.v.now c.deref-n-items.result.now c.args.takes_variables c.loop-n.n-index c.loop-n.fault c.deref-n-items.ensures.value c.loop-n-test.false no.0 (λ n. sym (c.is_integer-integers.ensures n) ∙ no.1) c.loop-n.invariant

@@ -4,13 +4,11 @@ use Rattle.vs_grammar.specs.Trees.{expr_place}
 use Rattle.vs_ast.specs.declared.expressions.Expr.{Expr}
 use Rattle.vs_ast.specs.declared.expressions.Select.{Select}
 use Rattle.vs_ast.specs.Views as view
-use Rattle.vs_const.specs.declared.rules.Rule.{Rule}
 use Rattle.vs_const.specs.Checks.{ChecksTaken}
-use Rattle.vs_const.specs.Faults.{fault, least}
 use Rattle.vs_const.specs.Meanings.{Means, steady}
-use Rattle.vs_const.specs.Expressions.{typed}
-use Rattle.vs_const.specs.Selects.{Taken, slice_taken, first_names, first_needed}
-use Rattle.vs_elaborated.specs.Targets.{meant_signal, target_base, bit_target, selected_target}
+use Rattle.vs_const.specs.Expressions.{typed, taken_by}
+use Rattle.vs_const.specs.Selects.{Taken, slice_taken, first_names, first_needed, word_range}
+use Rattle.vs_elaborated.specs.Targets.{meant_signal, target_base, bit_target, further_target, selected_target}
 use Rattle.vs_bodies.specs.declared.told.Told.{Told}
 use Rattle.vs_bodies.specs.Told.{broken, joined, told_target}
 use Rattle.vs_bodies.proofs.TargetParts.{part_told}
@@ -23,14 +21,6 @@ returns-in-Whole g c =
     let means : Means c.find-named.result (find name.bytes) = subst (λ (b : List ℕ). Means c.find-named.result (find b)) c.as_slice.ensures c.find-named.ensures in
     c.broken.ensures ∙ ap (λ f. broken f 0) (c.base_of.ensures (find name.bytes) means).fault
     ∙ ap (λ (s : Select). told_target (selected_target (view.select s) name find c.args.procedural)) (sym c.in-Whole.is)
-
-pub returns-in-Word : goal.returns-in-Word
-returns-in-Word g c =
-    let find = g.E.Env.names c.args.env.now in
-    let name = view.name c.args.name.now in
-    let means : Means c.find-named-in-Word.result (find name.bytes) = subst (λ (b : List ℕ). Means c.find-named-in-Word.result (find b)) c.as_slice-in-Word.ensures c.find-named-in-Word.ensures in
-    c.broken-in-Word.ensures ∙ ap (λ f. broken f 0) (c.fault_at.ensures ∙ ap (λ (r : Rule). least (fault r name.place)) (c.unwritten_rule.ensures (find name.bytes) means))
-    ∙ ap (λ (s : Select). told_target (selected_target (view.select s) name find c.args.procedural)) (sym c.in-Word.is)
 
 pub returns-in-Bit : goal.returns-in-Bit
 returns-in-Bit g c =
@@ -62,3 +52,14 @@ returns-in_ok-bits-in-Slice g c =
     c.behind.ensures ∙ ap (λ (z : Told). joined (broken c.base_of-base.result.fault 0) z) c.broken-in-Slice.ensures
     ∙ part_told (meant_signal m) b taken c.base_of-base.result c.in_ok-bits-in-Slice.bits base (subst (λ (t : Taken). ChecksTaken c.in_ok-bits-in-Slice.bits t) same c.in_ok-bits-in-Slice.ensures)
     ∙ ap (λ (s : Select). told_target (selected_target (view.select s) name find p)) (sym c.in-Slice.is)
+
+pub returns-in-Word : goal.returns-in-Word
+returns-in-Word g c =
+    let find = g.E.Env.names c.args.env.now in
+    let name = view.name c.args.name.now in
+    let p = c.args.procedural in
+    let m = find name.bytes in
+    let said = λ (e : Expr) (s : Select). told_target (further_target p name.place m (typed (view.expr e) find (not p)) (taken_by (word_range m) (view.select s) find (not p))) in
+    subst (λ (s : Select). IfOk c.further_told.result (λ (w : Told). w ≡ told_target (selected_target (view.select s) name find p))) (sym c.in-Word.is)
+    (subst (λ (s : Select). IfOk c.further_told.result (λ (w : Told). w ≡ said c.in-Word.address.value s)) c.deref-in-Word-2.ensures
+    (subst (λ (e : Expr). IfOk c.further_told.result (λ (w : Told). w ≡ said e c.deref-in-Word-2.result.now)) c.deref-in-Word.ensures c.further_told.ensures))

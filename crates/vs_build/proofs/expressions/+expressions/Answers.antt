@@ -1,4 +1,4 @@
-use Rattle.std.proofs.Common.{rules, ℕ, true, false, OnOk, ◌+◌, ◌<◌, ◌≡◌, max, min, take, length, Some, refl, ap, subst, sym, ◌∙◌, arith}
+use Rattle.std.proofs.Common.{rules, ℕ, true, false, OnOk, ◌++◌, ◌≤◌, ◌+◌, ◌<◌, ◌≡◌, max, min, take, length, Some, refl, ap, subst, sym, ◌∙◌, arith}
 use denote.Param.Weighed.{most}
 use Rattle.vs_four.specs.Numbers.{bits_of}
 use Rattle.vs_four.specs.Selects.{range_length}
@@ -13,16 +13,18 @@ use Rattle.vs_ast.proofs.Rows.{expr_rows}
 use Rattle.vs_ast.specs.declared.expressions.Expr.{the_lemmas}
 use Rattle.vs_const.specs.Meanings.{steady}
 use Rattle.vs_const.specs.Typed.{begins_at, natural}
-use Rattle.vs_const.specs.Expressions.{constant, typed}
+use Rattle.vs_const.specs.Selects.{taken, bounds, lesser_bound}
+use Rattle.vs_const.specs.Expressions.{constant, typed, taken_by}
 use Rattle.vs_const.proofs.Rows.{some_part}
 use Rattle.vs_const.proofs.Sizes.{arguments_size, unary_size, left_size, right_size, condition_size, yes_size, no_size, call_size, brackets_size, falls}
 use Rattle.vs_flat.specs.Targets.{source_of}
 use Rattle.vs_build.specs.Drafts.{Draft, home, AddsExpression, EndsInSelect}
 use Rattle.vs_build.specs.Growth.{draft}
-use Rattle.vs_build.specs.Buildable.{IsBuildable, IsSelectable, AreBuildable, AreArguments, HasBits, IsWithin, AreBounds, IsRangeOf, IsConstant, part_expressions, selected_by}
-use Rattle.vs_build.proofs.Arms.{begins_twice, begins_itself, child, child_ends, children_end, ends_three, after, same_home, ok_up_to, unary_operand, brackets_inner, binary_left, binary_right, choice_condition, choice_yes, choice_no, unary_arm, binary_arm, choice_arm}
+use Rattle.vs_build.specs.Buildable.{IsBuildable, IsSelectable, IsTakable, AreBuildable, AreArguments, HasBits, IsWithin, AreBounds, IsRangeOf, IsConstant, part_expressions, selected_by}
+use Rattle.vs_build.proofs.Arms.{up_to, begins_twice, begins_itself, child, child_ends, children_end, ends_three, after, same_home, ok_up_to, unary_operand, brackets_inner, binary_left, binary_right, choice_condition, choice_yes, choice_no, unary_arm, binary_arm, choice_arm}
 use Rattle.vs_build.proofs.Lists.{concatenation_view, replication_view, each_part, part_levels, part_falls, taken_more, taken_all, parts_none, parts_more, parts_are, ends_parts, part_after, part_count, concatenation_parts, join_arm, each_argument, apply_view, call_is, call_many, function_at, call_arm, replication_is, replication_expression, deeper_up_to}
 use Rattle.vs_build.proofs.Selects.{named_select, named_expression, bit_taken, bit_index, bit_word, word_ends, word_arm, moving_taken, moving_is, between_is, between_taken, select_ends, select_arm, signed_operand, unsigned_operand, clog2_constant, clog2_arm}
+use Rattle.vs_build.proofs.Further.{index_parts, moving_parts, moving_bits, between_parts, between_bits, taken_index, taken_part, further_is, takable_after, IsLookedUp, further_ends, further_arm}
 use Rattle.vs_build.proofs.expressions.+expressions.Goals as goal
 
 pub expression-unary-requires : goal.expression-unary-requires
@@ -370,3 +372,292 @@ arguments-loop-argument-preserved g t c =
 pub arguments-returns : goal.arguments-returns
 arguments-returns g t c =
     parts_are (draft c.args.builder.now) (draft c.loop-argument.builder) _ _ (1 + exprs_depth (view.exprs c.args.list.now)) (taken_all (g.E.Env.names c.args.env.now) c.args.needed c.args.list.now c.loop-argument.argument-index (omega arith)) c.loop-argument.invariant
+
+pub selected-operand-requires-in-Word : goal.selected-operand-requires-in-Word
+selected-operand-requires-in-Word g t c κs within =
+    let find = g.E.Env.names c.args.env.now in
+    let d = home (draft c.args.builder.now) in
+    let name = view.name c.args.name.now in
+    let address = view.expr c.in-Word.address.value in
+    let part = view.select c.in-Word.part.value in
+    let f = further_is d find c.args.fixed c.args.needed name c.in-Word.bracket address part (subst (λ x. IsSelectable d find c.args.fixed c.args.needed name (view.select x)) c.in-Word.is c.requires) in
+    (search (rules, the_lemmas), (within, child d find c.args.needed c.deref-in-Word.result.now c.in-Word.address.value c.deref-in-Word.ensures f.address_is))
+
+pub selected-bits_taken-requires : goal.selected-bits_taken-requires
+selected-bits_taken-requires g t c κs within =
+    let find = g.E.Env.names c.args.env.now in
+    let d = home (draft c.args.builder.now) in
+    let name = view.name c.args.name.now in
+    let address = view.expr c.in-Word.address.value in
+    let part = view.select c.in-Word.part.value in
+    let f = further_is d find c.args.fixed c.args.needed name c.in-Word.bracket address part (subst (λ x. IsSelectable d find c.args.fixed c.args.needed name (view.select x)) c.in-Word.is c.requires) in
+    let a : AddsExpression (draft c.args.builder.now) (draft c.operand-in-Word.new.builder) (typed address find c.args.needed).expression (1 + expr_depth address) =
+    subst (λ x. AddsExpression (draft c.args.builder.now) (draft c.operand-in-Word.new.builder) (typed (view.expr x) find c.args.needed).expression (1 + expr_depth (view.expr x))) c.deref-in-Word.ensures c.in_ok-operand-in-Word.ensures
+    in
+    let k = takable_after (draft c.args.builder.now) (draft c.operand-in-Word.new.builder) (typed address find c.args.needed).expression (1 + expr_depth address) find c.args.needed f.words.range part a f.takable in
+    (search (rules, the_lemmas), (within, (f.words.range, subst (λ x. IsTakable (home (draft c.operand-in-Word.new.builder)) find c.args.needed f.words.range (view.select x)) (sym c.deref-in-Word-2.ensures) k)))
+
+pub selected-words-m-requires : goal.selected-words-m-requires
+selected-words-m-requires g t c =
+    let find = g.E.Env.names c.args.env.now in
+    let d = home (draft c.args.builder.now) in
+    let name = view.name c.args.name.now in
+    let address = view.expr c.in-Word.address.value in
+    let part = view.select c.in-Word.part.value in
+    let f = further_is d find c.args.fixed c.args.needed name c.in-Word.bracket address part (subst (λ x. IsSelectable d find c.args.fixed c.args.needed name (view.select x)) c.in-Word.is c.requires) in
+    f.words
+
+pub selected-word_part-requires-clause-there : goal.selected-word_part-requires-clause-there
+selected-word_part-requires-clause-there g t c =
+    let find = g.E.Env.names c.args.env.now in
+    let d = home (draft c.args.builder.now) in
+    let name = view.name c.args.name.now in
+    let address = view.expr c.in-Word.address.value in
+    let part = view.select c.in-Word.part.value in
+    let f = further_is d find c.args.fixed c.args.needed name c.in-Word.bracket address part (subst (λ x. IsSelectable d find c.args.fixed c.args.needed name (view.select x)) c.in-Word.is c.requires) in
+    let a : AddsExpression (draft c.args.builder.now) (draft c.operand-in-Word.new.builder) (typed address find c.args.needed).expression (1 + expr_depth address) =
+    subst (λ x. AddsExpression (draft c.args.builder.now) (draft c.operand-in-Word.new.builder) (typed (view.expr x) find c.args.needed).expression (1 + expr_depth (view.expr x))) c.deref-in-Word.ensures c.in_ok-operand-in-Word.ensures
+    in
+    let k = takable_after (draft c.args.builder.now) (draft c.operand-in-Word.new.builder) (typed address find c.args.needed).expression (1 + expr_depth address) find c.args.needed f.words.range part a f.takable in
+    let there : IsTakable (home (draft c.operand-in-Word.new.builder)) find c.args.needed f.words.range (view.select c.deref-in-Word-2.result.now) = subst (λ x. IsTakable (home (draft c.operand-in-Word.new.builder)) find c.args.needed f.words.range (view.select x)) (sym c.deref-in-Word-2.ensures) k in
+    let b : AddsExpression (draft c.operand-in-Word.new.builder) (draft c.bits_taken.new.builder) (taken_by (Some f.words.range) part find c.args.needed).index (select_depth part) =
+    subst (λ x. AddsExpression (draft c.operand-in-Word.new.builder) (draft c.bits_taken.new.builder) (taken_by (Some f.words.range) (view.select x) find c.args.needed).index (select_depth (view.select x))) c.deref-in-Word-2.ensures (c.in_ok-bits-in-Word.ensures.adds f.words.range there)
+    in
+    let l : IsLookedUp f.words.memory f.words.range (taken_by (Some f.words.range) part find c.args.needed) c.words-m.result.0 c.words-m.result.1 c.in_ok-bits-in-Word.bits.0 c.in_ok-bits-in-Word.bits.1 = record {
+      number = c.words-m.ensures.number f.words.memory f.words.is;
+      range_is = c.words-m.ensures.range f.words.memory f.words.is;
+      part = ap (λ x. (taken_by (Some f.words.range) (view.select x) find c.args.needed).part) (sym c.deref-in-Word-2.ensures) ∙ c.in_ok-bits-in-Word.ensures.part f.words.range there;
+    }
+    in
+    (further_ends d find c.args.needed (find name.bytes) address part (selected_by (tree.OfWord c.in-Word.bracket address part) name find c.args.fixed c.args.needed) f c.words-m.result.0 c.words-m.result.1 c.in_ok-bits-in-Word.bits.0 c.in_ok-bits-in-Word.bits.1
+    (draft c.args.builder.now) (draft c.operand-in-Word.new.builder) (draft c.bits_taken.new.builder) refl l a b).there
+
+pub selected-word_part-requires-clause-formed : goal.selected-word_part-requires-clause-formed
+selected-word_part-requires-clause-formed g t c =
+    let find = g.E.Env.names c.args.env.now in
+    let d = home (draft c.args.builder.now) in
+    let name = view.name c.args.name.now in
+    let address = view.expr c.in-Word.address.value in
+    let part = view.select c.in-Word.part.value in
+    let f = further_is d find c.args.fixed c.args.needed name c.in-Word.bracket address part (subst (λ x. IsSelectable d find c.args.fixed c.args.needed name (view.select x)) c.in-Word.is c.requires) in
+    let a : AddsExpression (draft c.args.builder.now) (draft c.operand-in-Word.new.builder) (typed address find c.args.needed).expression (1 + expr_depth address) =
+    subst (λ x. AddsExpression (draft c.args.builder.now) (draft c.operand-in-Word.new.builder) (typed (view.expr x) find c.args.needed).expression (1 + expr_depth (view.expr x))) c.deref-in-Word.ensures c.in_ok-operand-in-Word.ensures
+    in
+    let k = takable_after (draft c.args.builder.now) (draft c.operand-in-Word.new.builder) (typed address find c.args.needed).expression (1 + expr_depth address) find c.args.needed f.words.range part a f.takable in
+    let there : IsTakable (home (draft c.operand-in-Word.new.builder)) find c.args.needed f.words.range (view.select c.deref-in-Word-2.result.now) = subst (λ x. IsTakable (home (draft c.operand-in-Word.new.builder)) find c.args.needed f.words.range (view.select x)) (sym c.deref-in-Word-2.ensures) k in
+    let b : AddsExpression (draft c.operand-in-Word.new.builder) (draft c.bits_taken.new.builder) (taken_by (Some f.words.range) part find c.args.needed).index (select_depth part) =
+    subst (λ x. AddsExpression (draft c.operand-in-Word.new.builder) (draft c.bits_taken.new.builder) (taken_by (Some f.words.range) (view.select x) find c.args.needed).index (select_depth (view.select x))) c.deref-in-Word-2.ensures (c.in_ok-bits-in-Word.ensures.adds f.words.range there)
+    in
+    let l : IsLookedUp f.words.memory f.words.range (taken_by (Some f.words.range) part find c.args.needed) c.words-m.result.0 c.words-m.result.1 c.in_ok-bits-in-Word.bits.0 c.in_ok-bits-in-Word.bits.1 = record {
+      number = c.words-m.ensures.number f.words.memory f.words.is;
+      range_is = c.words-m.ensures.range f.words.memory f.words.is;
+      part = ap (λ x. (taken_by (Some f.words.range) (view.select x) find c.args.needed).part) (sym c.deref-in-Word-2.ensures) ∙ c.in_ok-bits-in-Word.ensures.part f.words.range there;
+    }
+    in
+    (further_ends d find c.args.needed (find name.bytes) address part (selected_by (tree.OfWord c.in-Word.bracket address part) name find c.args.fixed c.args.needed) f c.words-m.result.0 c.words-m.result.1 c.in_ok-bits-in-Word.bits.0 c.in_ok-bits-in-Word.bits.1
+    (draft c.args.builder.now) (draft c.operand-in-Word.new.builder) (draft c.bits_taken.new.builder) refl l a b).formed
+
+pub selected-word_part-requires-clause-ends : goal.selected-word_part-requires-clause-ends
+selected-word_part-requires-clause-ends g t c =
+    let find = g.E.Env.names c.args.env.now in
+    let d = home (draft c.args.builder.now) in
+    let name = view.name c.args.name.now in
+    let address = view.expr c.in-Word.address.value in
+    let part = view.select c.in-Word.part.value in
+    let f = further_is d find c.args.fixed c.args.needed name c.in-Word.bracket address part (subst (λ x. IsSelectable d find c.args.fixed c.args.needed name (view.select x)) c.in-Word.is c.requires) in
+    let a : AddsExpression (draft c.args.builder.now) (draft c.operand-in-Word.new.builder) (typed address find c.args.needed).expression (1 + expr_depth address) =
+    subst (λ x. AddsExpression (draft c.args.builder.now) (draft c.operand-in-Word.new.builder) (typed (view.expr x) find c.args.needed).expression (1 + expr_depth (view.expr x))) c.deref-in-Word.ensures c.in_ok-operand-in-Word.ensures
+    in
+    let k = takable_after (draft c.args.builder.now) (draft c.operand-in-Word.new.builder) (typed address find c.args.needed).expression (1 + expr_depth address) find c.args.needed f.words.range part a f.takable in
+    let there : IsTakable (home (draft c.operand-in-Word.new.builder)) find c.args.needed f.words.range (view.select c.deref-in-Word-2.result.now) = subst (λ x. IsTakable (home (draft c.operand-in-Word.new.builder)) find c.args.needed f.words.range (view.select x)) (sym c.deref-in-Word-2.ensures) k in
+    let b : AddsExpression (draft c.operand-in-Word.new.builder) (draft c.bits_taken.new.builder) (taken_by (Some f.words.range) part find c.args.needed).index (select_depth part) =
+    subst (λ x. AddsExpression (draft c.operand-in-Word.new.builder) (draft c.bits_taken.new.builder) (taken_by (Some f.words.range) (view.select x) find c.args.needed).index (select_depth (view.select x))) c.deref-in-Word-2.ensures (c.in_ok-bits-in-Word.ensures.adds f.words.range there)
+    in
+    let l : IsLookedUp f.words.memory f.words.range (taken_by (Some f.words.range) part find c.args.needed) c.words-m.result.0 c.words-m.result.1 c.in_ok-bits-in-Word.bits.0 c.in_ok-bits-in-Word.bits.1 = record {
+      number = c.words-m.ensures.number f.words.memory f.words.is;
+      range_is = c.words-m.ensures.range f.words.memory f.words.is;
+      part = ap (λ x. (taken_by (Some f.words.range) (view.select x) find c.args.needed).part) (sym c.deref-in-Word-2.ensures) ∙ c.in_ok-bits-in-Word.ensures.part f.words.range there;
+    }
+    in
+    (further_ends d find c.args.needed (find name.bytes) address part (selected_by (tree.OfWord c.in-Word.bracket address part) name find c.args.fixed c.args.needed) f c.words-m.result.0 c.words-m.result.1 c.in_ok-bits-in-Word.bits.0 c.in_ok-bits-in-Word.bits.1
+    (draft c.args.builder.now) (draft c.operand-in-Word.new.builder) (draft c.bits_taken.new.builder) refl l a b).ends
+
+pub selected-returns-in_ok-bits-in-Word : goal.selected-returns-in_ok-bits-in-Word
+selected-returns-in_ok-bits-in-Word g t c =
+    let find = g.E.Env.names c.args.env.now in
+    let d = home (draft c.args.builder.now) in
+    let name = view.name c.args.name.now in
+    let address = view.expr c.in-Word.address.value in
+    let part = view.select c.in-Word.part.value in
+    let f = further_is d find c.args.fixed c.args.needed name c.in-Word.bracket address part (subst (λ x. IsSelectable d find c.args.fixed c.args.needed name (view.select x)) c.in-Word.is c.requires) in
+    let a : AddsExpression (draft c.args.builder.now) (draft c.operand-in-Word.new.builder) (typed address find c.args.needed).expression (1 + expr_depth address) =
+    subst (λ x. AddsExpression (draft c.args.builder.now) (draft c.operand-in-Word.new.builder) (typed (view.expr x) find c.args.needed).expression (1 + expr_depth (view.expr x))) c.deref-in-Word.ensures c.in_ok-operand-in-Word.ensures
+    in
+    let k = takable_after (draft c.args.builder.now) (draft c.operand-in-Word.new.builder) (typed address find c.args.needed).expression (1 + expr_depth address) find c.args.needed f.words.range part a f.takable in
+    let there : IsTakable (home (draft c.operand-in-Word.new.builder)) find c.args.needed f.words.range (view.select c.deref-in-Word-2.result.now) = subst (λ x. IsTakable (home (draft c.operand-in-Word.new.builder)) find c.args.needed f.words.range (view.select x)) (sym c.deref-in-Word-2.ensures) k in
+    let b : AddsExpression (draft c.operand-in-Word.new.builder) (draft c.bits_taken.new.builder) (taken_by (Some f.words.range) part find c.args.needed).index (select_depth part) =
+    subst (λ x. AddsExpression (draft c.operand-in-Word.new.builder) (draft c.bits_taken.new.builder) (taken_by (Some f.words.range) (view.select x) find c.args.needed).index (select_depth (view.select x))) c.deref-in-Word-2.ensures (c.in_ok-bits-in-Word.ensures.adds f.words.range there)
+    in
+    let l : IsLookedUp f.words.memory f.words.range (taken_by (Some f.words.range) part find c.args.needed) c.words-m.result.0 c.words-m.result.1 c.in_ok-bits-in-Word.bits.0 c.in_ok-bits-in-Word.bits.1 = record {
+      number = c.words-m.ensures.number f.words.memory f.words.is;
+      range_is = c.words-m.ensures.range f.words.memory f.words.is;
+      part = ap (λ x. (taken_by (Some f.words.range) (view.select x) find c.args.needed).part) (sym c.deref-in-Word-2.ensures) ∙ c.in_ok-bits-in-Word.ensures.part f.words.range there;
+    }
+    in
+    subst (λ x. OnOk c.word_part.result (AddsExpression (draft c.args.builder.now) (draft c.word_part.new.self) (begins_at c.args.at (selected_by (view.select x) name find c.args.fixed c.args.needed).expression) (1 + select_depth (view.select x)))) (sym c.in-Word.is)
+    (further_arm c.word_part.result d find c.args.needed (find name.bytes) address part (selected_by (tree.OfWord c.in-Word.bracket address part) name find c.args.fixed c.args.needed) f c.words-m.result.0 c.words-m.result.1 c.in_ok-bits-in-Word.bits.0 c.in_ok-bits-in-Word.bits.1
+    (draft c.args.builder.now) (draft c.operand-in-Word.new.builder) (draft c.bits_taken.new.builder) (draft c.word_part.new.self) c.args.at refl l a b c.word_part.ensures)
+
+pub bits_taken-operand-requires : goal.bits_taken-operand-requires
+bits_taken-operand-requires g t c κs within =
+    let find = g.E.Env.names c.args.env.now in
+    let d = home (draft c.args.builder.now) in
+    let k = subst (λ x. IsTakable d find c.args.needed c.requires.0 (view.select x)) c.in-Bit.is c.requires.1 in
+    (search (rules, the_lemmas), (within, child d find c.args.needed c.deref.result.now c.in-Bit.index.value c.deref.ensures (index_parts d find c.args.needed c.requires.0 c.in-Bit.bracket (view.expr c.in-Bit.index.value) k)))
+
+pub bits_taken-returns-in_ok-operand-in-Bit-clause-adds : goal.bits_taken-returns-in_ok-operand-in-Bit-clause-adds
+bits_taken-returns-in_ok-operand-in-Bit-clause-adds g t c r k =
+    let find = g.E.Env.names c.args.env.now in
+    subst (λ x. AddsExpression (draft c.args.builder.now) (draft c.operand.new.builder) (taken_by (Some r) (view.select x) find c.args.needed).index (select_depth (view.select x))) (sym c.in-Bit.is)
+    (subst (λ x. AddsExpression (draft c.args.builder.now) (draft c.operand.new.builder) (typed (view.expr x) find c.args.needed).expression (1 + expr_depth (view.expr x))) c.deref.ensures c.in_ok-operand-in-Bit.ensures)
+
+pub bits_taken-returns-in_ok-operand-in-Bit-clause-part : goal.bits_taken-returns-in_ok-operand-in-Bit-clause-part
+bits_taken-returns-in_ok-operand-in-Bit-clause-part g t c r k = ap (λ x. (taken_by (Some r) (view.select x) (g.E.Env.names c.args.env.now) c.args.needed).part) c.in-Bit.is
+
+pub bits_taken-number_within-requires : goal.bits_taken-number_within-requires
+bits_taken-number_within-requires g t c =
+    let find = g.E.Env.names c.args.env.now in
+    let d = home (draft c.args.builder.now) in
+    let left = view.expr c.in-Slice.left.value in
+    let right = view.expr c.in-Slice.right.value in
+    let k = subst (λ x. IsTakable d find c.args.needed c.requires.0 (tree.Slice c.in-Slice.bracket (view.slice_kind x) left right)) c.in-Upward.is (subst (λ x. IsTakable d find c.args.needed c.requires.0 (view.select x)) c.in-Slice.is c.requires.1) in
+    subst (λ x. IsWithin 1 64 (steady find) (view.expr x)) (sym c.deref-in-Upward.ensures) (moving_parts d find c.args.needed c.requires.0 true c.in-Slice.bracket tree.Upward left right refl k).width
+
+pub bits_taken-operand-requires-in-Upward : goal.bits_taken-operand-requires-in-Upward
+bits_taken-operand-requires-in-Upward g t c κs within =
+    let find = g.E.Env.names c.args.env.now in
+    let d = home (draft c.args.builder.now) in
+    let left = view.expr c.in-Slice.left.value in
+    let right = view.expr c.in-Slice.right.value in
+    let k = subst (λ x. IsTakable d find c.args.needed c.requires.0 (tree.Slice c.in-Slice.bracket (view.slice_kind x) left right)) c.in-Upward.is (subst (λ x. IsTakable d find c.args.needed c.requires.0 (view.select x)) c.in-Slice.is c.requires.1) in
+    (search (rules, the_lemmas), (within, child d find c.args.needed c.deref-in-Upward-2.result.now c.in-Slice.left.value c.deref-in-Upward-2.ensures (moving_parts d find c.args.needed c.requires.0 true c.in-Slice.bracket tree.Upward left right refl k).index))
+
+pub bits_taken-returns-in_ok-operand-in-Upward-clause-adds : goal.bits_taken-returns-in_ok-operand-in-Upward-clause-adds
+bits_taken-returns-in_ok-operand-in-Upward-clause-adds g t c r k =
+    let find = g.E.Env.names c.args.env.now in
+    let d = home (draft c.args.builder.now) in
+    let left = view.expr c.in-Slice.left.value in
+    let right = view.expr c.in-Slice.right.value in
+    let n : (natural 1 64 (expr_place right) (constant right (steady find))).number ≡ Some c.in_ok-width-in-Upward.width = subst (λ x. (natural 1 64 (expr_place (view.expr x)) (constant (view.expr x) (steady find))).number ≡ Some c.in_ok-width-in-Upward.width) c.deref-in-Upward.ensures c.in_ok-width-in-Upward.ensures in
+    let fs = (typed left find c.args.needed).faults ++ (natural 1 64 (expr_place right) (typed right (steady find) true)).faults in
+    let is = moving_bits find c.args.needed r true c.in-Slice.bracket tree.Upward left right c.in_ok-width-in-Upward.width refl n in
+    let x = view.select c.args.part.now in
+    let index = taken_index (taken_by (Some r) x find c.args.needed) r true c.in_ok-width-in-Upward.width (typed left find c.args.needed) fs (ap (λ x. taken_by (Some r) (view.select x) find c.args.needed) c.in-Slice.is ∙ ap (λ x. taken_by (Some r) (tree.Slice c.in-Slice.bracket (view.slice_kind x) left right) find c.args.needed) c.in-Upward.is ∙ is) in
+    let a = subst (λ x. AddsExpression (draft c.args.builder.now) (draft c.operand-in-Upward.new.builder) (typed (view.expr x) find c.args.needed).expression (1 + expr_depth (view.expr x))) c.deref-in-Upward-2.ensures c.in_ok-operand-in-Upward.ensures in
+    let deep : 1 + expr_depth left ≤ select_depth x = subst (λ z. 1 + expr_depth left ≤ select_depth (view.select z)) (sym c.in-Slice.is) (omega arith) in
+    subst (λ z. AddsExpression (draft c.args.builder.now) (draft c.operand-in-Upward.new.builder) z (select_depth x)) (sym index) (up_to (draft c.args.builder.now) (draft c.operand-in-Upward.new.builder) (typed left find c.args.needed).expression (1 + expr_depth left) (select_depth x) a deep)
+
+pub bits_taken-returns-in_ok-operand-in-Upward-clause-part : goal.bits_taken-returns-in_ok-operand-in-Upward-clause-part
+bits_taken-returns-in_ok-operand-in-Upward-clause-part g t c r k =
+    let find = g.E.Env.names c.args.env.now in
+    let d = home (draft c.args.builder.now) in
+    let left = view.expr c.in-Slice.left.value in
+    let right = view.expr c.in-Slice.right.value in
+    let n : (natural 1 64 (expr_place right) (constant right (steady find))).number ≡ Some c.in_ok-width-in-Upward.width = subst (λ x. (natural 1 64 (expr_place (view.expr x)) (constant (view.expr x) (steady find))).number ≡ Some c.in_ok-width-in-Upward.width) c.deref-in-Upward.ensures c.in_ok-width-in-Upward.ensures in
+    let fs = (typed left find c.args.needed).faults ++ (natural 1 64 (expr_place right) (typed right (steady find) true)).faults in
+    let is = moving_bits find c.args.needed r true c.in-Slice.bracket tree.Upward left right c.in_ok-width-in-Upward.width refl n in
+    taken_part (taken_by (Some r) (view.select c.args.part.now) find c.args.needed) r true c.in_ok-width-in-Upward.width (typed left find c.args.needed) fs (ap (λ x. taken_by (Some r) (view.select x) find c.args.needed) c.in-Slice.is ∙ ap (λ x. taken_by (Some r) (tree.Slice c.in-Slice.bracket (view.slice_kind x) left right) find c.args.needed) c.in-Upward.is ∙ is)
+
+pub bits_taken-number_within-requires-in-Downward : goal.bits_taken-number_within-requires-in-Downward
+bits_taken-number_within-requires-in-Downward g t c =
+    let find = g.E.Env.names c.args.env.now in
+    let d = home (draft c.args.builder.now) in
+    let left = view.expr c.in-Slice.left.value in
+    let right = view.expr c.in-Slice.right.value in
+    let k = subst (λ x. IsTakable d find c.args.needed c.requires.0 (tree.Slice c.in-Slice.bracket (view.slice_kind x) left right)) c.in-Downward.is (subst (λ x. IsTakable d find c.args.needed c.requires.0 (view.select x)) c.in-Slice.is c.requires.1) in
+    subst (λ x. IsWithin 1 64 (steady find) (view.expr x)) (sym c.deref-in-Downward.ensures) (moving_parts d find c.args.needed c.requires.0 false c.in-Slice.bracket tree.Downward left right refl k).width
+
+pub bits_taken-operand-requires-in-Downward : goal.bits_taken-operand-requires-in-Downward
+bits_taken-operand-requires-in-Downward g t c κs within =
+    let find = g.E.Env.names c.args.env.now in
+    let d = home (draft c.args.builder.now) in
+    let left = view.expr c.in-Slice.left.value in
+    let right = view.expr c.in-Slice.right.value in
+    let k = subst (λ x. IsTakable d find c.args.needed c.requires.0 (tree.Slice c.in-Slice.bracket (view.slice_kind x) left right)) c.in-Downward.is (subst (λ x. IsTakable d find c.args.needed c.requires.0 (view.select x)) c.in-Slice.is c.requires.1) in
+    (search (rules, the_lemmas), (within, child d find c.args.needed c.deref-in-Downward-2.result.now c.in-Slice.left.value c.deref-in-Downward-2.ensures (moving_parts d find c.args.needed c.requires.0 false c.in-Slice.bracket tree.Downward left right refl k).index))
+
+pub bits_taken-returns-in_ok-operand-in-Downward-clause-adds : goal.bits_taken-returns-in_ok-operand-in-Downward-clause-adds
+bits_taken-returns-in_ok-operand-in-Downward-clause-adds g t c r k =
+    let find = g.E.Env.names c.args.env.now in
+    let d = home (draft c.args.builder.now) in
+    let left = view.expr c.in-Slice.left.value in
+    let right = view.expr c.in-Slice.right.value in
+    let n : (natural 1 64 (expr_place right) (constant right (steady find))).number ≡ Some c.in_ok-width-in-Downward.width = subst (λ x. (natural 1 64 (expr_place (view.expr x)) (constant (view.expr x) (steady find))).number ≡ Some c.in_ok-width-in-Downward.width) c.deref-in-Downward.ensures c.in_ok-width-in-Downward.ensures in
+    let fs = (typed left find c.args.needed).faults ++ (natural 1 64 (expr_place right) (typed right (steady find) true)).faults in
+    let is = moving_bits find c.args.needed r false c.in-Slice.bracket tree.Downward left right c.in_ok-width-in-Downward.width refl n in
+    let x = view.select c.args.part.now in
+    let index = taken_index (taken_by (Some r) x find c.args.needed) r false c.in_ok-width-in-Downward.width (typed left find c.args.needed) fs (ap (λ x. taken_by (Some r) (view.select x) find c.args.needed) c.in-Slice.is ∙ ap (λ x. taken_by (Some r) (tree.Slice c.in-Slice.bracket (view.slice_kind x) left right) find c.args.needed) c.in-Downward.is ∙ is) in
+    let a = subst (λ x. AddsExpression (draft c.args.builder.now) (draft c.operand-in-Downward.new.builder) (typed (view.expr x) find c.args.needed).expression (1 + expr_depth (view.expr x))) c.deref-in-Downward-2.ensures c.in_ok-operand-in-Downward.ensures in
+    let deep : 1 + expr_depth left ≤ select_depth x = subst (λ z. 1 + expr_depth left ≤ select_depth (view.select z)) (sym c.in-Slice.is) (omega arith) in
+    subst (λ z. AddsExpression (draft c.args.builder.now) (draft c.operand-in-Downward.new.builder) z (select_depth x)) (sym index) (up_to (draft c.args.builder.now) (draft c.operand-in-Downward.new.builder) (typed left find c.args.needed).expression (1 + expr_depth left) (select_depth x) a deep)
+
+pub bits_taken-returns-in_ok-operand-in-Downward-clause-part : goal.bits_taken-returns-in_ok-operand-in-Downward-clause-part
+bits_taken-returns-in_ok-operand-in-Downward-clause-part g t c r k =
+    let find = g.E.Env.names c.args.env.now in
+    let d = home (draft c.args.builder.now) in
+    let left = view.expr c.in-Slice.left.value in
+    let right = view.expr c.in-Slice.right.value in
+    let n : (natural 1 64 (expr_place right) (constant right (steady find))).number ≡ Some c.in_ok-width-in-Downward.width = subst (λ x. (natural 1 64 (expr_place (view.expr x)) (constant (view.expr x) (steady find))).number ≡ Some c.in_ok-width-in-Downward.width) c.deref-in-Downward.ensures c.in_ok-width-in-Downward.ensures in
+    let fs = (typed left find c.args.needed).faults ++ (natural 1 64 (expr_place right) (typed right (steady find) true)).faults in
+    let is = moving_bits find c.args.needed r false c.in-Slice.bracket tree.Downward left right c.in_ok-width-in-Downward.width refl n in
+    taken_part (taken_by (Some r) (view.select c.args.part.now) find c.args.needed) r false c.in_ok-width-in-Downward.width (typed left find c.args.needed) fs (ap (λ x. taken_by (Some r) (view.select x) find c.args.needed) c.in-Slice.is ∙ ap (λ x. taken_by (Some r) (tree.Slice c.in-Slice.bracket (view.slice_kind x) left right) find c.args.needed) c.in-Downward.is ∙ is)
+
+pub bits_taken-bounds_of-requires : goal.bits_taken-bounds_of-requires
+bits_taken-bounds_of-requires g t c =
+    let find = g.E.Env.names c.args.env.now in
+    let d = home (draft c.args.builder.now) in
+    let left = view.expr c.in-Slice.left.value in
+    let right = view.expr c.in-Slice.right.value in
+    let k = subst (λ x. IsTakable d find c.args.needed c.requires.0 (tree.Slice c.in-Slice.bracket (view.slice_kind x) left right)) c.in-Between.is (subst (λ x. IsTakable d find c.args.needed c.requires.0 (view.select x)) c.in-Slice.is c.requires.1) in
+    subst (λ x. AreBounds (steady find) (view.expr x) (view.expr c.deref-in-Between-2.result.now)) (sym c.deref-in-Between.ensures)
+    (subst (λ x. AreBounds (steady find) left (view.expr x)) (sym c.deref-in-Between-2.ensures) (between_parts d find c.args.needed c.requires.0 c.in-Slice.bracket left right k).bounds_are)
+
+pub bits_taken-returns-in_ok-literal-in-Between-clause-adds : goal.bits_taken-returns-in_ok-literal-in-Between-clause-adds
+bits_taken-returns-in_ok-literal-in-Between-clause-adds g t c r h =
+    let find = g.E.Env.names c.args.env.now in
+    let d = home (draft c.args.builder.now) in
+    let left = view.expr c.in-Slice.left.value in
+    let right = view.expr c.in-Slice.right.value in
+    let k = subst (λ x. IsTakable d find c.args.needed r (tree.Slice c.in-Slice.bracket (view.slice_kind x) left right)) c.in-Between.is (subst (λ x. IsTakable d find c.args.needed r (view.select x)) c.in-Slice.is h) in
+    let q = c.in_ok-bounds-in-Between.bounds in
+    let of : IsRangeOf (steady find) left right q = subst (λ x. IsRangeOf (steady find) (view.expr x) right q) c.deref-in-Between.ensures (subst (λ x. IsRangeOf (steady find) (view.expr c.deref-in-Between.result.now) (view.expr x) q) c.deref-in-Between-2.ensures c.in_ok-bounds-in-Between.ensures.range) in
+    let fs = (bounds c.in-Slice.bracket (expr_place left) (typed left (steady find) true) (expr_place right) (typed right (steady find) true)).faults in
+    let is = between_bits d find c.args.needed r q c.in-Slice.bracket left right k of in
+    let all : taken_by (Some r) (view.select c.args.part.now) find c.args.needed ≡ taken (Some r) true (range_length q) (lesser_bound (expr_place left) q) fs =
+    ap (λ x. taken_by (Some r) (view.select x) find c.args.needed) c.in-Slice.is ∙ ap (λ x. taken_by (Some r) (tree.Slice c.in-Slice.bracket (view.slice_kind x) left right) find c.args.needed) c.in-Between.is ∙ is
+    in
+    let x = view.select c.args.part.now in
+    let index = taken_index (taken_by (Some r) x find c.args.needed) r true (range_length q) (lesser_bound (expr_place left) q) fs all in
+    let a : AddsExpression (draft c.args.builder.now) (draft c.literal.new.self) (E.At (expr_place left) (E.Literal (bits_of 32 (min q.left q.right)) true true)) 1 =
+    subst (λ p. AddsExpression (draft c.args.builder.now) (draft c.literal.new.self) (E.At p (E.Literal (bits_of 32 (min q.left q.right)) true true)) 1) (c.place_of.ensures ∙ ap (λ x. expr_place (view.expr x)) c.deref-in-Between-3.ensures)
+    (subst (λ z. AddsExpression (draft c.args.builder.now) (draft c.literal.new.self) (E.At c.place_of.result (E.Literal z true true)) 1) (c.of_number.ensures ∙ ap (bits_of 32) c.lesser.ensures) c.in_ok-literal-in-Between.ensures)
+    in
+    let deep : 1 ≤ select_depth x = subst (λ z. 1 ≤ select_depth (view.select z)) (sym c.in-Slice.is) (omega arith) in
+    subst (λ z. AddsExpression (draft c.args.builder.now) (draft c.literal.new.self) z (select_depth x)) (sym index) (up_to (draft c.args.builder.now) (draft c.literal.new.self) (E.At (expr_place left) (E.Literal (bits_of 32 (min q.left q.right)) true true)) 1 (select_depth x) a deep)
+
+pub bits_taken-returns-in_ok-literal-in-Between-clause-part : goal.bits_taken-returns-in_ok-literal-in-Between-clause-part
+bits_taken-returns-in_ok-literal-in-Between-clause-part g t c r h =
+    let find = g.E.Env.names c.args.env.now in
+    let d = home (draft c.args.builder.now) in
+    let left = view.expr c.in-Slice.left.value in
+    let right = view.expr c.in-Slice.right.value in
+    let k = subst (λ x. IsTakable d find c.args.needed r (tree.Slice c.in-Slice.bracket (view.slice_kind x) left right)) c.in-Between.is (subst (λ x. IsTakable d find c.args.needed r (view.select x)) c.in-Slice.is h) in
+    let q = c.in_ok-bounds-in-Between.bounds in
+    let of : IsRangeOf (steady find) left right q = subst (λ x. IsRangeOf (steady find) (view.expr x) right q) c.deref-in-Between.ensures (subst (λ x. IsRangeOf (steady find) (view.expr c.deref-in-Between.result.now) (view.expr x) q) c.deref-in-Between-2.ensures c.in_ok-bounds-in-Between.ensures.range) in
+    let fs = (bounds c.in-Slice.bracket (expr_place left) (typed left (steady find) true) (expr_place right) (typed right (steady find) true)).faults in
+    let is = between_bits d find c.args.needed r q c.in-Slice.bracket left right k of in
+    let all : taken_by (Some r) (view.select c.args.part.now) find c.args.needed ≡ taken (Some r) true (range_length q) (lesser_bound (expr_place left) q) fs =
+    ap (λ x. taken_by (Some r) (view.select x) find c.args.needed) c.in-Slice.is ∙ ap (λ x. taken_by (Some r) (tree.Slice c.in-Slice.bracket (view.slice_kind x) left right) find c.args.needed) c.in-Between.is ∙ is
+    in
+    subst (λ n. (taken_by (Some r) (view.select c.args.part.now) find c.args.needed).part ≡ record { range = r; up = true; width = n }) (sym c.range_length.ensures)
+    (taken_part (taken_by (Some r) (view.select c.args.part.now) find c.args.needed) r true (range_length q) (lesser_bound (expr_place left) q) fs all)

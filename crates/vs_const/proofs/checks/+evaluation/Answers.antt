@@ -1,17 +1,19 @@
-use Rattle.std.proofs.Common.{◌≡◌, false, ◌-◌, IfOk, List, None, subst, sym, ap, ◌∙◌, true, length, arith, ◌<◌}
+use Rattle.std.proofs.Common.{◌≡◌, Bool, false, ◌-◌, IfOk, List, Option, None, inl, inr, refl, subst, sym, ap, ◌∙◌, true, length, arith, ◌<◌}
+use Rattle.vs_four.specs.declared.Range.{Range}
 use denote.Param.Weighed.{most}
 use Rattle.vs_ast.specs.Views as view
 use Rattle.vs_ast.proofs.expressions.Expr.TheLaws.{the_size}
 use Rattle.vs_ast.specs.declared.expressions.Expr.{Expr}
+use Rattle.vs_ast.specs.declared.expressions.SliceKind.{SliceKind}
 use Rattle.vs_grammar.specs.Trees as tree
 use Rattle.vs_grammar.specs.Trees.{expr_place}
 use Rattle.vs_grammar.specs.Shapes.{IsExpr, AreParts}
 use Rattle.vs_const.specs.declared.found.Found.{Found}
-use Rattle.vs_const.specs.Checks.{ChecksNumber}
-use Rattle.vs_const.specs.Expressions.{selected, typed, typed_parts, typed_arguments, number, replication_typed, call_typed, argument_needed, applied, call_rule}
+use Rattle.vs_const.specs.Checks.{ChecksNumber, ChecksTaken}
+use Rattle.vs_const.specs.Expressions.{selected, typed, typed_parts, typed_arguments, taken_by, number, replication_typed, call_typed, argument_needed, applied, call_rule}
 use Rattle.vs_const.specs.Faults.{fault, NotConstant}
 use Rattle.vs_const.specs.Typed.{broken, unary_typed, choice_typed, noted, number_of}
-use Rattle.vs_const.specs.Selects.{wrong_rule}
+use Rattle.vs_const.specs.Selects.{wrong_rule, word_range, moving}
 use Rattle.vs_const.specs.Found.{Finds, Says}
 use Rattle.vs_const.specs.Meanings.{Means, steady}
 use Rattle.vs_const.specs.Needs.{is_needed, names_for}
@@ -20,6 +22,8 @@ use Rattle.vs_const.proofs.CalledFunctions.{needed_arm, misnamed_arm}
 use Rattle.vs_const.proofs.Steady.{fair_for, steady_number, argument_says}
 use Rattle.vs_const.proofs.Sizes.{arguments_size, application_view, unary_size, left_size, right_size, condition_size, yes_size, no_size, parts_size, count_size, copied_size, call_size, brackets_size, falls, concatenation_view, replication_view}
 use Rattle.vs_const.proofs.Arms.{binary_arm, clog2_arm, between_arm, moving_arm}
+use Rattle.vs_const.proofs.RangeArms.{between_taken}
+use Rattle.vs_const.proofs.WordArms.{other_word, needed_word, memory_word}
 use Rattle.vs_const.proofs.checks.+evaluation.Goals as goal
 
 pub find-returns-in_ok-b-in-Binary : goal.find-returns-in_ok-b-in-Binary
@@ -197,15 +201,39 @@ find_selected-returns-in-Whole g t c =
     ((rw c.is_needed-needed.ensures at c.find_name.ensures) (find name.bytes) (fair_for c.args.need (g.E.Env.names c.args.env.now) c.requires.fair name.bytes)
     (subst (λ b. Means c.meant-named.result (find b)) c.as_slice.ensures c.meant-named.ensures))
 
-pub find_selected-returns-in-Word : goal.find_selected-returns-in-Word
-find_selected-returns-in-Word g t c =
+pub find_selected-returns-then-needed : goal.find_selected-returns-then-needed
+find_selected-returns-then-needed g t c =
+    let n = is_needed c.args.need in
+    let find = names_for c.args.need (g.E.Env.names c.args.env.now) in
+    let name = view.name c.args.name.now in
+    let means : Means c.meant-named.result (find name.bytes) = subst (λ b. Means c.meant-named.result (find b)) c.as_slice.ensures c.meant-named.ensures in
+    subst (λ x. Finds n c.find_misnamed.result (selected (view.select x) name find n)) (sym c.in-Word.is)
+    (needed_word n name.place c.in-Memory.s (find name.bytes) (typed (view.expr c.in-Word.address.value) find n) (taken_by (word_range (find name.bytes)) (view.select c.in-Word.part.value) find n) c.find_misnamed.result
+    (sym c.is_needed-needed.ensures ∙ c.if-needed.true) (subst (λ k. Means k (find name.bytes)) c.in-Memory.is means) (c.find_misnamed.ensures n))
+
+pub find_selected-returns-in_ok-bits-in-Memory : goal.find_selected-returns-in_ok-bits-in-Memory
+find_selected-returns-in_ok-bits-in-Memory g t c =
+    let n = is_needed c.args.need in
+    let find = names_for c.args.need (g.E.Env.names c.args.env.now) in
+    let name = view.name c.args.name.now in
+    let means : Means c.meant-named.result (find name.bytes) = subst (λ b. Means c.meant-named.result (find b)) c.as_slice.ensures c.meant-named.ensures in
+    let take = λ (q : Option Range). taken_by q (view.select c.in-Word.part.value) find n in
+    let says : Says n c.in_ok-at-in-Memory.at (typed (view.expr c.in-Word.address.value) find n) = subst (λ x. Says n c.in_ok-at-in-Memory.at (typed (view.expr x) find n)) c.deref-else-needed.ensures c.in_ok-at-in-Memory.ensures in
+    let bits : ChecksTaken c.in_ok-bits-in-Memory.bits (take c.in-Memory.s.range) = subst (λ x. ChecksTaken c.in_ok-bits-in-Memory.bits (taken_by c.in-Memory.s.range (view.select x) find n)) c.deref-else-needed-2.ensures c.in_ok-bits-in-Memory.ensures in
+    subst (λ x. Finds n c.find_word_part.result (selected (view.select x) name find n)) (sym c.in-Word.is)
+    (memory_word n name.place c.in-Memory.s (find name.bytes) (typed (view.expr c.in-Word.address.value) find n) take c.in_ok-at-in-Memory.at c.in_ok-bits-in-Memory.bits c.find_word_part.result
+    (sym c.is_needed-needed.ensures ∙ c.if-needed.false) (subst (λ k. Means k (find name.bytes)) c.in-Memory.is means) says bits c.find_word_part.ensures)
+
+pub find_selected-returns-in_default : goal.find_selected-returns-in_default
+find_selected-returns-in_default g t c =
     let n = is_needed c.args.need in
     let find = names_for c.args.need (g.E.Env.names c.args.env.now) in
     let name = view.name c.args.name.now in
     let means : Means c.meant-named.result (find name.bytes) = subst (λ b. Means c.meant-named.result (find b)) c.as_slice.ensures c.meant-named.ensures in
     let rule : c.wrong_rule.result ≡ wrong_rule n (find name.bytes) = (rw c.is_needed-needed.ensures at c.wrong_rule.ensures) (find name.bytes) means in
-    subst (λ x. Finds n c.find_misnamed.result (selected (view.select x) name find n)) (sym c.in-Word.is)
-    (subst (λ k. Finds n c.find_misnamed.result (broken None (fault k name.place))) rule (c.find_misnamed.ensures n))
+    subst (λ x. Finds n c.find_misnamed-in_default.result (selected (view.select x) name find n)) (sym c.in-Word.is)
+    (other_word n name.place c.meant-named.result (find name.bytes) (typed (view.expr c.in-Word.address.value) find n) (taken_by (word_range (find name.bytes)) (view.select c.in-Word.part.value) find n) c.find_misnamed-in_default.result
+    c.in_default.not-Memory means (subst (λ k. Finds n c.find_misnamed-in_default.result (broken None (fault k name.place))) rule (c.find_misnamed-in_default.ensures n)))
 
 pub find_selected-returns-in_ok-i-in-Bit : goal.find_selected-returns-in_ok-i-in-Bit
 find_selected-returns-in_ok-i-in-Bit g t c =
@@ -241,6 +269,46 @@ find_selected-returns-in_ok-a-in-Downward g t c =
     (moving_arm (is_needed c.args.need) false (names_for c.args.need (g.E.Env.names c.args.env.now)) (view.name c.args.name.now) c.in-Slice.left.value c.in-Slice.right.value _ _ _ c.place_of-in-Downward.result c.meant-named.result c.in_ok-a-in-Downward.a c.in_ok-n-in-Slice.n c.find_moving-in-Downward.result
     (fair_for c.args.need (g.E.Env.names c.args.env.now) c.requires.fair) (subst (λ b. Means c.meant-named.result (names_for c.args.need (g.E.Env.names c.args.env.now) b)) c.as_slice.ensures c.meant-named.ensures) c.deref-in-Downward.ensures c.deref-in-Slice.ensures c.deref-in-Downward-2.ensures c.place_of-in-Downward.ensures
     c.in_ok-a-in-Downward.ensures (steady_number c.args.need (g.E.Env.names c.args.env.now) c.in_ok-n-in-Slice.n (view.expr c.deref-in-Slice.result.now) c.in_ok-n-in-Slice.ensures) (rw c.is_needed-needed.ensures at c.find_moving-in-Downward.ensures)))
+
+pub look_part-returns-in_ok-i-in-Bit : goal.look_part-returns-in_ok-i-in-Bit
+look_part-returns-in_ok-i-in-Bit g t c =
+    let n = is_needed c.args.need in
+    let find = names_for c.args.need (g.E.Env.names c.args.env.now) in
+    let i = typed (view.expr c.in-Bit.index.value) find n in
+    let says : Says n c.in_ok-i-in-Bit.i i = subst (λ x. Says n c.in_ok-i-in-Bit.i (typed (view.expr x) find n)) c.deref.ensures c.in_ok-i-in-Bit.ensures in
+    let checks = says.finds.checks in
+    subst (λ x. ChecksTaken c.bits_from.result (taken_by c.args.declared (view.select x) find n)) (sym c.in-Bit.is) (c.bits_from.ensures true 1 i i.faults refl checks.good checks.depth checks.flaws)
+
+pub look_part-returns-in_ok-m-in-Between : goal.look_part-returns-in_ok-m-in-Between
+look_part-returns-in_ok-m-in-Between g t c =
+    let n = is_needed c.args.need in
+    let find = names_for c.args.need (g.E.Env.names c.args.env.now) in
+    let left = view.expr c.in-Slice.left.value in
+    let right = view.expr c.in-Slice.right.value in
+    let of = λ (e : Expr). number (view.expr e) (steady find) in
+    let m = subst (λ x. ChecksNumber c.in_ok-m-in-Between.m (of x)) c.deref-in-Between.ensures (steady_number c.args.need (g.E.Env.names c.args.env.now) c.in_ok-m-in-Between.m (view.expr c.deref-in-Between.result.now) c.in_ok-m-in-Between.ensures) in
+    let k = subst (λ x. ChecksNumber c.in_ok-n-in-Slice.n (of x)) c.deref-in-Slice.ensures (steady_number c.args.need (g.E.Env.names c.args.env.now) c.in_ok-n-in-Slice.n (view.expr c.deref-in-Slice.result.now) c.in_ok-n-in-Slice.ensures) in
+    subst (λ x. ChecksTaken c.between.result (taken_by c.args.declared (view.select x) find n)) (sym c.in-Slice.is)
+    (subst (λ kind. ChecksTaken c.between.result (taken_by c.args.declared (tree.Slice c.in-Slice.bracket (view.slice_kind kind) left right) find n)) (sym c.in-Between.is)
+    (between_taken c.args.declared c.in-Slice.bracket (expr_place left) (expr_place right) c.place_of.result c.place_of-in-Between.result (typed left (steady find) true) (typed right (steady find) true)
+    c.in_ok-m-in-Between.m c.in_ok-n-in-Slice.n c.range_of_bounds-bounds.result c.between.result (c.place_of.ensures ∙ ap (λ x. expr_place (view.expr x)) c.deref-in-Between-2.ensures) (c.place_of-in-Between.ensures ∙ ap (λ x. expr_place (view.expr x)) c.deref-in-Between-3.ensures)
+    c.range_of_bounds-bounds.ensures.is m k c.between.ensures))
+
+pub look_part-returns-in_ok-a-in-Upward : goal.look_part-returns-in_ok-a-in-Upward
+look_part-returns-in_ok-a-in-Upward g t c =
+    let n = is_needed c.args.need in
+    let find = names_for c.args.need (g.E.Env.names c.args.env.now) in
+    let left = view.expr c.in-Slice.left.value in
+    let right = view.expr c.in-Slice.right.value in
+    let says : Says n c.in_ok-a-in-Upward.a (typed left find n) = subst (λ x. Says n c.in_ok-a-in-Upward.a (typed (view.expr x) find n)) c.deref-in-Upward.ensures c.in_ok-a-in-Upward.ensures in
+    let k : ChecksNumber c.in_ok-n-in-Slice.n (number right (steady find)) = subst (λ x. ChecksNumber c.in_ok-n-in-Slice.n (number (view.expr x) (steady find))) c.deref-in-Slice.ensures (steady_number c.args.need (g.E.Env.names c.args.env.now) c.in_ok-n-in-Slice.n (view.expr c.deref-in-Slice.result.now) c.in_ok-n-in-Slice.ensures) in
+    let at : c.place_of-in-Upward.result ≡ expr_place right = c.place_of-in-Upward.ensures ∙ ap (λ x. expr_place (view.expr x)) c.deref-in-Upward-2.ensures in
+    let moves : (up : Bool) → ChecksTaken c.moving.result (moving c.args.declared up (typed left find n) (expr_place right) (typed right (steady find) true)) =
+    λ up. subst (λ p. ChecksTaken c.moving.result (moving c.args.declared up (typed left find n) p (typed right (steady find) true))) at
+    (c.moving.ensures up (typed left find n) (typed right (steady find) true) says.finds.checks (subst (λ p. ChecksNumber c.in_ok-n-in-Slice.n (number_of p (typed right (steady find) true))) (sym at) k)) in
+    let of = λ (kind : SliceKind). ChecksTaken c.moving.result (taken_by c.args.declared (tree.Slice c.in-Slice.bracket (view.slice_kind kind) left right) find n) in
+    subst (λ x. ChecksTaken c.moving.result (taken_by c.args.declared (view.select x) find n)) (sym c.in-Slice.is)
+    (elim c.in-Upward.is [ inl e ↦ subst of (sym e) (moves true) | inr e ↦ subst of (sym e) (moves false) ])
 
 pub find_parts-find-requires : goal.find_parts-find-requires
 find_parts-find-requires g t c κs within =

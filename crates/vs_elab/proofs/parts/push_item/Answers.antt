@@ -9,9 +9,10 @@ use Rattle.vs_elaborated.specs.Surveys.{assign_said, nested_piece}
 use Rattle.vs_scope.specs.Made as code
 use Rattle.vs_elab.specs.Fine.{IsFineAssign, AreFineInside, IsFineItem, plain_said}
 use Rattle.vs_elab.specs.Pending.{parts_pieces}
-use Rattle.vs_elab.proofs.FineItems.{declared_fine, assigns_fine, block_fine, initial_fine, instances_fine}
+use Rattle.vs_elab.proofs.FineItems.{declared_fine, assigns_fine, initial_fine, instances_fine}
 use Rattle.vs_elab.proofs.FineParts.{part_fine}
 use Rattle.vs_elab.proofs.PartItems.{other_pieces}
+use Rattle.vs_elab.proofs.PendingParts.{part_more}
 use Rattle.vs_elab.proofs.parts.push_item.Goals as goal
 
 pub returns-in-Signals : goal.returns-in-Signals
@@ -35,10 +36,16 @@ returns-in-Assigns c = record {
       (assigns_fine source around c.in-Assigns.place _ m (subst (λ (x : Item). IsFineItem source around (view.item x) m) c.in-Assigns.is f)));
 }
 
+pub returns-in_ok-push-in-Always-clause-pieces : goal.returns-in_ok-push-in-Always-clause-pieces
+returns-in_ok-push-in-Always-clause-pieces c = λ source around m same.
+    let old = c.args.parts.now.items in
+    subst (λ (x : Item). parts_pieces source around c.push.new.self.items ≡ parts_pieces source around old ++ (plain_said source around (view.item x) m).pieces) (sym c.in-Always.is)
+    (part_more source around old c.push.new.self.items c.in_ok-part-in-Always.part c.in_ok-push-in-Always.ensures.items ∙ ap (λ (ps : List Piece). parts_pieces source around old ++ ps) (c.in_ok-part-in-Always.ensures.pieces source around))
+
 pub returns-in_ok-push-in-Always-clause-fine : goal.returns-in_ok-push-in-Always-clause-fine
 returns-in_ok-push-in-Always-clause-fine c = λ source around m same f old.
     part_fine source around.env c.args.parts.now.items c.push.new.self.items _ c.in_ok-push-in-Always.ensures.items old
-    (block_fine source around (view.always_block c.in-Always.b) m (subst (λ (x : Item). IsFineItem source around (view.item x) m) c.in-Always.is f))
+    (let g = subst (λ (x : Item). IsFineItem source around (view.item x) m) c.in-Always.is f in c.in_ok-part-in-Always.ensures.fine source around g.stated g.shallow g.clean)
 
 pub returns-in_ok-push-in-Initial-clause-fine : goal.returns-in_ok-push-in-Initial-clause-fine
 returns-in_ok-push-in-Initial-clause-fine c = λ source around m same f old.

@@ -9,7 +9,7 @@ use Rattle.vs_elaborated.specs.Pieces.{all_said}
 use Rattle.vs_elaborated.specs.Limits.{the_limits}
 use Rattle.vs_elaborated.specs.Surveys.{Loops, assign_said, item_said, loops_after}
 use Rattle.vs_scope.specs.Frames.{view_env}
-use Rattle.vs_items.proofs.BodyFaults.{assigns_alike, signals_alike, block_alike, initial_alike, after_alike}
+use Rattle.vs_items.proofs.BodyFaults.{assigns_alike, signals_alike, block_faults_are, block_alike, initial_alike, after_alike}
 use Rattle.vs_items.proofs.bodies.item_fault.Goals as goal
 
 pub returns-in-Signals-clause-fault : goal.returns-in-Signals-clause-fault
@@ -36,7 +36,8 @@ returns-in-Instances-clause-fault c = λ source around made a names.
 pub returns-in-Always-clause-fault : goal.returns-in-Always-clause-fault
 returns-in-Always-clause-fault c = λ source around made a names.
     subst (λ (x : Item). IfOk c.block_fault.result (λ (f : Option Fault). f ≡ least (item_said the_limits source around c.args.loops.now (view.item x) made).faults)) (sym c.in-Always.is)
-    (subst (λ (fs : List Fault). IfOk c.block_fault.result (λ (f : Option Fault). f ≡ least fs)) (sym (block_alike the_limits c.args.loops.now around.env (view_env c.args.here.now) names (view.always_block c.in-Always.b)))
+    (subst (λ (fs : List Fault). IfOk c.block_fault.result (λ (f : Option Fault). f ≡ least fs))
+    (sym (block_faults_are the_limits around c.args.loops.now (view.always_block c.in-Always.b) ∙ block_alike the_limits c.args.loops.now around.env (view_env c.args.here.now) names (view.always_block c.in-Always.b)))
     c.block_fault.ensures.fault)
 
 pub returns-in-Always-clause-loops : goal.returns-in-Always-clause-loops

@@ -1,21 +1,18 @@
 use Rattle.std.proofs.Common.{◌++◌, refl, sym, subst, OnOk}
-use Rattle.vs_design.specs.Designs.{Always}
 use Rattle.vs_ast.specs.declared.items.Item.{Item}
 use Rattle.vs_ast.specs.Views as view
-use Rattle.vs_elaborated.specs.Environments.{named}
-use Rattle.vs_elaborated.specs.Statements.{typed_control}
-use Rattle.vs_elaborated.specs.Pieces.{Own, Initially}
-use Rattle.vs_elaborated.specs.Surveys.{block_statement, initial_statement, item_said}
+use Rattle.vs_elaborated.specs.NamedBlocks.{named_blocks}
+use Rattle.vs_elaborated.specs.Pieces.{Initially}
+use Rattle.vs_elaborated.specs.Surveys.{initial_statement, item_said}
 use Rattle.vs_items.specs.Counts.{IsCounted}
-use Rattle.vs_items.proofs.ItemLists.{other_counted, are_others}
+use Rattle.vs_items.proofs.ItemLists.{block_counted, other_counted, are_others}
 use Rattle.vs_items.proofs.counts.count_item.Goals as goal
 
 pub returns-in-Always-clause-counted : goal.returns-in-Always-clause-counted
 returns-in-Always-clause-counted c = λ limits source around loops made before ps a h.
     let b = view.always_block c.in-Always.b in
-    let e = typed_control b.control (named around.env) in
     subst (λ (x : Item). IsCounted c.add.new.self before (ps ++ (item_said limits source around loops (view.item x) made).pieces)) (sym c.in-Always.is)
-    (c.add.ensures.counted before ps (Own (Always b.place e.star e.events (block_statement limits around.env loops b).statement)) h refl refl)
+    (block_counted (named_blocks b.statement) limits around loops b c.add.new.self before ps (λ p e f. c.add.ensures.counted before ps p h e f))
 
 pub returns-in-Initial-clause-counted : goal.returns-in-Initial-clause-counted
 returns-in-Initial-clause-counted c = λ limits source around loops made before ps a h.

@@ -1,4 +1,4 @@
-use Rattle.std.proofs.Common.{◌≡◌, refl, sym, subst, true, length}
+use Rattle.std.proofs.Common.{◌≡◌, ◌&&◌, refl, sym, subst, true, length}
 use Rattle.vs_four.specs.Selects.{Part}
 use Rattle.vs_design.specs.Fits.{fits_target}
 use Rattle.vs_design.specs.Statements.{PartOf, WordOf}
@@ -8,8 +8,8 @@ use Rattle.vs_lower.specs.declared.leaves.Leaf.{Leaf}
 use Rattle.vs_lower.specs.Leaves.{leaf_target, named_signal}
 use Rattle.vs_lower.specs.Written.{AddsIndex, HasRoom, index_weight}
 use Rattle.vs_values.proofs.Choosing.{own_value_of}
-use Rattle.vs_lower.proofs.Indexing.{ready_index_of, adds_whole_index, adds_part_index, adds_word_index}
-use Rattle.vs_lower.proofs.Partwise.{fit_part, fit_word}
+use Rattle.vs_lower.proofs.Indexing.{if_ok, ready_index_of, adds_whole_index, adds_part_index, adds_word_index, adds_word_part_index}
+use Rattle.vs_lower.proofs.Partwise.{fit_part, fit_word, fit_word_part}
 use Rattle.vs_design.specs.Within.{names_within, signal_within, target_within}
 use Rattle.vs_values.proofs.Values.{both_true}
 use Rattle.vs_lower.proofs.indices.index.Goals as goal
@@ -59,3 +59,32 @@ returns-in_ok-to-in-Word c =
     subst (λ (x : Leaf). AddsIndex c.args.env.now c.args.code.now c.lower-in-Word.new.code (leaf_target a x) ti) (sym c.in-Word.is)
     (adds_word_index c.value_law.ensures.constant c.args.env.now c.args.code.now c.lower-in-Word.new.code (signal_at (arena_signals a) c.in-Word.signal) index ti
     (own_value_of c.args.env.now c.args.code.now c.lower-in-Word.new.code index c.own-own-in-Word.result.width c.own-own-in-Word.result.signed ti c.own-own-in-Word.ensures.width c.own-own-in-Word.ensures.signed c.in_ok-to-in-Word.ensures))
+
+pub part_index-requires-clause-ready : goal.part_index-requires-clause-ready
+part_index-requires-clause-ready c =
+    let a = c.args.templates.now.arena in
+    let n = length c.args.env.now in
+    let part : Part = record { range = c.in-WordPart.range; up = c.in-WordPart.up; width = c.in-WordPart.width } in
+    let signal = signal_at (arena_signals a) c.in-WordPart.signal in
+    let address = tree_at (arena_trees a) c.in-WordPart.address in
+    let index = tree_at (arena_trees a) c.in-WordPart.index in
+    let f = fit_word_part signal address part index (subst (λ (x : Leaf). fits_target (leaf_target a x) ≡ true) c.in-WordPart.is c.requires.fit) in
+    let names = both_true (signal_within n signal && names_within n address) (names_within n index) (subst (λ (x : Leaf). target_within n (leaf_target a x) ≡ true) c.in-WordPart.is c.requires.names) in
+    record {
+      address_fit = f.address_fit;
+      address_most = f.address_most;
+      address_names = (both_true (signal_within n signal) (names_within n address) names.0).1;
+      index_fit = f.index_fit;
+      index_most = f.index_most;
+      index_names = names.1;
+      room = subst (λ (x : Leaf). HasRoom c.args.env.now c.args.code.now (index_weight (leaf_target a x))) c.in-WordPart.is c.requires.room;
+    }
+
+pub returns-in-WordPart : goal.returns-in-WordPart
+returns-in-WordPart c =
+    let a = c.args.templates.now.arena in
+    let part : Part = record { range = c.in-WordPart.range; up = c.in-WordPart.up; width = c.in-WordPart.width } in
+    if_ok c.part_index.result c.part_index.ensures
+    (λ ti both. subst (λ (x : Leaf). AddsIndex c.args.env.now c.args.code.now c.part_index.new.code (leaf_target a x) ti.items) (sym c.in-WordPart.is)
+    (adds_word_part_index c.value_law.ensures.constant c.args.env.now c.args.code.now c.part_index.new.code (signal_at (arena_signals a) c.in-WordPart.signal) (tree_at (arena_trees a) c.in-WordPart.address) part (tree_at (arena_trees a) c.in-WordPart.index) ti.items
+    c.requires.room.is_env both))

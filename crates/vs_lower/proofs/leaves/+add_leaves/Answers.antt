@@ -113,3 +113,13 @@ returns-in_ok-push-in-Word t c =
     let names = subst (HasNames (length a.signals) e) c.in-Word.is (rw c.shapes.ensures at c.node.ensures.names) in
     subst (λ (x : E.Expression). AddsLeaves c.args.templates.now c.args.leaves.now.items c.push-in-Word.new.self.items (leaves_of (target_tree x))) (sym (tree a e c.node.result.now n c.in-Word.is (rw c.shapes.ensures at c.node.ensures.tree)))
     (adds_leaf c.args.templates.now c.args.leaves.now.items c.push-in-Word.new.self.items (L.Word c.in-Word.signal c.in-Word.index) _ c.in_ok-push-in-Word.ensures.items refl (names.0, omega (arith, names.1, c.requires.node)))
+
+pub returns-in_ok-push-in-WordPart : goal.returns-in_ok-push-in-WordPart
+returns-in_ok-push-in-WordPart t c =
+    let a = c.args.templates.now.arena in
+    let e = c.args.target in
+    let n = N.WordPart c.in-WordPart.signal c.in-WordPart.address c.in-WordPart.range c.in-WordPart.base c.in-WordPart.up c.in-WordPart.width in
+    let names = subst (HasNames (length a.signals) e) c.in-WordPart.is (rw c.shapes.ensures at c.node.ensures.names) in
+    subst (λ (x : E.Expression). AddsLeaves c.args.templates.now c.args.leaves.now.items c.push-in-WordPart.new.self.items (leaves_of (target_tree x))) (sym (tree a e c.node.result.now n c.in-WordPart.is (rw c.shapes.ensures at c.node.ensures.tree)))
+    (adds_leaf c.args.templates.now c.args.leaves.now.items c.push-in-WordPart.new.self.items (L.WordPart c.in-WordPart.signal c.in-WordPart.address c.in-WordPart.range c.in-WordPart.up c.in-WordPart.width c.in-WordPart.base) _ c.in_ok-push-in-WordPart.ensures.items refl
+    (names.0, omega (arith, names.1, c.requires.node), omega (arith, names.2, c.requires.node)))

@@ -1,4 +1,4 @@
-use Rattle.std.proofs.Common.{◌≡◌, ◌∙◌, ◌+◌, ◌≤◌, ◌<◌, ℕ, List, [], ◌∷◌, Bool, true, map, length, slice_index, sym, ap, subst, arith, true≢false}
+use Rattle.std.proofs.Common.{◌≡◌, ◌∙◌, ◌+◌, ◌≤◌, ◌<◌, ◌&&◌, ℕ, List, [], ◌∷◌, Bool, true, map, length, slice_index, sym, ap, subst, arith, true≢false}
 use Rattle.std.specs.Prelude.{OnOk}
 use Rattle.std.specs.List.{All}
 use Rattle.vs_four.specs.Selects.{Part, places}
@@ -6,7 +6,7 @@ use Rattle.vs_design.specs.Bodies.{bits_at}
 use Rattle.vs_design.specs.Expressions as E
 use Rattle.vs_design.specs.Expressions.{sign, width, signal_length}
 use Rattle.vs_design.specs.Fits.{fits_target}
-use Rattle.vs_design.specs.Statements.{PartOf, target_width}
+use Rattle.vs_design.specs.Statements.{Target, PartOf, WordPartOf, target_width}
 use Rattle.vs_design.specs.Values.{bits_of_signal}
 use Rattle.vs_flat.specs.Arena.{Arena}
 use Rattle.vs_flat.specs.DesignOf.{arena_signals, arena_trees}
@@ -155,3 +155,54 @@ pub call_write-requires-clause-within : goal.call_write-requires-clause-within
 call_write-requires-clause-within c =
     let a = c.args.templates.now.arena in
     (both_true (signal_within (length c.args.env.now) (named_signal a c.in-Select.signal)) (names_within (length c.args.env.now) (tree_at (arena_trees a) c.in-Select.at)) (subst (λ (x : Leaf). target_within (length c.args.env.now) (leaf_target a x) ≡ true) c.in-Select.is c.requires.names)).0
+
+-- what is known of a part of a word
+record IsOfWord (a : Arena) (env : List ℕ) (code : Coding) (signal : E.Signal) (address : E.Expression) (part : Part) (index : E.Expression) (ti tv : List ℕ) : Type 0 where
+  fit : fits_target (WordPartOf signal address part index) ≡ true
+  room : HasRoom env code (write_weight (WordPartOf signal address part index))
+  within : signal_within (length env) signal ≡ true
+
+of_word : (a : Arena) (env : List ℕ) (code : Coding) (leaf : Leaf) (signal address at : ℕ) (part : Part) (k : ℕ) (ti tv : List ℕ) → leaf ≡ L.WordPart signal address part.range part.up k at
+    → fits_target (leaf_target a leaf) ≡ true → HasRoom env code (write_weight (leaf_target a leaf)) → length tv ≡ target_width (leaf_target a leaf) → target_within (length env) (leaf_target a leaf) ≡ true
+    → IsOfWord a env code (signal_at (arena_signals a) signal) (tree_at (arena_trees a) address) (record { range = part.range; up = part.up; width = length tv }) (tree_at (arena_trees a) at) ti tv
+of_word a env code leaf signal address at part k ti tv is f r l n =
+    let s = signal_at (arena_signals a) signal in
+    let x = tree_at (arena_trees a) address in
+    let y = tree_at (arena_trees a) at in
+    let long : k ≡ length tv = sym (subst (λ (z : Leaf). length tv ≡ target_width (leaf_target a z)) is l) in
+    let made : ℕ → Target = λ m. WordPartOf s x (record { range = part.range; up = part.up; width = m }) y in
+    record {
+      fit = subst (λ (m : ℕ). fits_target (made m) ≡ true) long (subst (λ (z : Leaf). fits_target (leaf_target a z) ≡ true) is f);
+      room = subst (λ (m : ℕ). HasRoom env code (write_weight (made m))) long (subst (λ (z : Leaf). HasRoom env code (write_weight (leaf_target a z))) is r);
+      within = (both_true (signal_within (length env) s) (names_within (length env) x)
+          (both_true (signal_within (length env) s && names_within (length env) x) (names_within (length env) y) (subst (λ (z : Leaf). target_within (length env) (leaf_target a z) ≡ true) is n)).0).0;
+    }
+
+pub write_part-requires : goal.write_part-requires
+write_part-requires c =
+    let t = c.args.templates.now in
+    let a = t.arena in
+    let part : Part = record { range = c.in-WordPart.range; up = c.in-WordPart.up; width = length c.args.value.now } in
+    let inside = subst (λ (x : Leaf). IsInside t x) c.in-WordPart.is c.requires.inside in
+    let q = of_word a c.args.env.now c.args.code.now c.args.leaf c.in-WordPart.signal c.in-WordPart.address c.in-WordPart.at part c.in-WordPart.width c.args.index.now c.args.value.now c.in-WordPart.is c.requires.fit c.requires.room c.requires.long c.requires.names in
+    record {
+      signal = inside.0;
+      at = inside.1;
+      within = q.within;
+      room = q.room;
+      fit = q.fit;
+      sign = c.signed-in-WordPart.ensures;
+      value = c.requires.value;
+      index = c.requires.index;
+      indexed = subst (λ (x : Leaf). IsIndexed (leaf_target a x) c.args.index.now) c.in-WordPart.is c.requires.indexed;
+    }
+
+pub returns-in-WordPart : goal.returns-in-WordPart
+returns-in-WordPart c =
+    let a = c.args.templates.now.arena in
+    let ti = c.args.index.now in
+    let tv = c.args.value.now in
+    let long : length tv ≡ c.in-WordPart.width = subst (λ (x : Leaf). length tv ≡ target_width (leaf_target a x)) c.in-WordPart.is c.requires.long in
+    let made : ℕ → Target = λ m. WordPartOf (signal_at (arena_signals a) c.in-WordPart.signal) (tree_at (arena_trees a) c.in-WordPart.address) (record { range = c.in-WordPart.range; up = c.in-WordPart.up; width = m }) (tree_at (arena_trees a) c.in-WordPart.at) in
+    subst (λ (x : Leaf). OnOk c.write_part.result (AddsWrites c.args.env.now c.write_part.new.env c.args.code.now c.write_part.new.code (leaf_target a x) (ti ∷ []) tv (write_weight (leaf_target a x)))) (sym c.in-WordPart.is)
+    (subst (λ (m : ℕ). OnOk c.write_part.result (AddsWrites c.args.env.now c.write_part.new.env c.args.code.now c.write_part.new.code (made m) (ti ∷ []) tv (write_weight (made m)))) long c.write_part.ensures)

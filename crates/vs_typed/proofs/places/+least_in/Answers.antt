@@ -150,3 +150,14 @@ returns-after-loop-argument t c at =
     let whole = call_done c.places_law.ensures.items c.places_law.ensures.statements rule place (E.items_of (map (tree_of a) c.in-Call.arguments)) f.header.place f.statement head c.loop-argument.least _ _ arguments
     (least_of_callee a rule c.args.table.now c.requires.table c.in-Call.function first f.header.place) c.least_callee.ensures in
     node_done rule at place c.args.best head _ (tree_of a c.args.e) x tree tt head_is whole
+
+pub returns-in-WordPart : goal.returns-in-WordPart
+returns-in-WordPart t c at =
+    let a = c.args.shapes.now in
+    let rule = c.args.rule in
+    let place = place_of a c.args.e in
+    let head = c.least_head-least.result in
+    let x = tree_of_node a (N.WordPart c.in-WordPart.signal c.in-WordPart.address c.in-WordPart.range c.in-WordPart.base c.in-WordPart.up c.in-WordPart.width) in
+    let tree : tree_of a c.args.e ≡ E.At place x = c.node_in-node.ensures.tree ∙ ap (λ n. E.At place (tree_of_node a n)) c.in-WordPart.is in
+    node_done rule at place c.args.best head _ (tree_of a c.args.e) x tree tt (c.least_head-least.ensures x tree)
+    (c.least_in-in-WordPart.ensures place ∙ ap (λ b. least_from b (places_of rule place (tree_of a c.in-WordPart.base))) (c.least_in-least-in-WordPart.ensures place) ∙ sym (from_append head (places_of rule place (tree_of a c.in-WordPart.address)) (places_of rule place (tree_of a c.in-WordPart.base))))

@@ -1,4 +1,4 @@
-use Rattle.std.proofs.Common.{Bool, ◌||◌, ◌&&◌, not, max, map, slice_index, Vec, Global, true, ◌≡◌, ◌∙◌, ◌<◌, ℕ, List, [], ◌∷◌, length, sym, ap, subst, subst₂, refl, arith, ◌⊎◌}
+use Rattle.std.proofs.Common.{Bool, ◌||◌, ◌&&◌, not, max, map, slice_index, Vec, Global, true, false, ◌≡◌, ◌∙◌, ◌<◌, ℕ, List, [], ◌∷◌, length, sym, ap, subst, subst₂, refl, arith, ◌⊎◌}
 use Rattle.std.proofs.lemmas.Result.{IfOk-weaker}
 use Rattle.vs_design.specs.Expressions as E
 use Rattle.vs_design.specs.Values.{left_width, right_width, right_sign}
@@ -23,7 +23,7 @@ use Rattle.vs_flat.specs.Trees.{tree_at}
 use Rattle.vs_values.specs.Valued.{AddsValue}
 use Rattle.vs_values.proofs.Readying.{ready_left, ready_right}
 use Rattle.vs_values.proofs.Binary.{context_is, sign_context, adds_at, ready_at, operands_of, short_is, returns_folded, returns_moved, call_is, returns_called, both_ok}
-use Rattle.vs_values.specs.Made.{IsCallable, IsUnary, IsChoice, IsSelect, IsWord, source_slots, word_kernel}
+use Rattle.vs_values.specs.Made.{IsCallable, IsUnary, IsChoice, IsSelect, IsWord, source_slots, word_kernel, select_kernel}
 use Rattle.vs_values.specs.Products.{IsCheap, HasRoom, AddsProduct, product_cost}
 use Rattle.vs_values.proofs.Summing.{summable, returns_summed}
 use Rattle.vs_values.proofs.Unary.{ready_operand, operand_of, operand_long, callable_unary, returns_unary}
@@ -38,6 +38,7 @@ use Rattle.vs_four.specs.Selects.{Part, one_bit}
 use Rattle.vs_flat.specs.Targets.{source_of}
 use Rattle.vs_values.proofs.Taking.{ready_index, selectable, callable_select, returns_select, index_of, selectable_from, callable_from, select_from}
 use Rattle.vs_values.proofs.Wording.{ready_address, address_of, address_long, callable_word, returns_word}
+use Rattle.vs_values.proofs.PartWording.{word_fits, ready_word, Worded, ready_taken, part_selectable, part_callable, returns_part}
 use Rattle.vs_flat.specs.declared.expressions.Node.{Node}
 use Rattle.vs_flat.specs.DesignOf.{local_of}
 use Rattle.vs_shape.specs.Nodes.{HasCalls}
@@ -1283,6 +1284,359 @@ lower-returns-in-Word t c =
     (λ to v. subst (λ (x : E.Expression). AddsValue env code.calls code.next c.word.new.code.calls c.word.new.code.next x w s to.items) (sym tr.is)
     (adds_placed env code.calls code.next c.word.new.code.calls c.word.new.code.next tr.place plain w s to.items v))
     c.word.ensures
+
+pub word_part-lower-requires : goal.word_part-lower-requires
+word_part-lower-requires t c =
+    let a = c.args.templates.now.arena in
+    let env = c.args.env.now in
+    let code = c.args.code.now in
+    let signal = signal_at (arena_signals a) c.args.signal in
+    let address = tree_at (arena_trees a) c.args.address in
+    let index = tree_at (arena_trees a) c.args.index in
+    let part : Part = record { range = c.args.range; up = c.args.up; width = c.args.width } in
+    let w = c.args.context.width in
+    let k = E.word_length signal in
+    let ready = ready_word signal address part index env code w (word_fits c.trees_law.ensures.counts a c.args.signal c.flat.ensures.lawful c.requires.signal) c.requires.ready in
+    (omega (arith, c.decreases), (c.requires.address, ready_address env code signal address k c.own_of-own.result.width c.own_of-own.ensures.width ready))
+
+pub word_part-chosen_word-requires-clause-within : goal.word_part-chosen_word-requires-clause-within
+word_part-chosen_word-requires-clause-within t c =
+    let a = c.args.templates.now.arena in
+    let env = c.args.env.now in
+    let code = c.args.code.now in
+    let signal = signal_at (arena_signals a) c.args.signal in
+    let address = tree_at (arena_trees a) c.args.address in
+    let index = tree_at (arena_trees a) c.args.index in
+    let part : Part = record { range = c.args.range; up = c.args.up; width = c.args.width } in
+    let w = c.args.context.width in
+    let k = E.word_length signal in
+    let ready = ready_word signal address part index env code w (word_fits c.trees_law.ensures.counts a c.args.signal c.flat.ensures.lawful c.requires.signal) c.requires.ready in
+    (both_true (signal_within (length env) signal) (names_within (length env) address) ready.has_bits).0
+
+pub word_part-chosen_word-requires-clause-some : goal.word_part-chosen_word-requires-clause-some
+word_part-chosen_word-requires-clause-some t c =
+    let a = c.args.templates.now.arena in
+    let env = c.args.env.now in
+    let code = c.args.code.now in
+    let signal = signal_at (arena_signals a) c.args.signal in
+    let address = tree_at (arena_trees a) c.args.address in
+    let index = tree_at (arena_trees a) c.args.index in
+    let part : Part = record { range = c.args.range; up = c.args.up; width = c.args.width } in
+    let w = c.args.context.width in
+    let k = E.word_length signal in
+    let ready = ready_word signal address part index env code w (word_fits c.trees_law.ensures.counts a c.args.signal c.flat.ensures.lawful c.requires.signal) c.requires.ready in
+    let code1 = c.lower.new.code in
+    let ta = c.in_ok-a.a.items in
+    let va = own_value_of env code code1 address c.own_of-own.result.width c.own_of-own.result.signed ta c.own_of-own.ensures.width c.own_of-own.ensures.signed c.in_ok-a.ensures in
+    let own = address_of env code code1 signal address k ta ready va in
+    (address_long env code code1 signal address k ta own).0
+
+pub word_part-chosen_word-requires-clause-most : goal.word_part-chosen_word-requires-clause-most
+word_part-chosen_word-requires-clause-most t c =
+    let a = c.args.templates.now.arena in
+    let env = c.args.env.now in
+    let code = c.args.code.now in
+    let signal = signal_at (arena_signals a) c.args.signal in
+    let address = tree_at (arena_trees a) c.args.address in
+    let index = tree_at (arena_trees a) c.args.index in
+    let part : Part = record { range = c.args.range; up = c.args.up; width = c.args.width } in
+    let w = c.args.context.width in
+    let k = E.word_length signal in
+    let ready = ready_word signal address part index env code w (word_fits c.trees_law.ensures.counts a c.args.signal c.flat.ensures.lawful c.requires.signal) c.requires.ready in
+    let code1 = c.lower.new.code in
+    let ta = c.in_ok-a.a.items in
+    let va = own_value_of env code code1 address c.own_of-own.result.width c.own_of-own.result.signed ta c.own_of-own.ensures.width c.own_of-own.ensures.signed c.in_ok-a.ensures in
+    let own = address_of env code code1 signal address k ta ready va in
+    (address_long env code code1 signal address k ta own).1
+
+pub word_part-chosen_word-requires-clause-call : goal.word_part-chosen_word-requires-clause-call
+word_part-chosen_word-requires-clause-call t c =
+    let a = c.args.templates.now.arena in
+    let env = c.args.env.now in
+    let code = c.args.code.now in
+    let signal = signal_at (arena_signals a) c.args.signal in
+    let address = tree_at (arena_trees a) c.args.address in
+    let index = tree_at (arena_trees a) c.args.index in
+    let part : Part = record { range = c.args.range; up = c.args.up; width = c.args.width } in
+    let w = c.args.context.width in
+    let k = E.word_length signal in
+    let ready = ready_word signal address part index env code w (word_fits c.trees_law.ensures.counts a c.args.signal c.flat.ensures.lawful c.requires.signal) c.requires.ready in
+    let code1 = c.lower.new.code in
+    let ta = c.in_ok-a.a.items in
+    let va = own_value_of env code code1 address c.own_of-own.result.width c.own_of-own.result.signed ta c.own_of-own.ensures.width c.own_of-own.ensures.signed c.in_ok-a.ensures in
+    let own = address_of env code code1 signal address k ta ready va in
+    (λ variable.
+    subst (λ (b : Bool). IsCallable code1 (word_kernel signal b) (source_slots env (E.OfSignal signal) ∷ ta ∷ []) k) (sym c.own_of-own.ensures.signed)
+    (callable_word env code code1 signal address k ta own variable))
+
+pub word_part-lower-requires-2 : goal.word_part-lower-requires-2
+word_part-lower-requires-2 t c =
+    let a = c.args.templates.now.arena in
+    let env = c.args.env.now in
+    let code = c.args.code.now in
+    let signal = signal_at (arena_signals a) c.args.signal in
+    let address = tree_at (arena_trees a) c.args.address in
+    let index = tree_at (arena_trees a) c.args.index in
+    let part : Part = record { range = c.args.range; up = c.args.up; width = c.args.width } in
+    let w = c.args.context.width in
+    let k = E.word_length signal in
+    let ready = ready_word signal address part index env code w (word_fits c.trees_law.ensures.counts a c.args.signal c.flat.ensures.lawful c.requires.signal) c.requires.ready in
+    let code1 = c.lower.new.code in
+    let ta = c.in_ok-a.a.items in
+    let va = own_value_of env code code1 address c.own_of-own.result.width c.own_of-own.result.signed ta c.own_of-own.ensures.width c.own_of-own.ensures.signed c.in_ok-a.ensures in
+    let own = address_of env code code1 signal address k ta ready va in
+    let code2 = c.chosen_word.new.code in
+    let tw = c.in_ok-from.from.items in
+    let is : IsWord signal (E.sign address) k false (source_slots env (E.OfSignal signal)) ta code1 code2 tw =
+    subst (λ (b : Bool). IsWord signal b k false (source_slots env (E.OfSignal signal)) ta code1 code2 tw) c.own_of-own.ensures.signed
+    (subst (λ n. IsWord signal c.own_of-own.result.signed n false (source_slots env (E.OfSignal signal)) ta code1 code2 tw) c.word_width.ensures c.in_ok-from.ensures)
+    in
+    let o : Worded signal address part index env code code1 code2 w ta tw = record { ready = c.requires.ready; own = own; word = is } in
+    (omega (arith, c.decreases), (c.requires.index, ready_taken signal address part index c.value_law.ensures.constant env code code1 code2 w ta tw o c.own_of-by.result.width c.own_of-by.ensures.width))
+
+pub word_part-chosen_bits-requires-clause-of_range : goal.word_part-chosen_bits-requires-clause-of_range
+word_part-chosen_bits-requires-clause-of_range t c =
+    let a = c.args.templates.now.arena in
+    let env = c.args.env.now in
+    let code = c.args.code.now in
+    let signal = signal_at (arena_signals a) c.args.signal in
+    let address = tree_at (arena_trees a) c.args.address in
+    let index = tree_at (arena_trees a) c.args.index in
+    let part : Part = record { range = c.args.range; up = c.args.up; width = c.args.width } in
+    let w = c.args.context.width in
+    let k = E.word_length signal in
+    let ready = ready_word signal address part index env code w (word_fits c.trees_law.ensures.counts a c.args.signal c.flat.ensures.lawful c.requires.signal) c.requires.ready in
+    let code1 = c.lower.new.code in
+    let ta = c.in_ok-a.a.items in
+    let va = own_value_of env code code1 address c.own_of-own.result.width c.own_of-own.result.signed ta c.own_of-own.ensures.width c.own_of-own.ensures.signed c.in_ok-a.ensures in
+    let own = address_of env code code1 signal address k ta ready va in
+    let code2 = c.chosen_word.new.code in
+    let tw = c.in_ok-from.from.items in
+    let is : IsWord signal (E.sign address) k false (source_slots env (E.OfSignal signal)) ta code1 code2 tw =
+    subst (λ (b : Bool). IsWord signal b k false (source_slots env (E.OfSignal signal)) ta code1 code2 tw) c.own_of-own.ensures.signed
+    (subst (λ n. IsWord signal c.own_of-own.result.signed n false (source_slots env (E.OfSignal signal)) ta code1 code2 tw) c.word_width.ensures c.in_ok-from.ensures)
+    in
+    let o : Worded signal address part index env code code1 code2 w ta tw = record { ready = c.requires.ready; own = own; word = is } in
+    let code3 = c.lower-2.new.code in
+    let ti = c.in_ok-i.i.items in
+    let u = own_value_of env code2 code3 index c.own_of-by.result.width c.own_of-by.result.signed ti c.own_of-by.ensures.width c.own_of-by.ensures.signed c.in_ok-i.ensures in
+    (part_selectable signal address part index c.value_law.ensures.constant env code code1 code2 w ta tw o code3 ti u).of_range
+
+pub word_part-chosen_bits-requires-clause-some : goal.word_part-chosen_bits-requires-clause-some
+word_part-chosen_bits-requires-clause-some t c =
+    let a = c.args.templates.now.arena in
+    let env = c.args.env.now in
+    let code = c.args.code.now in
+    let signal = signal_at (arena_signals a) c.args.signal in
+    let address = tree_at (arena_trees a) c.args.address in
+    let index = tree_at (arena_trees a) c.args.index in
+    let part : Part = record { range = c.args.range; up = c.args.up; width = c.args.width } in
+    let w = c.args.context.width in
+    let k = E.word_length signal in
+    let ready = ready_word signal address part index env code w (word_fits c.trees_law.ensures.counts a c.args.signal c.flat.ensures.lawful c.requires.signal) c.requires.ready in
+    let code1 = c.lower.new.code in
+    let ta = c.in_ok-a.a.items in
+    let va = own_value_of env code code1 address c.own_of-own.result.width c.own_of-own.result.signed ta c.own_of-own.ensures.width c.own_of-own.ensures.signed c.in_ok-a.ensures in
+    let own = address_of env code code1 signal address k ta ready va in
+    let code2 = c.chosen_word.new.code in
+    let tw = c.in_ok-from.from.items in
+    let is : IsWord signal (E.sign address) k false (source_slots env (E.OfSignal signal)) ta code1 code2 tw =
+    subst (λ (b : Bool). IsWord signal b k false (source_slots env (E.OfSignal signal)) ta code1 code2 tw) c.own_of-own.ensures.signed
+    (subst (λ n. IsWord signal c.own_of-own.result.signed n false (source_slots env (E.OfSignal signal)) ta code1 code2 tw) c.word_width.ensures c.in_ok-from.ensures)
+    in
+    let o : Worded signal address part index env code code1 code2 w ta tw = record { ready = c.requires.ready; own = own; word = is } in
+    let code3 = c.lower-2.new.code in
+    let ti = c.in_ok-i.i.items in
+    let u = own_value_of env code2 code3 index c.own_of-by.result.width c.own_of-by.result.signed ti c.own_of-by.ensures.width c.own_of-by.ensures.signed c.in_ok-i.ensures in
+    (part_selectable signal address part index c.value_law.ensures.constant env code code1 code2 w ta tw o code3 ti u).some
+
+pub word_part-chosen_bits-requires-clause-at_most_64 : goal.word_part-chosen_bits-requires-clause-at_most_64
+word_part-chosen_bits-requires-clause-at_most_64 t c =
+    let a = c.args.templates.now.arena in
+    let env = c.args.env.now in
+    let code = c.args.code.now in
+    let signal = signal_at (arena_signals a) c.args.signal in
+    let address = tree_at (arena_trees a) c.args.address in
+    let index = tree_at (arena_trees a) c.args.index in
+    let part : Part = record { range = c.args.range; up = c.args.up; width = c.args.width } in
+    let w = c.args.context.width in
+    let k = E.word_length signal in
+    let ready = ready_word signal address part index env code w (word_fits c.trees_law.ensures.counts a c.args.signal c.flat.ensures.lawful c.requires.signal) c.requires.ready in
+    let code1 = c.lower.new.code in
+    let ta = c.in_ok-a.a.items in
+    let va = own_value_of env code code1 address c.own_of-own.result.width c.own_of-own.result.signed ta c.own_of-own.ensures.width c.own_of-own.ensures.signed c.in_ok-a.ensures in
+    let own = address_of env code code1 signal address k ta ready va in
+    let code2 = c.chosen_word.new.code in
+    let tw = c.in_ok-from.from.items in
+    let is : IsWord signal (E.sign address) k false (source_slots env (E.OfSignal signal)) ta code1 code2 tw =
+    subst (λ (b : Bool). IsWord signal b k false (source_slots env (E.OfSignal signal)) ta code1 code2 tw) c.own_of-own.ensures.signed
+    (subst (λ n. IsWord signal c.own_of-own.result.signed n false (source_slots env (E.OfSignal signal)) ta code1 code2 tw) c.word_width.ensures c.in_ok-from.ensures)
+    in
+    let o : Worded signal address part index env code code1 code2 w ta tw = record { ready = c.requires.ready; own = own; word = is } in
+    let code3 = c.lower-2.new.code in
+    let ti = c.in_ok-i.i.items in
+    let u = own_value_of env code2 code3 index c.own_of-by.result.width c.own_of-by.result.signed ti c.own_of-by.ensures.width c.own_of-by.ensures.signed c.in_ok-i.ensures in
+    (part_selectable signal address part index c.value_law.ensures.constant env code code1 code2 w ta tw o code3 ti u).most
+
+pub word_part-chosen_bits-requires-clause-some_index : goal.word_part-chosen_bits-requires-clause-some_index
+word_part-chosen_bits-requires-clause-some_index t c =
+    let a = c.args.templates.now.arena in
+    let env = c.args.env.now in
+    let code = c.args.code.now in
+    let signal = signal_at (arena_signals a) c.args.signal in
+    let address = tree_at (arena_trees a) c.args.address in
+    let index = tree_at (arena_trees a) c.args.index in
+    let part : Part = record { range = c.args.range; up = c.args.up; width = c.args.width } in
+    let w = c.args.context.width in
+    let k = E.word_length signal in
+    let ready = ready_word signal address part index env code w (word_fits c.trees_law.ensures.counts a c.args.signal c.flat.ensures.lawful c.requires.signal) c.requires.ready in
+    let code1 = c.lower.new.code in
+    let ta = c.in_ok-a.a.items in
+    let va = own_value_of env code code1 address c.own_of-own.result.width c.own_of-own.result.signed ta c.own_of-own.ensures.width c.own_of-own.ensures.signed c.in_ok-a.ensures in
+    let own = address_of env code code1 signal address k ta ready va in
+    let code2 = c.chosen_word.new.code in
+    let tw = c.in_ok-from.from.items in
+    let is : IsWord signal (E.sign address) k false (source_slots env (E.OfSignal signal)) ta code1 code2 tw =
+    subst (λ (b : Bool). IsWord signal b k false (source_slots env (E.OfSignal signal)) ta code1 code2 tw) c.own_of-own.ensures.signed
+    (subst (λ n. IsWord signal c.own_of-own.result.signed n false (source_slots env (E.OfSignal signal)) ta code1 code2 tw) c.word_width.ensures c.in_ok-from.ensures)
+    in
+    let o : Worded signal address part index env code code1 code2 w ta tw = record { ready = c.requires.ready; own = own; word = is } in
+    let code3 = c.lower-2.new.code in
+    let ti = c.in_ok-i.i.items in
+    let u = own_value_of env code2 code3 index c.own_of-by.result.width c.own_of-by.result.signed ti c.own_of-by.ensures.width c.own_of-by.ensures.signed c.in_ok-i.ensures in
+    (part_selectable signal address part index c.value_law.ensures.constant env code code1 code2 w ta tw o code3 ti u).some_index
+
+pub word_part-chosen_bits-requires-clause-index : goal.word_part-chosen_bits-requires-clause-index
+word_part-chosen_bits-requires-clause-index t c =
+    let a = c.args.templates.now.arena in
+    let env = c.args.env.now in
+    let code = c.args.code.now in
+    let signal = signal_at (arena_signals a) c.args.signal in
+    let address = tree_at (arena_trees a) c.args.address in
+    let index = tree_at (arena_trees a) c.args.index in
+    let part : Part = record { range = c.args.range; up = c.args.up; width = c.args.width } in
+    let w = c.args.context.width in
+    let k = E.word_length signal in
+    let ready = ready_word signal address part index env code w (word_fits c.trees_law.ensures.counts a c.args.signal c.flat.ensures.lawful c.requires.signal) c.requires.ready in
+    let code1 = c.lower.new.code in
+    let ta = c.in_ok-a.a.items in
+    let va = own_value_of env code code1 address c.own_of-own.result.width c.own_of-own.result.signed ta c.own_of-own.ensures.width c.own_of-own.ensures.signed c.in_ok-a.ensures in
+    let own = address_of env code code1 signal address k ta ready va in
+    let code2 = c.chosen_word.new.code in
+    let tw = c.in_ok-from.from.items in
+    let is : IsWord signal (E.sign address) k false (source_slots env (E.OfSignal signal)) ta code1 code2 tw =
+    subst (λ (b : Bool). IsWord signal b k false (source_slots env (E.OfSignal signal)) ta code1 code2 tw) c.own_of-own.ensures.signed
+    (subst (λ n. IsWord signal c.own_of-own.result.signed n false (source_slots env (E.OfSignal signal)) ta code1 code2 tw) c.word_width.ensures c.in_ok-from.ensures)
+    in
+    let o : Worded signal address part index env code code1 code2 w ta tw = record { ready = c.requires.ready; own = own; word = is } in
+    let code3 = c.lower-2.new.code in
+    let ti = c.in_ok-i.i.items in
+    let u = own_value_of env code2 code3 index c.own_of-by.result.width c.own_of-by.result.signed ti c.own_of-by.ensures.width c.own_of-by.ensures.signed c.in_ok-i.ensures in
+    (part_selectable signal address part index c.value_law.ensures.constant env code code1 code2 w ta tw o code3 ti u).index
+
+pub word_part-chosen_bits-requires-clause-call : goal.word_part-chosen_bits-requires-clause-call
+word_part-chosen_bits-requires-clause-call t c =
+    let a = c.args.templates.now.arena in
+    let env = c.args.env.now in
+    let code = c.args.code.now in
+    let signal = signal_at (arena_signals a) c.args.signal in
+    let address = tree_at (arena_trees a) c.args.address in
+    let index = tree_at (arena_trees a) c.args.index in
+    let part : Part = record { range = c.args.range; up = c.args.up; width = c.args.width } in
+    let w = c.args.context.width in
+    let k = E.word_length signal in
+    let ready = ready_word signal address part index env code w (word_fits c.trees_law.ensures.counts a c.args.signal c.flat.ensures.lawful c.requires.signal) c.requires.ready in
+    let code1 = c.lower.new.code in
+    let ta = c.in_ok-a.a.items in
+    let va = own_value_of env code code1 address c.own_of-own.result.width c.own_of-own.result.signed ta c.own_of-own.ensures.width c.own_of-own.ensures.signed c.in_ok-a.ensures in
+    let own = address_of env code code1 signal address k ta ready va in
+    let code2 = c.chosen_word.new.code in
+    let tw = c.in_ok-from.from.items in
+    let is : IsWord signal (E.sign address) k false (source_slots env (E.OfSignal signal)) ta code1 code2 tw =
+    subst (λ (b : Bool). IsWord signal b k false (source_slots env (E.OfSignal signal)) ta code1 code2 tw) c.own_of-own.ensures.signed
+    (subst (λ n. IsWord signal c.own_of-own.result.signed n false (source_slots env (E.OfSignal signal)) ta code1 code2 tw) c.word_width.ensures c.in_ok-from.ensures)
+    in
+    let o : Worded signal address part index env code code1 code2 w ta tw = record { ready = c.requires.ready; own = own; word = is } in
+    let code3 = c.lower-2.new.code in
+    let ti = c.in_ok-i.i.items in
+    let u = own_value_of env code2 code3 index c.own_of-by.result.width c.own_of-by.result.signed ti c.own_of-by.ensures.width c.own_of-by.ensures.signed c.in_ok-i.ensures in
+    (λ variable. subst (λ (b : Bool). IsCallable code3 (select_kernel part b) (tw ∷ ti ∷ []) part.width) (sym c.own_of-by.ensures.signed) (part_callable signal address part index c.value_law.ensures.constant env code code1 code2 w ta tw o code3 ti u variable))
+
+pub word_part-returns : goal.word_part-returns
+word_part-returns t c =
+    let a = c.args.templates.now.arena in
+    let env = c.args.env.now in
+    let code = c.args.code.now in
+    let signal = signal_at (arena_signals a) c.args.signal in
+    let address = tree_at (arena_trees a) c.args.address in
+    let index = tree_at (arena_trees a) c.args.index in
+    let part : Part = record { range = c.args.range; up = c.args.up; width = c.args.width } in
+    let w = c.args.context.width in
+    let k = E.word_length signal in
+    let ready = ready_word signal address part index env code w (word_fits c.trees_law.ensures.counts a c.args.signal c.flat.ensures.lawful c.requires.signal) c.requires.ready in
+    let code1 = c.lower.new.code in
+    let ta = c.in_ok-a.a.items in
+    let va = own_value_of env code code1 address c.own_of-own.result.width c.own_of-own.result.signed ta c.own_of-own.ensures.width c.own_of-own.ensures.signed c.in_ok-a.ensures in
+    let own = address_of env code code1 signal address k ta ready va in
+    let code2 = c.chosen_word.new.code in
+    let tw = c.in_ok-from.from.items in
+    let is : IsWord signal (E.sign address) k false (source_slots env (E.OfSignal signal)) ta code1 code2 tw =
+    subst (λ (b : Bool). IsWord signal b k false (source_slots env (E.OfSignal signal)) ta code1 code2 tw) c.own_of-own.ensures.signed
+    (subst (λ n. IsWord signal c.own_of-own.result.signed n false (source_slots env (E.OfSignal signal)) ta code1 code2 tw) c.word_width.ensures c.in_ok-from.ensures)
+    in
+    let o : Worded signal address part index env code code1 code2 w ta tw = record { ready = c.requires.ready; own = own; word = is } in
+    let code3 = c.lower-2.new.code in
+    let ti = c.in_ok-i.i.items in
+    let u = own_value_of env code2 code3 index c.own_of-by.result.width c.own_of-by.result.signed ti c.own_of-by.ensures.width c.own_of-by.ensures.signed c.in_ok-i.ensures in
+    let code4 = c.chosen_bits.new.code in
+    let s = c.args.context.signed in
+    IfOk-weaker c.chosen_bits.result
+    (λ (to : Vec ℕ Global). IsSelect part c.own_of-by.result.signed w s tw ti code3 code4 to.items)
+    (λ (to : Vec ℕ Global). AddsValue env code.calls code.next code4.calls code4.next (E.WordPart signal address part index) w s to.items)
+    (λ to h. returns_part signal address part index c.value_law.ensures.constant env code code1 code2 w ta tw o code3 ti u code4 s to.items (subst (λ (b : Bool). IsSelect part b w s tw ti code3 code4 to.items) c.own_of-by.ensures.signed h))
+    c.chosen_bits.ensures
+
+pub lower-word_part-requires : goal.lower-word_part-requires
+lower-word_part-requires t c =
+    let a = c.args.templates.now.arena in
+    let e = c.args.e in
+    let node = N.WordPart c.in-WordPart.signal c.in-WordPart.address c.in-WordPart.range c.in-WordPart.base c.in-WordPart.up c.in-WordPart.width in
+    let tr = tree a e c.expr.result.now node c.expr.ensures.tree c.expr.ensures.names c.in-WordPart.is in
+    let part : Part = record { range = c.in-WordPart.range; up = c.in-WordPart.up; width = c.in-WordPart.width } in
+    let plain = E.WordPart (signal_at (arena_signals a) c.in-WordPart.signal) (tree_at (arena_trees a) c.in-WordPart.address) part (tree_at (arena_trees a) c.in-WordPart.base) in
+    let below = tr.names in (
+      omega (arith, c.decreases, below.1, below.2),
+      (
+        below.0,
+        (
+          omega (arith, below.1, c.requires.node),
+          (
+            omega (arith, below.2, c.requires.node),
+            ready_strip c.args.env.now c.args.code.now tr.place plain c.args.context.width
+                (subst (λ (x : E.Expression). IsReady c.args.env.now c.args.code.now x c.args.context.width) tr.is c.requires.ready),
+          ),
+        ),
+      ),
+    )
+
+pub lower-returns-in-WordPart : goal.lower-returns-in-WordPart
+lower-returns-in-WordPart t c =
+    let a = c.args.templates.now.arena in
+    let e = c.args.e in
+    let node = N.WordPart c.in-WordPart.signal c.in-WordPart.address c.in-WordPart.range c.in-WordPart.base c.in-WordPart.up c.in-WordPart.width in
+    let tr = tree a e c.expr.result.now node c.expr.ensures.tree c.expr.ensures.names c.in-WordPart.is in
+    let part : Part = record { range = c.in-WordPart.range; up = c.in-WordPart.up; width = c.in-WordPart.width } in
+    let plain = E.WordPart (signal_at (arena_signals a) c.in-WordPart.signal) (tree_at (arena_trees a) c.in-WordPart.address) part (tree_at (arena_trees a) c.in-WordPart.base) in
+    let w = c.args.context.width in
+    let s = c.args.context.signed in
+    let env = c.args.env.now in
+    let code = c.args.code.now in
+    IfOk-weaker c.word_part.result
+    (λ (to : Vec ℕ Global). AddsValue env code.calls code.next c.word_part.new.code.calls c.word_part.new.code.next plain w s to.items)
+    (λ (to : Vec ℕ Global). AddsValue env code.calls code.next c.word_part.new.code.calls c.word_part.new.code.next (tree_at (arena_trees a) e) w s to.items)
+    (λ to v. subst (λ (x : E.Expression). AddsValue env code.calls code.next c.word_part.new.code.calls c.word_part.new.code.next x w s to.items) (sym tr.is)
+    (adds_placed env code.calls code.next c.word_part.new.code.calls c.word_part.new.code.next tr.place plain w s to.items v))
+    c.word_part.ensures
 
 -- ---- local signals and calls
 

@@ -30,6 +30,9 @@ decreases-select l = 128 * l.index + 128
 abbrev pub decreases-word : goal.decreases-word
 decreases-word l = 128 * l.index + 128
 
+abbrev pub decreases-word_part : goal.decreases-word_part
+decreases-word_part l = 128 * max l.address l.index + 128
+
 abbrev pub decreases-argument : goal.decreases-argument
 decreases-argument l = 128 * l.e + 128
 

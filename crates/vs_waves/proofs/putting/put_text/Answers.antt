@@ -1,8 +1,19 @@
-use Rattle.std.proofs.Common.{◌≡◌, ◌+◌, ◌-◌, ◌++◌, ℕ, List, length, take, drop, ap, ◌∙◌, refl, arith}
+use Rattle.std.proofs.Common.{◌≡◌, ◌+◌, ◌-◌, ◌++◌, ℕ, List, [], ◌∷◌, length, take, drop, append-nil, eqb-true, sym, ap, ◌∙◌, refl, arith}
 use Rattle.std.proofs.lemmas.List.{length-drop, length-take}
 use Rattle.vs_waves.proofs.Draining.{drained-more, filled_up, ended_front, filled_length}
-use Rattle.vs_waves.proofs.Moving.{drained_failed}
+use Rattle.vs_waves.proofs.Moving.{moves_none, drained_failed}
 use Rattle.vs_waves.proofs.putting.put_text.Goals as goal
+
+-- a text without bytes
+no_text : (xs : List ℕ) → length xs ≡ 0 → xs ≡ []
+no_text [] h = refl
+no_text (x ∷ xs) h = absurd (let e : ⊥ = omega arith in e)
+
+pub returns-then-is_empty-clause-moved : goal.returns-then-is_empty-clause-moved
+returns-then-is_empty-clause-moved g c =
+    let kept = take c.args.filled c.args.block.now in
+    moves_none c.put_law.ensures.nothing (g.D.Desk.told c.args.desk.now) c.args.place _ _ _
+    (sym (ap (λ (l : List ℕ). kept ++ l) (no_text c.args.text.now (eqb-true (length c.args.text.now) 0 (sym c.is_empty.ensures ∙ c.if-is_empty.true))) ∙ append-nil kept))
 
 pub loop-block-preserved : goal.loop-block-preserved
 loop-block-preserved g c =

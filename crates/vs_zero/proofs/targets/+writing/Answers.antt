@@ -4,13 +4,14 @@ use Rattle.vs_net.specs.Network.{write_all}
 use Rattle.vs_design.specs.Bodies.{target_writes}
 use Rattle.vs_flat.specs.Trees.{joined}
 use Rattle.vs_design.specs.Elaborated.{has_constant_selects}
-use Rattle.vs_design.specs.Expressions.{At, width}
+use Rattle.vs_design.specs.Expressions.{At, width, is_constant}
 use Rattle.vs_sets.specs.Nodes.{place_of, tree_of, tree_of_node}
 use Rattle.vs_sets.specs.TargetsOf.{IsTarget, target_tree}
 use Rattle.vs_zero.specs.States.{state_of, unknown}
 use Rattle.vs_zero.specs.Constants.{TargetBelow}
 use Rattle.vs_zero.proofs.Below.{both_below, named_below}
 use Rattle.vs_zero.proofs.TargetFacts.{split_facts}
+use Rattle.vs_sets.proofs.Fit.{and_left, and_right}
 use Rattle.vs_sets.proofs.TargetFacts.{first_below, joined_one, rest_below}
 use Rattle.vs_zero.proofs.targets.+writing.Goals as goal
 
@@ -64,3 +65,21 @@ put_parts-put-requires t c =
     let whole = ap (λ (ps : List ℕ). joined (map tree ps)) parts.0 ∙ joined_one tree c.in-Some.first.now c.in-Some.rest.now none in
     let before = first_below c.args.e c.args.parts.now c.in-Some.first.now c.in-Some.rest.now c.requires.before parts.0 in
     (omega (arith, before), (subst (λ x. TargetBelow (length c.args.state.now) (target_tree x)) whole c.requires.within, (omega (arith, before), (subst IsTarget whole c.requires.target, (ap (λ x. has_constant_selects (target_tree x)) (sym whole) ∙ c.requires.constant, c.requires.many ∙ ap width whole)))))
+
+pub put-put_word_part-requires-clause-within : goal.put-put_word_part-requires-clause-within
+put-put_word_part-requires-clause-within t c =
+    let a = c.args.shapes.now in
+    let tree = c.node.ensures.tree ∙ ap (λ m. At (place_of a c.args.e) (tree_of_node a m)) c.in-WordPart.is in
+    subst (λ x. TargetBelow (length c.args.state.now) (target_tree x)) tree c.requires.within
+
+pub put-put_word_part-requires-clause-constant_address : goal.put-put_word_part-requires-clause-constant_address
+put-put_word_part-requires-clause-constant_address t c =
+    let a = c.args.shapes.now in
+    let tree = c.node.ensures.tree ∙ ap (λ m. At (place_of a c.args.e) (tree_of_node a m)) c.in-WordPart.is in
+    and_left (is_constant (tree_of a c.in-WordPart.address)) (is_constant (tree_of a c.in-WordPart.base)) (ap (λ x. has_constant_selects (target_tree x)) (sym tree) ∙ c.requires.constant)
+
+pub put-put_word_part-requires-clause-constant : goal.put-put_word_part-requires-clause-constant
+put-put_word_part-requires-clause-constant t c =
+    let a = c.args.shapes.now in
+    let tree = c.node.ensures.tree ∙ ap (λ m. At (place_of a c.args.e) (tree_of_node a m)) c.in-WordPart.is in
+    and_right (is_constant (tree_of a c.in-WordPart.address)) (is_constant (tree_of a c.in-WordPart.base)) (ap (λ x. has_constant_selects (target_tree x)) (sym tree) ∙ c.requires.constant)

@@ -5,7 +5,7 @@ use Rattle.vs_flat.specs.Targets.{source_of}
 use Rattle.vs_flat.specs.declared.expressions.Node.TheVariants as N
 use Rattle.vs_shape.specs.Nodes.{tree_of}
 use Rattle.vs_shape.specs.Gathered.{gathered}
-use Rattle.vs_shape.proofs.Gathering.{with_argument, argument_fits, with_part, two_added, gathered_node, gathered_select, binary_gathered, choice_gathered, part_fits}
+use Rattle.vs_shape.proofs.Gathering.{with_argument, argument_fits, with_part, two_added, gathered_node, gathered_select, word_part_gathered, binary_gathered, choice_gathered, part_fits}
 use Rattle.vs_flat.specs.Trees.{signal_at}
 use Rattle.vs_flat.specs.DesignOf.{arena_signals}
 use Rattle.vs_shape.proofs.Addressed.{word_gathered}
@@ -49,6 +49,16 @@ returns-in_ok-push_addressed-in-Word t c =
     two_added c.push_reads-in-Word.result c.args.out.now.items c.push_addressed.new.out.items c.push_reads-in-Word.new.out.items _ _ (gathered w (tree_of a c.args.e)) c.in_ok-push_addressed-in-Word.ensures c.push_reads-in-Word.ensures
     (gathered_node a c.flat-flat.result.now c.args.e c.node_of.result.now w c.flat-flat.ensures.same c.node_of.ensures.tree (N.Word c.in-Word.signal c.in-Word.index) c.in-Word.is
     ∙ word_gathered w (signal_at (arena_signals a) c.in-Word.signal) (tree_of a c.in-Word.index))
+
+pub returns-in_ok-push_reads-in-WordPart : goal.returns-in_ok-push_reads-in-WordPart
+returns-in_ok-push_reads-in-WordPart t c =
+    let a = c.args.self.now in
+    let w = c.args.whole in
+    two_added c.push_reads-in-WordPart-2.result c.args.out.now.items c.push_word_part.new.out.items c.push_reads-in-WordPart-2.new.out.items _ _ (gathered w (tree_of a c.args.e)) c.in_ok-push_word_part-in-WordPart.ensures
+    (two_added c.push_reads-in-WordPart-2.result c.push_word_part.new.out.items c.push_reads-in-WordPart.new.out.items c.push_reads-in-WordPart-2.new.out.items (gathered w (tree_of a c.in-WordPart.address)) (gathered w (tree_of a c.in-WordPart.base))
+    (gathered w (tree_of a c.in-WordPart.address) ++ gathered w (tree_of a c.in-WordPart.base)) c.in_ok-push_reads-in-WordPart.ensures c.push_reads-in-WordPart-2.ensures refl)
+    (gathered_node a c.flat-flat.result.now c.args.e c.node_of.result.now w c.flat-flat.ensures.same c.node_of.ensures.tree (N.WordPart c.in-WordPart.signal c.in-WordPart.address c.in-WordPart.range c.in-WordPart.base c.in-WordPart.up c.in-WordPart.width) c.in-WordPart.is
+    ∙ word_part_gathered w (signal_at (arena_signals a) c.in-WordPart.signal) (tree_of a c.in-WordPart.address) (record { range = c.in-WordPart.range; up = c.in-WordPart.up; width = c.in-WordPart.width }) (tree_of a c.in-WordPart.base))
 
 pub returns-in_ok-push_reads-in-Binary : goal.returns-in_ok-push_reads-in-Binary
 returns-in_ok-push_reads-in-Binary t c =

@@ -5,6 +5,8 @@ use Rattle.vs_flat.specs.Arena.{Arena}
 use Rattle.vs_flat.specs.declared.expressions.Node.{Node}
 use Rattle.vs_shape.specs.Nodes.{tree_of, place_of, tree_of_node}
 use Rattle.vs_shape.specs.Shapes.{shape_of}
+use Rattle.vs_flat.specs.Trees.{signal_at}
+use Rattle.vs_flat.specs.DesignOf.{arena_signals}
 use Rattle.vs_shape.proofs.Joined.{shape_of_join}
 use Rattle.vs_shape.proofs.shapes.Shapes.+shape.Goals as goal
 
@@ -22,3 +24,10 @@ returns-in-Word t c =
     let kept = c.self.inside.flat in
     let e = c.args.e in
     c.word_shape.ensures (tree_of kept c.in-Word.index) ∙ sym (ap (λ (n : Node). shape_of (E.At (place_of kept e) (tree_of_node kept n))) c.in-Word.is) ∙ sym (ap shape_of c.node_of.ensures.tree) ∙ ap (λ (x : Arena). shape_of (tree_of x e)) c.self.view_is
+
+pub returns-in-WordPart : goal.returns-in-WordPart
+returns-in-WordPart t c =
+    let kept = c.self.inside.flat in
+    let e = c.args.e in
+    c.word_part_shape.ensures (signal_at (arena_signals kept) c.in-WordPart.signal) (tree_of kept c.in-WordPart.address) (tree_of kept c.in-WordPart.base) c.in-WordPart.range c.in-WordPart.up
+    ∙ sym (ap (λ (n : Node). shape_of (E.At (place_of kept e) (tree_of_node kept n))) c.in-WordPart.is) ∙ sym (ap shape_of c.node_of.ensures.tree) ∙ ap (λ (x : Arena). shape_of (tree_of x e)) c.self.view_is

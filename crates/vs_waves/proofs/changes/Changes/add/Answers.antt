@@ -12,4 +12,4 @@ returns-clause-text g c = λ s i e l.
     one_more g.W.Word.lane g.W.Word.LANES i c.args.self.now _ change (read (state g.W.Word.lane c.args.engine.now i) (span_bits s)) l
     (c.push_reserved.ensures.items ∙ ap (λ v. v.items ++ change ∷ []) c.keep_values-bit.ensures.changed)
     c.keep_values-bit.ensures.before
-    (c.keep_values-bit.ensures.value s i e l)
+    (λ t. c.keep_values-bit.ensures.value s i e l t)

@@ -1,7 +1,7 @@
 use Rattle.std.proofs.Common.{length, ap, arith}
 use Rattle.vs_sets.specs.Nodes.{tree_of}
 use Rattle.vs_sets.proofs.Fit.{fit_width}
-use Rattle.vs_sets.proofs.lifter.Lifter.select.Goals as goal
+use Rattle.vs_sets.proofs.lifter.Lifter.taken.Goals as goal
 
 pub surely_inside-sure-requires-clause-some : goal.surely_inside-sure-requires-clause-some
 surely_inside-sure-requires-clause-some c =
