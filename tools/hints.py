@@ -20,6 +20,7 @@ NAMED = {
     "Latch": "the bit",
     "Sensitivity": "the signal",
     "TwoDrivers": "the bit",
+    "Race": "the bit",
 }
 
 

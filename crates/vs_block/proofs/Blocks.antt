@@ -12,9 +12,8 @@ use Rattle.vs_design.specs.Statements as T
 use Rattle.vs_design.specs.Fits.{fits_process}
 use Rattle.vs_design.specs.Footprints.{contains, without, all_reads, reads_of, writes_of, waits_of, wait_signals, signals_bits, statement_bits}
 use Rattle.vs_design.specs.Latches.{assigned_after, early_reads, latch_bits}
-use Rattle.vs_design.specs.Races.{nonblocking_bits}
 use Rattle.vs_design.specs.Resets.{is_fixed}
-use Rattle.vs_design.specs.Rules.{mixed_in, blocking_to, mixed_assigns, missing_bits, latches, function_latches}
+use Rattle.vs_design.specs.Rules.{mixed_in, mixed_assigns, missing_bits, latches, function_latches}
 use Rattle.vs_design.specs.Refusals.{least, otherwise, first_in, where_true, signal_of, block_refusal_of, block_refusal_at, block_refusal, width_refusal}
 use Rattle.vs_design.specs.Refusals as R
 use Rattle.vs_flat.specs.declared.processes.Event.{Event}
@@ -34,7 +33,6 @@ use Rattle.vs_typed.specs.Laws.{EachProcessFits}
 use Rattle.vs_block.specs.declared.error.BlockError.{BlockError}
 use Rattle.vs_block.specs.declared.error.BlockError.TheVariants.{FunctionLatch, InitialForm, MixedAssign, Sensitivity, Latch, Memory}
 use Rattle.vs_block.specs.Blocks.{IsBlock}
-use Rattle.vs_block.specs.Mixed.{mixed_by, later_of}
 use Rattle.vs_block.specs.Refused.{IsErrorAt, IsBlockError}
 use Rattle.vs_reads.specs.Laws.{HasBitsOf}
 use Rattle.vs_block.specs.Flags.{bit_at, is_set, AreUnset, AreSet}
@@ -113,8 +111,8 @@ module _ (d : Design) (p place : ℕ) (star : Bool) (events : List D.Event) (st 
       ∙ ap (λ o. otherwise (option_map (λ b. R.Sensitivity p (signal_of d.signals b) place) o) (option_map (λ b. R.Latch p b place) (least (latches x)))) f
       ∙ ap (λ o. otherwise (option_map (λ b. R.Sensitivity p (signal_of d.signals b) place) m) (option_map (λ b. R.Latch p b place) o)) g
 
-  pub clocked_kept : least (mixed_assigns (Always place star events st)) ≡ None → is_clocked (Always place star events st) ≡ true → block_refusal_of d p (Always place star events st) ≡ None
-  clocked_kept h e = none_mixed h None None (ap (λ (t : Bool). least (if not t then without (reads_of x) (signals_bits (wait_signals x)) else [])) e) (ap (λ (t : Bool). least (if not t then latch_bits st else [])) e)
+  pub clocked_kept : is_clocked (Always place star events st) ≡ true → block_refusal_of d p (Always place star events st) ≡ None
+  clocked_kept e = none_mixed (ap (λ (t : Bool). least (if t then [] else mixed_in false st)) e) None None (ap (λ (t : Bool). least (if not t then without (reads_of x) (signals_bits (wait_signals x)) else [])) e) (ap (λ (t : Bool). least (if not t then latch_bits st else [])) e)
     where
       x : D.Process
       x = Always place star events st
@@ -139,16 +137,11 @@ one_process ps p x y h k = inner x y (sym h ∙ k)
 pub is_clocked_as : (a : Arena) (place : ℕ) (star : Bool) (events : List Event) (statement : ℕ) (clocked b : Bool) → clocked ≡ list_any (λ (e : Event). D.is_edge e.edge) events → clocked ≡ b → is_clocked (block_in a place star events statement) ≡ b
 is_clocked_as a place star events statement clocked b is h = edges_are (signal_at (arena_signals a)) events ∙ sym is ∙ h
 
-pub mixed_as : (a kept : Arena) (place : ℕ) (star : Bool) (events : List Event) (statement : ℕ) (clocked : Bool) (found o : Option ℕ) → kept ≡ a → clocked ≡ list_any (λ (e : Event). D.is_edge e.edge) events
-    → found ≡ least (mixed_by clocked (later_of clocked (body_of kept statement)) (body_of kept statement)) → found ≡ o → least (mixed_assigns (block_in a place star events statement)) ≡ o
-mixed_as a kept place star events statement clocked found o same is least_is h =
-    ap (λ (t : Bool). least (if t then blocking_to (nonblocking_bits (body_of a statement)) (body_of a statement) else mixed_in false (body_of a statement))) (is_clocked_as a place star events statement clocked clocked is refl)
-    ∙ ap least (chosen clocked (body_of a statement))
-    ∙ ap (λ (x : Arena). least (mixed_by clocked (later_of clocked (body_of x statement)) (body_of x statement))) (sym same) ∙ sym least_is ∙ h
-  where
-    chosen : (t : Bool) (s : T.Statement) → (if t then blocking_to (nonblocking_bits s) s else mixed_in false s) ≡ mixed_by t (later_of t s) s
-    chosen true s = refl
-    chosen false s = refl
+pub mixed_as : (a kept : Arena) (place : ℕ) (star : Bool) (events : List Event) (statement : ℕ) (clocked : Bool) (found o : Option ℕ) → kept ≡ a → clocked ≡ list_any (λ (e : Event). D.is_edge e.edge) events → clocked ≡ false
+    → found ≡ least (mixed_in false (body_of kept statement)) → found ≡ o → least (mixed_assigns (block_in a place star events statement)) ≡ o
+mixed_as a kept place star events statement clocked found o same is level least_is h =
+    ap (λ (t : Bool). least (if t then [] else mixed_in false (body_of a statement))) (is_clocked_as a place star events statement clocked false is level)
+    ∙ ap (λ (x : Arena). least (mixed_in false (body_of x statement))) (sym same) ∙ sym least_is ∙ h
 
 -- a list that is told as that of a footprint
 all_at : (f : D.Process → Bool) (ps : List D.Process) (p : ℕ) (x : D.Process) → list_all f ps ≡ true → slice_get ps p ≡ Some x → f x ≡ true

@@ -14,7 +14,7 @@ use crate::BlockError;
 use crate::functions::first_latching;
 use crate::latches::first_latch;
 use crate::missing::{first_missing, signal_with};
-use crate::mixed::first_mixed;
+use crate::mixed::least_mixed;
 use std::alloc::Global;
 use vs_flat::{AnyProcess, Event, Kind, has_edge, names_law, text_law, text_order, trees_law};
 use vs_reads::{Footprints, footprint_law};
@@ -40,12 +40,11 @@ fn check_block(
     trees_law();
     let flat = typed.flat();
     let clocked = has_edge(events);
-    let mixed = first_mixed(alloc, typed.shapes(), statement, clocked)?;
-    if let Some(at) = mixed {
-        return Err(BlockError::MixedAssign { at });
-    }
     if clocked {
         return Ok(());
+    }
+    if let Some(at) = least_mixed(typed.shapes(), statement, None) {
+        return Err(BlockError::MixedAssign { at });
     }
     if let Some(bit) = first_missing(footprints.reads(p), footprints.waits(p)) {
         let signal = signal_with(flat, bit);
@@ -140,7 +139,7 @@ fn check_next(
     }
 }
 
-/// Whether every function, every block and every initial process of a design keeps the rules. A function assigns what it writes before it reads it, on every path, and by its end; the first in the text that doesn't decides. Then a clocked block writes no bit by blocking and nonblocking assignments, any other has no nonblocking one, and a combinational one waits on all that it reads and keeps no bit; an initial process names no signal but as a target, by constant selects, and calls no function. The first of them in the text that breaks a rule decides; within a process a mixed assignment comes before a missing signal, and that before a latch.
+/// Whether every function, every block and every initial process of a design keeps the rules. A function assigns what it writes before it reads it, on every path, and by its end; the first in the text that doesn't decides. Then a combinational block has no nonblocking assignment, waits on all that it reads and keeps no bit; an initial process names no signal but as a target, by constant selects, and calls no function. The first of them in the text that breaks a rule decides; within a process a mixed assignment comes before a missing signal, and that before a latch.
 pub fn block_forms(alloc: Global, typed: &Typed, footprints: &Footprints) -> Result<(), BlockError>
     requires { footprints.now ≡ footprints_of (design_of typed.now) }
     ensures unrefused { OnOk result (block_refusal (design_of typed.now) ≡ None) }

@@ -12,8 +12,8 @@ pub enum BlockError {
     /// An initial process names a signal that isn't a target, or calls a function, or has a target by an index that isn't constant (IEEE 1364-2005, 9.9.1). It begins at token `at`.
     #[error("initial process {initial} has another form")]
     InitialForm { initial: u32, at: u32 },
-    /// A clocked block has a blocking assignment to a bit that it may also write by a nonblocking one, or a combinational one has a nonblocking one (IEEE 1364-2005, 9.2). The first of these in the text begins at token `at`.
-    #[error("a blocking and a nonblocking assignment are mixed at {at}")]
+    /// A combinational block has a nonblocking assignment (IEEE 1364-2005, 9.2). The first of them in the text begins at token `at`.
+    #[error("a nonblocking assignment in a combinational block at {at}")]
     MixedAssign { at: u32 },
     /// A combinational block reads a bit of the signal, which it neither writes nor waits on (IEEE 1364-2005, 9.7). Of several signals it is the least one. The block begins at token `at`.
     #[error("process {process} reads signal {signal} and does not wait on it")]

@@ -1,4 +1,4 @@
-//! The rules on functions and blocks: a function keeps no value, a block doesn't mix blocking and nonblocking assignments, a combinational one waits on all that it reads, and it keeps no bit; an initial process reads nothing.
+//! The rules on functions and blocks: a function keeps no value, a combinational block has no nonblocking assignment, waits on all that it reads, and keeps no bit; an initial process reads nothing.
 #![tactic(auto)]
 
 mod block;

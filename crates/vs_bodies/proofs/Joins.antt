@@ -4,7 +4,7 @@ use Rattle.vs_const.specs.declared.faults.Fault.{Fault}
 use Rattle.vs_const.specs.Faults.{better}
 use Rattle.vs_const.proofs.Least.{better_assoc}
 use Rattle.vs_bodies.specs.declared.told.Told.{Told}
-use Rattle.vs_bodies.specs.Told.{broken, nothing, joined, one}
+use Rattle.vs_bodies.specs.Told.{nothing, joined, one}
 
 -- what is told, by its parts
 abbrev pub tell : Option Fault → (count depth : ℕ) → Told

@@ -2,7 +2,6 @@
 use Rattle.std.proofs.Common.{◌≡◌, ℕ, zero, suc, ◌+◌, ◌<◌, ◌≤◌, Bool, true, false, List, [], ◌∷◌, ◌++◌, length, get_or, map, Option, None, refl, sym, ap, ◌∙◌, subst, arith}
 use denote.Param.Weighed.{most, at_most}
 use Rattle.vs_base.specs.declared.events.CaseKind.{CaseKind}
-use Rattle.vs_design.specs.Expressions.{items_of}
 use Rattle.vs_design.specs.Statements.{Case}
 use Rattle.vs_grammar.specs.Trees as tree
 use Rattle.vs_grammar.specs.Shapes.{IsStatement, AreStatements, AreArms, IsTarget, ArePartsOfTarget, AreTargets}
@@ -15,16 +14,15 @@ use Rattle.vs_ast.specs.declared.statements.CaseArm.{CaseArm}
 use Rattle.vs_ast.specs.declared.statements.Target.{Target}
 use Rattle.vs_ast.specs.Views as view
 use Rattle.vs_const.specs.declared.faults.Fault.{Fault}
-use Rattle.vs_const.specs.CallDepths.{call_depth, items_depth}
 use Rattle.vs_const.specs.Faults.{least, better}
 use Rattle.vs_const.specs.Meanings.{Find}
 use Rattle.vs_const.specs.Typed.{Typed}
 use Rattle.vs_const.specs.Expressions.{typed}
 use Rattle.vs_const.proofs.Least.{least_append}
 use Rattle.vs_elaborated.specs.Targets.{TypedTarget, both_targets, typed_target, typed_targets}
-use Rattle.vs_elaborated.specs.Statements.{Body, TypedStatement, TypedArms, TypedList, typed_list, nothing_done, not_there, conditional, both_done, in_block, and_then, typed_statement, typed_fallback, typed_sequence, typed_arms}
+use Rattle.vs_elaborated.specs.Statements.{Body, TypedStatement, TypedArms, typed_list, nothing_done, not_there, conditional, both_done, in_block, typed_statement, typed_arms}
 use Rattle.vs_bodies.specs.declared.told.Told.{Told}
-use Rattle.vs_bodies.specs.Told.{broken, nothing, joined, one, counted, told, told_arms, told_value, told_labels, told_target, arms_alone, tells, tells_sequence, tells_parts, tells_arms}
+use Rattle.vs_bodies.specs.Told.{broken, nothing, joined, one, told, told_arms, told_value, told_labels, told_target, arms_alone, tells, tells_sequence, tells_parts, tells_arms}
 use Rattle.vs_bodies.specs.Walks.{tells_arm}
 use Rattle.vs_bodies.proofs.Joins.{same, better_none, joined_assoc, nothing_before, nothing_behind}
 use Rattle.vs_bodies.proofs.Parts.{all_of}

@@ -6,15 +6,15 @@ use Rattle.vs_grammar.specs.Trees as tree
 use Rattle.vs_const.specs.declared.faults.Fault.{Fault}
 use Rattle.vs_const.specs.declared.rules.Rule.TheVariants.{LoopTurns}
 use Rattle.vs_const.specs.Faults.{least, better, fault, fault_if}
-use Rattle.vs_const.specs.Meanings.{Meaning, Find, turning}
+use Rattle.vs_const.specs.Meanings.{Find, turning}
 use Rattle.vs_const.specs.Typed.{Typed}
 use Rattle.vs_const.specs.Expressions.{constant, is_clean}
 use Rattle.vs_const.proofs.Least.{least_append}
-use Rattle.vs_elaborated.specs.Statements.{Body, TypedStatement, nothing_done, not_there, in_block, both_done, and_turn, as_copies, given, goes_on, turns, most_turns, loop_turns, loop_done, variable_faults, second_faults}
+use Rattle.vs_elaborated.specs.Statements.{Body, TypedStatement, nothing_done, not_there, in_block, both_done, and_turn, as_copies, given, goes_on, turns, most_turns, loop_turns, loop_done}
 use Rattle.vs_bodies.specs.declared.told.Told.{Told}
 use Rattle.vs_bodies.specs.Told.{broken, nothing, joined, one, told, Turn, turn, going, tells_turns, tells_loop, head_faults}
-use Rattle.vs_bodies.proofs.Joins.{same, better_none, joined_assoc, nothing_before, nothing_behind, count_of}
-use Rattle.vs_bodies.proofs.Telling.{faults_told, absent_told, block_told, both_told}
+use Rattle.vs_bodies.proofs.Joins.{same, joined_assoc, nothing_before, nothing_behind, count_of}
+use Rattle.vs_bodies.proofs.Telling.{faults_told, block_told, both_told}
 
 -- behind the most turns there is none more
 last_next : (copy : Find → Told) (head : tree.LoopHead) (find : Find) (bits : BitList) → (turn true copy head find bits).next ≡ None

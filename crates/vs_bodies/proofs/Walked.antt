@@ -6,17 +6,15 @@ use Rattle.vs_grammar.specs.Shapes.{Each, OneOrMore}
 use Rattle.vs_ast.proofs.statements.Statement.TheLaws.{the_size}
 use Rattle.vs_ast.specs.declared.expressions.Expr.{Expr}
 use Rattle.vs_ast.specs.declared.types.BlockScope.{BlockScope}
-use Rattle.vs_ast.specs.declared.types.LoopHead.{LoopHead}
 use Rattle.vs_ast.specs.declared.statements.CaseArm.{CaseArm}
-use Rattle.vs_ast.specs.declared.statements.Statement.{Statement, If, Case, Sequence, For}
+use Rattle.vs_ast.specs.declared.statements.Statement.{Statement, If, Case, Sequence}
 use Rattle.vs_ast.specs.Views as view
-use Rattle.vs_const.specs.declared.faults.Fault.{Fault}
 use Rattle.vs_const.specs.Faults.{least}
 use Rattle.vs_const.specs.Meanings.{Find}
 use Rattle.vs_const.specs.Expressions.{typed}
 use Rattle.vs_elaborated.specs.Statements.{Body, scope_locals, scoped, local_faults}
 use Rattle.vs_bodies.specs.declared.told.Told.{Told}
-use Rattle.vs_bodies.specs.Told.{broken, nothing, joined, one, told_value, tells, tells_other, tells_sequence, tells_arms, Stop, Over, Memory}
+use Rattle.vs_bodies.specs.Told.{broken, nothing, joined, one, told_value, tells, tells_other, tells_sequence, tells_arms, Stop, Over}
 use Rattle.vs_bodies.proofs.Joins.{count_of}
 use Rattle.vs_bodies.proofs.Walking.{if_alone_view, if_else_view, if_view, case_alone_view, case_default_view, case_view, sequence_view}
 

@@ -4,7 +4,6 @@ use denote.Param.Weighed.{most}
 use mathlib.Core.Path.{fun_ext}
 use Rattle.vs_base.specs.declared.events.CaseKind.{CaseKind}
 use Rattle.vs_grammar.specs.Trees as tree
-use Rattle.vs_grammar.specs.Shapes.{IsStatement, AreStatements, AreArms, IsHead, IsExpr, IsTarget}
 use Rattle.vs_ast.proofs.statements.Statement.TheLaws.{the_size}
 use Rattle.vs_ast.proofs.statements.CaseArm.TheLaws as arm_laws
 use Rattle.vs_ast.proofs.Rows.{statement_rows, arm_rows}
@@ -14,16 +13,15 @@ use Rattle.vs_ast.specs.declared.types.LoopHead.{LoopHead}
 use Rattle.vs_ast.specs.declared.statements.CaseArm.{CaseArm}
 use Rattle.vs_ast.specs.declared.statements.Statement.{Statement, If, Case, Sequence, For, the_lemmas}
 use Rattle.vs_ast.specs.Views as view
-use Rattle.vs_const.specs.declared.faults.Fault.{Fault}
 use Rattle.vs_const.specs.Faults.{least}
-use Rattle.vs_const.specs.Meanings.{Meaning, Find}
+use Rattle.vs_const.specs.Meanings.{Find}
 use Rattle.vs_const.specs.Typed.{Typed}
 use Rattle.vs_const.specs.Expressions.{typed}
-use Rattle.vs_elaborated.specs.Statements.{Body, TypedStatement, TypedArms, typed_list, not_there, in_block, assignment, conditional, scope_locals, scoped, repeated_locals, untaken_locals, local_faults, loop_done, typed_statement, typed_fallback, typed_sequence, typed_arms}
+use Rattle.vs_elaborated.specs.Statements.{Body, typed_list, not_there, in_block, assignment, scope_locals, scoped, repeated_locals, untaken_locals, local_faults, typed_statement, typed_fallback, typed_sequence, typed_arms}
 use Rattle.vs_bodies.specs.declared.told.Told.{Told}
 use Rattle.vs_bodies.specs.Told.{broken, nothing, joined, one, told, told_arms, told_value, told_labels, arms_alone, head_faults, tells, tells_other, tells_sequence, tells_arms, tells_loop}
-use Rattle.vs_bodies.proofs.Joins.{same, better_none, joined_assoc, nothing_before, nothing_behind}
-use Rattle.vs_bodies.proofs.Telling.{nothing_told, conditional_told, case_of, case_told, with_default_told, default_told, arms_step, not_there_told, both_told, block_told}
+use Rattle.vs_bodies.proofs.Joins.{same, better_none, joined_assoc, nothing_behind}
+use Rattle.vs_bodies.proofs.Telling.{nothing_told, conditional_told, case_told, with_default_told, default_told, arms_step, not_there_told, both_told, block_told}
 use Rattle.vs_bodies.proofs.Turning.{loop_told}
 
 -- ---- what statements are

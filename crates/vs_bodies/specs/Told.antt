@@ -1,7 +1,6 @@
 -- What is told of a part of a body: the first rule that it breaks, how many statements of it are counted, and how deep calls nest in it.
-use Rattle.std.specs.Prelude.{ℕ, zero, suc, ◌+◌, ◌++◌, Bool, true, false, List, [], ◌∷◌, max, if◌then◌else◌, Option, Some, None}
+use Rattle.std.specs.Prelude.{ℕ, zero, suc, ◌+◌, ◌++◌, Bool, true, false, List, [], max, if◌then◌else◌, Option, Some, None}
 use Rattle.vs_four.specs.Logic.{BitList}
-use Rattle.vs_design.specs.Expressions.{Items}
 use Rattle.vs_const.specs.declared.faults.Fault.{Fault}
 use Rattle.vs_const.specs.declared.rules.Rule.TheVariants.{LoopTurns}
 use Rattle.vs_const.specs.Faults.{fault, least, better}

@@ -1,7 +1,8 @@
 //! What is assigned to (IEEE 1364-2005, table 6-1).
 
 ghost use Rattle.vs_const.specs.Selects as selects;
-ghost use Rattle.std.specs.Prelude.{◌≡◌, Bool, not, IfOk, is_some, if◌then◌else◌};
+ghost use Rattle.std.specs.Prelude.{◌≡◌, ◌||◌, Bool, not, IfOk, is_some, if◌then◌else◌};
+ghost use Rattle.vs_grammar.specs.Trees.{expr_place};
 ghost use Rattle.vs_grammar.specs.Shapes.{IsExpr, IsSelect, IsTarget, AreTargets};
 ghost use Rattle.vs_ast.specs.Views as view;
 ghost use Rattle.vs_const.specs.Meanings.{IsFair, Meaning, Means, SignalMeaning};
@@ -17,8 +18,8 @@ use crate::told::{Told, behind, broken, with};
 use std::alloc::{AllocError, Global};
 use vs_ast::{Expr, Name, Select, Target};
 use vs_const::{
-    Env, Fault, Named, Role, Rule, SignalShape, check, check_part, check_slice, fault_at, fault_if,
-    first_of, wrong_rule,
+    Env, Fault, Named, Role, Rule, SignalShape, check, check_address, check_part, check_slice,
+    fault_at, fault_if, first_of, wrong_rule,
 };
 use vs_four::Range;
 
@@ -119,17 +120,18 @@ fn bit_told<E: Env>(
 ) -> Result<Told, AllocError>
     requires shaped { IsExpr (view.expr index.now) }
     requires fair { IsFair (E.names env.now) }
-    ensures { IfOk result (λ w. w ≡ spec.told_target (target.bit_target procedural name.now.place (E.names env.now name.now.text) (typed (view.expr index.now) (E.names env.now) (not procedural)))) }
+    ensures { IfOk result (λ w. w ≡ spec.told_target (target.bit_target procedural name.now.place (E.names env.now name.now.text) (expr_place (view.expr index.now)) (typed (view.expr index.now) (E.names env.now) (selects.is_array (E.names env.now name.now.text) || not procedural)))) }
 {
-    let found = check(alloc, index, env, !procedural)?;
-    let i = found.said;
     let named = env.find(name.text.as_slice());
     match named {
         Named::Memory(s) => {
+            let a = check_address(alloc, s, index, env, !procedural)?;
             let fault = word_fault(s, name.place, procedural);
-            Ok(behind(fault, broken(i.flaws.first, i.depth)))
+            Ok(behind(fault, broken(a.flaws.first, a.depth)))
         }
         _ => {
+            let found = check(alloc, index, env, !procedural)?;
+            let i = found.said;
             let base = base_of(&named, name.place, procedural, true);
             let depth = bit_depth(base.range, i.depth);
             Ok(behind(base.fault, broken(i.flaws.first, depth)))
@@ -149,18 +151,18 @@ fn further_told<E: Env>(
     requires address { IsExpr (view.expr address.now) }
     requires part { IsSelect (view.select part.now) }
     requires fair { IsFair (E.names env.now) }
-    ensures { IfOk result (λ w. w ≡ spec.told_target (target.further_target procedural name.now.place (E.names env.now name.now.text) (typed (view.expr address.now) (E.names env.now) (not procedural))
+    ensures { IfOk result (λ w. w ≡ spec.told_target (target.further_target procedural name.now.place (E.names env.now name.now.text) (expr_place (view.expr address.now)) (typed (view.expr address.now) (E.names env.now) (selects.is_array (E.names env.now name.now.text) || not procedural))
         (taken_by (selects.word_range (E.names env.now name.now.text)) (view.select part.now) (E.names env.now) (not procedural)))) }
 {
     let named = env.find(name.text.as_slice());
     match named {
         Named::Memory(s) => {
-            let a = check(alloc, address, env, !procedural)?;
+            let a = check_address(alloc, s, address, env, !procedural)?;
             let bits = check_part(alloc, s.range, part, env, !procedural)?;
             let written = word_fault(s, name.place, procedural);
             let scalar = fault_if(is_scalar(s), Rule::WrongKind, name.place);
             let indices = with(
-                broken(a.said.flaws.first, a.said.depth),
+                broken(a.flaws.first, a.depth),
                 broken(bits.flaws.first, bits.depth),
             );
             Ok(behind(written, behind(scalar, indices)))

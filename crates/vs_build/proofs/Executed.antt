@@ -8,6 +8,7 @@ use Rattle.std.proofs.lemmas.Grind.{flat_map-append}
 use Rattle.std.proofs.lemmas.List.{map-append, length-map}
 use denote.Param.Weighed.{most, at_most}
 use Rattle.vs_design.specs.Expressions as E
+use Rattle.vs_design.specs.Expressions.{addresses}
 use Rattle.vs_design.specs.Statements as T
 use Rattle.vs_design.specs.Designs.{Design}
 use Rattle.vs_design.specs.Footprints.{is_variable}
@@ -27,14 +28,15 @@ use Rattle.vs_ast.proofs.Rows.{statement_rows, arm_rows}
 use Rattle.vs_ast.specs.Views as view
 use Rattle.vs_const.specs.Meanings.{SignalMeaning, Meaning, AValue, Undefined, ASignal, AMemory, AFunction, Incomplete, Another, Barred, Unknown, Find, steady}
 use Rattle.vs_const.specs.Sound.{IsSound, AreSound}
-use Rattle.vs_const.specs.Typed.{Typed}
-use Rattle.vs_const.specs.Selects.{is_scalar, Taken, taken, slice_taken, first_needed, first_names, word_range}
+use Rattle.vs_const.specs.Typed.{Typed, natural}
+use Rattle.vs_const.specs.Selects.{is_scalar, Taken, taken, slice_taken, first_needed, first_names, word_range, is_array, in_array, addressed_in, addressed}
 use Rattle.vs_const.specs.Expressions.{typed, taken_by}
 use Rattle.vs_const.proofs.Formed.{both_nil, no_fault}
+use Rattle.vs_const.specs.declared.faults.Fault.{Fault}
 use Rattle.vs_const.specs.Faults.{fault_if}
 use Rattle.vs_flat.specs.Trees.{no_signal, target_tree, sequence}
 use Rattle.vs_elaborated.specs.Numbers.{IsNumbered, AreNumbered}
-use Rattle.vs_elaborated.specs.Targets.{meant_signal, TypedTarget, is_wrong_target, target_rule, target_base, word_target, bit_target, word_part_target, further_target, selected_target, typed_target, typed_targets}
+use Rattle.vs_elaborated.specs.Targets.{meant_signal, TypedTarget, is_wrong_target, target_rule, target_base, bit_target, further_target, selected_target, typed_target, typed_targets}
 use Rattle.vs_elaborated.specs.Statements.{Body as Within, TypedStatement, Local, find_local, local_or, delayed_faults, word_faults, scope_locals, local_faults, scoped, not_there, typed_list, typed_fallback, typed_statement, typed_sequence, typed_arms}
 use Rattle.vs_build.specs.Drafts.{Root, Body, Draft, home, and_roots, and_bodies, most_body_levels, AddsExpression, AddsParts, AddsStatement, Adds, EndsInParts, EndsInAssignment, writes_variables, Labelled, total, arms_with, EndsInCase}
 use Rattle.vs_build.specs.Cut.{label_counts}
@@ -146,47 +148,56 @@ variable_named d place selected Another sound h = cc
 variable_named d place selected (Barred rule) sound h = cc
 variable_named d place selected Unknown sound h = cc
 
--- a word of a memory
-memory_written : (d : Design) (place : ℕ) (s : SignalMeaning) (i : Typed) → IsSound d false (AMemory s) → (word_target true place s i).faults ≡ [] → is_variable s.signal ≡ true
-memory_written d place s i sound h =
-    variable_kind s.input s.signal.net s.signal.input (no_fault (is_wrong_target true s) WrongKind place (both_nil (fault_if (is_wrong_target true s) WrongKind place) i.faults h).0) sound.2
-
-variable_bit : (d : Design) (place : ℕ) (m : Meaning) (i : Typed) → IsSound d false m → (bit_target true place m i).faults ≡ [] → writes_variables (bit_target true place m i).target ≡ true
-variable_bit d place m i sound h = of (memory_of m) refl
+-- a word of a memory, or a net of an array
+variable_same : (m : SignalMeaning) (at : ℕ) (i : Typed) → is_variable (addressed m at i).signal ≡ is_variable m.signal
+variable_same m at i = of m.signal.net
   where
-    of : (o : Option ℕ) → memory_of m ≡ o → writes_variables (bit_target true place m i).target ≡ true
+    found : (o : Option ℕ) (fs : List Fault) → is_variable (in_array m i o fs).signal ≡ is_variable m.signal
+    found None fs = refl
+    found (Some n) fs = refl
+
+    of : (array : Bool) → is_variable (addressed_in array m at i).signal ≡ is_variable m.signal
+    of false = refl
+    of true = let n = natural (addresses m.signal).right (addresses m.signal).left at i in found n.number n.faults
+
+memory_written : (d : Design) (place : ℕ) (s : SignalMeaning) (at : ℕ) (i : Typed) (fs : List Fault) → IsSound d false (AMemory s) → fault_if (is_wrong_target true s) WrongKind place ++ fs ≡ [] → is_variable (addressed s at i).signal ≡ true
+memory_written d place s at i fs sound h =
+    variable_same s at i ∙ variable_kind s.input s.signal.net s.signal.input (no_fault (is_wrong_target true s) WrongKind place (both_nil (fault_if (is_wrong_target true s) WrongKind place) fs h).0) sound.2
+
+variable_bit : (d : Design) (place : ℕ) (m : Meaning) (at : ℕ) (i : Typed) → IsSound d false m → (bit_target true place m at i).faults ≡ [] → writes_variables (bit_target true place m at i).target ≡ true
+variable_bit d place m at i sound h = of (memory_of m at i) refl
+  where
+    of : (o : Option ℕ) → memory_of m at i ≡ o → writes_variables (bit_target true place m at i).target ≡ true
     of None e =
         let b = target_base true place true m in
-        let is = bit_target_is true place m i e in
+        let is = bit_target_is true place m at i i e in
         ap (λ (t : TypedTarget). writes_variables t.target) is
         ∙ variable_named d place true m sound (both_nil b.faults (taken b.range true 1 i i.faults).faults (sym (ap (λ (t : TypedTarget). t.faults) is) ∙ h)).0
     of (Some n) e =
-        let w = memory_is m n e in
-        ap (λ x. writes_variables (bit_target true place x i).target) w.1
-        ∙ memory_written d place w.0 i (subst (IsSound d false) w.1 sound) (subst (λ x. (bit_target true place x i).faults ≡ []) w.1 h)
+        let w = memory_is m at i n e in
+        ap (λ x. writes_variables (bit_target true place x at i).target) w.1
+        ∙ memory_written d place w.0 at i (addressed w.0 at i).faults (subst (IsSound d false) w.1 sound) (subst (λ x. (bit_target true place x at i).faults ≡ []) w.1 h)
 
 -- bits of a word
-variable_part : (d : Design) (place : ℕ) (m : Meaning) (a : Typed) (t : Taken) → IsSound d false m → (further_target true place m a t).faults ≡ [] → writes_variables (further_target true place m a t).target ≡ true
-variable_part d place m a t sound h = of (memory_of m) refl
+variable_part : (d : Design) (place : ℕ) (m : Meaning) (at : ℕ) (i : Typed) (t : Taken) → IsSound d false m → (further_target true place m at i t).faults ≡ [] → writes_variables (further_target true place m at i t).target ≡ true
+variable_part d place m at i t sound h = of (memory_of m at i) refl
   where
-    of : (o : Option ℕ) → memory_of m ≡ o → writes_variables (further_target true place m a t).target ≡ true
-    of None e = absurd (no_memory_part true place m a t e h)
+    of : (o : Option ℕ) → memory_of m at i ≡ o → writes_variables (further_target true place m at i t).target ≡ true
+    of None e = absurd (no_memory_part true place m at i t i e h)
     of (Some n) e =
-        let w = memory_is m n e in
-        let s = w.0 in
-        let clean : (word_part_target true place s a t).faults ≡ [] = subst (λ x. (further_target true place x a t).faults ≡ []) w.1 h in
-        ap (λ x. writes_variables (further_target true place x a t).target) w.1
-        ∙ variable_kind s.input s.signal.net s.signal.input (no_fault (is_wrong_target true s) WrongKind place (both_nil (fault_if (is_wrong_target true s) WrongKind place) (fault_if (is_scalar s) WrongKind place ++ (a.faults ++ t.faults)) clean).0)
-        (subst (IsSound d false) w.1 sound).2
+        let w = memory_is m at i n e in
+        let a = addressed w.0 at i in
+        ap (λ x. writes_variables (further_target true place x at i t).target) w.1
+        ∙ memory_written d place w.0 at i (fault_if (is_scalar w.0) WrongKind place ++ (a.faults ++ t.faults)) (subst (IsSound d false) w.1 sound) (subst (λ x. (further_target true place x at i t).faults ≡ []) w.1 h)
 
 variable_selected : (d : Design) (find : Find) (select : tree.Select) (name : tree.Name) → AreSound d false find → (selected_target select name find true).faults ≡ [] → writes_variables (selected_target select name find true).target ≡ true
 variable_selected d find tree.Whole name sound h = variable_named d name.place false (find name.bytes) (sound name.bytes) h
-variable_selected d find (tree.BitAt bracket index) name sound h = variable_bit d name.place (find name.bytes) (typed index find false) (sound name.bytes) h
+variable_selected d find (tree.BitAt bracket index) name sound h = let m = find name.bytes in variable_bit d name.place m (tree.expr_place index) (typed index find (is_array m || false)) (sound name.bytes) h
 variable_selected d find (tree.Slice bracket kind e f) name sound h =
     let b = target_base true name.place true (find name.bytes) in
     variable_named d name.place true (find name.bytes) (sound name.bytes) (both_nil b.faults (slice_taken b.range bracket kind (tree.expr_place e) (typed e (first_names kind find) (first_needed kind false)) (tree.expr_place f) (typed f (steady find) true)).faults h).0
 variable_selected d find (tree.OfWord bracket address part) name sound h =
-    variable_part d name.place (find name.bytes) (typed address find false) (taken_by (word_range (find name.bytes)) part find false) (sound name.bytes) h
+    let m = find name.bytes in variable_part d name.place m (tree.expr_place address) (typed address find (is_array m || false)) (taken_by (word_range m) part find false) (sound name.bytes) h
 
 both_true : (a b : Bool) → a ≡ true → b ≡ true → (a && b) ≡ true
 both_true true true h k = refl

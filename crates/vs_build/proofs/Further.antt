@@ -1,5 +1,5 @@
 -- Selects of one or several bits by themselves, and those of words of memories.
-use Rattle.std.proofs.Common.{◌≡◌, ℕ, ◌+◌, ◌<◌, Bool, true, false, ◌&&◌, List, [], ◌++◌, length, max, Option, Some, None, Result, OnOk, refl, sym, ap, ◌∙◌, subst, arith}
+use Rattle.std.proofs.Common.{◌≡◌, ℕ, ◌+◌, ◌<◌, Bool, true, false, ◌&&◌, ◌||◌, List, [], ◌++◌, length, max, Option, Some, None, Result, OnOk, refl, sym, ap, ◌∙◌, subst, arith}
 use Rattle.vs_four.specs.declared.Range.{Range}
 use Rattle.vs_four.specs.Selects.{Part, range_length}
 use Rattle.vs_design.specs.Expressions as E
@@ -16,17 +16,17 @@ use Rattle.vs_const.specs.declared.rules.Rule.TheVariants.{BadRange, WrongKind}
 use Rattle.vs_const.specs.Meanings.{SignalMeaning, Meaning, AValue, Undefined, ASignal, AMemory, AFunction, Incomplete, Another, Barred, Unknown, Find, steady}
 use Rattle.vs_const.specs.Sound.{IsSound, IsSoundMemory}
 use Rattle.vs_const.specs.Typed.{Typed, begins_at, natural}
-use Rattle.vs_const.specs.Selects.{is_scalar, Taken, taken, if_width, moving, is_against, lesser_bound, along, between, range_of, bounds, word_range, word_part_if, word_part_typed, further_typed}
+use Rattle.vs_const.specs.Selects.{is_scalar, Taken, taken, if_width, moving, is_against, lesser_bound, along, between, range_of, bounds, word_range, is_array, Addressed, addressed, word_part_if, word_part_typed, further_typed}
 use Rattle.vs_const.specs.Expressions.{constant, typed, taken_by}
 use Rattle.vs_const.proofs.Steady.{steady_sound}
-use Rattle.vs_const.proofs.Formed.{both_nil, both, taken_by_fine, part_faults, word_ranged, same_itself}
+use Rattle.vs_const.proofs.Formed.{both_nil, both, typed_fine, taken_by_fine, part_faults, word_ranged, same_itself, array_sound, address_fine, address_clean, index_same, need_less, range_same}
 use Rattle.vs_flat.specs.Trees.{signal_at}
 use Rattle.vs_build.specs.Drafts.{Draft, home, EndsWith, AddsExpression}
-use Rattle.vs_build.specs.Buildable.{IsBuildable, selected_by, IsSelectable, IsTakable, HasWords, IsRangeOf}
+use Rattle.vs_build.specs.Buildable.{IsBuildable, selected_by, memory_of, IsWordAddressable, IsSelectable, IsTakable, HasWords, IsRangeOf}
 use Rattle.vs_build.proofs.Arms.{ends_two, same_home, ok_up_to}
 use Rattle.vs_build.proofs.Lists.{number_is}
 use Rattle.vs_build.proofs.SignalNames.{signal_is, signal_within, memory_signal}
-use Rattle.vs_build.proofs.Selects.{IsMoving, width_faults, IsBetween, between_faults, between_range}
+use Rattle.vs_build.proofs.Selects.{IsMoving, width_faults, IsBetween, between_faults, between_range, one_number, is_addressable}
 
 -- ---- what is taken of something with this range
 
@@ -91,27 +91,31 @@ taken_part x r up n i fs e = ap (λ (y : Taken). y.part) e
 
 -- ---- what is selected of a word
 
--- of a memory whose words have a range: the address, and the bits
+-- of a memory whose words have a range, or of an array of nets: what has the word, the address, and the bits
 pub record IsFurther (d : Design) (find : Find) (needed : Bool) (m : Meaning) (address : tree.Expr) (part : tree.Select) (t : Typed) : Type 0 where
   pub words : HasWords m
-  pub sound : IsSoundMemory d false words.memory
-  pub address_is : IsBuildable d find needed address
+  pub signal : E.Signal
+  pub has : has_words d signal ≡ true
+  pub ranged : signal.range ≡ Some words.range
+  pub number : memory_of m (expr_place address) (constant address find) ≡ Some signal.number
+  pub addressable : IsWordAddressable m find address
+  pub address_is : IsBuildable d find (is_array m || needed) address
   pub takable : IsTakable d find needed words.range part
-  pub expression : t.expression ≡ E.WordPart words.memory.signal (typed address find needed).expression (taken_by (Some words.range) part find needed).part (taken_by (Some words.range) part find needed).index
+  pub expression : t.expression ≡ E.WordPart signal (typed address find (is_array m || needed)).expression (taken_by (Some words.range) part find needed).part (taken_by (Some words.range) part find needed).index
 
-further_memory : (fixed : Bool) (place : ℕ) (m : Meaning) (a : Typed) (t : Taken) → (further_typed fixed place m a t).good ≡ true → (fixed ≡ false) × ((s : SignalMeaning) × (m ≡ AMemory s))
-further_memory true place m a t h = cc
-further_memory false place (AValue v r turns) a t h = cc
-further_memory false place (Undefined r) a t h = cc
-further_memory false place (ASignal s) a t h = cc
-further_memory false place (AMemory s) a t h = (refl, (s, refl))
-further_memory false place (AFunction f) a t h = cc
-further_memory false place Incomplete a t h = cc
-further_memory false place Another a t h = cc
-further_memory false place (Barred rule) a t h = cc
-further_memory false place Unknown a t h = cc
+further_memory : (fixed : Bool) (place : ℕ) (m : Meaning) (at : ℕ) (i : Typed) (t : Taken) → (further_typed fixed place m at i t).good ≡ true → (fixed ≡ false) × ((s : SignalMeaning) × (m ≡ AMemory s))
+further_memory true place m at i t h = cc
+further_memory false place (AValue v r turns) at i t h = cc
+further_memory false place (Undefined r) at i t h = cc
+further_memory false place (ASignal s) at i t h = cc
+further_memory false place (AMemory s) at i t h = (refl, (s, refl))
+further_memory false place (AFunction f) at i t h = cc
+further_memory false place Incomplete at i t h = cc
+further_memory false place Another at i t h = cc
+further_memory false place (Barred rule) at i t h = cc
+further_memory false place Unknown at i t h = cc
 
-part_good : (good : Bool) (m : SignalMeaning) (fs : List Fault) (a : Typed) (t : Taken) → (word_part_if good m fs a t).good ≡ true → (word_part_if good m fs a t).expression ≡ E.WordPart m.signal a.expression t.part t.index
+part_good : (good : Bool) (m : SignalMeaning) (fs : List Fault) (a : Addressed) (t : Taken) → (word_part_if good m fs a t).good ≡ true → (word_part_if good m fs a t).expression ≡ E.WordPart a.signal a.index t.part t.index
 part_good true m fs a t h = refl
 part_good false m fs a t h = cc
 
@@ -119,21 +123,36 @@ further_of : (d : Design) (find : Find) (fixed needed : Bool) (name : tree.Name)
     → IsFurther d find needed (find name.bytes) address part (selected_by (tree.OfWord bracket address part) name find fixed needed)
 further_of d find fixed needed name bracket address part s e f b =
     let m = find name.bytes in
-    let a = typed address find needed in
+    let at = expr_place address in
+    let index = λ (y : Meaning). typed address find (is_array y || needed) in
+    let i = index (AMemory s) in
+    let a = addressed s at i in
     let t = taken_by s.signal.range part find needed in
     let scalar = fault_if (is_scalar s) WrongKind name.place in
     let is : selected_by (tree.OfWord bracket address part) name find fixed needed ≡ word_part_typed name.place s a t =
-    ap (λ c. further_typed c name.place m a (taken_by (word_range m) part find needed)) e ∙ ap (λ y. further_typed false name.place y a (taken_by (word_range y) part find needed)) f
+    ap (λ c. further_typed c name.place m at (index m) (taken_by (word_range m) part find needed)) e ∙ ap (λ y. further_typed false name.place y at (index y) (taken_by (word_range y) part find needed)) f
     in
     let sound : IsSoundMemory d false s = subst (IsSound d false) f (subst (λ c. IsSound d c m) e b.signals) in
     let good = s.known && a.good && t.good in
     let k = both_nil scalar (a.faults ++ t.faults) (sym (part_faults good s scalar a t) ∙ sym (ap (λ (x : Typed). x.faults) is) ∙ b.clean) in
     let l = both_nil a.faults t.faults k.1 in
     let r = word_ranged s name.place sound.1 k.0 in
+    let fine = address_fine d s at i sound.0 (λ z. need_less d s.signal.net needed i (typed_fine d find address (s.signal.net || needed) (array_sound d s.signal.net needed find b.sound) b.shaped.0 z)) l.0 in
+    let same : index m ≡ i = ap index f in
     record {
       words = record { memory = s; is = f; range = r.0; has_range = r.1 };
-      sound = sound;
-      address_is = record { shaped = b.shaped.0; sound = b.sound; numbered = b.numbered; clean = l.0; shallow = omega (arith, b.shallow) };
+      signal = a.signal;
+      has = fine.words;
+      ranged = range_same s at i ∙ r.1;
+      number = ap (λ y. memory_of y at (constant address find)) f ∙ ap (λ z. Some z) (one_number s needed at (λ c. typed address find c));
+      addressable = subst (λ y. IsWordAddressable y find address) (sym f) (is_addressable d find needed s address b.sound b.shaped.0 l.0);
+      address_is = record {
+        shaped = b.shaped.0;
+        sound = array_sound d (is_array m) needed find b.sound;
+        numbered = b.numbered;
+        clean = ap (λ (x : Typed). x.faults) same ∙ address_clean s at i l.0;
+        shallow = omega (arith, b.shallow);
+      };
       takable = record {
         shaped = b.shaped.1;
         one_or_several = b.shaped.2;
@@ -144,13 +163,15 @@ further_of d find fixed needed name bracket address part s e f b =
       };
       expression =
           ap (λ (x : Typed). x.expression) is ∙ part_good good s scalar a t (sym (ap (λ (x : Typed). x.good) is) ∙ b.good)
-          ∙ ap (λ o. E.WordPart s.signal a.expression (taken_by o part find needed).part (taken_by o part find needed).index) r.1;
+          ∙ ap (λ x. E.WordPart a.signal x t.part t.index) (index_same s at i ∙ sym (ap (λ (x : Typed). x.expression) same))
+          ∙ ap (λ o. E.WordPart a.signal (index m).expression (taken_by o part find needed).part (taken_by o part find needed).index) r.1;
     }
 
 pub further_is : (d : Design) (find : Find) (fixed needed : Bool) (name : tree.Name) (bracket : ℕ) (address : tree.Expr) (part : tree.Select) → IsSelectable d find fixed needed name (tree.OfWord bracket address part)
     → IsFurther d find needed (find name.bytes) address part (selected_by (tree.OfWord bracket address part) name find fixed needed)
 further_is d find fixed needed name bracket address part b =
-    let w = further_memory fixed name.place (find name.bytes) (typed address find needed) (taken_by (word_range (find name.bytes)) part find needed) b.good in
+    let m = find name.bytes in
+    let w = further_memory fixed name.place m (expr_place address) (typed address find (is_array m || needed)) (taken_by (word_range m) part find needed) b.good in
     further_of d find fixed needed name bracket address part w.1.0 w.0 w.1.1 b
 
 -- after the address
@@ -163,64 +184,72 @@ pub record EndsInWordPart (n : ℕ) (part : Part) (v : Draft) : Type 0 where
   pub formed : is_formed_word_part (home v) (signal_at (home v).signals n) part ≡ true
   pub ends : EndsWith 2 v
 
--- the number and the range that a look-up of the memory answers, and the bits
-pub record IsLookedUp (memory : SignalMeaning) (range : Range) (t : Taken) (n : ℕ) (q : Range) (up : Bool) (width : ℕ) : Type 0 where
-  pub number : n ≡ memory.signal.number
-  pub range_is : memory.signal.range ≡ Some q
+-- the number of what has the word and the range that a look-up answers, and the bits
+pub record IsLookedUp (signal : E.Signal) (range : Range) (t : Taken) (n : ℕ) (q : Range) (up : Bool) (width : ℕ) : Type 0 where
+  pub number : n ≡ signal.number
+  pub range_is : range ≡ q
   pub part : t.part ≡ record { range = range; up = up; width = width }
 
 one_range : (o : Option Range) (q r : Range) → o ≡ Some q → o ≡ Some r → r ≡ q
 one_range (Some p) q r e f = cc
 one_range None q r e f = cc
 
-part_looked_up : (memory : SignalMeaning) (range : Range) (t : Taken) (n : ℕ) (q : Range) (up : Bool) (width : ℕ) → memory.signal.range ≡ Some range → IsLookedUp memory range t n q up width → t.part ≡ record { range = q; up = up; width = width }
-part_looked_up memory range t n q up width h l = l.part ∙ ap (λ r. (let p : Part = record { range = r; up = up; width = width } in p)) (one_range memory.signal.range q range l.range_is h)
+one_signal : (o : Option ℕ) (n k : ℕ) → o ≡ Some n → o ≡ Some k → n ≡ k
+one_signal (Some z) n k e f = cc
+one_signal None n k e f = cc
 
-formed_part : (d : Design) (find : Find) (needed : Bool) (m : Meaning) (address : tree.Expr) (part : tree.Select) (t : Typed) → (f : IsFurther d find needed m address part t)
-    → is_formed_word_part d f.words.memory.signal (taken_by (Some f.words.range) part find needed).part ≡ true
+pub looked_up : (d : Design) (find : Find) (needed : Bool) (m : Meaning) (address : tree.Expr) (part : tree.Select) (t : Typed) (f : IsFurther d find needed m address part t) (n : ℕ) (q : Range) (up : Bool) (width : ℕ) → memory_of m (expr_place address) (constant address find) ≡ Some n → f.words.memory.signal.range ≡ Some q
+    → (taken_by (Some f.words.range) part find needed).part ≡ record { range = f.words.range; up = up; width = width } → IsLookedUp f.signal f.words.range (taken_by (Some f.words.range) part find needed) n q up width
+looked_up d find needed m address part t f n q up width number range bits =
+    record { number = one_signal (memory_of m (expr_place address) (constant address find)) n f.signal.number number f.number; range_is = one_range f.words.memory.signal.range q f.words.range range f.words.has_range; part = bits }
+
+part_looked_up : (signal : E.Signal) (range : Range) (t : Taken) (n : ℕ) (q : Range) (up : Bool) (width : ℕ) → IsLookedUp signal range t n q up width → t.part ≡ record { range = q; up = up; width = width }
+part_looked_up signal range t n q up width l = l.part ∙ ap (λ r. (let p : Part = record { range = r; up = up; width = width } in p)) l.range_is
+
+formed_part : (d : Design) (find : Find) (needed : Bool) (m : Meaning) (address : tree.Expr) (part : tree.Select) (t : Typed) → (f : IsFurther d find needed m address part t) → is_formed_word_part d f.signal (taken_by (Some f.words.range) part find needed).part ≡ true
 formed_part d find needed m address part t f =
-    let s = f.words.memory.signal in
+    let s = f.signal in
     let k = f.takable in
     let r = f.words.range in
     let g = taken_by_fine d part find needed (Some r) r k.sound k.shaped k.one_or_several refl k.clean in
     let p = (taken_by (Some r) part find needed).part in
     both (has_words d s && same_range s.range (Some p.range)) (fits_64 p.width)
-    (both (has_words d s) (same_range s.range (Some p.range)) f.sound.0
-    (subst (λ q. same_range q (Some p.range) ≡ true) (sym f.words.has_range) (subst (λ q. same_range (Some r) (Some q) ≡ true) (sym g.range) (same_itself r)))) g.fits
+    (both (has_words d s) (same_range s.range (Some p.range)) f.has
+    (subst (λ q. same_range q (Some p.range) ≡ true) (sym f.ranged) (subst (λ q. same_range (Some r) (Some q) ≡ true) (sym g.range) (same_itself r)))) g.fits
 
 memory_at : (c d : Design) (s : E.Signal) (n : ℕ) → d ≡ c → n ≡ s.number → has_words d s ≡ true → signal_at c.signals n ≡ s
 memory_at c d s n e h w = ap (λ (x : Design). signal_at x.signals n) (sym e) ∙ ap (signal_at d.signals) h ∙ signal_is d s (memory_signal d s w)
 
 pub further_ends : (d : Design) (find : Find) (needed : Bool) (m : Meaning) (address : tree.Expr) (part : tree.Select) (t : Typed) (f : IsFurther d find needed m address part t) (n : ℕ) (q : Range) (up : Bool) (width : ℕ) (s r v : Draft) → home s ≡ d
-    → IsLookedUp f.words.memory f.words.range (taken_by (Some f.words.range) part find needed) n q up width
-    → AddsExpression s r (typed address find needed).expression (1 + expr_depth address) → AddsExpression r v (taken_by (Some f.words.range) part find needed).index (select_depth part)
+    → IsLookedUp f.signal f.words.range (taken_by (Some f.words.range) part find needed) n q up width
+    → AddsExpression s r (typed address find (is_array m || needed)).expression (1 + expr_depth address) → AddsExpression r v (taken_by (Some f.words.range) part find needed).index (select_depth part)
     → EndsInWordPart n (record { range = q; up = up; width = width }) v
 further_ends d find needed m address part t f n q up width s r v e l h k =
-    let a = (typed address find needed).expression in
+    let a = (typed address find (is_array m || needed)).expression in
     let x = taken_by (Some f.words.range) part find needed in
     let design : d ≡ home v = sym e ∙ same_home s r a (1 + expr_depth address) h ∙ same_home r v x.index (select_depth part) k in
-    let memory = f.words.memory.signal in
-    let at : signal_at (home v).signals n ≡ memory = memory_at (home v) d memory n design l.number f.sound.0 in
-    let bits : x.part ≡ record { range = q; up = up; width = width } = part_looked_up f.words.memory f.words.range x n q up width f.words.has_range l in
+    let memory = f.signal in
+    let at : signal_at (home v).signals n ≡ memory = memory_at (home v) d memory n design l.number f.has in
+    let bits : x.part ≡ record { range = q; up = up; width = width } = part_looked_up f.signal f.words.range x n q up width l in
     record {
-      there = subst (λ (c : Design). n < length c.signals) design (subst (λ i. i < length d.signals) (sym l.number) (signal_within d memory (memory_signal d memory f.sound.0)));
+      there = subst (λ (c : Design). n < length c.signals) design (subst (λ i. i < length d.signals) (sym l.number) (signal_within d memory (memory_signal d memory f.has)));
       formed = ap (λ z. is_formed_word_part (home v) z (record { range = q; up = up; width = width })) at ∙ ap (is_formed_word_part (home v) memory) (sym bits) ∙ ap (λ c. is_formed_word_part c memory x.part) (sym design) ∙ formed_part d find needed m address part t f;
       ends = ends_two s r v a x.index (1 + expr_depth address) (select_depth part) h k (omega (arith, f.address_is.shallow)) (omega (arith, f.takable.shallow));
     }
 
 pub further_arm : {U F : Type 0} (o : Result U F) (d : Design) (find : Find) (needed : Bool) (m : Meaning) (address : tree.Expr) (part : tree.Select) (t : Typed) (f : IsFurther d find needed m address part t) (n : ℕ) (q : Range) (up : Bool) (width : ℕ) (s r v new : Draft) (at : ℕ) → home s ≡ d
-    → IsLookedUp f.words.memory f.words.range (taken_by (Some f.words.range) part find needed) n q up width
-    → AddsExpression s r (typed address find needed).expression (1 + expr_depth address) → AddsExpression r v (taken_by (Some f.words.range) part find needed).index (select_depth part)
+    → IsLookedUp f.signal f.words.range (taken_by (Some f.words.range) part find needed) n q up width
+    → AddsExpression s r (typed address find (is_array m || needed)).expression (1 + expr_depth address) → AddsExpression r v (taken_by (Some f.words.range) part find needed).index (select_depth part)
     → ((p k : Draft) (x y : Expression) (i j : ℕ) → AddsExpression p k x i → AddsExpression k v y j
     → OnOk o (AddsExpression p new (E.At at (E.WordPart (signal_at (home v).signals n) x (record { range = q; up = up; width = width }) y)) (1 + max i j)))
     → OnOk o (AddsExpression s new (begins_at at t.expression) (1 + (1 + max (expr_depth address) (select_depth part))))
 further_arm o d find needed m address part t f n q up width s r v new at e l h k g =
-    let a = (typed address find needed).expression in
+    let a = (typed address find (is_array m || needed)).expression in
     let x = taken_by (Some f.words.range) part find needed in
     let design : d ≡ home v = sym e ∙ same_home s r a (1 + expr_depth address) h ∙ same_home r v x.index (select_depth part) k in
-    let memory = f.words.memory.signal in
-    let is : signal_at (home v).signals n ≡ memory = memory_at (home v) d memory n design l.number f.sound.0 in
-    let bits : x.part ≡ record { range = q; up = up; width = width } = part_looked_up f.words.memory f.words.range x n q up width f.words.has_range l in
+    let memory = f.signal in
+    let is : signal_at (home v).signals n ≡ memory = memory_at (home v) d memory n design l.number f.has in
+    let bits : x.part ≡ record { range = q; up = up; width = width } = part_looked_up f.signal f.words.range x n q up width l in
     let same : E.At at (E.WordPart (signal_at (home v).signals n) a (record { range = q; up = up; width = width }) x.index) ≡ begins_at at t.expression =
     ap (λ z. E.At at (E.WordPart z a (record { range = q; up = up; width = width }) x.index)) is ∙ ap (λ p. E.At at (E.WordPart memory a p x.index)) (sym bits) ∙ ap (begins_at at) (sym f.expression)
     in

@@ -1,32 +1,37 @@
 -- Selects of names, and calls.
-use Rattle.std.proofs.Common.{◌≡◌, ℕ, ◌+◌, ◌<◌, ◌≤◌, Bool, true, false, not, ◌&&◌, List, [], ◌∷◌, ◌++◌, length, max, min, nat_le, Option, Some, None, Result, OnOk, refl, sym, ap, ◌∙◌, subst, arith}
+use Rattle.std.proofs.Common.{◌≡◌, ℕ, ◌+◌, ◌-◌, ◌<◌, ◌≤◌, Bool, true, false, not, ◌&&◌, ◌||◌, List, [], ◌∷◌, ◌++◌, length, max, min, nat_le, ℤ, pos, negsuc, Option, Some, None, is_some, Result, OnOk, refl, sym, ap, ◌∙◌, subst, arith}
 use Rattle.std.proofs.lemmas.Bool.{leb-true}
 use Rattle.vs_four.specs.declared.Range.{Range}
 use Rattle.vs_four.specs.Logic.{BitList}
 use Rattle.vs_four.specs.Numbers.{bits_of, clog2}
 use Rattle.vs_four.specs.Selects.{Part, range_length}
 use Rattle.vs_design.specs.Expressions as E
-use Rattle.vs_design.specs.Expressions.{Expression}
+use Rattle.vs_design.specs.Expressions.{range_or_zero, addresses, Expression}
 use Rattle.vs_design.specs.Values.{constant_value}
 use Rattle.vs_design.specs.Designs.{Design}
 use Rattle.vs_design.specs.Elaborated.{has_words, is_formed, is_formed_select}
 use Rattle.vs_grammar.specs.Trees as tree
 use Rattle.vs_grammar.specs.Trees.{expr_place}
+use Rattle.vs_grammar.specs.Shapes.{IsExpr}
 use Rattle.vs_grammar.specs.Depths.{expr_depth}
 use Rattle.vs_const.specs.declared.faults.Fault.{Fault}
 use Rattle.vs_const.specs.Faults.{fault, fault_if, names_signal}
 use Rattle.vs_const.specs.declared.rules.Rule.TheVariants.{BadRange, NotConstant}
-use Rattle.vs_const.specs.Meanings.{SignalMeaning, Meaning, AValue, Undefined, ASignal, AMemory, AFunction, Incomplete, Another, Barred, Unknown, Find, steady}
+use Rattle.vs_const.specs.declared.names.Named.{Named}
+use Rattle.vs_const.specs.declared.names.Named.TheVariants as named
+use Rattle.vs_const.specs.declared.names.SignalShape.{SignalShape}
+use Rattle.vs_const.specs.Meanings.{SignalMeaning, Meaning, AValue, Undefined, ASignal, AMemory, AFunction, Incomplete, Another, Barred, Unknown, Find, Means, steady}
 use Rattle.vs_const.specs.Sound.{AreSound}
-use Rattle.vs_const.specs.Typed.{Typed, begins_at, noted, natural, is_over, unary_typed}
-use Rattle.vs_const.specs.Selects.{Base, base_of, Taken, taken, if_width, moving, is_against, lesser_bound, along, between, range_if, range_of, up_to, bounds, slice_taken, first_needed, first_names, select_if, select_typed, word_if, word_typed, bit_typed}
+use Rattle.vs_const.specs.Typed.{Typed, begins_at, noted, number_of, natural_if, natural_within, natural, is_over, unary_typed}
+use Rattle.vs_const.specs.Selects.{Base, base_of, Taken, taken, if_width, moving, is_against, lesser_bound, along, between, range_if, range_of, up_to, bounds, slice_taken, first_needed, first_names, select_if, select_typed, is_array, Addressed, in_array, addressed_in, addressed, word_if, word_typed, bit_typed}
 use Rattle.vs_const.specs.Expressions.{constant, typed, selected, clog2_of, clog2_typed}
 use Rattle.vs_const.proofs.Steady.{sound_needed, steady_sound}
-use Rattle.vs_const.proofs.Formed.{both_nil, begins_same, split, typed_fine}
+use Rattle.vs_const.proofs.WordArms.{no_memory}
+use Rattle.vs_const.proofs.Formed.{both_nil, begins_same, split, typed_fine, array_sound, address_clean, index_same, in_array_faults}
 use Rattle.vs_flat.specs.Targets.{source_of}
 use Rattle.vs_flat.specs.Trees.{signal_at}
 use Rattle.vs_build.specs.Drafts.{Draft, home, EndsWith, EndsInSelect, AddsExpression}
-use Rattle.vs_build.specs.Buildable.{IsBuildable, selected_by, memory_of, IsSelectable, HasBits, AddsSource, IsWithin, AreBounds, IsRangeOf, IsConstant}
+use Rattle.vs_build.specs.Buildable.{IsBuildable, selected_by, memory_of, IsAddressable, IsWordAddressable, IsSelectable, HasBits, AddsSource, IsWithin, AreBounds, IsRangeOf, IsConstant}
 use Rattle.vs_build.proofs.Arms.{begins_twice, noted_clean, same_home, ok_up_to}
 use Rattle.vs_build.proofs.Lists.{fair_of, number_is}
 use Rattle.vs_build.proofs.SignalNames.{signal_is, signal_within, memory_signal}
@@ -146,61 +151,167 @@ moving_is d find fixed needed up name bracket kind a w kinds s =
 
 -- ---- `[i]`: a bit, or a word
 
--- of what is no memory
-pub bit_is : (needed : Bool) (place : ℕ) (m : Meaning) (i : Typed) → memory_of m ≡ None → bit_typed needed place m i ≡ select_typed (base_of needed place m) (taken (base_of needed place m).range true 1 i i.faults)
-bit_is needed place (AValue v r turns) i e = refl
-bit_is needed place (Undefined r) i e = refl
-bit_is needed place (ASignal s) i e = refl
-bit_is needed place (AMemory s) i e = cc
-bit_is needed place (AFunction f) i e = refl
-bit_is needed place Incomplete i e = refl
-bit_is needed place Another i e = refl
-bit_is needed place (Barred rule) i e = refl
-bit_is needed place Unknown i e = refl
+-- of what is no memory, whatever the address
+pub bit_is : (needed : Bool) (place : ℕ) (m : Meaning) (at : ℕ) (i j : Typed) → memory_of m at j ≡ None → bit_typed needed place m at i ≡ select_typed (base_of needed place m) (taken (base_of needed place m).range true 1 i i.faults)
+bit_is needed place (AValue v r turns) at i j e = refl
+bit_is needed place (Undefined r) at i j e = refl
+bit_is needed place (ASignal s) at i j e = refl
+bit_is needed place (AMemory s) at i j e = cc
+bit_is needed place (AFunction f) at i j e = refl
+bit_is needed place Incomplete at i j e = refl
+bit_is needed place Another at i j e = refl
+bit_is needed place (Barred rule) at i j e = refl
+bit_is needed place Unknown at i j e = refl
 
-pub memory_is : (m : Meaning) (n : ℕ) → memory_of m ≡ Some n → (t : SignalMeaning) × (m ≡ AMemory t) × (t.signal.number ≡ n)
-memory_is (AValue v r turns) n e = cc
-memory_is (Undefined r) n e = cc
-memory_is (ASignal s) n e = cc
-memory_is (AFunction f) n e = cc
-memory_is Incomplete n e = cc
-memory_is (Barred rule) n e = cc
-memory_is (AMemory s) n e = (s, refl, (let same : s.signal.number ≡ n = cc in same))
-memory_is Another n e = cc
-memory_is Unknown n e = cc
+pub memory_is : (m : Meaning) (at : ℕ) (i : Typed) (n : ℕ) → memory_of m at i ≡ Some n → (t : SignalMeaning) × (m ≡ AMemory t) × ((addressed t at i).signal.number ≡ n)
+memory_is (AValue v r turns) at i n e = cc
+memory_is (Undefined r) at i n e = cc
+memory_is (ASignal s) at i n e = cc
+memory_is (AFunction f) at i n e = cc
+memory_is Incomplete at i n e = cc
+memory_is (Barred rule) at i n e = cc
+memory_is (AMemory s) at i n e = (s, refl, (let same : (addressed s at i).signal.number ≡ n = cc in same))
+memory_is Another at i n e = cc
+memory_is Unknown at i n e = cc
 
-pub bit_taken : (d : Design) (find : Find) (fixed needed : Bool) (name : tree.Name) (bracket : ℕ) (index : tree.Expr) → memory_of (find name.bytes) ≡ None → IsSelectable d find fixed needed name (tree.BitAt bracket index)
-    → IsTaken d find fixed needed name (tree.BitAt bracket index) true 1 (typed index find needed).expression
+-- an array's address is a constant anyway, and a memory's says not where its words are
+pub one_number : (m : SignalMeaning) (needed : Bool) (at : ℕ) (i : Bool → Typed) → (addressed m at (i true)).signal.number ≡ (addressed m at (i (m.signal.net || needed))).signal.number
+one_number m needed at i = of m.signal.net
+  where
+    of : (array : Bool) → (addressed_in array m at (i true)).signal.number ≡ (addressed_in array m at (i (array || needed))).signal.number
+    of true = refl
+    of false = refl
+
+-- where a number from `low` on is meant, it is one
+pub natural_least : (low high place : ℕ) (t : Typed) (n : ℕ) → (natural low high place t).number ≡ Some n → low ≤ n
+natural_least low high place t n h = of (number_of place t).number h
+  where
+    same : (k : ℕ) → Some k ≡ Some n → k ≡ n
+    same k e = cc
+
+    inside : (k : ℕ) (b : Bool) → (nat_le low k && nat_le k high) ≡ b → (natural_if b place k).number ≡ Some n → low ≤ n
+    inside k true e f = subst (λ z. low ≤ z) (same k f) (leb-true low k (split (nat_le low k) (nat_le k high) e).0)
+    inside k false e f = cc
+
+    of : (o : Option ℤ) → (natural_within low high place o).number ≡ Some n → low ≤ n
+    of None e = cc
+    of (Some (pos k)) e = inside k (nat_le low k && nat_le k high) refl e
+    of (Some (negsuc k)) e = cc
+
+-- the number of a net of an array, by its address
+net_number : (m : SignalMeaning) (at : ℕ) (i : Typed) (words : Range) (n : ℕ) → m.signal.net ≡ true → m.signal.words ≡ Some words → (natural words.right words.left at i).number ≡ Some n → (addressed m at i).signal.number ≡ m.signal.number + (n - words.right)
+net_number m at i words n net w e =
+    let bounds : addresses m.signal ≡ words = ap range_or_zero w in
+    let fs = λ (r : Range). (natural r.right r.left at i).faults in
+    ap (λ b. (addressed_in b m at i).signal.number) net
+    ∙ ap (λ (r : Range). (in_array m i (natural r.right r.left at i).number (fs r)).signal.number) bounds
+    ∙ ap (λ o. (in_array m i o (fs words)).signal.number) e
+    ∙ ap (λ (r : Range). m.signal.number + (n - r.right)) bounds
+
+-- what has the word by number: an array's net, or the memory
+pub array_number : (m : Meaning) (s : SignalShape) (words : Range) (at : ℕ) (i : Typed) (n : ℕ) → Means (named.Memory s) m → s.net ≡ true → s.words ≡ Some words → (natural words.right words.left at i).number ≡ Some n
+    → memory_of m at i ≡ Some (s.number + (n - words.right))
+array_number m s words at i n k net w e =
+    ap (λ x. memory_of x at i) k.1 ∙ ap (λ z. Some z) (net_number k.0 at i words n (sym k.8 ∙ net) (sym k.10 ∙ w) e ∙ ap (λ z. z + (n - words.right)) (sym k.2))
+
+pub plain_number : (m : Meaning) (s : SignalShape) (at : ℕ) (i : Typed) → Means (named.Memory s) m → s.net ≡ false → memory_of m at i ≡ Some s.number
+plain_number m s at i k net = ap (λ x. memory_of x at i) k.1 ∙ ap (λ z. Some z) (ap (λ b. (addressed_in b k.0 at i).signal.number) (sym k.8 ∙ net) ∙ sym k.2)
+
+-- an array has addresses, and the one that stands there is a constant and one of them
+pub array_address : (m : Meaning) (s : SignalShape) (words : Range) (find : Find) (address : tree.Expr) → Means (named.Memory s) m → s.net ≡ true → s.words ≡ Some words → IsWordAddressable m find address → IsWithin words.right words.left find address
+array_address m s words find address k net w a =
+    let b : IsAddressable k.0 find address = subst (λ x. IsWordAddressable x find address) k.1 a in
+    let bounds : addresses k.0.signal ≡ words = ap range_or_zero (sym k.10 ∙ w) in
+    subst (λ (r : Range). IsWithin r.right r.left find address) bounds (b (sym k.8 ∙ net))
+
+pub no_addresses : (m : Meaning) (s : SignalShape) → Means (named.Memory s) m → s.words ≡ None → ⊥
+no_addresses m s k e = none k.0.signal.words (sym k.10 ∙ e) k.7
+  where
+    none : (o : Option Range) → o ≡ None → is_some o ≡ true → ⊥
+    none None e f = cc
+    none (Some r) e f = cc
+
+pub no_memory_number : (m : Meaning) (x : Named) (at : ℕ) (i : Typed) → ((s : SignalShape) → x ≡ named.Memory s → ⊥) → Means x m → memory_of m at i ≡ None
+no_memory_number (AMemory s) x at i other h = absurd (no_memory x s other h)
+no_memory_number (AValue v r turns) x at i other h = refl
+no_memory_number (Undefined r) x at i other h = refl
+no_memory_number (ASignal s) x at i other h = refl
+no_memory_number (AFunction f) x at i other h = refl
+no_memory_number Incomplete x at i other h = refl
+no_memory_number Another x at i other h = refl
+no_memory_number (Barred rule) x at i other h = refl
+no_memory_number Unknown x at i other h = refl
+
+pub bit_taken : (d : Design) (find : Find) (fixed needed : Bool) (name : tree.Name) (bracket : ℕ) (index : tree.Expr) → memory_of (find name.bytes) (expr_place index) (constant index find) ≡ None → IsSelectable d find fixed needed name (tree.BitAt bracket index)
+    → IsTaken d find fixed needed name (tree.BitAt bracket index) true 1 (typed index find (is_array (find name.bytes) || needed)).expression
 bit_taken d find fixed needed name bracket index e s =
-    let i = typed index find needed in
-    taken_bits d find fixed needed name (tree.BitAt bracket index) true 1 i i.faults s (bit_is fixed name.place (find name.bytes) i e)
+    let m = find name.bytes in
+    let i = typed index find (is_array m || needed) in
+    taken_bits d find fixed needed name (tree.BitAt bracket index) true 1 i i.faults s (bit_is fixed name.place m (expr_place index) i (constant index find) e)
 
 -- the index has no fault
-bit_faults : (needed : Bool) (place : ℕ) (m : Meaning) (i : Typed) → (bit_typed needed place m i).faults ≡ [] → i.faults ≡ []
-bit_faults needed place m i h = of (memory_of m) refl
+word_faults : (b : Bool) (place : ℕ) (t : SignalMeaning) (a : Addressed) → (word_typed b place t a).faults ≡ [] → a.faults ≡ []
+word_faults true place t a h = (both_nil (fault NotConstant place) a.faults h).1
+word_faults false place t a h = of (t.known && a.good) h
+  where
+    of : (good : Bool) → (word_if good t a).faults ≡ [] → a.faults ≡ []
+    of true k = k
+    of false k = k
+
+bit_faults : (needed : Bool) (place : ℕ) (m : Meaning) (at : ℕ) (i : Typed) → (bit_typed needed place m at i).faults ≡ [] → i.faults ≡ []
+bit_faults needed place m at i h = of (memory_of m at i) refl
   where
     faults : (declared : Option Range) → (taken declared true 1 i i.faults).faults ≡ i.faults
     faults None = refl
     faults (Some r) = refl
 
-    good_or_not : (t : SignalMeaning) (good : Bool) → (word_if good t i).faults ≡ [] → i.faults ≡ []
-    good_or_not t true k = k
-    good_or_not t false k = k
+    of_word : (b : Bool) (t : SignalMeaning) → (word_typed b place t (addressed t at i)).faults ≡ [] → i.faults ≡ []
+    of_word b t k = address_clean t at i (word_faults b place t (addressed t at i) k)
 
-    of_word : (b : Bool) (t : SignalMeaning) → (word_typed b place t i).faults ≡ [] → i.faults ≡ []
-    of_word true t k = (both_nil (fault NotConstant place) i.faults k).1
-    of_word false t k = good_or_not t (t.known && i.good) k
-
-    of : (o : Option ℕ) → memory_of m ≡ o → i.faults ≡ []
+    of : (o : Option ℕ) → memory_of m at i ≡ o → i.faults ≡ []
     of None e =
         let b = base_of needed place m in
         let t = taken b.range true 1 i i.faults in
-        sym (faults b.range) ∙ (select_faults b t (b.good && t.good) (sym (ap (λ (x : Typed). x.faults) (bit_is needed place m i e)) ∙ h)).1
-    of (Some n) e = let w = memory_is m n e in of_word needed w.0 (subst (λ x. (bit_typed needed place x i).faults ≡ []) w.1 h)
+        sym (faults b.range) ∙ (select_faults b t (b.good && t.good) (sym (ap (λ (x : Typed). x.faults) (bit_is needed place m at i i e)) ∙ h)).1
+    of (Some n) e = let w = memory_is m at i n e in of_word needed w.0 (subst (λ x. (bit_typed needed place x at i).faults ≡ []) w.1 h)
 
-pub bit_index : (d : Design) (find : Find) (fixed needed : Bool) (name : tree.Name) (bracket : ℕ) (index : tree.Expr) → IsSelectable d find fixed needed name (tree.BitAt bracket index) → IsBuildable d find needed index
+pub bit_index : (d : Design) (find : Find) (fixed needed : Bool) (name : tree.Name) (bracket : ℕ) (index : tree.Expr) → IsSelectable d find fixed needed name (tree.BitAt bracket index) → IsBuildable d find (is_array (find name.bytes) || needed) index
 bit_index d find fixed needed name bracket index s =
-    record { shaped = s.shaped; sound = s.sound; numbered = s.numbered; clean = bit_faults fixed name.place (find name.bytes) (typed index find needed) s.clean; shallow = omega (arith, s.shallow) }
+    let m = find name.bytes in
+    record {
+      shaped = s.shaped;
+      sound = array_sound d (is_array m) needed find s.sound;
+      numbered = s.numbered;
+      clean = bit_faults fixed name.place m (expr_place index) (typed index find (is_array m || needed)) s.clean;
+      shallow = omega (arith, s.shallow);
+    }
+
+-- and so an array's address is one that it has
+pub is_addressable : (d : Design) (find : Find) (needed : Bool) (m : SignalMeaning) (address : tree.Expr) → AreSound d needed find → IsExpr address → (addressed m (expr_place address) (typed address find (m.signal.net || needed))).faults ≡ [] → IsAddressable m find address
+is_addressable d find needed m address sound shaped h = of m.signal.net h
+  where
+    of : (array : Bool) → (addressed_in array m (expr_place address) (typed address find (array || needed))).faults ≡ [] → array ≡ true → IsWithin (addresses m.signal).right (addresses m.signal).left find address
+    of true k e =
+        let i = constant address find in
+        let n = natural (addresses m.signal).right (addresses m.signal).left (expr_place address) i in
+        number_is d needed find (addresses m.signal).right (addresses m.signal).left address sound shaped (sym (in_array_faults m i n.number n.faults) ∙ k)
+    of false k e = cc
+
+pub bit_address : (d : Design) (find : Find) (fixed needed : Bool) (name : tree.Name) (bracket : ℕ) (index : tree.Expr) → IsSelectable d find fixed needed name (tree.BitAt bracket index) → IsWordAddressable (find name.bytes) find index
+bit_address d find fixed needed name bracket index s = of (find name.bytes) s.clean
+  where
+    of : (m : Meaning) → (bit_typed fixed name.place m (expr_place index) (typed index find (is_array m || needed))).faults ≡ [] → IsWordAddressable m find index
+    of (AMemory m) h =
+        let a = addressed m (expr_place index) (typed index find (m.signal.net || needed)) in
+        is_addressable d find needed m index s.sound s.shaped (word_faults fixed name.place m a h)
+    of (AValue v r turns) h = tt
+    of (Undefined r) h = tt
+    of (ASignal k) h = tt
+    of (AFunction f) h = tt
+    of Incomplete h = tt
+    of Another h = tt
+    of (Barred rule) h = tt
+    of Unknown h = tt
 
 -- a word of the memory of this number, at the address that `i` is
 pub record IsWord (d : Design) (t i : Typed) (n : ℕ) : Type 0 where
@@ -208,11 +319,11 @@ pub record IsWord (d : Design) (t i : Typed) (n : ℕ) : Type 0 where
   pub memory : has_words d (signal_at d.signals n) ≡ true
   pub expression : t.expression ≡ E.Word (signal_at d.signals n) i.expression
 
-word_good : (needed : Bool) (place : ℕ) (m : SignalMeaning) (i : Typed) → (word_typed needed place m i).good ≡ true → (word_typed needed place m i).expression ≡ E.Word m.signal i.expression
-word_good true place m i h = cc
-word_good false place m i h = of (m.known && i.good) h
+word_good : (needed : Bool) (place : ℕ) (m : SignalMeaning) (a : Addressed) → (word_typed needed place m a).good ≡ true → (word_typed needed place m a).expression ≡ E.Word a.signal a.index
+word_good true place m a h = cc
+word_good false place m a h = of (m.known && a.good) h
   where
-    of : (good : Bool) → (word_if good m i).good ≡ true → (word_if good m i).expression ≡ E.Word m.signal i.expression
+    of : (good : Bool) → (word_if good m a).good ≡ true → (word_if good m a).expression ≡ E.Word a.signal a.index
     of true k = refl
     of false k = cc
 
@@ -223,14 +334,22 @@ word_is d t i m n e is formed =
     let at : signal_at d.signals n ≡ m = ap (signal_at d.signals) (sym e) ∙ signal_is d m signal in
     record { there = subst (λ k. k < length d.signals) e (signal_within d m signal); memory = ap (has_words d) at ∙ words; expression = is ∙ ap (λ x. E.Word x i.expression) (sym at) }
 
-pub bit_word : (d : Design) (find : Find) (fixed needed : Bool) (name : tree.Name) (bracket : ℕ) (index : tree.Expr) (n : ℕ) → memory_of (find name.bytes) ≡ Some n → IsSelectable d find fixed needed name (tree.BitAt bracket index)
-    → IsWord d (selected_by (tree.BitAt bracket index) name find fixed needed) (typed index find needed) n
+-- the number is that of what has the word at the constant
+pub number_there : (m : Meaning) (s : SignalMeaning) (needed : Bool) (at : ℕ) (i : Bool → Typed) (n : ℕ) → m ≡ AMemory s → (addressed s at (i true)).signal.number ≡ n → (addressed s at (i (is_array m || needed))).signal.number ≡ n
+number_there m s needed at i n e h = ap (λ x. (addressed s at (i (is_array x || needed))).signal.number) e ∙ sym (one_number s needed at i) ∙ h
+
+pub bit_word : (d : Design) (find : Find) (fixed needed : Bool) (name : tree.Name) (bracket : ℕ) (index : tree.Expr) (n : ℕ) → memory_of (find name.bytes) (expr_place index) (constant index find) ≡ Some n → IsSelectable d find fixed needed name (tree.BitAt bracket index)
+    → IsWord d (selected_by (tree.BitAt bracket index) name find fixed needed) (typed index find (is_array (find name.bytes) || needed)) n
 bit_word d find fixed needed name bracket index n e s =
-    let i = typed index find needed in
+    let m = find name.bytes in
+    let at = expr_place index in
+    let i = typed index find (is_array m || needed) in
     let t = selected_by (tree.BitAt bracket index) name find fixed needed in
-    let w = memory_is (find name.bytes) n e in
-    let is : t ≡ word_typed fixed name.place w.0 i = ap (λ m. bit_typed fixed name.place m i) w.1 in
-    word_is d t i w.0.signal n w.2 (ap (λ (x : Typed). x.expression) is ∙ word_good fixed name.place w.0 i (sym (ap (λ (x : Typed). x.good) is) ∙ s.good)) s.formed
+    let w = memory_is m at (constant index find) n e in
+    let a = addressed w.0 at i in
+    let is : t ≡ word_typed fixed name.place w.0 a = ap (λ x. bit_typed fixed name.place x at i) w.1 in
+    let number : a.signal.number ≡ n = number_there m w.0 needed at (λ b. typed index find b) n w.1 w.2 in
+    word_is d t i a.signal n number (ap (λ (x : Typed). x.expression) is ∙ word_good fixed name.place w.0 a (sym (ap (λ (x : Typed). x.good) is) ∙ s.good) ∙ ap (λ x. E.Word a.signal x) (index_same w.0 at i)) s.formed
 
 -- ---- `[a:b]`
 

@@ -1,5 +1,5 @@
 -- Targets without a fault.
-use Rattle.std.proofs.Common.{rules, ◌≡◌, ℕ, zero, suc, ◌+◌, ◌*◌, ◌<◌, ◌≤◌, Bool, true, false, not, ◌&&◌, List, [], ◌∷◌, ◌++◌, length, get_or, map, take, Option, Some, None, Vec, Global, Result, OnOk, refl, sym, ap, ◌∙◌, subst, arith}
+use Rattle.std.proofs.Common.{rules, ◌≡◌, ℕ, zero, suc, ◌+◌, ◌*◌, ◌<◌, ◌≤◌, Bool, true, false, not, ◌&&◌, ◌||◌, List, [], ◌∷◌, ◌++◌, length, get_or, map, take, Option, Some, None, Vec, Global, Result, OnOk, refl, sym, ap, ◌∙◌, subst, arith}
 use Rattle.std.proofs.Math.Seq.{take-suc, take-length}
 use Rattle.std.proofs.lemmas.List.{map-append, length-map}
 use denote.Param.Weighed.{most, at_most}
@@ -23,10 +23,10 @@ use Rattle.vs_const.specs.declared.rules.Rule.TheVariants.{WrongKind}
 use Rattle.vs_const.specs.Meanings.{SignalMeaning, Meaning, AValue, Undefined, ASignal, AMemory, AFunction, Incomplete, Another, Barred, Unknown, Find, steady}
 use Rattle.vs_const.specs.Sound.{IsSound, AreSound}
 use Rattle.vs_const.specs.Typed.{Typed, begins_at, fine}
-use Rattle.vs_const.specs.Selects.{Base, signal_base, base_of, is_scalar, name_typed, known_signal, Taken, taken, slice_taken, first_needed, first_names, select_if, select_typed, word_if, bit_typed, word_range, word_part_if, further_typed}
-use Rattle.vs_const.specs.Expressions.{typed, taken_by}
+use Rattle.vs_const.specs.Selects.{Base, signal_base, base_of, is_scalar, name_typed, known_signal, Taken, taken, slice_taken, first_needed, first_names, select_if, select_typed, is_array, addressed, word_if, bit_typed, word_range, word_part_if, further_typed}
+use Rattle.vs_const.specs.Expressions.{constant, typed, taken_by}
 use Rattle.vs_const.proofs.Steady.{sound_needed, steady_sound, first_sound}
-use Rattle.vs_const.proofs.Formed.{both_nil, both, no_fault, signal_base_fine, IsFineTaken, bit_fine, slice_fine, taken_faults, typed_fine, taken_by_fine, word_ranged, same_itself}
+use Rattle.vs_const.proofs.Formed.{both_nil, both, no_fault, signal_base_fine, IsFineTaken, bit_fine, slice_fine, taken_faults, typed_fine, taken_by_fine, word_ranged, same_itself, address_fine, need_less, range_same}
 use Rattle.vs_flat.specs.Targets.{target_of, both_of, place_of}
 use Rattle.vs_flat.specs.Trees.{joined}
 use Rattle.vs_elaborated.specs.Targets.{meant_signal, TypedTarget, is_wrong_target, target_rule, target_base, part_target, word_target, bit_target, word_part_target, further_target, selected_target, typed_target, typed_targets}
@@ -117,104 +117,129 @@ needed_sound : (d : Design) (needed : Bool) (find : Find) → AreSound d false f
 needed_sound d true find s = λ name. sound_needed d false (find name) (s name)
 needed_sound d false find s = s
 
--- a word of a memory
+-- a word of a memory, or a net of an array
 word_case : (d : Design) (find : Find) (procedural : Bool) (name : tree.Name) (bracket : ℕ) (index : tree.Expr) (m : SignalMeaning) → find name.bytes ≡ AMemory m → IsExpr index → AreSound d false find
     → (selected_target (tree.BitAt bracket index) name find procedural).faults ≡ [] → IsNamedTarget d find procedural name (tree.BitAt bracket index)
 word_case d find procedural name bracket index m e x sound h =
-    let i = typed index find (not procedural) in
-    let by_target : selected_target (tree.BitAt bracket index) name find procedural ≡ word_target procedural name.place m i = ap (λ y. bit_target procedural name.place y i) e in
-    let k = both_nil (fault_if (is_wrong_target procedural m) WrongKind name.place) i.faults (sym (ap (λ (t : TypedTarget). t.faults) by_target) ∙ h) in
+    let needed = not procedural in
+    let at = expr_place index in
+    let indexed = λ (y : Meaning). typed index find (is_array y || needed) in
+    let i = indexed (AMemory m) in
+    let a = addressed m at i in
+    let by_target : selected_target (tree.BitAt bracket index) name find procedural ≡ word_target procedural name.place m a = ap (λ y. bit_target procedural name.place y at (indexed y)) e in
+    let k = both_nil (fault_if (is_wrong_target procedural m) WrongKind name.place) a.faults (sym (ap (λ (t : TypedTarget). t.faults) by_target) ∙ h) in
     let s = subst (IsSound d false) e (sound name.bytes) in
-    let f = typed_fine d find index (not procedural) (needed_sound d (not procedural) find sound) x k.1 in
-    let is : selected_by (tree.BitAt bracket index) name find false (not procedural) ≡ fine (E.Word m.signal i.expression) i.faults = ap (λ y. bit_typed false name.place y i) e ∙ ap (λ b. word_if b m i) (both m.known i.good s.1 f.good) in
+    let f = address_fine d m at i s.0 (λ z. need_less d m.signal.net needed i (typed_fine d find index (m.signal.net || needed) (needed_sound d (m.signal.net || needed) find sound) x z)) k.1 in
+    let is : selected_by (tree.BitAt bracket index) name find false needed ≡ fine (E.Word a.signal a.index) a.faults = ap (λ y. bit_typed false name.place y at (indexed y)) e ∙ ap (λ b. word_if b m a) (both m.known a.good s.1 f.good) in
     record {
       good = ap (λ (t : Typed). t.good) is;
       clean = ap (λ (t : Typed). t.faults) is ∙ k.1;
-      formed = ap (λ (t : Typed). is_formed d t.expression) is ∙ both (has_words d m.signal) (is_formed d i.expression) s.0 f.formed;
+      formed = ap (λ (t : Typed). is_formed d t.expression) is ∙ both (has_words d a.signal) (is_formed d a.index) f.words f.formed;
       written = ap (λ (t : Typed). target_of t.expression) is ∙ ap (λ (t : TypedTarget). Some t.target) (sym by_target);
     }
 
--- a bit of what is no memory
-pub bit_target_is : (procedural : Bool) (place : ℕ) (m : Meaning) (i : Typed) → memory_of m ≡ None → bit_target procedural place m i ≡ part_target (meant_signal m) (target_base procedural place true m) (taken (target_base procedural place true m).range true 1 i i.faults)
-bit_target_is procedural place (AValue v r turns) i e = refl
-bit_target_is procedural place (Undefined r) i e = refl
-bit_target_is procedural place (ASignal s) i e = refl
-bit_target_is procedural place (AMemory s) i e = cc
-bit_target_is procedural place (AFunction g) i e = refl
-bit_target_is procedural place Incomplete i e = refl
-bit_target_is procedural place Another i e = refl
-bit_target_is procedural place (Barred rule) i e = refl
-bit_target_is procedural place Unknown i e = refl
+-- a bit of what is no memory, whatever the address
+pub bit_target_is : (procedural : Bool) (place : ℕ) (m : Meaning) (at : ℕ) (i j : Typed) → memory_of m at j ≡ None
+    → bit_target procedural place m at i ≡ part_target (meant_signal m) (target_base procedural place true m) (taken (target_base procedural place true m).range true 1 i i.faults)
+bit_target_is procedural place (AValue v r turns) at i j e = refl
+bit_target_is procedural place (Undefined r) at i j e = refl
+bit_target_is procedural place (ASignal s) at i j e = refl
+bit_target_is procedural place (AMemory s) at i j e = cc
+bit_target_is procedural place (AFunction g) at i j e = refl
+bit_target_is procedural place Incomplete at i j e = refl
+bit_target_is procedural place Another at i j e = refl
+bit_target_is procedural place (Barred rule) at i j e = refl
+bit_target_is procedural place Unknown at i j e = refl
 
-bit_case : (d : Design) (find : Find) (procedural : Bool) (name : tree.Name) (bracket : ℕ) (index : tree.Expr) → memory_of (find name.bytes) ≡ None → IsExpr index → AreSound d false find
+not_array : (m : Meaning) (at : ℕ) (j : Typed) → memory_of m at j ≡ None → is_array m ≡ false
+not_array (AValue v r turns) at j e = refl
+not_array (Undefined r) at j e = refl
+not_array (ASignal s) at j e = refl
+not_array (AMemory s) at j e = cc
+not_array (AFunction g) at j e = refl
+not_array Incomplete at j e = refl
+not_array Another at j e = refl
+not_array (Barred rule) at j e = refl
+not_array Unknown at j e = refl
+
+bit_case : (d : Design) (find : Find) (procedural : Bool) (name : tree.Name) (bracket : ℕ) (index : tree.Expr) → memory_of (find name.bytes) (expr_place index) (constant index find) ≡ None → IsExpr index → AreSound d false find
     → (selected_target (tree.BitAt bracket index) name find procedural).faults ≡ [] → IsNamedTarget d find procedural name (tree.BitAt bracket index)
 bit_case d find procedural name bracket index e x sound h =
-    let i = typed index find (not procedural) in
+    let needed = not procedural in
+    let i = typed index find needed in
     let m = find name.bytes in
-    part_case d find procedural name (tree.BitAt bracket index) (λ o. taken o true 1 i i.faults) (sound name.bytes) (bit_is false name.place m i e) (bit_target_is procedural name.place m i e)
-    (λ r o q f. bit_fine d (not procedural) o r i q (typed_fine d find index (not procedural) (needed_sound d (not procedural) find sound) x (sym (taken_faults o true 1 i i.faults) ∙ f))) h
+    let at = expr_place index in
+    let none = not_array m at (constant index find) e in
+    part_case d find procedural name (tree.BitAt bracket index) (λ o. taken o true 1 i i.faults) (sound name.bytes)
+    (ap (λ b. bit_typed false name.place m at (typed index find (b || needed))) none ∙ bit_is false name.place m at i (constant index find) e)
+    (ap (λ b. bit_target procedural name.place m at (typed index find (b || needed))) none ∙ bit_target_is procedural name.place m at i (constant index find) e)
+    (λ r o q f. bit_fine d needed o r i q (typed_fine d find index needed (needed_sound d needed find sound) x (sym (taken_faults o true 1 i i.faults) ∙ f))) h
 
 -- bits of a word
 word_part_case : (d : Design) (find : Find) (procedural : Bool) (name : tree.Name) (bracket : ℕ) (address : tree.Expr) (part : tree.Select) (m : SignalMeaning) → find name.bytes ≡ AMemory m → IsSelect (tree.OfWord bracket address part) → AreSound d false find
     → (selected_target (tree.OfWord bracket address part) name find procedural).faults ≡ [] → IsNamedTarget d find procedural name (tree.OfWord bracket address part)
 word_part_case d find procedural name bracket address part m e x sound h =
     let needed = not procedural in
-    let a = typed address find needed in
+    let at = expr_place address in
+    let indexed = λ (y : Meaning). typed address find (is_array y || needed) in
     let take = λ (y : Meaning). taken_by (word_range y) part find needed in
+    let i = indexed (AMemory m) in
+    let a = addressed m at i in
     let t = take (AMemory m) in
     let wrong = fault_if (is_wrong_target procedural m) WrongKind name.place in
     let scalar = fault_if (is_scalar m) WrongKind name.place in
-    let by_target : selected_target (tree.OfWord bracket address part) name find procedural ≡ word_part_target procedural name.place m a t = ap (λ y. further_target procedural name.place y a (take y)) e in
+    let by_target : selected_target (tree.OfWord bracket address part) name find procedural ≡ word_part_target procedural name.place m a t = ap (λ y. further_target procedural name.place y at (indexed y) (take y)) e in
     let k = both_nil wrong (scalar ++ (a.faults ++ t.faults)) (sym (ap (λ (u : TypedTarget). u.faults) by_target) ∙ h) in
     let l = both_nil scalar (a.faults ++ t.faults) k.1 in
     let n = both_nil a.faults t.faults l.1 in
     let s = subst (IsSound d false) e (sound name.bytes) in
     let r = word_ranged m name.place s.1 l.0 in
-    let all = needed_sound d needed find sound in
-    let f = typed_fine d find address needed all x.0 n.0 in
-    let g = taken_by_fine d part find needed m.signal.range r.0 all x.1 x.2 r.1 n.1 in
-    let is : selected_by (tree.OfWord bracket address part) name find false needed ≡ (let y : Typed = record { expression = E.WordPart m.signal a.expression t.part t.index; length = t.length; good = true; faults = scalar ++ (a.faults ++ t.faults) } in y) =
-    ap (λ y. further_typed false name.place y a (take y)) e ∙ ap (λ b. word_part_if b m scalar a t) (both (m.known && a.good) t.good (both m.known a.good s.1 f.good) g.good)
+    let f = address_fine d m at i s.0 (λ z. need_less d m.signal.net needed i (typed_fine d find address (m.signal.net || needed) (needed_sound d (m.signal.net || needed) find sound) x.0 z)) n.0 in
+    let g = taken_by_fine d part find needed m.signal.range r.0 (needed_sound d needed find sound) x.1 x.2 r.1 n.1 in
+    let is : selected_by (tree.OfWord bracket address part) name find false needed ≡ (let y : Typed = record { expression = E.WordPart a.signal a.index t.part t.index; length = t.length; good = true; faults = scalar ++ (a.faults ++ t.faults) } in y) =
+    ap (λ y. further_typed false name.place y at (indexed y) (take y)) e ∙ ap (λ b. word_part_if b m scalar a t) (both (m.known && a.good) t.good (both m.known a.good s.1 f.good) g.good)
     in
     record {
       good = ap (λ (u : Typed). u.good) is;
       clean = ap (λ (u : Typed). u.faults) is ∙ k.1;
       formed = ap (λ (u : Typed). is_formed d u.expression) is
-          ∙ both (is_formed_word_part d m.signal t.part && is_formed d a.expression) (is_formed d t.index) (both (is_formed_word_part d m.signal t.part) (is_formed d a.expression) (of_words r.0 r.1 g) f.formed) g.formed;
+          ∙ both (is_formed_word_part d a.signal t.part && is_formed d a.index) (is_formed d t.index) (both (is_formed_word_part d a.signal t.part) (is_formed d a.index) (of_words a.signal f.words r.0 (range_same m at i ∙ r.1) g) f.formed) g.formed;
       written = ap (λ (u : Typed). target_of u.expression) is ∙ ap (λ (u : TypedTarget). Some u.target) (sym by_target);
     }
   where
-    of_words : (r : Range) → m.signal.range ≡ Some r → IsFineTaken d (not procedural) r (taken_by m.signal.range part find (not procedural)) → is_formed_word_part d m.signal (taken_by m.signal.range part find (not procedural)).part ≡ true
-    of_words r i g =
+    of_words : (w : E.Signal) → has_words d w ≡ true → (r : Range) → w.range ≡ Some r → IsFineTaken d (not procedural) r (taken_by m.signal.range part find (not procedural)) → is_formed_word_part d w (taken_by m.signal.range part find (not procedural)).part ≡ true
+    of_words w has r i g =
         let p = (taken_by m.signal.range part find (not procedural)).part in
-        both (has_words d m.signal && same_range m.signal.range (Some p.range)) (fits_64 p.width)
-        (both (has_words d m.signal) (same_range m.signal.range (Some p.range)) (subst (IsSound d false) e (sound name.bytes)).0
+        both (has_words d w && same_range w.range (Some p.range)) (fits_64 p.width)
+        (both (has_words d w) (same_range w.range (Some p.range)) has
         (subst (λ q. same_range q (Some p.range) ≡ true) (sym i) (subst (λ q. same_range (Some r) (Some q) ≡ true) (sym g.range) (same_itself r)))) g.fits
 
--- of what is no memory
-pub no_memory_part : (procedural : Bool) (place : ℕ) (m : Meaning) (a : Typed) (t : Taken) → memory_of m ≡ None → (further_target procedural place m a t).faults ≡ [] → ⊥
-no_memory_part procedural place (AValue v r turns) a t e h = cc
-no_memory_part procedural place (Undefined r) a t e h = cc
-no_memory_part procedural place (ASignal s) a t e h = cc
-no_memory_part procedural place (AMemory s) a t e h = cc
-no_memory_part procedural place (AFunction g) a t e h = cc
-no_memory_part procedural place Incomplete a t e h = cc
-no_memory_part procedural place Another a t e h = cc
-no_memory_part procedural place (Barred rule) a t e h = cc
-no_memory_part procedural place Unknown a t e h = cc
+-- of what is no memory, whatever the address
+pub no_memory_part : (procedural : Bool) (place : ℕ) (m : Meaning) (at : ℕ) (a : Typed) (t : Taken) (j : Typed) → memory_of m at j ≡ None → (further_target procedural place m at a t).faults ≡ [] → ⊥
+no_memory_part procedural place (AValue v r turns) at a t j e h = cc
+no_memory_part procedural place (Undefined r) at a t j e h = cc
+no_memory_part procedural place (ASignal s) at a t j e h = cc
+no_memory_part procedural place (AMemory s) at a t j e h = cc
+no_memory_part procedural place (AFunction g) at a t j e h = cc
+no_memory_part procedural place Incomplete at a t j e h = cc
+no_memory_part procedural place Another at a t j e h = cc
+no_memory_part procedural place (Barred rule) at a t j e h = cc
+no_memory_part procedural place Unknown at a t j e h = cc
 
 pub named_target : (d : Design) (find : Find) (procedural : Bool) (name : tree.Name) (select : tree.Select) → IsSelect select → AreSound d false find → (selected_target select name find procedural).faults ≡ [] → IsNamedTarget d find procedural name select
 named_target d find procedural name tree.Whole x sound h = whole_target d find procedural name (sound name.bytes) h
-named_target d find procedural name (tree.BitAt bracket index) x sound h = of (memory_of (find name.bytes)) refl
+named_target d find procedural name (tree.BitAt bracket index) x sound h = of (memory_of (find name.bytes) (expr_place index) (constant index find)) refl
   where
-    of : (o : Option ℕ) → memory_of (find name.bytes) ≡ o → IsNamedTarget d find procedural name (tree.BitAt bracket index)
+    of : (o : Option ℕ) → memory_of (find name.bytes) (expr_place index) (constant index find) ≡ o → IsNamedTarget d find procedural name (tree.BitAt bracket index)
     of None e = bit_case d find procedural name bracket index e x sound h
-    of (Some n) e = let w = memory_is (find name.bytes) n e in word_case d find procedural name bracket index w.0 w.1 x sound h
-named_target d find procedural name (tree.OfWord bracket address part) x sound h = of (memory_of (find name.bytes)) refl
+    of (Some n) e = let w = memory_is (find name.bytes) (expr_place index) (constant index find) n e in word_case d find procedural name bracket index w.0 w.1 x sound h
+named_target d find procedural name (tree.OfWord bracket address part) x sound h = of (memory_of (find name.bytes) (expr_place address) (constant address find)) refl
   where
-    of : (o : Option ℕ) → memory_of (find name.bytes) ≡ o → IsNamedTarget d find procedural name (tree.OfWord bracket address part)
-    of None e = absurd (no_memory_part procedural name.place (find name.bytes) (typed address find (not procedural)) (taken_by (word_range (find name.bytes)) part find (not procedural)) e h)
-    of (Some n) e = let w = memory_is (find name.bytes) n e in word_part_case d find procedural name bracket address part w.0 w.1 x sound h
+    of : (o : Option ℕ) → memory_of (find name.bytes) (expr_place address) (constant address find) ≡ o → IsNamedTarget d find procedural name (tree.OfWord bracket address part)
+    of None e =
+        let m = find name.bytes in
+        absurd (no_memory_part procedural name.place m (expr_place address) (typed address find (is_array m || not procedural)) (taken_by (word_range m) part find (not procedural)) (constant address find) e h)
+    of (Some n) e = let w = memory_is (find name.bytes) (expr_place address) (constant address find) n e in word_part_case d find procedural name bracket address part w.0 w.1 x sound h
 named_target d find procedural name (tree.Slice bracket kind a b) x sound h =
     let needed = not procedural in
     let all = needed_sound d needed find sound in

@@ -1,10 +1,10 @@
 -- What can be built: a tree of the text without a fault, whose names mean something in the design.
-use Rattle.std.specs.Prelude.{◌≡◌, ◌≤◌, ℕ, Bool, true, List, [], map, Option, Some, None}
+use Rattle.std.specs.Prelude.{◌≡◌, ◌≤◌, ◌||◌, ℕ, Bool, true, List, [], map, Option, Some, None}
 use Rattle.vs_four.specs.declared.Range.{Range}
 use Rattle.vs_four.specs.Selects.{range_length}
 use Rattle.vs_ast.specs.declared.expressions.Expr.{Expr}
 use Rattle.vs_ast.specs.Views.{expr}
-use Rattle.vs_design.specs.Expressions.{Expression}
+use Rattle.vs_design.specs.Expressions.{Expression, addresses}
 use Rattle.vs_design.specs.Designs.{Design}
 use Rattle.vs_design.specs.Elaborated.{is_formed}
 use Rattle.vs_grammar.specs.Trees as tree
@@ -14,7 +14,7 @@ use Rattle.vs_grammar.specs.Depths.{expr_depth, exprs_depth, select_depth}
 use Rattle.vs_const.specs.Meanings.{FunctionMeaning, SignalMeaning, Meaning, AMemory, AFunction, Find, steady, IsFair}
 use Rattle.vs_const.specs.Sound.{IsSound, AreSound}
 use Rattle.vs_const.specs.Typed.{Typed, natural}
-use Rattle.vs_const.specs.Selects.{name_typed, Base, base_of, slice_taken, first_needed, first_names, select_typed, bit_typed, word_range, further_typed}
+use Rattle.vs_const.specs.Selects.{name_typed, Base, base_of, slice_taken, first_needed, first_names, select_typed, bit_typed, word_range, is_array, addressed, further_typed}
 use Rattle.vs_const.specs.Expressions.{constant, typed, taken_by, typed_parts, typed_arguments}
 use Rattle.vs_elaborated.specs.Numbers.{AreNumbered}
 use Rattle.vs_flat.specs.Targets.{source_of}
@@ -31,13 +31,13 @@ pub record IsBuildable (d : Design) (find : Find) (needed : Bool) (e : tree.Expr
 -- a name with what is selected of it; `fixed`: where the name has to be a constant, `needed`: where the index has to be one
 abbrev pub selected_by : tree.Select → tree.Name → Find → (fixed needed : Bool) → Typed
 selected_by tree.Whole name find fixed needed = name_typed fixed name.place (find name.bytes)
-selected_by (tree.BitAt bracket index) name find fixed needed = bit_typed fixed name.place (find name.bytes) (typed index find needed)
+selected_by (tree.BitAt bracket index) name find fixed needed = let m = find name.bytes in bit_typed fixed name.place m (expr_place index) (typed index find (is_array m || needed))
 selected_by (tree.Slice bracket kind e f) name find fixed needed =
     let b = base_of fixed name.place (find name.bytes) in
     select_typed b (slice_taken b.range bracket kind (expr_place e) (typed e (first_names kind find) (first_needed kind needed)) (expr_place f) (typed f (steady find) true))
 selected_by (tree.OfWord bracket address part) name find fixed needed =
     let m = find name.bytes in
-    further_typed fixed name.place m (typed address find needed) (taken_by (word_range m) part find needed)
+    further_typed fixed name.place m (expr_place address) (typed address find (is_array m || needed)) (taken_by (word_range m) part find needed)
 
 pub record IsSelectable (d : Design) (find : Find) (fixed needed : Bool) (name : tree.Name) (select : tree.Select) : Type 0 where
   pub shaped : IsSelect select
@@ -109,10 +109,18 @@ pub record IsConstant (find : Find) (e : tree.Expr) : Type 0 where
   pub clean : (typed e find true).faults ≡ []
   pub good : (typed e find true).good ≡ true
 
--- the memory that a name means (4.9), by its number
-abbrev pub memory_of : Meaning → Option ℕ
-memory_of (AMemory m) = Some m.signal.number
-memory_of _ = None
+-- what has the word at an address of the memory or the array of nets that a name means (4.9), by its number
+abbrev pub memory_of : Meaning → (at : ℕ) → Typed → Option ℕ
+memory_of (AMemory m) at i = Some (addressed m at i).signal.number
+memory_of _ at i = None
+
+-- an array's address is a constant, and one that it has
+abbrev pub IsAddressable : SignalMeaning → Find → tree.Expr → Type 0
+IsAddressable m find address = m.signal.net ≡ true → IsWithin (addresses m.signal).right (addresses m.signal).left find address
+
+abbrev pub IsWordAddressable : Meaning → Find → tree.Expr → Type 0
+IsWordAddressable (AMemory m) find address = IsAddressable m find address
+IsWordAddressable m find address = Unit {0}
 
 -- a name alone
 pub record IsNameable (d : Design) (needed : Bool) (place : ℕ) (m : Meaning) : Type 0 where

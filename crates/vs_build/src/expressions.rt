@@ -13,8 +13,8 @@ ghost use Rattle.vs_build.specs.Buildable.{IsBuildable, IsSelectable, IsTakable,
 
 use crate::builder::Builder;
 use crate::names::{
-    bounds_of, called, constant_bits, lesser, memory, name_alone, number_within, range_length,
-    source, words,
+    bounds_of, called, constant_bits, index_needed, lesser, memory, name_alone, number_within,
+    range_length, source, words,
 };
 use crate::steady::Steady;
 use std::alloc::{AllocError, Global};
@@ -169,8 +169,9 @@ pub(crate) fn selected<E: Env>(
     match select {
         Select::Whole => name_alone(builder, fixed, name, at, env),
         Select::Bit { index, .. } => {
-            operand(builder, alloc, index, env, needed)?;
-            match memory(name, env) {
+            operand(builder, alloc, index, env, index_needed(needed, name, env))?;
+            let there = memory(alloc, name, index, env)?;
+            match there {
                 Some(signal) => builder.word(signal, at),
                 None => {
                     let range = source(builder, fixed, name, env)?;
@@ -209,9 +210,15 @@ pub(crate) fn selected<E: Env>(
             }
         },
         Select::Word { address, part, .. } => {
-            operand(builder, alloc, address, env, needed)?;
+            operand(
+                builder,
+                alloc,
+                address,
+                env,
+                index_needed(needed, name, env),
+            )?;
             let bits = bits_taken(builder, alloc, part, env, needed)?;
-            let m = words(name, env);
+            let m = words(alloc, name, address, env)?;
             builder.word_part(m.0, m.1, bits.0, bits.1, at)
         }
     }

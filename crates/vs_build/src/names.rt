@@ -1,17 +1,17 @@
 //! Names and numbers of the text.
 
-ghost use Rattle.std.specs.Prelude.{◌≡◌, ◌≤◌, ◌+◌, ◌-◌, ℕ, Bool, true, Some, IfOk, OnOk, min};
+ghost use Rattle.std.specs.Prelude.{◌≡◌, ◌≤◌, ◌+◌, ◌-◌, ◌||◌, ℕ, Bool, true, Some, IfOk, OnOk, min};
 ghost use Rattle.vs_four.specs.Selects as four;
 ghost use Rattle.vs_grammar.specs.Trees.{expr_place};
 ghost use Rattle.vs_ast.specs.Views as view;
 ghost use Rattle.vs_const.specs.Meanings.{FunctionMeaning, SignalMeaning, AFunction, AMemory};
 ghost use Rattle.vs_const.specs.Typed.{begins_at, natural};
-ghost use Rattle.vs_const.specs.Selects.{name_typed, base_of};
+ghost use Rattle.vs_const.specs.Selects.{name_typed, base_of, is_array};
 ghost use Rattle.vs_design.specs.Values.{constant_value};
 ghost use Rattle.vs_const.specs.Expressions.{constant};
 ghost use Rattle.vs_build.specs.Drafts.{home, AddsExpression};
 ghost use Rattle.vs_build.specs.Growth.{draft};
-ghost use Rattle.vs_build.specs.Buildable.{memory_of, IsNameable, HasBits, HasWords, AddsSource, IsCallable, IsWithin, AreBounds, IsRangeOf, IsConstant};
+ghost use Rattle.vs_build.specs.Buildable.{memory_of, IsNameable, HasBits, HasWords, IsWordAddressable, AddsSource, IsCallable, IsWithin, AreBounds, IsRangeOf, IsConstant};
 
 use crate::builder::Builder;
 use std::alloc::{AllocError, Global};
@@ -37,28 +37,69 @@ pub(crate) fn name_alone<E: Env>(
     }
 }
 
-/// The number of the memory that a name means, if it means one (IEEE 1364-2005, 4.9).
-pub(crate) fn memory<E: Env>(name: &Name, env: &E) -> Option<u32>
-    ensures { result ≡ memory_of (E.names env.now name.now.text) }
+/// Whether what a name is selected with has to be a constant: where one is needed, and as an address of an array of nets.
+pub(crate) fn index_needed<E: Env>(needed: bool, name: &Name, env: &E) -> bool
+    ensures { result ≡ (is_array (E.names env.now name.now.text) || needed) }
 {
     match env.find(name.text.as_slice()) {
-        Named::Memory(m) => Some(m.number),
-        _ => None,
+        Named::Memory(m) => m.net || needed,
+        _ => needed,
     }
 }
 
-/// The number of a memory that a name means, and the range of its words, of which there are bits to select (IEEE 1364-2005, 5.2.2).
-pub(crate) fn words<E: Env>(name: &Name, env: &E) -> (u32, Range)
-    requires { HasWords (E.names env.now name.now.text) }
-    ensures number { (m : SignalMeaning) → E.names env.now name.now.text ≡ AMemory m → result.0 ≡ m.signal.number }
-    ensures range { (m : SignalMeaning) → E.names env.now name.now.text ≡ AMemory m → m.signal.range ≡ Some result.1 }
+/// The number of the signal that has the word of this name at this address, if the name means a memory or an array of nets (IEEE 1364-2005, 4.9): of
+/// an array that of the net.
+pub(crate) fn memory<E: Env>(
+    alloc: Global,
+    name: &Name,
+    address: &Expr,
+    env: &E,
+) -> Result<Option<u32>, AllocError>
+    requires { IsWordAddressable (E.names env.now name.now.text) (E.names env.now) (view.expr address.now) }
+    ensures { IfOk result (λ n. n ≡ memory_of (E.names env.now name.now.text) (expr_place (view.expr address.now)) (constant (view.expr address.now) (E.names env.now))) }
 {
     match env.find(name.text.as_slice()) {
-        Named::Memory(m) => match m.range {
-            Some(range) => (m.number, range),
-            None => unreachable!(),
+        Named::Memory(m) => {
+            if m.net {
+                match m.words {
+                    Some(words) => {
+                        let n = number_within(alloc, words.right, words.left, address, env)?;
+                        match m.number.checked_add(n - words.right) {
+                            Some(number) => Ok(Some(number)),
+                            None => Err(AllocError),
+                        }
+                    }
+                    None => unreachable!(),
+                }
+            } else {
+                Ok(Some(m.number))
+            }
+        }
+        _ => Ok(None),
+    }
+}
+
+/// The number of the signal that has the word at this address, and the range of the words, of which there are bits to select (IEEE 1364-2005, 5.2.2).
+pub(crate) fn words<E: Env>(
+    alloc: Global,
+    name: &Name,
+    address: &Expr,
+    env: &E,
+) -> Result<(u32, Range), AllocError>
+    requires words { HasWords (E.names env.now name.now.text) }
+    requires address { IsWordAddressable (E.names env.now name.now.text) (E.names env.now) (view.expr address.now) }
+    ensures number { IfOk result (λ r. memory_of (E.names env.now name.now.text) (expr_place (view.expr address.now)) (constant (view.expr address.now) (E.names env.now)) ≡ Some r.0) }
+    ensures range { (m : SignalMeaning) → E.names env.now name.now.text ≡ AMemory m → IfOk result (λ r. m.signal.range ≡ Some r.1) }
+{
+    match memory(alloc, name, address, env)? {
+        Some(number) => match env.find(name.text.as_slice()) {
+            Named::Memory(m) => match m.range {
+                Some(range) => Ok((number, range)),
+                None => unreachable!(),
+            },
+            _ => unreachable!(),
         },
-        _ => unreachable!(),
+        None => unreachable!(),
     }
 }
 

@@ -1,13 +1,10 @@
 -- What the reset of an accepted design's block is, and what its lowering needs.
 use Rattle.std.proofs.Common.{◌≡◌, ℕ, ◌+◌, ◌<◌, ◌≤◌, ◌^◌, Bool, true, false, ◌&&◌, List, [], ◌∷◌, ◌++◌, if◌then◌else◌, length, Option, Some, slice_get, refl, sym, ap, ◌∙◌, subst, arith, zero, suc, sum_by}
 use Rattle.vs_net.specs.Network as N
-use Rattle.vs_design.specs.Accepted.{is_empty}
-use Rattle.vs_design.specs.Designs.{Edge, Any, Posedge, Negedge, Process, Always, is_clocked, Design, bit_count}
+use Rattle.vs_design.specs.Designs.{Edge, Any, Posedge, Negedge, Process, Always, Design, bit_count}
 use Rattle.vs_design.specs.Fits.{is_fit, fits_statement, fits_process}
 use Rattle.vs_design.specs.Footprints.{contains, statement_bits, writes_of}
 use Rattle.vs_design.specs.Resets.{branch_writes, branch_updates, net_edge, reset_of}
-use Rattle.vs_design.specs.Races.{blocking_bits, nonblocking_bits}
-use Rattle.vs_design.specs.Rules.{blocking_to, mixed_assigns, mixed_in}
 use Rattle.vs_design.specs.Statements.{Statement, If}
 use Rattle.vs_design.specs.TreeLaws.{BodyReads}
 use Rattle.vs_flat.specs.Arena.{Arena}
@@ -26,8 +23,7 @@ use Rattle.vs_program.specs.Made.{IsResetAt, RegistersInOrder}
 use Rattle.vs_assemble.specs.Plans.{may_store}
 use Rattle.vs_values.specs.Coded.{Coding}
 use Rattle.vs_lower.specs.Resetting.{AddsReset, HasResetRoom, IsResetOf, IsResetReady, reset_statement}
-use Rattle.vs_lower.specs.Stated.{AreApart, AreInside}
-use Rattle.vs_lower.proofs.Ruled.{rule_apart}
+use Rattle.vs_lower.specs.Stated.{AreInside}
 use Rattle.vs_compile.specs.Known.{Known}
 use Rattle.vs_compile.specs.Laid.{IsTable, Laid, laid_layout, table_layout}
 use Rattle.vs_compile.specs.Resets.{falls}
@@ -35,7 +31,7 @@ use Rattle.vs_compile.proofs.Accepted.{there}
 use Rattle.vs_compile.proofs.Blocks.{HasBranch, has_branch, has_room, left_has}
 use Rattle.vs_compile.proofs.Fixed.{fixed_writes, fixed_updates}
 use Rattle.vs_compile.proofs.Laying.{registers_below, temps_fit}
-use Rattle.vs_compile.proofs.Lists.{and_true, at_process, is_none}
+use Rattle.vs_compile.proofs.Lists.{and_true, at_process}
 use Rattle.vs_design.specs.Within.{StatementIsWithin, names_within, statement_within}
 use Rattle.vs_design.specs.Elaborated.{are_formed_events, is_formed_process, is_formed_statement}
 use Rattle.vs_design.specs.Sizes.{process_weight, statement_weight}
@@ -48,32 +44,12 @@ pub record IsBranch (x : Process) (r : N.Reset) (taken : Statement) : Type 0 whe
   pub block : HasBranch x r.edge taken
   pub fixed : IsFixed taken
   pub within : (b : ℕ) → contains (statement_bits taken) b ≡ true → contains (writes_of x) b ≡ true
-  -- it writes no bit by `=` and by `<=`
-  pub apart : AreApart (blocking_bits taken) (nonblocking_bits taken)
-
--- what isn't in the whole isn't in its first part
-not_left : (xs ys : List ℕ) (b : ℕ) → contains (xs ++ ys) b ≡ false → contains xs b ≡ false
-not_left xs ys b h = go (contains xs b) refl
-  where
-    differ : (t : Bool) → t ≡ false → t ≡ true → ⊥
-    differ true e f = cc
-    differ false e f = cc
-
-    go : (t : Bool) → contains xs b ≡ t → contains xs b ≡ false
-    go false e = e
-    go true e = absurd (differ (contains (xs ++ ys) b) h (left_has xs ys b e))
-
-left_apart : (taken other : Statement) → AreApart (blocking_bits taken ++ blocking_bits other) (nonblocking_bits taken ++ nonblocking_bits other) → AreApart (blocking_bits taken) (nonblocking_bits taken)
-left_apart taken other h b k = not_left (blocking_bits taken) (blocking_bits other) b (h b (left_has (nonblocking_bits taken) (nonblocking_bits other) b k))
 
 pub branch_is : (d : Design) (clocks : List ℕ) → IsAcceptedAt d clocks → (p : ℕ) (x : Process) → slice_get d.processes p ≡ Some x → (r : N.Reset) (taken : Statement) → reset_of d clocks x ≡ Some r → branch_of d clocks x ≡ Some taken → IsBranch x r taken
 branch_is d clocks at p x e r taken is branch =
     let h = has_branch d clocks x r taken is branch in
     let s = If h.c taken h.other in
-    let block = Always h.place h.star h.events s in
     let fit : fits_statement s ≡ true = subst (λ z. fits_process z ≡ true) h.is (at_process fits_process d.processes p x at.accepted.fit e) in
-    let unmixed : mixed_assigns x ≡ [] = is_none (mixed_assigns x) (at_process (λ z. is_empty (mixed_assigns z)) d.processes p x at.accepted.unmixed e) in
-    let mixed : (if is_clocked block then blocking_to (nonblocking_bits s) s else mixed_in false s) ≡ [] = subst (λ z. mixed_assigns z ≡ []) h.is unmixed in
     record {
       block = h;
       fixed = record {
@@ -81,7 +57,6 @@ branch_is d clocks at p x e r taken is branch =
         fits = (and_true (is_fit h.c) (fits_statement taken) (and_true (is_fit h.c && fits_statement taken) (fits_statement h.other) fit).0).1;
       };
       within = λ b m. subst (λ z. contains (writes_of z) b ≡ true) (sym h.is) (left_has (statement_bits taken) (statement_bits h.other) b m);
-      apart = left_apart taken h.other (rule_apart (is_clocked block) s mixed);
     }
 
 -- it names bits of the design alone
@@ -100,7 +75,6 @@ branch_named law d clocks at p x e r taken is branch =
 
 pub record CanReset (d : Design) (x : Process) (low : Bool) (r : N.Reset) (taken : Statement) : Type 0 where
   pub fixed : IsFixed taken
-  pub apart : AreApart (blocking_bits taken) (nonblocking_bits taken)
   pub there : r.input < bit_count d
   pub inside : AreInside (bit_count d) (statement_bits taken)
   pub is : IsResetOf r low r.input taken
@@ -127,7 +101,6 @@ can_reset law reads once few sources d clocks at p x e r taken low is branch edg
     let all = in_sum process_weight d.processes p x e in
     record {
       fixed = h.fixed;
-      apart = h.apart;
       there = source.data_below r.input (source.reset_input x r is);
       inside = inside;
       is = record { input_is = refl; edge_is = edge; writes_are = λ s. fixed_writes reads taken h.fixed.fixed s ∙ sym writes; updates_are = λ s. fixed_updates reads taken h.fixed.fixed s ∙ sym updates };
@@ -154,7 +127,6 @@ ready d x low r taken count first calls can counted temps slots few = record {
   inside = λ b m. let under = can.inside b m in omega (arith, under, counted);
   names = subst (λ (n : ℕ). statement_within n taken ≡ true) (sym counted) can.names;
   fit = can.fixed.fits;
-  apart = can.apart;
   light = can.light;
   slots = omega (arith, slots, can.room.stores);
   few = omega (arith, few, can.room.stores);
@@ -169,7 +141,6 @@ ready_as n code calls next low asked input taken same at is h = subst (λ (b : B
   inside = h.inside;
   names = h.names;
   fit = h.fit;
-  apart = h.apart;
   light = h.light;
   slots = omega (arith, h.slots, at);
   few = let long = ap length_of same in omega (arith, h.few, long);

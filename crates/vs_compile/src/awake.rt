@@ -19,7 +19,7 @@ use vs_flat::trees_law;
 use vs_lower::{Code, process};
 use vs_values::Templates;
 
-/// Adds the calls of process p as one that doesn't sleep, in a design of `count` bits that mixes no assignments in a block and has no combinational cycle. `shadows` has the slot of each register bit's next value; the temporaries begin at `first_temp`. The only error is that there is no memory; the program then has some of the calls.
+/// Adds the calls of process p as one that doesn't sleep, in a design of `count` bits whose combinational blocks have no `<=` and which has no combinational cycle. `shadows` has the slot of each register bit's next value; the temporaries begin at `first_temp`. The only error is that there is no memory; the program then has some of the calls.
 pub(crate) fn lower_awake(
     alloc: Global,
     templates: &Templates,

@@ -72,29 +72,29 @@ moving_arm needed up find name a b x y w rp named c n r fair e i j l q u v f =
     here (subst (λ d. ChecksNumber n (number (view.expr d) (steady find))) j v)
 
 -- what is no memory has bits
-pub bit_arm : (needed : Bool) (place : ℕ) (named : Named) (m : Meaning) (t : Typed) (r : Result Found AllocError) → ((s : SignalShape) → named ≡ MemoryNamed s → ⊥) → Means named m
+pub bit_arm : (needed : Bool) (place : ℕ) (named : Named) (m : Meaning) (at : ℕ) (t : Typed) (r : Result Found AllocError) → ((s : SignalShape) → named ≡ MemoryNamed s → ⊥) → Means named m
     → IfOk r (λ s. Finds needed s (select_typed (base_of needed place m) (taken (base_of needed place m).range true 1 t t.faults)))
-    → IfOk r (λ s. Finds needed s (bit_typed needed place m t))
-bit_arm needed place named (AValue v q turns) t r other h f = f
-bit_arm needed place named (Undefined q) t r other h f = f
-bit_arm needed place named (ASignal s) t r other h f = f
-bit_arm needed place named (AFunction g) t r other h f = f
-bit_arm needed place named Incomplete t r other h f = f
-bit_arm needed place named Another t r other h f = f
-bit_arm needed place named (Barred rule) t r other h f = f
-bit_arm needed place named Unknown t r other h f = f
-bit_arm needed place (Value v q turns) (AMemory m) t r other h f = cc
-bit_arm needed place (UndefinedValue q) (AMemory m) t r other h f = cc
-bit_arm needed place (SignalNamed s) (AMemory m) t r other h f = absurd (differ h.1)
+    → IfOk r (λ s. Finds needed s (bit_typed needed place m at t))
+bit_arm needed place named (AValue v q turns) at t r other h f = f
+bit_arm needed place named (Undefined q) at t r other h f = f
+bit_arm needed place named (ASignal s) at t r other h f = f
+bit_arm needed place named (AFunction g) at t r other h f = f
+bit_arm needed place named Incomplete at t r other h f = f
+bit_arm needed place named Another at t r other h f = f
+bit_arm needed place named (Barred rule) at t r other h f = f
+bit_arm needed place named Unknown at t r other h f = f
+bit_arm needed place (Value v q turns) (AMemory m) at t r other h f = cc
+bit_arm needed place (UndefinedValue q) (AMemory m) at t r other h f = cc
+bit_arm needed place (SignalNamed s) (AMemory m) at t r other h f = absurd (differ h.1)
   where
     differ : {k : SignalMeaning} → AMemory m ≡ ASignal k → ⊥
     differ e = cc
-bit_arm needed place (MemoryNamed s) (AMemory m) t r other h f = absurd (other s refl)
-bit_arm needed place (FunctionNamed g) (AMemory m) t r other h f = absurd (differ h.1)
+bit_arm needed place (MemoryNamed s) (AMemory m) at t r other h f = absurd (other s refl)
+bit_arm needed place (FunctionNamed g) (AMemory m) at t r other h f = absurd (differ h.1)
   where
     differ : {k : FunctionMeaning} → AMemory m ≡ AFunction k → ⊥
     differ e = cc
-bit_arm needed place IncompleteNamed (AMemory m) t r other h f = cc
-bit_arm needed place Other (AMemory m) t r other h f = cc
-bit_arm needed place (BarredName rule) (AMemory m) t r other h f = cc
-bit_arm needed place UnknownName (AMemory m) t r other h f = cc
+bit_arm needed place IncompleteNamed (AMemory m) at t r other h f = cc
+bit_arm needed place Other (AMemory m) at t r other h f = cc
+bit_arm needed place (BarredName rule) (AMemory m) at t r other h f = cc
+bit_arm needed place UnknownName (AMemory m) at t r other h f = cc

@@ -1,11 +1,11 @@
 -- An expression without a fault stands for a formed one, whose length and value are known.
 use Rattle.std.proofs.Common.{◌≡◌, ℕ, suc, ◌+◌, ◌*◌, ◌≤◌, Bool, true, false, not, ◌&&◌, List, [], ◌∷◌, ◌++◌, Option, Some, None, length, max, nat_le, if◌then◌else◌, ◌==◌, ◌-◌, ◌||◌, is_none, eq-eqb, refl, sym, ap, ◌∙◌, subst, arith, ℤ, pos, negsuc}
-use Rattle.std.proofs.lemmas.Bool.{le-leb}
+use Rattle.std.proofs.lemmas.Bool.{le-leb, leb-true}
 use Rattle.vs_four.specs.declared.Range.{Range}
 use Rattle.vs_four.specs.Logic.{BitList, all_known}
 use Rattle.vs_four.specs.Numbers.{integer, clog2}
 use Rattle.vs_four.specs.Selects.{Part, range_length, is_descending}
-use Rattle.vs_design.specs.Expressions.{OfSignal, OfConstant, Expression, Literal, Name, Select, Word, WordPart, Unary, Binary, Choice, Join, Repeat, At, Call, Items, NoItem, Item, UnaryOp, Signed, Unsigned, BinaryOp, Way, InContext, Own, Compared, Shifted, Raised, way, binary_length, width, sign, is_constant}
+use Rattle.vs_design.specs.Expressions.{addresses, OfSignal, OfConstant, Expression, Literal, Name, Select, Word, WordPart, Unary, Binary, Choice, Join, Repeat, At, Call, UnaryOp, Signed, Unsigned, BinaryOp, Way, InContext, Own, Compared, Shifted, Raised, way, binary_length, width, sign, is_constant}
 use Rattle.vs_design.specs.Values.{constant_value}
 use Rattle.vs_design.specs.Designs.{Design}
 use Rattle.vs_design.specs.Fits.{fits_64}
@@ -17,11 +17,15 @@ use Rattle.vs_grammar.specs.Shapes.{IsExpr, AreParts, AreExprs, IsSelect, IsLite
 use Rattle.vs_const.specs.declared.faults.Fault.{Fault}
 use Rattle.vs_const.specs.Faults.{Rule, fault, fault_if, names_signal, BadRange, UnknownConstant, UnknownName, WrongKind, FunctionRule}
 use Rattle.vs_const.specs.Meanings.{SignalMeaning, FunctionMeaning, Meaning, AValue, Undefined, ASignal, AMemory, AFunction, Incomplete, Another, Barred, Unknown, Find, ConstantValue, IsFairValue, steady}
-use Rattle.vs_const.specs.Sound.{IsSoundMemory, IsFormedFunction, IsSoundFunction, IsSound, AreSound, IsFine}
+use Rattle.vs_const.specs.Sound.{HasAllWords, IsSoundMemory, IsFormedFunction, IsSoundFunction, IsSound, AreSound, IsFine}
 use Rattle.vs_const.specs.Typed.{Typed, begins_at, is_over, noted, known_number, number_known, number_if, number_of, natural_if, natural_within, natural, both_lengths, length_map, unary_op_length, unary_typed, binary_way_length, binary_typed, choice_typed, join_typed, copies_typed, fine}
-use Rattle.vs_const.specs.Selects.{range_if, range_of, bounds, known_signal, name_typed, Base, is_scalar, signal_base, base_of, Taken, taken, if_width, moving, is_against, lesser_bound, along, between, slice_taken, first_needed, first_names, select_if, select_typed, wrong_rule, word_if, word_typed, bit_typed, word_range, word_part_if, word_part_typed, further_typed}
-use Rattle.vs_const.specs.Expressions.{unsized_faults, is_clean, part_typed, replicated, replication_typed, clog2_of, clog2_typed, call_typed, argument_needed, TypedItems, and_argument, call_rule, call_if, called, applied, typed, selected, taken_by, typed_parts, typed_arguments}
+use Rattle.vs_const.specs.Selects.{range_if, range_of, bounds, known_signal, name_typed, Base, is_scalar, signal_base, base_of, Taken, taken, if_width, moving, is_against, lesser_bound, along, between, slice_taken, first_needed, first_names, select_if, select_typed, wrong_rule, is_array, array_net, Addressed, in_array, addressed_in, addressed, word_if, word_typed, bit_typed, word_range, word_part_if, word_part_typed, further_typed}
+use Rattle.vs_const.specs.Expressions.{unsized_faults, is_clean, part_typed, replicated, replication_typed, clog2_of, clog2_typed, call_typed, argument_needed, TypedItems, and_argument, call_if, called, applied, typed, selected, taken_by, typed_parts, typed_arguments}
 use Rattle.vs_const.proofs.Steady.{sound_needed, steady_sound, first_sound}
+
+pub array_sound : (d : Design) (array needed : Bool) (find : Find) → AreSound d needed find → AreSound d (array || needed) find
+array_sound d true needed find s = λ name. sound_needed d needed (find name) (s name)
+array_sound d false needed find s = s
 
 argument_sound : (d : Design) (function : tree.SystemFunction) (needed : Bool) (find : Find) → AreSound d needed find → AreSound d (argument_needed function needed) find
 argument_sound d tree.AsSigned needed find s = s
@@ -482,22 +486,102 @@ taken_faults (Some r) up n t fs = refl
 
 -- ---- words
 
--- a word is named where no constant is needed
-word_fine : (d : Design) (needed : Bool) (place : ℕ) (m : SignalMeaning) (i : Typed) → IsSoundMemory d needed m → (i.faults ≡ [] → IsFine d needed i) → (word_typed needed place m i).faults ≡ [] → IsFine d needed (word_typed needed place m i)
-word_fine d true place m i s fine_if h = cc
-word_fine d false place m i s fine_if h = of (m.known && i.good) refl h
+-- what has the word at an address without a fault
+pub record IsFineAddress (d : Design) (a : Addressed) : Type 0 where
+  pub words : has_words d a.signal ≡ true
+  pub formed : is_formed d a.index ≡ true
+  pub good : a.good ≡ true
+
+pub in_array_faults : (m : SignalMeaning) (i : Typed) (o : Option ℕ) (fs : List Fault) → (in_array m i o fs).faults ≡ fs
+in_array_faults m i None fs = refl
+in_array_faults m i (Some n) fs = refl
+
+pub address_fine : (d : Design) (m : SignalMeaning) (at : ℕ) (i : Typed) → HasAllWords m.signal.net d m.signal → (i.faults ≡ [] → IsFine d (m.signal.net || false) i) → (addressed m at i).faults ≡ [] → IsFineAddress d (addressed m at i)
+address_fine d m at i w fine_if h = of m.signal.net w fine_if h
   where
-    no : false ≡ true → is_constant (Word m.signal i.expression) ≡ true
+    found : (o : Option ℕ) (fs : List Fault) → ((n : ℕ) → (addresses m.signal).right ≤ n → n ≤ (addresses m.signal).left → has_words d (array_net m.signal n) ≡ true) → IsFine d true i
+        → IsNumber (addresses m.signal).right (addresses m.signal).left o → IsFineAddress d (in_array m i o fs)
+    found None fs w f k = absurd (none k.n k.is)
+      where
+        none : (n : ℕ) → None ≡ Some n → ⊥
+        none n e = cc
+    found (Some n) fs w f k =
+        let b = split (nat_le (addresses m.signal).right k.n) (nat_le k.n (addresses m.signal).left) k.within in
+        record {
+          words = subst (λ z. has_words d (array_net m.signal z) ≡ true) (same k.n k.is) (w k.n (leb-true (addresses m.signal).right k.n b.0) (leb-true k.n (addresses m.signal).left b.1));
+          formed = f.formed;
+          good = f.good;
+        }
+      where
+        same : (z : ℕ) → Some n ≡ Some z → z ≡ n
+        same z e = cc
+
+    of : (array : Bool) → HasAllWords array d m.signal → (i.faults ≡ [] → IsFine d (array || false) i) → (addressed_in array m at i).faults ≡ [] → IsFineAddress d (addressed_in array m at i)
+    of false w f k = let g = f k in record { words = w; formed = g.formed; good = g.good }
+    of true w f k =
+        let n = natural (addresses m.signal).right (addresses m.signal).left at i in
+        let none : n.faults ≡ [] = sym (in_array_faults m i n.number n.faults) ∙ k in
+        let p = both_nil (number_of at i).faults (natural_within (addresses m.signal).right (addresses m.signal).left at (number_of at i).number).faults none in
+        found n.number n.faults w (f (number_faults at i i.good p.0)) (natural_fine d true (addresses m.signal).right (addresses m.signal).left at i f none)
+
+-- its index is without a fault, and stays as it is
+pub address_clean : (m : SignalMeaning) (at : ℕ) (i : Typed) → (addressed m at i).faults ≡ [] → i.faults ≡ []
+address_clean m at i h = of m.signal.net h
+  where
+    of : (array : Bool) → (addressed_in array m at i).faults ≡ [] → i.faults ≡ []
+    of false k = k
+    of true k =
+        let n = natural (addresses m.signal).right (addresses m.signal).left at i in
+        number_faults at i i.good (both_nil (number_of at i).faults (natural_within (addresses m.signal).right (addresses m.signal).left at (number_of at i).number).faults (sym (in_array_faults m i n.number n.faults) ∙ k)).0
+
+pub index_same : (m : SignalMeaning) (at : ℕ) (i : Typed) → (addressed m at i).index ≡ i.expression
+index_same m at i = of m.signal.net
+  where
+    found : (o : Option ℕ) (fs : List Fault) → (in_array m i o fs).index ≡ i.expression
+    found None fs = refl
+    found (Some n) fs = refl
+
+    of : (array : Bool) → (addressed_in array m at i).index ≡ i.expression
+    of false = refl
+    of true = let n = natural (addresses m.signal).right (addresses m.signal).left at i in found n.number n.faults
+
+-- where an address has to be a constant it is enough that an array's is one
+pub need_less : (d : Design) (array needed : Bool) (i : Typed) → IsFine d (array || needed) i → IsFine d (array || false) i
+need_less d true needed i f = f
+need_less d false needed i f = record { good = f.good; formed = f.formed; length = f.length; constant = λ e. absurd (no e) }
+  where
+    no : false ≡ true → ⊥
+    no e = cc
+
+-- the words of an array are as its nets
+pub range_same : (m : SignalMeaning) (at : ℕ) (i : Typed) → (addressed m at i).signal.range ≡ m.signal.range
+range_same m at i = of m.signal.net
+  where
+    found : (o : Option ℕ) (fs : List Fault) → (in_array m i o fs).signal.range ≡ m.signal.range
+    found None fs = refl
+    found (Some n) fs = refl
+
+    of : (array : Bool) → (addressed_in array m at i).signal.range ≡ m.signal.range
+    of false = refl
+    of true = let n = natural (addresses m.signal).right (addresses m.signal).left at i in found n.number n.faults
+
+-- a word is named where no constant is needed
+word_fine : (d : Design) (needed : Bool) (place : ℕ) (m : SignalMeaning) (at : ℕ) (i : Typed) → IsSoundMemory d needed m → (i.faults ≡ [] → IsFine d (m.signal.net || needed) i) → (word_typed needed place m (addressed m at i)).faults ≡ []
+    → IsFine d needed (word_typed needed place m (addressed m at i))
+word_fine d true place m at i s fine_if h = cc
+word_fine d false place m at i s fine_if h = of (m.known && (addressed m at i).good) refl h
+  where
+    no : false ≡ true → is_constant (Word (addressed m at i).signal (addressed m at i).index) ≡ true
     no c = cc
 
-    found : IsFine d false i → IsFine d false (word_if true m i)
-    found f = record { good = refl; formed = both (has_words d m.signal) (is_formed d i.expression) s.0 f.formed; length = refl; constant = λ k. no k }
+    found : IsFineAddress d (addressed m at i) → IsFine d false (word_if true m (addressed m at i))
+    found f = record { good = refl; formed = both (has_words d (addressed m at i).signal) (is_formed d (addressed m at i).index) f.words f.formed; length = refl; constant = λ k. no k }
 
-    of : (b : Bool) → (m.known && i.good) ≡ b → (word_if b m i).faults ≡ [] → IsFine d false (word_if b m i)
-    of true e k = found (fine_if k)
-    of false e k = absurd (wrong (both m.known i.good s.1 (fine_if k).good) e)
+    of : (b : Bool) → (m.known && (addressed m at i).good) ≡ b → (word_if b m (addressed m at i)).faults ≡ [] → IsFine d false (word_if b m (addressed m at i))
+    of true e k = found (address_fine d m at i s.0 fine_if k)
+    of false e k = absurd (wrong (both m.known (addressed m at i).good s.1 (address_fine d m at i s.0 fine_if k).good) e)
       where
-        wrong : (m.known && i.good) ≡ true → (m.known && i.good) ≡ false → ⊥
+        wrong : (m.known && (addressed m at i).good) ≡ true → (m.known && (addressed m at i).good) ≡ false → ⊥
         wrong g f = cc
 
 -- one bit of a name that is no memory's
@@ -509,16 +593,16 @@ one_bit_fine d needed place m i s fine_if h =
     let f = base_fine d needed place m s k.0 in
     select_fine d needed b (taken b.range true 1 i i.faults) f (bit_fine d needed b.range f.r i f.range (fine_if (sym (taken_faults b.range true 1 i i.faults) ∙ k.1)))
 
-bit_typed_fine : (d : Design) (needed : Bool) (place : ℕ) (m : Meaning) (i : Typed) → IsSound d needed m → (i.faults ≡ [] → IsFine d needed i) → (bit_typed needed place m i).faults ≡ [] → IsFine d needed (bit_typed needed place m i)
-bit_typed_fine d needed place (AMemory m) i s fine_if h = word_fine d needed place m i s fine_if h
-bit_typed_fine d needed place (AValue v r turns) i s fine_if h = one_bit_fine d needed place (AValue v r turns) i s fine_if h
-bit_typed_fine d needed place (Undefined r) i s fine_if h = one_bit_fine d needed place (Undefined r) i s fine_if h
-bit_typed_fine d needed place (ASignal m) i s fine_if h = one_bit_fine d needed place (ASignal m) i s fine_if h
-bit_typed_fine d needed place (AFunction f) i s fine_if h = one_bit_fine d needed place (AFunction f) i s fine_if h
-bit_typed_fine d needed place Incomplete i s fine_if h = one_bit_fine d needed place Incomplete i s fine_if h
-bit_typed_fine d needed place Another i s fine_if h = one_bit_fine d needed place Another i s fine_if h
-bit_typed_fine d needed place (Barred rule) i s fine_if h = one_bit_fine d needed place (Barred rule) i s fine_if h
-bit_typed_fine d needed place Unknown i s fine_if h = one_bit_fine d needed place Unknown i s fine_if h
+bit_typed_fine : (d : Design) (needed : Bool) (place : ℕ) (m : Meaning) (at : ℕ) (i : Typed) → IsSound d needed m → (i.faults ≡ [] → IsFine d (is_array m || needed) i) → (bit_typed needed place m at i).faults ≡ [] → IsFine d needed (bit_typed needed place m at i)
+bit_typed_fine d needed place (AMemory m) at i s fine_if h = word_fine d needed place m at i s fine_if h
+bit_typed_fine d needed place (AValue v r turns) at i s fine_if h = one_bit_fine d needed place (AValue v r turns) i s fine_if h
+bit_typed_fine d needed place (Undefined r) at i s fine_if h = one_bit_fine d needed place (Undefined r) i s fine_if h
+bit_typed_fine d needed place (ASignal m) at i s fine_if h = one_bit_fine d needed place (ASignal m) i s fine_if h
+bit_typed_fine d needed place (AFunction f) at i s fine_if h = one_bit_fine d needed place (AFunction f) i s fine_if h
+bit_typed_fine d needed place Incomplete at i s fine_if h = one_bit_fine d needed place Incomplete i s fine_if h
+bit_typed_fine d needed place Another at i s fine_if h = one_bit_fine d needed place Another i s fine_if h
+bit_typed_fine d needed place (Barred rule) at i s fine_if h = one_bit_fine d needed place (Barred rule) i s fine_if h
+bit_typed_fine d needed place Unknown at i s fine_if h = one_bit_fine d needed place Unknown i s fine_if h
 
 -- a name at fault
 misnamed_fine : (d : Design) (needed : Bool) (t : Typed) (rule : Rule) (place : ℕ) → fault rule place ≡ [] → IsFine d needed t
@@ -545,13 +629,13 @@ word_ranged m place k f = of m.signal.range refl
     of (Some r) e = (r, e)
     of None e = absurd (no (scalar m.known m.signal.range k e) (no_fault (is_scalar m) WrongKind place f))
 
-pub part_faults : (good : Bool) (m : SignalMeaning) (fs : List Fault) (a : Typed) (t : Taken) → (word_part_if good m fs a t).faults ≡ fs ++ (a.faults ++ t.faults)
+pub part_faults : (good : Bool) (m : SignalMeaning) (fs : List Fault) (a : Addressed) (t : Taken) → (word_part_if good m fs a t).faults ≡ fs ++ (a.faults ++ t.faults)
 part_faults true m fs a t = refl
 part_faults false m fs a t = refl
 
-word_part_fine : (d : Design) (place : ℕ) (m : SignalMeaning) (a : Typed) (t : Taken) → IsSoundMemory d false m → (a.faults ≡ [] → IsFine d false a) → ((r : Range) → m.signal.range ≡ Some r → t.faults ≡ [] → IsFineTaken d false r t)
+word_part_fine : (d : Design) (place : ℕ) (m : SignalMeaning) (a : Addressed) (t : Taken) → IsSoundMemory d false m → a.signal.range ≡ m.signal.range → (a.faults ≡ [] → IsFineAddress d a) → ((r : Range) → m.signal.range ≡ Some r → t.faults ≡ [] → IsFineTaken d false r t)
     → (word_part_typed place m a t).faults ≡ [] → IsFine d false (word_part_typed place m a t)
-word_part_fine d place m a t s a_if t_if h =
+word_part_fine d place m a t s same a_if t_if h =
     let k = both_nil fs (a.faults ++ t.faults) (sym (part_faults (m.known && a.good && t.good) m fs a t) ∙ h) in
     let n = both_nil a.faults t.faults k.1 in
     let w = word_ranged m place s.1 k.0 in
@@ -562,7 +646,7 @@ word_part_fine d place m a t s a_if t_if h =
     fs : List Fault
     fs = fault_if (is_scalar m) WrongKind place
 
-    no : false ≡ true → is_constant (WordPart m.signal a.expression t.part t.index) ≡ true
+    no : false ≡ true → is_constant (WordPart a.signal a.index t.part t.index) ≡ true
     no c = cc
 
     three : (a b c : Bool) → a ≡ true → b ≡ true → c ≡ true → (a && b && c) ≡ true
@@ -571,30 +655,30 @@ word_part_fine d place m a t s a_if t_if h =
     three true false c h k l = cc
     three false b c h k l = cc
 
-    of : (c : Bool) → c ≡ true → (r : Range) → m.signal.range ≡ Some r → IsFine d false a → IsFineTaken d false r t → IsFine d false (word_part_if c m fs a t)
+    of : (c : Bool) → c ≡ true → (r : Range) → m.signal.range ≡ Some r → IsFineAddress d a → IsFineTaken d false r t → IsFine d false (word_part_if c m fs a t)
     of true e r ranged f g = record {
       good = refl;
-      formed = three (is_formed_word_part d m.signal t.part) (is_formed d a.expression) (is_formed d t.index)
-          (three (has_words d m.signal) (same_range m.signal.range (Some t.part.range)) (fits_64 t.part.width) s.0
-          (subst (λ q. same_range q (Some t.part.range) ≡ true) (sym ranged) (subst (λ q. same_range (Some r) (Some q) ≡ true) (sym g.range) (same_itself r))) g.fits)
+      formed = three (is_formed_word_part d a.signal t.part) (is_formed d a.index) (is_formed d t.index)
+          (three (has_words d a.signal) (same_range a.signal.range (Some t.part.range)) (fits_64 t.part.width) f.words
+          (subst (λ q. same_range q (Some t.part.range) ≡ true) (sym ranged ∙ sym same) (subst (λ q. same_range (Some r) (Some q) ≡ true) (sym g.range) (same_itself r))) g.fits)
           f.formed g.formed;
       length = g.length;
       constant = λ k. no k;
     }
     of false e r ranged f g = cc
 
-further_fine : (d : Design) (needed : Bool) (place : ℕ) (m : Meaning) (a : Typed) (t : Taken) → IsSound d needed m → (a.faults ≡ [] → IsFine d needed a) → ((r : Range) → word_range m ≡ Some r → t.faults ≡ [] → IsFineTaken d needed r t)
-    → (further_typed needed place m a t).faults ≡ [] → IsFine d needed (further_typed needed place m a t)
-further_fine d true place m a t s a_if t_if h = misnamed_fine d true (further_typed true place m a t) (wrong_rule true m) place h
-further_fine d false place (AMemory m) a t s a_if t_if h = word_part_fine d place m a t s a_if t_if h
-further_fine d false place (AValue v r turns) a t s a_if t_if h = misnamed_fine d false (further_typed false place (AValue v r turns) a t) WrongKind place h
-further_fine d false place (Undefined r) a t s a_if t_if h = misnamed_fine d false (further_typed false place (Undefined r) a t) WrongKind place h
-further_fine d false place (ASignal m) a t s a_if t_if h = misnamed_fine d false (further_typed false place (ASignal m) a t) WrongKind place h
-further_fine d false place (AFunction f) a t s a_if t_if h = misnamed_fine d false (further_typed false place (AFunction f) a t) WrongKind place h
-further_fine d false place Incomplete a t s a_if t_if h = misnamed_fine d false (further_typed false place Incomplete a t) WrongKind place h
-further_fine d false place Another a t s a_if t_if h = misnamed_fine d false (further_typed false place Another a t) WrongKind place h
-further_fine d false place (Barred rule) a t s a_if t_if h = misnamed_fine d false (further_typed false place (Barred rule) a t) rule place h
-further_fine d false place Unknown a t s a_if t_if h = misnamed_fine d false (further_typed false place Unknown a t) UnknownName place h
+further_fine : (d : Design) (needed : Bool) (place : ℕ) (m : Meaning) (at : ℕ) (i : Typed) (t : Taken) → IsSound d needed m → (i.faults ≡ [] → IsFine d (is_array m || needed) i) → ((r : Range) → word_range m ≡ Some r → t.faults ≡ [] → IsFineTaken d needed r t)
+    → (further_typed needed place m at i t).faults ≡ [] → IsFine d needed (further_typed needed place m at i t)
+further_fine d true place m at i t s i_if t_if h = misnamed_fine d true (further_typed true place m at i t) (wrong_rule true m) place h
+further_fine d false place (AMemory m) at i t s i_if t_if h = word_part_fine d place m (addressed m at i) t s (range_same m at i) (λ k. address_fine d m at i s.0 i_if k) t_if h
+further_fine d false place (AValue v r turns) at i t s i_if t_if h = misnamed_fine d false (further_typed false place (AValue v r turns) at i t) WrongKind place h
+further_fine d false place (Undefined r) at i t s i_if t_if h = misnamed_fine d false (further_typed false place (Undefined r) at i t) WrongKind place h
+further_fine d false place (ASignal m) at i t s i_if t_if h = misnamed_fine d false (further_typed false place (ASignal m) at i t) WrongKind place h
+further_fine d false place (AFunction f) at i t s i_if t_if h = misnamed_fine d false (further_typed false place (AFunction f) at i t) WrongKind place h
+further_fine d false place Incomplete at i t s i_if t_if h = misnamed_fine d false (further_typed false place Incomplete at i t) WrongKind place h
+further_fine d false place Another at i t s i_if t_if h = misnamed_fine d false (further_typed false place Another at i t) WrongKind place h
+further_fine d false place (Barred rule) at i t s i_if t_if h = misnamed_fine d false (further_typed false place (Barred rule) at i t) rule place h
+further_fine d false place Unknown at i t s i_if t_if h = misnamed_fine d false (further_typed false place Unknown at i t) UnknownName place h
 
 -- ---- calls of functions
 
@@ -705,7 +789,10 @@ module _ (d : Design) where
 
     selected_fine : (select : tree.Select) (name : tree.Name) (find : Find) (needed : Bool) → AreSound d needed find → IsSelect select → (selected select name find needed).faults ≡ [] → IsFine d needed (selected select name find needed)
     selected_fine tree.Whole name find needed s x h = name_fine d needed name.place (find name.bytes) (s name.bytes) h
-    selected_fine (tree.BitAt bracket index) name find needed s x h = bit_typed_fine d needed name.place (find name.bytes) (typed index find needed) (s name.bytes) (λ k. every_fine index find needed s x k) h
+    selected_fine (tree.BitAt bracket index) name find needed s x h =
+        let m = find name.bytes in
+        let n = is_array m || needed in
+        bit_typed_fine d needed name.place m (expr_place index) (typed index find n) (s name.bytes) (λ k. every_fine index find n (array_sound d (is_array m) needed find s) x k) h
     selected_fine (tree.Slice bracket kind e g) name find needed s x h =
         let b = base_of needed name.place (find name.bytes) in
         let first = typed e (first_names kind find) (first_needed kind needed) in
@@ -716,7 +803,8 @@ module _ (d : Design) where
         select_fine d needed b t f (slice_fine d needed b.range f.r bracket kind (expr_place e) first (expr_place g) second f.range (every_fine e (first_names kind find) (first_needed kind needed) (first_sound d kind needed find s) x.0) (every_fine g (steady find) true (steady_sound d needed find s) x.1) k.1)
     selected_fine (tree.OfWord bracket address part) name find needed s x h =
         let m = find name.bytes in
-        further_fine d needed name.place m (typed address find needed) (taken_by (word_range m) part find needed) (s name.bytes) (λ k. every_fine address find needed s x.0 k)
+        let n = is_array m || needed in
+        further_fine d needed name.place m (expr_place address) (typed address find n) (taken_by (word_range m) part find needed) (s name.bytes) (λ k. every_fine address find n (array_sound d (is_array m) needed find s) x.0 k)
         (λ r e k. taken_by_fine part find needed (word_range m) r s x.1 x.2 e k) h
 
     pub taken_by_fine : (part : tree.Select) (find : Find) (needed : Bool) (declared : Option Range) (r : Range) → AreSound d needed find → IsSelect part → is_part part ≡ true → declared ≡ Some r

@@ -1,5 +1,5 @@
 -- A constant whose value no fault leaves undefined has a length, of 1 to 64 bits, which is that of its expression.
-use Rattle.std.proofs.Common.{◌≡◌, ℕ, zero, suc, ◌+◌, ◌*◌, ◌≤◌, Bool, true, false, not, ◌&&◌, List, [], ◌++◌, Option, Some, None, max, nat_le, refl, sym, ap, ◌∙◌, subst, arith, ℤ, pos, negsuc}
+use Rattle.std.proofs.Common.{◌≡◌, ℕ, zero, suc, ◌+◌, ◌*◌, ◌≤◌, Bool, true, false, not, ◌&&◌, ◌||◌, List, [], ◌++◌, Option, Some, None, max, nat_le, refl, sym, ap, ◌∙◌, subst, arith, ℤ, pos, negsuc}
 use Rattle.std.proofs.lemmas.Bool.{leb-true}
 use Rattle.vs_four.specs.declared.Range.{Range}
 use Rattle.vs_four.specs.Numbers.{clog2}
@@ -13,7 +13,7 @@ use Rattle.vs_grammar.specs.Shapes.{IsExpr, AreParts, IsSelect}
 use Rattle.vs_const.specs.declared.faults.Fault.{Fault}
 use Rattle.vs_const.specs.Meanings.{Meaning, AValue, Undefined, ASignal, AMemory, AFunction, Incomplete, Another, Barred, Unknown, Find, IsFairMeaning, IsFair, steady}
 use Rattle.vs_const.specs.Typed.{Typed, is_over, noted, number_of, natural_if, natural_within, natural, both_lengths, length_map, unary_op_length, unary_typed, binary_way_length, binary_typed, choice_typed, join_typed, copies_typed, fine}
-use Rattle.vs_const.specs.Selects.{bounds, name_typed, Base, base_of, Taken, taken, if_width, is_against, along, between, slice_taken, first_needed, first_names, select_if, select_typed, bit_typed, word_range, further_typed}
+use Rattle.vs_const.specs.Selects.{bounds, name_typed, Base, base_of, Taken, taken, if_width, is_against, along, between, slice_taken, first_needed, first_names, select_if, select_typed, bit_typed, word_range, is_array, further_typed}
 use Rattle.vs_const.specs.Expressions.{unsized_faults, is_clean, part_typed, replicated, replication_typed, clog2_of, clog2_typed, TypedItems, applied, typed, selected, taken_by, typed_parts, typed_arguments}
 use Rattle.vs_const.proofs.Formed.{begins_same, split, way_length, length_some}
 
@@ -150,16 +150,16 @@ one_bit_long : (place : ℕ) (m : Meaning) (i : Typed) → (select_typed (base_o
 one_bit_long place m i h = let b = base_of true place m in select_long b (taken b.range true 1 i i.faults) (λ k. taken_long b.range true 1 i i.faults k (omega arith)) h
 
 -- a word is no constant
-bit_long : (place : ℕ) (m : Meaning) (i : Typed) → (bit_typed true place m i).good ≡ true → IsLong (bit_typed true place m i)
-bit_long place (AMemory m) i h = cc
-bit_long place (AValue v r turns) i h = one_bit_long place (AValue v r turns) i h
-bit_long place (Undefined r) i h = one_bit_long place (Undefined r) i h
-bit_long place (ASignal s) i h = one_bit_long place (ASignal s) i h
-bit_long place (AFunction f) i h = one_bit_long place (AFunction f) i h
-bit_long place Incomplete i h = one_bit_long place Incomplete i h
-bit_long place Another i h = one_bit_long place Another i h
-bit_long place (Barred rule) i h = one_bit_long place (Barred rule) i h
-bit_long place Unknown i h = one_bit_long place Unknown i h
+bit_long : (place : ℕ) (m : Meaning) (at : ℕ) (i : Typed) → (bit_typed true place m at i).good ≡ true → IsLong (bit_typed true place m at i)
+bit_long place (AMemory m) at i h = cc
+bit_long place (AValue v r turns) at i h = one_bit_long place (AValue v r turns) i h
+bit_long place (Undefined r) at i h = one_bit_long place (Undefined r) i h
+bit_long place (ASignal s) at i h = one_bit_long place (ASignal s) i h
+bit_long place (AFunction f) at i h = one_bit_long place (AFunction f) i h
+bit_long place Incomplete at i h = one_bit_long place Incomplete i h
+bit_long place Another at i h = one_bit_long place Another i h
+bit_long place (Barred rule) at i h = one_bit_long place (Barred rule) i h
+bit_long place Unknown at i h = one_bit_long place Unknown i h
 
 part_long : (e : tree.Expr) (t : Typed) → (t.good ≡ true → IsLong t) → (part_typed e t).good ≡ true → IsLong (part_typed e t)
 part_long e t k h = let g = k (split t.good (is_clean (unsized_faults e)) h).0 in record { length = g.length; some = g.some }
@@ -177,8 +177,8 @@ applied_long place (Barred rule) t h = cc
 applied_long place Unknown t h = cc
 
 -- nor is a further select
-further_long : (place : ℕ) (m : Meaning) (a : Typed) (t : Taken) → (further_typed true place m a t).good ≡ true → IsLong (further_typed true place m a t)
-further_long place m a t h = cc
+further_long : (place : ℕ) (m : Meaning) (at : ℕ) (i : Typed) (t : Taken) → (further_typed true place m at i t).good ≡ true → IsLong (further_typed true place m at i t)
+further_long place m at i t h = cc
 
 module _ (find : Find) (fair : IsFair find) where
   mutual
@@ -207,13 +207,13 @@ module _ (find : Find) (fair : IsFair find) where
 
     selected_long : (select : tree.Select) (name : tree.Name) → IsSelect select → (selected select name find true).good ≡ true → IsLong (selected select name find true)
     selected_long tree.Whole name x h = name_long name.place (find name.bytes) (fair name.bytes) h
-    selected_long (tree.BitAt bracket index) name x h = bit_long name.place (find name.bytes) (typed index find true) h
+    selected_long (tree.BitAt bracket index) name x h = let m = find name.bytes in bit_long name.place m (expr_place index) (typed index find (is_array m || true)) h
     selected_long (tree.Slice bracket kind e f) name x h =
         let b = base_of true name.place (find name.bytes) in
         let first = typed e (first_names kind find) (first_needed kind true) in
         let second = typed f (steady find) true in
         select_long b (slice_taken b.range bracket kind (expr_place e) first (expr_place f) second) (λ k. slice_long b.range bracket kind (expr_place e) first (expr_place f) second k) h
-    selected_long (tree.OfWord bracket address part) name x h = let m = find name.bytes in further_long name.place m (typed address find true) (taken_by (word_range m) part find true) h
+    selected_long (tree.OfWord bracket address part) name x h = let m = find name.bytes in further_long name.place m (expr_place address) (typed address find (is_array m || true)) (taken_by (word_range m) part find true) h
 
     parts_long : (parts : tree.Exprs) → AreParts parts → (typed_parts parts find true).good ≡ true → IsLong (typed_parts parts find true)
     parts_long tree.NoExpr x h = absurd x

@@ -1,5 +1,5 @@
 -- The parts of a concatenation, as a list and as a row.
-use Rattle.std.proofs.Common.{◌≡◌, ℕ, ◌<◌, ◌≤◌, ◌+◌, ◌-◌, ◌*◌, suc, zero, List, [], ◌∷◌, Bool, Option, drop, length, get_or, refl, sym, ap, ◌∙◌, subst, arith, drop-cons}
+use Rattle.std.proofs.Common.{◌≡◌, ℕ, ◌<◌, ◌≤◌, ◌-◌, suc, zero, List, [], ◌∷◌, Bool, Option, drop, length, get_or, refl, sym, ap, ◌∙◌, subst, arith, drop-cons}
 use denote.Param.Weighed.{most, at_most}
 use Rattle.vs_ast.proofs.expressions.Expr.TheLaws.{the_size}
 use Rattle.vs_grammar.specs.Trees as tree

@@ -48,6 +48,10 @@ steady_number need find n e h = subst (λ names. ChecksNumber n (number e names)
 pub argument_says : (n need : Need) (find : Find) (c : Found) (e : tree.Expr) → is_needed n ≡ true → names_for n find ≡ names_for need find → Says (is_needed n) c (typed e (names_for n find) (is_needed n)) → Says true c (typed e (names_for need find) true)
 argument_says n need find c e h k s = subst (λ names. Says true c (typed e names true)) k (subst (λ b. Says b c (typed e (names_for n find) b)) h s)
 
+-- what an address says that may have to be a constant
+pub address_says : (n need : Need) (find : Find) (c : Found) (e : tree.Expr) (b : Bool) → is_needed n ≡ b → names_for n find ≡ names_for need find → Says (is_needed n) c (typed e (names_for n find) (is_needed n)) → Says b c (typed e (names_for need find) b)
+address_says n need find c e b h k s = subst (λ names. Says b c (typed e names b)) k (subst (λ x. Says x c (typed e (names_for n find) x)) h s)
+
 -- ---- names stay fair, and sound
 
 fair_one : (m : Meaning) → IsFairMeaning m → IsFairMeaning (steady_meaning m)

@@ -4,7 +4,7 @@ use Rattle.vs_design.specs.Expressions.{sign, Items, NoItem, Item}
 use Rattle.vs_const.specs.Faults.{fault, flaws_of, WrongKind}
 use Rattle.vs_const.specs.declared.faults.Fault.{Fault}
 use Rattle.vs_const.specs.Typed.{Typed, Numbered, Natural}
-use Rattle.vs_const.specs.Selects.{Bounds, Base, Taken}
+use Rattle.vs_const.specs.Selects.{Bounds, Base, Taken, Addressed}
 use Rattle.vs_const.specs.Expressions.{TypedItems}
 use Rattle.vs_const.specs.CallDepths.{call_depth, items_depth}
 use Rattle.vs_const.specs.declared.calls.Arguments.{Arguments as ArgumentsOf}
@@ -14,6 +14,7 @@ use Rattle.vs_const.specs.declared.ranges.Natural.{Natural as NaturalOf}
 use Rattle.vs_const.specs.declared.ranges.Bounds.{Bounds as BoundsOf}
 use Rattle.vs_const.specs.declared.selects.Base.{Base as BaseOf}
 use Rattle.vs_const.specs.declared.selects.Taken.{Taken as TakenOf}
+use Rattle.vs_const.specs.declared.selects.Addressed.{Addressed as AddressedOf}
 
 -- how many there are
 abbrev pub item_count : Items → ℕ
@@ -59,6 +60,12 @@ pub record ChecksTaken (c : TakenOf) (t : Taken) : Type 0 where
   pub good : c.good ≡ t.good
   pub flaws : c.flaws ≡ flaws_of t.faults
   pub depth : c.depth ≡ call_depth t.index
+
+-- of an address: how deep calls nest in it
+pub record ChecksAddress (c : AddressedOf) (a : Addressed) : Type 0 where
+  pub good : c.good ≡ a.good
+  pub flaws : c.flaws ≡ flaws_of a.faults
+  pub depth : c.depth ≡ call_depth a.index
 
 -- of the arguments of a call: how many there are
 pub record ChecksArguments (c : ArgumentsOf) (t : TypedItems) : Type 0 where

@@ -1,5 +1,5 @@
 -- Expressions of the text as expressions of a design, with their faults (IEEE 1364-2005, clauses 5 and 10.4.3).
-use Rattle.std.specs.Prelude.{ℕ, Bool, true, false, not, ◌&&◌, List, [], ◌∷◌, ◌++◌, Option, Some, None, if◌then◌else◌}
+use Rattle.std.specs.Prelude.{ℕ, Bool, true, false, not, ◌&&◌, ◌||◌, List, [], ◌∷◌, ◌++◌, Option, Some, None, if◌then◌else◌}
 use Rattle.vs_four.specs.Numbers.{bits_of, clog2}
 use Rattle.vs_design.specs.Expressions.{signal_length, Literal, Call, Items, NoItem, Item, Signed, Unsigned}
 use Rattle.vs_design.specs.Elaborated.{are_as_many}
@@ -11,7 +11,7 @@ use Rattle.vs_const.specs.Faults.{Rule, fault, fault_if, UnknownConstant, WrongK
 use Rattle.vs_const.specs.Meanings.{FunctionMeaning, Meaning, ASignal, AFunction, Incomplete, Find, steady, is_result}
 use Rattle.vs_const.specs.Typed.{Typed, broken, fine, noted, Numbered, number_of, natural, unary_typed, binary_typed, choice_typed, join_typed, copies_typed}
 use Rattle.vs_four.specs.declared.Range.{Range}
-use Rattle.vs_const.specs.Selects.{base_of, name_typed, Taken, not_taken, taken, slice_taken, first_needed, first_names, select_typed, bit_typed, rule_where, wrong_rule, word_range, further_typed}
+use Rattle.vs_const.specs.Selects.{base_of, name_typed, Taken, not_taken, taken, slice_taken, first_needed, first_names, select_typed, bit_typed, rule_where, wrong_rule, word_range, is_array, further_typed}
 
 -- a literal without a size has no place in a concatenation (5.1.14); brackets round it are no matter
 abbrev pub unsized_faults : tree.Expr → List Fault
@@ -124,13 +124,13 @@ abbrev mutual
   -- a name, with what is selected of it
   pub selected : tree.Select → tree.Name → Find → Bool → Typed
   selected tree.Whole name find needed = name_typed needed name.place (find name.bytes)
-  selected (tree.BitAt bracket index) name find needed = bit_typed needed name.place (find name.bytes) (typed index find needed)
+  selected (tree.BitAt bracket index) name find needed = let m = find name.bytes in bit_typed needed name.place m (expr_place index) (typed index find (is_array m || needed))
   selected (tree.Slice bracket kind e f) name find needed =
       let b = base_of needed name.place (find name.bytes) in
       select_typed b (slice_taken b.range bracket kind (expr_place e) (typed e (first_names kind find) (first_needed kind needed)) (expr_place f) (typed f (steady find) true))
   selected (tree.OfWord bracket address part) name find needed =
       let m = find name.bytes in
-      further_typed needed name.place m (typed address find needed) (taken_by (word_range m) part find needed)
+      further_typed needed name.place m (expr_place address) (typed address find (is_array m || needed)) (taken_by (word_range m) part find needed)
 
   -- which bits of a word with this range a further select takes, one or several
   pub taken_by : Option Range → tree.Select → Find → Bool → Taken

@@ -1,7 +1,7 @@
 -- What an expression has to be: anything, a constant, or a constant that names no integer of a loop either.
 use Rattle.std.specs.Prelude.{Bool, true, false}
 use Rattle.vs_const.specs.declared.needs.Need.{Need}
-use Rattle.vs_const.specs.declared.needs.Need.TheVariants.{Anything, Constant, Steady}
+use Rattle.vs_const.specs.declared.needs.Need.TheVariants.{Anything, Steady}
 use Rattle.vs_const.specs.Meanings.{Find, steady}
 
 -- whether it has to be a constant

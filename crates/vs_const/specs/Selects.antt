@@ -1,9 +1,9 @@
 -- Selects and ranges (IEEE 1364-2005, 3.3 and 5.2.1).
-use Rattle.std.specs.Prelude.{ℕ, Bool, true, false, not, ◌&&◌, ◌||◌, List, [], ◌++◌, min, ◌==◌, nat_le, is_none, Option, Some, None}
+use Rattle.std.specs.Prelude.{ℕ, ◌+◌, ◌-◌, ◌*◌, Bool, true, false, not, ◌&&◌, ◌||◌, List, [], ◌++◌, min, ◌==◌, nat_le, is_none, Option, Some, None}
 use Rattle.vs_four.specs.declared.Range.{Range}
 use Rattle.vs_four.specs.Numbers.{bits_of}
 use Rattle.vs_four.specs.Selects.{Part, range_length, is_descending}
-use Rattle.vs_design.specs.Expressions.{Signal, word_length, Source, OfSignal, OfConstant, Expression, Literal, Name, Select, Word, WordPart, At}
+use Rattle.vs_design.specs.Expressions.{Signal, word_length, addresses, Source, OfSignal, OfConstant, Expression, Literal, Name, Select, Word, WordPart, At}
 use Rattle.vs_grammar.specs.Trees.{SliceKind, Between, Upward, Downward}
 use Rattle.vs_const.specs.declared.faults.Fault.{Fault}
 use Rattle.vs_const.specs.Faults.{Rule, fault, fault_if, BadRange, NotConstant, UnknownName, WrongKind}
@@ -209,20 +209,49 @@ abbrev pub length_if : (known : Bool) → Signal → Option ℕ
 length_if true memory = Some (word_length memory)
 length_if false memory = None
 
+-- whether a name means an array of nets, whose addresses are constants
+abbrev pub is_array : Meaning → Bool
+is_array (AMemory m) = m.signal.net
+is_array m = false
+
+-- The net of an array at this address: a memory of one word. By ascending address the nets are numbered, and have their bits, one after the other.
+abbrev pub array_net : Signal → ℕ → Signal
+array_net s n = let k = n - (addresses s).right in record s { number = s.number + k; first = s.first + k * word_length s; words = Some (record { left = n; right = n }) }
+
+-- what has the word at an address, and the address
+pub record Addressed : Type 0 where
+  pub signal : Signal
+  pub index : Expression
+  pub good : Bool
+  pub faults : List Fault
+
+-- of an array the net at its address, if it has one there
+abbrev pub in_array : SignalMeaning → Typed → Option ℕ → List Fault → Addressed
+in_array m i None faults = record { signal = m.signal; index = i.expression; good = false; faults = faults }
+in_array m i (Some n) faults = record { signal = array_net m.signal n; index = i.expression; good = i.good; faults = faults }
+
+-- a memory has all of its words, by any address; an array's address is a constant, and one that it has
+abbrev pub addressed_in : (array : Bool) → SignalMeaning → (place : ℕ) → Typed → Addressed
+addressed_in false m place i = record { signal = m.signal; index = i.expression; good = i.good; faults = i.faults }
+addressed_in true m place i = let n = natural (addresses m.signal).right (addresses m.signal).left place i in in_array m i n.number n.faults
+
+abbrev pub addressed : SignalMeaning → (place : ℕ) → Typed → Addressed
+addressed m place i = addressed_in m.signal.net m place i
+
 -- the word at an address, unless a fault leaves it undefined
-abbrev pub word_if : (good : Bool) → SignalMeaning → Typed → Typed
-word_if true m i = fine (Word m.signal i.expression) i.faults
-word_if false m i = broken (length_if m.known m.signal) i.faults
+abbrev pub word_if : (good : Bool) → SignalMeaning → Addressed → Typed
+word_if true m a = fine (Word a.signal a.index) a.faults
+word_if false m a = broken (length_if m.known m.signal) a.faults
 
 -- a word is no constant
-abbrev pub word_typed : (needed : Bool) → (place : ℕ) → SignalMeaning → Typed → Typed
-word_typed true place m i = broken None (fault NotConstant place ++ i.faults)
-word_typed false place m i = word_if (m.known && i.good) m i
+abbrev pub word_typed : (needed : Bool) → (place : ℕ) → SignalMeaning → Addressed → Typed
+word_typed true place m a = broken None (fault NotConstant place ++ a.faults)
+word_typed false place m a = word_if (m.known && a.good) m a
 
--- `name[i]`: a word of a memory, a bit of anything else
-abbrev pub bit_typed : (needed : Bool) → (place : ℕ) → Meaning → Typed → Typed
-bit_typed needed place (AMemory m) i = word_typed needed place m i
-bit_typed needed place m i = let b = base_of needed place m in select_typed b (taken b.range true 1 i i.faults)
+-- `name[i]`, where i stands at the place `at`: a word of a memory, a bit of anything else
+abbrev pub bit_typed : (needed : Bool) → (place : ℕ) → Meaning → (at : ℕ) → Typed → Typed
+bit_typed needed place (AMemory m) at i = word_typed needed place m (addressed m at i)
+bit_typed needed place m at i = let b = base_of needed place m in select_typed b (taken b.range true 1 i i.faults)
 
 -- ---- parts of words (5.2.2)
 
@@ -232,15 +261,15 @@ word_range (AMemory m) = m.signal.range
 word_range m = None
 
 -- bits of the word at an address, unless a fault leaves them undefined
-abbrev pub word_part_if : (good : Bool) → SignalMeaning → List Fault → Typed → Taken → Typed
-word_part_if true m faults a t = record { expression = WordPart m.signal a.expression t.part t.index; length = t.length; good = true; faults = faults ++ (a.faults ++ t.faults) }
+abbrev pub word_part_if : (good : Bool) → SignalMeaning → List Fault → Addressed → Taken → Typed
+word_part_if true m faults a t = record { expression = WordPart a.signal a.index t.part t.index; length = t.length; good = true; faults = faults ++ (a.faults ++ t.faults) }
 word_part_if false m faults a t = broken t.length (faults ++ (a.faults ++ t.faults))
 
 -- a word of one bit without a range has none to select
-abbrev pub word_part_typed : (place : ℕ) → SignalMeaning → Typed → Taken → Typed
+abbrev pub word_part_typed : (place : ℕ) → SignalMeaning → Addressed → Taken → Typed
 word_part_typed place m a t = word_part_if (m.known && a.good && t.good) m (fault_if (is_scalar m) WrongKind place) a t
 
--- `name[address]` with a further select: of a memory, where no constant is needed. Of any other name what stands in the brackets comes behind it
-abbrev pub further_typed : (needed : Bool) → (place : ℕ) → Meaning → Typed → Taken → Typed
-further_typed false place (AMemory m) a t = word_part_typed place m a t
-further_typed needed place m a t = broken None (fault (wrong_rule needed m) place)
+-- `name[i]` with a further select, where i stands at the place `at`: of a memory, where no constant is needed. Of any other name what stands in the brackets comes behind it
+abbrev pub further_typed : (needed : Bool) → (place : ℕ) → Meaning → (at : ℕ) → Typed → Taken → Typed
+further_typed false place (AMemory m) at i t = word_part_typed place m (addressed m at i) t
+further_typed needed place m at i t = broken None (fault (wrong_rule needed m) place)

@@ -1,6 +1,6 @@
 -- What an expression without a fault stands for.
-use Rattle.std.specs.Prelude.{◌≡◌, ℕ, Bool, true, false, List, [], Some}
-use Rattle.vs_design.specs.Expressions.{width, is_constant}
+use Rattle.std.specs.Prelude.{◌≡◌, ◌≤◌, ℕ, Bool, true, false, List, [], Some}
+use Rattle.vs_design.specs.Expressions.{Signal, addresses, width, is_constant}
 use Rattle.vs_design.specs.Designs.{Design}
 use Rattle.vs_design.specs.Elaborated.{is_plain, has_words, is_lawful_range, is_formed, is_formed_header, is_formed_statement, is_nil, inside}
 use Rattle.vs_design.specs.Rules.{mixed_in}
@@ -8,6 +8,7 @@ use Rattle.vs_grammar.specs.Trees.{Expr}
 use Rattle.vs_grammar.specs.Shapes.{IsExpr}
 use Rattle.vs_const.specs.Meanings.{SignalMeaning, FunctionMeaning, Meaning, AValue, Undefined, ASignal, AMemory, AFunction, Incomplete, Another, Barred, Unknown, Find, IsFairValue}
 use Rattle.vs_const.specs.Typed.{Typed}
+use Rattle.vs_const.specs.Selects.{array_net}
 use Rattle.vs_const.specs.Expressions.{typed}
 
 -- what a name means where no fault was met: a value with its range, a known signal, memory or function of the design (in a constant any of them is a fault), or nothing that an expression can name
@@ -15,10 +16,15 @@ abbrev pub IsSoundSignal : Design → Bool → SignalMeaning → Type 0
 IsSoundSignal d true s = Unit {0}
 IsSoundSignal d false s = (is_plain d s.signal ≡ true) × (s.known ≡ true) × (s.signal.input ≡ true → s.input ≡ true)
 
+-- a memory has its words in the design, and an array of nets each of its nets
+abbrev pub HasAllWords : (array : Bool) → Design → Signal → Type 0
+HasAllWords false d s = has_words d s ≡ true
+HasAllWords true d s = (n : ℕ) → (addresses s).right ≤ n → n ≤ (addresses s).left → has_words d (array_net s n) ≡ true
+
 -- a memory likewise
 abbrev pub IsSoundMemory : Design → Bool → SignalMeaning → Type 0
 IsSoundMemory d true m = Unit {0}
-IsSoundMemory d false m = (has_words d m.signal ≡ true) × (m.known ≡ true) × (m.signal.input ≡ true → m.input ≡ true)
+IsSoundMemory d false m = HasAllWords m.signal.net d m.signal × (m.known ≡ true) × (m.signal.input ≡ true → m.input ≡ true)
 
 -- what a call of a function holds is formed
 pub record IsFormedFunction (d : Design) (f : FunctionMeaning) : Type 0 where

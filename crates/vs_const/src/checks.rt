@@ -1,29 +1,29 @@
 //! Whether an expression breaks a rule, and the value of a constant (IEEE 1364-2005, 4.10 and clause 5).
 
-ghost use Rattle.std.specs.Prelude.{◌≡◌, ◌≤◌, true, IfOk, IfSome, ℤ, Option};
+ghost use Rattle.std.specs.Prelude.{◌≡◌, ◌≤◌, ◌||◌, true, IfOk, IfSome, ℤ, Option};
 ghost use Rattle.vs_four.specs.Selects.{range_length};
 ghost use Rattle.vs_grammar.specs.Trees.{expr_place};
 ghost use Rattle.vs_grammar.specs.Shapes.{IsExpr, IsSelect, AreParts};
 ghost use Rattle.vs_ast.specs.Views as view;
-ghost use Rattle.vs_const.specs.Meanings.{IsFair, Find, steady};
+ghost use Rattle.vs_const.specs.Meanings.{IsFair, Find, Meaning, Means, SignalMeaning, steady};
 ghost use Rattle.vs_const.specs.Needs.{is_needed, names_for};
 ghost use Rattle.vs_const.specs.Expressions as expr;
-ghost use Rattle.vs_const.specs.Selects.{bounds_of, bounds, address_bounds, slice_taken, first_names, first_needed};
+ghost use Rattle.vs_const.specs.Selects.{bounds_of, bounds, address_bounds, slice_taken, first_names, first_needed, is_array, addressed};
 ghost use Rattle.vs_const.specs.Typed.{natural};
-ghost use Rattle.vs_const.specs.Checks.{ChecksArguments, ChecksBounds, ChecksNatural, ChecksNumber, ChecksTaken, IsUnsizedAt};
+ghost use Rattle.vs_const.specs.Checks.{ChecksArguments, ChecksBounds, ChecksNatural, ChecksNumber, ChecksTaken, ChecksAddress, IsUnsizedAt};
 ghost use Rattle.vs_const.specs.Found.{Finds, Says};
 
 use crate::calls::{Arguments, and_argument, call_rule, find_called, find_misnamed, no_argument};
 use crate::found::{
-    Found, find_between, find_binary, find_bit, find_brackets, find_choice, find_clog2,
-    find_concatenation, find_last, find_literal, find_more, find_moving, find_name, find_number,
-    find_replication, find_unary, find_word_part,
+    Found, find_address, find_between, find_binary, find_bit, find_brackets, find_choice,
+    find_clog2, find_concatenation, find_last, find_literal, find_more, find_moving, find_name,
+    find_number, find_replication, find_unary, find_word_part,
 };
-use crate::names::{Env, Named};
+use crate::names::{Env, Named, SignalShape};
 use crate::needs::{Need, meant};
 use crate::ranges::{Bounds, Natural, Numbered, natural_of, range_of_bounds};
 use crate::rules::Rule;
-use crate::selects::{Taken, between, bits_from, moving, no_bits, wrong_rule};
+use crate::selects::{Addressed, Taken, between, bits_from, moving, no_bits, wrong_rule};
 use std::alloc::{AllocError, Global};
 use vs_ast::{Expr, Name, Select, SliceKind, SystemFunction};
 use vs_base::UnaryOp;
@@ -254,6 +254,17 @@ fn argument_need(need: Need) -> Need
     }
 }
 
+/// What an address of this name has to be: that of an array of nets is a constant.
+fn address_need(named: &Named, need: Need) -> Need
+    ensures needed { (m : Meaning) → Means named.now m → is_needed result ≡ (is_array m || is_needed need) }
+    ensures names { (find : Find) → names_for result find ≡ names_for need find }
+{
+    match named {
+        Named::Memory(s) => { if s.net { argument_need(need) } else { need } }
+        _ => need,
+    }
+}
+
 /// A name, with what is selected of it.
 #[cycle(evaluation)]
 fn find_selected<E: Env>(
@@ -272,8 +283,8 @@ fn find_selected<E: Env>(
     match select {
         Select::Whole => Ok(find_name(needed, name.place, &named)),
         Select::Bit { index, .. } => {
-            let i = look(alloc, index, env, need)?;
-            find_bit(alloc, needed, name.place, &named, i)
+            let i = look(alloc, index, env, address_need(&named, need))?;
+            find_bit(alloc, needed, name.place, &named, place_of(index), i)
         }
         Select::Slice {
             bracket,
@@ -330,9 +341,9 @@ fn find_selected<E: Env>(
                 if needed {
                     Ok(find_misnamed(Rule::NotConstant, name.place))
                 } else {
-                    let at = look(alloc, address, env, need)?;
+                    let at = look(alloc, address, env, address_need(&named, need))?;
                     let bits = look_part(alloc, s.range, part, env, need)?;
-                    Ok(find_word_part(name.place, s, at, bits))
+                    Ok(find_word_part(name.place, s, place_of(address), at, bits))
                 }
             }
             _ => Ok(find_misnamed(wrong_rule(needed, &named), name.place)),
@@ -527,6 +538,23 @@ pub fn check_part<E: Env>(
     } else {
         look_part(alloc, declared, part, env, Need::Anything)
     }
+}
+
+/// The address of a word of a memory (IEEE 1364-2005, 4.9.3), a constant where one is needed. That of an array of nets is always one, and one that the array has.
+pub fn check_address<E: Env>(
+    alloc: Global,
+    memory: SignalShape,
+    address: &Expr,
+    env: &E,
+    needed: bool,
+) -> Result<Addressed, AllocError>
+    requires shaped { IsExpr (view.expr address.now) }
+    requires fair { IsFair (E.names env.now) }
+    ensures { IfOk result (λ a. (m : SignalMeaning) → memory.net ≡ m.signal.net → memory.words ≡ m.signal.words
+        → ChecksAddress a (addressed m (expr_place (view.expr address.now)) (expr.typed (view.expr address.now) (E.names env.now) (m.signal.net || needed)))) }
+{
+    let found = check(alloc, address, env, memory.net || needed)?;
+    Ok(find_address(memory, place_of(address), found))
 }
 
 /// The addresses of a memory with these bounds, which are needed constants (IEEE 1364-2005, 4.9).

@@ -1,6 +1,6 @@
 //! What is found of an expression, by what is found of its parts.
 
-ghost use Rattle.std.specs.Prelude.{◌≡◌, ◌≤◌, ℕ, Bool, true, false, not, ◌&&◌, List, ◌++◌, [], IfOk, IfSome, Option, None, min, Some};
+ghost use Rattle.std.specs.Prelude.{◌≡◌, ◌≤◌, ℕ, Bool, true, false, not, ◌&&◌, ◌||◌, List, ◌++◌, [], IfOk, IfSome, Option, None, min, Some};
 ghost use Rattle.vs_four.specs.Numbers as numbers;
 ghost use Rattle.vs_four.specs.Selects.{range_length};
 ghost use Rattle.vs_design.specs.Expressions as E;
@@ -12,7 +12,7 @@ ghost use Rattle.vs_const.specs.Meanings.{Meaning, Means, SignalMeaning, IsFairM
 ghost use Rattle.vs_const.specs.Typed as typed;
 ghost use Rattle.vs_const.specs.Selects as spec;
 ghost use Rattle.vs_const.specs.Expressions as expr;
-ghost use Rattle.vs_const.specs.Checks.{Checks, ChecksNumber, ChecksNatural, ChecksTaken, IsUnsizedAt};
+ghost use Rattle.vs_const.specs.Checks.{Checks, ChecksNumber, ChecksNatural, ChecksTaken, ChecksAddress, IsUnsizedAt};
 ghost use Rattle.vs_const.specs.Forms.{expression, IsForm};
 ghost use Rattle.vs_const.specs.Found.{IsOf, Keeps, Finds, Says, AreValued};
 
@@ -25,7 +25,8 @@ use crate::operators::{
 use crate::ranges::{Numbered, natural_of, range_of_bounds};
 use crate::rules::Rule;
 use crate::selects::{
-    Taken, base_of, between, bits_from, moving, name_alone, taken_of, word, word_part,
+    Addressed, Taken, base_of, between, bits_from, in_array, in_memory, moving, name_alone,
+    taken_of, word, word_part,
 };
 use std::alloc::{AllocError, Global};
 use vs_ast::Literal;
@@ -481,34 +482,50 @@ fn find_one_bit(
     Ok(Found { said, form })
 }
 
-/// `name[i]`: a word of a memory, which is no constant and so is never kept, or one bit of any other
+/// The address of a word, at the place `at`; that of an array of nets is a constant.
+pub(crate) fn find_address(s: SignalShape, at: u32, i: Found) -> Addressed
+    requires { AreValued i.form }
+    ensures { (m : SignalMeaning) (needed : Bool) (t : typed.Typed) → s.net ≡ m.signal.net → s.words ≡ m.signal.words → Says (m.signal.net || needed) i t → ChecksAddress result (spec.addressed m at t) }
+{
+    let index = i.said;
+    if s.net {
+        in_array(s, at, index, find_number(at, i))
+    } else {
+        in_memory(index)
+    }
+}
+
+/// `name[i]`, where i stands at the place `at`: a word of a memory, which is no constant and so is never kept, or one bit of any other
 /// name.
 pub(crate) fn find_bit(
     alloc: Global,
     needed: bool,
     place: u32,
     named: &Named,
+    at: u32,
     i: Found,
 ) -> Result<Found, AllocError>
-    ensures { (m : Meaning) (t : typed.Typed) → IsFairMeaning m → Means named.now m → Says needed i t
-        → IfOk result (λ r. Finds needed r (spec.bit_typed needed place m t)) }
+    requires { AreValued i.form }
+    ensures { (m : Meaning) (t : typed.Typed) → IsFairMeaning m → Means named.now m → Says (spec.is_array m || needed) i t
+        → IfOk result (λ r. Finds needed r (spec.bit_typed needed place m at t)) }
 {
     match named {
         Named::Memory(s) => Ok(Found {
-            said: word(needed, place, *s, i.said),
+            said: word(needed, place, *s, find_address(*s, at, i)),
             form: None,
         }),
         _ => find_one_bit(alloc, needed, place, named, i),
     }
 }
 
-/// Bits of a word of a memory, which is no constant and so is never kept.
-pub(crate) fn find_word_part(place: u32, s: SignalShape, address: Found, t: Taken) -> Found
-    ensures { (m : SignalMeaning) (a : typed.Typed) (bits : spec.Taken) → s.range ≡ m.signal.range → s.known ≡ m.known → Says false address a → ChecksTaken t bits
-        → Finds false result (spec.word_part_typed place m a bits) }
+/// Bits of a word of a memory, whose address stands at the place `at`. They are no constant and so are never kept.
+pub(crate) fn find_word_part(place: u32, s: SignalShape, at: u32, address: Found, t: Taken) -> Found
+    requires { AreValued address.form }
+    ensures { (m : SignalMeaning) (a : typed.Typed) (bits : spec.Taken) → s.range ≡ m.signal.range → s.known ≡ m.known → s.net ≡ m.signal.net → s.words ≡ m.signal.words → Says (m.signal.net || false) address a
+        → ChecksTaken t bits → Finds false result (spec.word_part_typed place m (spec.addressed m at a) bits) }
 {
     Found {
-        said: word_part(place, s, address.said, t),
+        said: word_part(place, s, find_address(s, at, address), t),
         form: None,
     }
 }

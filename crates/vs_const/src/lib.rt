@@ -18,7 +18,8 @@ mod rules;
 mod selects;
 
 pub use checks::{
-    address_bounds, bounds, check, check_part, check_slice, natural, numbered, place_of,
+    address_bounds, bounds, check, check_address, check_part, check_slice, natural, numbered,
+    place_of,
 };
 pub use constants::{constant, number};
 pub use error::ConstError;
@@ -31,4 +32,4 @@ pub use laws::{constant_examples, sound_law};
 pub use names::{Constant, Env, FunctionShape, Named, Role, SignalShape};
 pub use ranges::{Bounds, Natural, Numbered, within};
 pub use rules::Rule;
-pub use selects::{Taken, is_against, wrong_rule};
+pub use selects::{Addressed, Taken, is_against, wrong_rule};

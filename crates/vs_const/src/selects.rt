@@ -1,6 +1,6 @@
 //! Names, selects of them (IEEE 1364-2005, 5.2.1) and words of memories (4.9.3).
 
-ghost use Rattle.std.specs.Prelude.{◌≡◌, ◌≤◌, ℕ, Bool, List, Option, None, [], min};
+ghost use Rattle.std.specs.Prelude.{◌≡◌, ◌≤◌, ℕ, Bool, true, false, List, Option, None, [], min};
 ghost use Rattle.vs_four.specs.Selects as four;
 ghost use Rattle.vs_design.specs.Expressions as E;
 ghost use Rattle.vs_ast.specs.Views as view;
@@ -9,7 +9,7 @@ ghost use Rattle.vs_const.specs.Meanings.{Meaning, Means, SignalMeaning, IsFairM
 ghost use Rattle.vs_const.specs.Typed as typed;
 ghost use Rattle.vs_const.specs.Selects as spec;
 ghost use Rattle.vs_const.specs.CallDepths.{call_depth};
-ghost use Rattle.vs_const.specs.Checks.{capped, Checks, ChecksNumber, ChecksNatural, ChecksBounds, ChecksBase, ChecksTaken};
+ghost use Rattle.vs_const.specs.Checks.{capped, Checks, ChecksNumber, ChecksNatural, ChecksBounds, ChecksBase, ChecksTaken, ChecksAddress};
 
 use crate::faults::{Fault, Flaws, both, flaw, flaw_if, flawless};
 use crate::found::Checked;
@@ -32,6 +32,14 @@ pub(crate) struct Base {
 #[derive(Clone, Copy, Debug)]
 pub struct Taken {
     pub length: Option<u32>,
+    pub good: bool,
+    pub flaws: Flaws,
+    pub depth: u32,
+}
+
+/// The address of a word: how deep calls of functions nest in it.
+#[derive(Clone, Copy, Debug)]
+pub struct Addressed {
     pub good: bool,
     pub flaws: Flaws,
     pub depth: u32,
@@ -274,8 +282,8 @@ pub(crate) fn taken_of(b: Base, t: Taken) -> Checked
 
 /// Bits of the word of a memory at this address (5.2.2), where no constant is needed.
 #[tactic(auto, using(crate::proofs::Least::flaws_append))]
-pub(crate) fn word_part(place: u32, shape: SignalShape, address: Checked, t: Taken) -> Checked
-    ensures { (m : SignalMeaning) (a : typed.Typed) (bits : spec.Taken) → shape.range ≡ m.signal.range → shape.known ≡ m.known → Checks address a → ChecksTaken t bits
+pub(crate) fn word_part(place: u32, shape: SignalShape, address: Addressed, t: Taken) -> Checked
+    ensures { (m : SignalMeaning) (a : spec.Addressed) (bits : spec.Taken) → shape.range ≡ m.signal.range → shape.known ≡ m.known → ChecksAddress address a → ChecksTaken t bits
         → Checks result (spec.word_part_typed place m a bits) }
 {
     let good = shape.known && address.good && t.good;
@@ -301,11 +309,46 @@ pub(crate) fn no_bits() -> Taken
     }
 }
 
+/// The addresses of a memory.
+fn addresses_of(shape: SignalShape) -> Range
+    ensures { (s : E.Signal) → shape.words ≡ s.words → result ≡ E.addresses s }
+{
+    match shape.words {
+        Some(words) => words,
+        None => Range { left: 0, right: 0 },
+    }
+}
+
+/// An address of a memory, whatever it is.
+pub(crate) fn in_memory(index: Checked) -> Addressed
+    ensures { (m : SignalMeaning) (at : ℕ) (i : typed.Typed) → Checks index i → ChecksAddress result (spec.addressed_in false m at i) }
+{
+    Addressed {
+        good: index.good,
+        flaws: index.flaws,
+        depth: index.depth,
+    }
+}
+
+/// An address of an array of nets, by its number: one that the array has.
+pub(crate) fn in_array(shape: SignalShape, at: u32, index: Checked, number: Numbered) -> Addressed
+    ensures { (m : SignalMeaning) (i : typed.Typed) → shape.words ≡ m.signal.words → Checks index i → ChecksNumber number (typed.number_of at i)
+        → ChecksAddress result (spec.addressed_in true m at i) }
+{
+    let addresses = addresses_of(shape);
+    let n = natural_of(addresses.right, addresses.left, at, number);
+    Addressed {
+        good: n.number.is_some() && index.good,
+        flaws: n.flaws,
+        depth: index.depth,
+    }
+}
+
 /// The word of a memory at this address, which is no constant (4.9.3).
 #[tactic(auto, using(crate::proofs::Least::flaws_append))]
-pub(crate) fn word(needed: bool, place: u32, shape: SignalShape, index: Checked) -> Checked
-    ensures { (m : SignalMeaning) (i : typed.Typed) → shape.range ≡ m.signal.range → shape.signed ≡ m.signal.signed → shape.known ≡ m.known → Checks index i
-        → Checks result (spec.word_typed needed place m i) }
+pub(crate) fn word(needed: bool, place: u32, shape: SignalShape, index: Addressed) -> Checked
+    ensures { (m : SignalMeaning) (at : ℕ) (i : typed.Typed) → shape.range ≡ m.signal.range → shape.signed ≡ m.signal.signed → shape.known ≡ m.known → ChecksAddress index (spec.addressed m at i)
+        → Checks result (spec.word_typed needed place m (spec.addressed m at i)) }
 {
     if needed {
         return Checked {

@@ -1,5 +1,5 @@
 -- Dead nets are z throughout.
-use Rattle.std.proofs.Common.{◌≡◌, ℕ, zero, suc, ◌≤◌, ◌<◌, Bool, true, false, not, cond, List, [], ◌∷◌, ◌++◌, ◌&&◌, ◌||◌, ◌==◌, eqb-true, eq-eqb, map, filter, length, inl, inr, ◌⊎◌, refl, sym, ap, ◌∙◌, subst, arith, Option, Some, None, if◌then◌else◌}
+use Rattle.std.proofs.Common.{◌≡◌, ℕ, zero, suc, ◌≤◌, Bool, true, false, not, cond, List, [], ◌∷◌, ◌&&◌, ◌||◌, ◌==◌, eqb-true, eq-eqb, map, filter, length, inl, inr, ◌⊎◌, refl, sym, ap, ◌∙◌, subst, arith, Some, if◌then◌else◌}
 use Rattle.std.specs.Prelude.{slice_get}
 use Rattle.std.proofs.lemmas.Bool.{cond-true}
 use Rattle.vs_four.specs.declared.Bit4.{Bit4}
@@ -13,7 +13,7 @@ use Rattle.vs_design.specs.Bodies.{assignment_writes}
 use Rattle.vs_design.specs.Designs.{Port, Process, Continuous, Always, process_place, Design, bit_count}
 use Rattle.vs_design.specs.Footprints.{contains, signals_bits, net_bits, input_bits, is_net, writes_of}
 use Rattle.vs_design.specs.Rules.{written_bits}
-use Rattle.vs_design.specs.Clocks.{first_of, clock_bits, name_of, port_target, port_targets, nets_within}
+use Rattle.vs_design.specs.Clocks.{clock_bits, name_of, port_targets, nets_within}
 use Rattle.vs_design.specs.Dead.{is_undriven, undriven_nets, is_port, dead_nets, is_dead, left_of, without_dead}
 use Rattle.vs_design.specs.Accepted.{IsAcceptedDesign}
 use Rattle.vs_design.specs.SlotValues.{IsSlotValues}

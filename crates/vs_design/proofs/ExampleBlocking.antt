@@ -24,8 +24,12 @@ blocking_computed = record {
   through_refused = (refl, refl, refl, refl, refl, refl);
   twice_size = refl;
   twice_free = refl;
-  twice_refused = (refl, refl);
+  twice_passes = record { widths = refl; blocks = refl; drivers = refl; clocks = refl; no_cycle = refl; races = refl; zero = refl };
   twice_ends = refl;
+  overtaken_size = refl;
+  overtaken_free = refl;
+  overtaken_passes = record { widths = refl; blocks = refl; drivers = refl; clocks = refl; no_cycle = refl; races = refl; zero = refl };
+  overtaken_ends = refl;
   reset_free = refl;
   reset_passes = record { widths = refl; blocks = refl; drivers = refl; clocks = refl; no_cycle = refl; races = refl; zero = refl };
   reset_ends = refl;

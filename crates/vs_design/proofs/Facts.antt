@@ -6,8 +6,7 @@ use Rattle.vs_design.specs.Statements.{Target, Statement}
 use Rattle.vs_design.specs.Designs.{Event, Port, Process, Continuous, Always, is_clocked, Design}
 use Rattle.vs_design.specs.Footprints.{contains, target_bits, statement_bits, statement_reads, reads_of, waits_of, wait_signals, signals_bits, without, net_bits, variable_bits, is_net}
 use Rattle.vs_design.specs.Latches.{latch_bits}
-use Rattle.vs_design.specs.Races.{nonblocking_bits}
-use Rattle.vs_design.specs.Rules.{mixed_in, blocking_to, mixed_assigns, missing_bits, latches}
+use Rattle.vs_design.specs.Rules.{mixed_in, mixed_assigns, missing_bits, latches}
 use Rattle.vs_design.specs.Accepted.{IsAcceptedDesign, is_empty}
 use Rattle.vs_design.specs.Fits.{fits_process, fits_target, fits_statement, is_fit}
 use Rattle.vs_design.specs.Elaborated.{has_constant_selects, is_formed, is_formed_target, is_formed_statement, are_formed_events, is_formed_port, is_formed_process}
@@ -51,7 +50,7 @@ pub record CombFacts (x : Process) (st : Statement) : Type 0 where
 
 pub comb_facts_by : (place : ℕ) (star : Bool) (events : List Event) (st : Statement) → is_clocked (Always place star events st) ≡ false → mixed_assigns (Always place star events st) ≡ [] → latches (Always place star events st) ≡ [] → missing_bits (Always place star events st) ≡ [] → CombFacts (Always place star events st) st
 comb_facts_by place star events st k none_mixed no_latches none_missing = record {
-  unmixed = subst (λ (c : Bool). (if c then blocking_to (nonblocking_bits st) st else mixed_in false st) ≡ []) k none_mixed;
+  unmixed = subst (λ (c : Bool). (if c then [] else mixed_in false st) ≡ []) k none_mixed;
   no_latch = subst (λ (c : Bool). (if not c then latch_bits st else []) ≡ []) k no_latches;
   waits = λ b q. subst (λ (c : Bool). contains (if not c then without (signals_bits (wait_signals x)) (statement_bits st) else []) b ≡ true) (sym k) (contains_without (signals_bits (wait_signals x)) (statement_bits st) b (waited b q) (unwritten b q));
   needed = λ b q. subst (λ (c : Bool). contains (if not c then without (statement_reads st) (statement_bits st) else statement_reads st) b ≡ true) (sym k) q;

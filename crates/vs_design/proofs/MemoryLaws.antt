@@ -1,6 +1,6 @@
 -- The words of memories are those that their updates give.
-use Rattle.std.proofs.Common.{◌≡◌, ◌≢◌, ℕ, zero, suc, ◌+◌, ◌<◌, Bool, true, false, List, [], ◌∷◌, ◌++◌, ◌||◌, ◌==◌, if◌then◌else◌, inl, inr, refl, sym, ap, ◌∙◌, subst, arith, map, Option, Some, None}
-use Rattle.std.specs.Prelude.{slice_get, not}
+use Rattle.std.proofs.Common.{◌≡◌, ◌≢◌, ℕ, zero, suc, ◌<◌, Bool, true, false, List, [], ◌∷◌, ◌++◌, ◌||◌, ◌==◌, if◌then◌else◌, inl, inr, refl, sym, ap, ◌∙◌, subst, arith, map, Option, Some, None}
+use Rattle.std.specs.Prelude.{slice_get}
 use Rattle.vs_four.specs.Logic.{BitList}
 use Rattle.vs_four.specs.Tables.{same}
 use Rattle.vs_four.specs.Selects.{range_length}
@@ -14,12 +14,12 @@ use Rattle.vs_design.specs.Values.{bits_of_signal, read}
 use Rattle.vs_design.specs.Statements.{Statement}
 use Rattle.vs_design.specs.Bodies.{body}
 use Rattle.vs_design.specs.Designs.{Event, Process, Continuous, Always, is_clocked, Design}
-use Rattle.vs_design.specs.Footprints.{contains, statement_bits, writes_of, variable_bits, input_bits, is_memory, is_variable}
+use Rattle.vs_design.specs.Footprints.{contains, statement_bits, writes_of, variable_bits, input_bits, is_memory, is_variable, is_stored}
 use Rattle.vs_design.specs.Clocks.{clock_bits, clock_nets, root_of, events_of}
 use Rattle.vs_design.specs.Resets.{reset_of}
 use Rattle.vs_design.specs.Initials.{start_value}
 use Rattle.vs_design.specs.Networks.{network_of}
-use Rattle.vs_design.specs.Elaborated.{are_lawful_words, is_lawful_memory, is_formed_process, is_formed_statement, are_formed_events, has_clocked_words, writes_no_word}
+use Rattle.vs_design.specs.Elaborated.{is_formed_process, is_formed_statement, are_formed_events, has_clocked_words, writes_no_word}
 use Rattle.vs_design.specs.Accepted.{IsAcceptedDesign}
 use Rattle.vs_design.specs.SlotValues.{register_value}
 use Rattle.vs_design.specs.Memories.{word_bits, block_effects, effects_if, process_effects, slot_effects, overwritten, word_after, word_along, WordsAre}
@@ -208,13 +208,12 @@ module _ (d : Design) (names : List (List ℕ)) (a : IsAcceptedDesign d names) w
 
   -- ---- a memory's bits
 
-  module _ (i : ℕ) (s : Signal) (at : slice_get d.signals i ≡ Some s) (memory : is_memory s ≡ true) where
+  module _ (i : ℕ) (s : Signal) (at : slice_get d.signals i ≡ Some s) (stored : is_stored s ≡ true) where
+    memory : is_memory s ≡ true
+    memory = (and_both (is_memory s) (is_variable s) stored).0
+
     variable_is : is_variable s ≡ true
-    variable_is = go (is_memory s) (is_variable s) memory (and_both (are_lawful_words s.words) (not (is_memory s) || is_variable s) (all_at is_lawful_memory d.signals i s a.lawful.memories at)).1
-      where
-        go : (m v : Bool) → m ≡ true → (not m || v) ≡ true → v ≡ true
-        go true v p q = q
-        go false v p q = cc
+    variable_is = (and_both (is_memory s) (is_variable s) stored).1
 
     of_variable : (b : ℕ) → contains (bits_of_signal s) b ≡ true → contains (variable_bits d) b ≡ true
     of_variable b h = filtered_bits is_variable d.signals i s b at variable_is h
@@ -289,4 +288,4 @@ module _ (d : Design) (names : List (List ℕ)) (a : IsAcceptedDesign d names) w
       begins = read_same bits (start_value d) (beginning (network_of d clocks)) (λ b h. sym (begun d names a d.initials (same_order d.initials) b).1)
 
 pub words_are : WordsAre
-words_are d names a slots xs h i s at memory k low = along d names a i s at memory k low (read (start_value d) (word_bits s k)) (beginning (network_of d (clock_bits a.clocks))) slots xs (begins d names a i s at memory k low) h
+words_are d names a slots xs h i s at stored k low = along d names a i s at stored k low (read (start_value d) (word_bits s k)) (beginning (network_of d (clock_bits a.clocks))) slots xs (begins d names a i s at stored k low) h

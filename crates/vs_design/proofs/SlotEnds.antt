@@ -8,7 +8,7 @@ use Rattle.vs_net.specs.Network as N
 use Rattle.vs_net.specs.Queue.{Slot, Fall, Rise}
 use Rattle.vs_net.specs.Solution.{IsWriter, driven, is_asleep, blank, IsSlotEnd}
 use Rattle.vs_net.proofs.Basics.{write_all_other}
-use Rattle.vs_design.specs.Expressions.{Signal, signal_length, Expression}
+use Rattle.vs_design.specs.Expressions.{Signal, Expression}
 use Rattle.vs_design.specs.Values.{count_from, bits_of_signal}
 use Rattle.vs_design.specs.Statements.{Target, Statement}
 use Rattle.vs_design.specs.Bodies.{no_effect, body}

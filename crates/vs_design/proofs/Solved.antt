@@ -7,8 +7,7 @@ use Rattle.vs_design.specs.Statements.{Target, Statement}
 use Rattle.vs_design.specs.Designs.{Port, Process, Continuous, Always, is_clocked, Design}
 use Rattle.vs_design.specs.Footprints.{contains, read_bits, target_bits, target_reads, statement_bits, statement_reads, writes_of, reads_of, waits_of, without, is_net}
 use Rattle.vs_design.specs.Latches.{latch_bits}
-use Rattle.vs_design.specs.Races.{nonblocking_bits}
-use Rattle.vs_design.specs.Rules.{mixed_in, blocking_to, mixed_assigns, latches}
+use Rattle.vs_design.specs.Rules.{mixed_in, mixed_assigns, latches}
 use Rattle.vs_design.specs.Levels.{needs, is_order_after, is_level_order}
 use Rattle.vs_design.specs.Sets.{Set4, only, union}
 use Rattle.vs_design.specs.Lifted.{Family}
@@ -44,7 +43,7 @@ record Clean (st : Statement) : Type 0 where
 
 block_facts : (d : Design) → IsOrderly d → (p : ℕ) (st : Statement) → IsBlock d p st → Clean st
 block_facts d o p st i = record {
-  unmixed = subst (λ (c : Bool). (if c then blocking_to (nonblocking_bits st) st else mixed_in false st) ≡ []) i.combinational (empty_is (mixed_assigns (Always i.place i.star i.events st)) (all_at (λ p. is_empty (mixed_assigns p)) d.processes p (Always i.place i.star i.events st) o.unmixed i.is));
+  unmixed = subst (λ (c : Bool). (if c then [] else mixed_in false st) ≡ []) i.combinational (empty_is (mixed_assigns (Always i.place i.star i.events st)) (all_at (λ p. is_empty (mixed_assigns p)) d.processes p (Always i.place i.star i.events st) o.unmixed i.is));
   no_latch = subst (λ (c : Bool). (if not c then latch_bits st else []) ≡ []) i.combinational (empty_is (latches (Always i.place i.star i.events st)) (all_at (λ p. is_empty (latches p)) d.processes p (Always i.place i.star i.events st) o.no_latch i.is));
 }
 

@@ -7,14 +7,14 @@ use Rattle.vs_four.specs.Logic.{BitList, all_known}
 use Rattle.vs_four.specs.Numbers.{integer}
 use Rattle.vs_four.specs.Selects.{Part, range_length, below, at_place, places, select}
 use Rattle.vs_design.specs.Expressions.{Signal, word_length, Expression, sign, is_constant}
-use Rattle.vs_design.specs.Values.{count_from, bits_of_signal, address_place, spread, word_places, word_part_places, select_word, constant_value}
+use Rattle.vs_design.specs.Values.{count_from, bits_of_signal, spread, word_places, word_part_places, select_word, constant_value}
 use Rattle.vs_design.specs.Bodies.{bits_at}
 use Rattle.vs_design.specs.Footprints.{contains, somes, addressed_bits, word_part_bits}
-use Rattle.vs_design.proofs.Lists.{by_test, or_left, or_right, and_both}
+use Rattle.vs_design.proofs.Lists.{by_test, or_left, or_right}
 use Rattle.vs_design.specs.TreeLaws.{PartsOfWord, PartsOfNone}
 use Rattle.vs_design.proofs.Places.{first_place, places_from, places_are}
 use Rattle.vs_design.proofs.Lengths.{length_places, length_word}
-use Rattle.vs_design.proofs.Words.{word_within, addressed_constant, addressed_within}
+use Rattle.vs_design.proofs.Words.{word_within, addressed_within}
 
 -- ---- places of places
 

@@ -3,7 +3,7 @@ use Rattle.std.specs.Prelude.{◌≡◌, ℕ, suc, ◌+◌, ◌≤◌, Bool, tru
 use Rattle.std.specs.List.{list_all}
 use Rattle.vs_four.specs.declared.Range.{Range}
 use Rattle.vs_four.specs.Selects.{range_length, Part}
-use Rattle.vs_design.specs.Expressions.{Signal, signal_length, Source, OfSignal, OfConstant, Expression, Literal, Name, Select, Word, WordPart, Unary, Binary, Choice, Join, Repeat, At, Call, Items, NoItem, Item, Header, local_signals, is_constant}
+use Rattle.vs_design.specs.Expressions.{Signal, signal_length, addresses, Source, OfSignal, OfConstant, Expression, Literal, Name, Select, Word, WordPart, Unary, Binary, Choice, Join, Repeat, At, Call, Items, NoItem, Item, Header, local_signals, is_constant}
 use Rattle.vs_design.specs.Statements.{Target, Whole, PartOf, WordOf, WordPartOf, Both, Statement, Empty, Assignment, Then, If, Case, Arms, Arm, Default, Function}
 use Rattle.vs_design.specs.Designs.{Scope, Event, is_edge, is_clocked, Port, Written, InputPort, OutputPort, Process, Continuous, Always, Initial, Design, bit_count}
 use Rattle.vs_design.specs.Footprints.{is_input, is_net, is_variable, is_memory}
@@ -60,9 +60,13 @@ abbrev pub are_lawful_words : Option Range → Bool
 are_lawful_words None = true
 are_lawful_words (Some r) = nat_le r.right r.left && nat_le r.left 65535 && nat_le (range_length r) 1024
 
--- and is a variable
+-- a net of an array of nets has one word, and is no input
+abbrev pub is_array_net : Signal → Bool
+is_array_net s = s.net && not s.input && (range_length (addresses s) == 1)
+
+-- a memory is a variable or such a net
 abbrev pub is_lawful_memory : Signal → Bool
-is_lawful_memory s = are_lawful_words s.words && (not (is_memory s) || is_variable s)
+is_lawful_memory s = are_lawful_words s.words && (not (is_memory s) || (is_variable s || is_array_net s))
 
 abbrev pub same_range : Option Range → Option Range → Bool
 same_range None None = true

@@ -1,4 +1,4 @@
--- Worked designs with blocking assignments in clocked blocks: what the queue makes of them, and which of them the rules Race and MixedAssign refuse.
+-- Worked designs with blocking assignments in clocked blocks: what the queue makes of them, and which of them the rule Race refuses.
 use Rattle.std.specs.Prelude.{◌≡◌, true, false, [], ◌∷◌, codes, None}
 use Rattle.vs_four.specs.declared.Bit4.TheVariants.{Zero, One, X}
 use Rattle.vs_design.specs.Expressions.{Signal, Name, Unary, BitNot}
@@ -7,8 +7,8 @@ use Rattle.vs_design.specs.Designs.{Posedge, Always, Design}
 use Rattle.vs_design.specs.Levels.{level_order}
 use Rattle.vs_design.specs.Races.{stirred, race_bits, has_no_race}
 use Rattle.vs_design.specs.Sizes.{size}
-use Rattle.vs_design.specs.Refusals.{MixedAssign, Race, IsUnrefused}
-use Rattle.vs_design.specs.Answers.{OfBlock, OfRace, IsRefusedBy}
+use Rattle.vs_design.specs.Refusals.{Race, IsUnrefused}
+use Rattle.vs_design.specs.Answers.{OfRace, IsRefusedBy}
 use Rattle.vs_design.specs.ExampleParts.{clk, clk_signal, input_of, wire_of, reg_of, to_zero, lit, dec, bit, blocking, nonblocking, assign, on_posedge, design_of, slot_ends}
 
 abbrev pub d1 : Signal
@@ -49,6 +49,10 @@ wide_q = reg_of (codes "q") 2 (to_zero 1) 3
 abbrev pub twice : Design
 twice = design_of (clk_signal ∷ wide_d ∷ wide_q ∷ []) (on_posedge 0 clk_signal (Then (blocking 10 wide_q (lit (X ∷ X ∷ []))) (If (bit wide_d 1 (dec 1 0)) (nonblocking 20 wide_q (Name wide_d)) Empty)) ∷ [])
 
+-- `always @(posedge clk) begin q <= d; q = ~d; t <= q; end`
+abbrev pub overtaken : Design
+overtaken = design_of (clk_signal ∷ d1 ∷ q2 ∷ t3 ∷ []) (on_posedge 0 clk_signal (Then (nonblocking 10 q2 (Name d1)) (Then (blocking 20 q2 (Unary BitNot (Name d1))) (nonblocking 30 t3 (Name q2)))) ∷ [])
+
 abbrev pub r1 : Signal
 r1 = input_of (codes "r") 1 None 1
 
@@ -88,12 +92,18 @@ pub record BlockingComputed : Type 0 where
   pub through_bits : race_bits raced_through (level_order raced_through) 0 (on_posedge 0 clk_signal (nonblocking 10 q2 (Name y4))) ≡ 4 ∷ []
   pub through_races : has_no_race raced_through ≡ false
   pub through_refused : IsRefusedBy raced_through clk (OfRace (Race 0 4 0))
-  -- `=` and `<=` to one register, which no program is made of: bits clk, d, q
+  -- `=` and `<=` to one register: it has the update where one was made, and else what `=` left. Bits clk, d, q
   pub twice_size : size twice ≡ 16
   pub twice_free : has_no_race twice ≡ true
-  pub twice_refused : IsRefusedBy twice clk (OfBlock (MixedAssign 10))
+  pub twice_passes : IsUnrefused twice clk
   pub twice_ends : slot_ends twice (Zero ∷ One ∷ Zero ∷ []) ((Zero ∷ Zero ∷ One ∷ []) ∷ []) ≡
       ((Zero ∷ One ∷ Zero ∷ X ∷ X ∷ []) ∷ (One ∷ One ∷ Zero ∷ One ∷ Zero ∷ []) ∷ (Zero ∷ Zero ∷ One ∷ One ∷ Zero ∷ []) ∷ (One ∷ Zero ∷ One ∷ X ∷ X ∷ []) ∷ [])
+  -- an update is made after what is written at once behind it, with the value of its statement: bits clk, d, q, t
+  pub overtaken_size : size overtaken ≡ 11
+  pub overtaken_free : has_no_race overtaken ≡ true
+  pub overtaken_passes : IsUnrefused overtaken clk
+  pub overtaken_ends : slot_ends overtaken (Zero ∷ One ∷ []) ((Zero ∷ Zero ∷ []) ∷ []) ≡
+      ((Zero ∷ One ∷ X ∷ X ∷ []) ∷ (One ∷ One ∷ One ∷ Zero ∷ []) ∷ (Zero ∷ Zero ∷ One ∷ Zero ∷ []) ∷ (One ∷ Zero ∷ Zero ∷ One ∷ []) ∷ [])
   -- an asynchronous reset: bits clk, r, d, q, t
   pub reset_free : has_no_race reset_at_once ≡ true
   pub reset_passes : IsUnrefused reset_at_once clk

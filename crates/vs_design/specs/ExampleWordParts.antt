@@ -1,5 +1,5 @@
 -- Worked parts of words (IEEE 1364-2005, 5.2.2): values, what is read and written, sets, sizes, and the values at the end of each slot.
-use Rattle.std.specs.Prelude.{◌≡◌, ℕ, true, false, List, [], ◌∷◌, ◌++◌, Some, None, codes, map, drop}
+use Rattle.std.specs.Prelude.{◌≡◌, true, false, [], ◌∷◌, ◌++◌, Some, None, codes, map, drop}
 use Rattle.vs_four.specs.declared.Bit4.TheVariants.{Zero, One, X}
 use Rattle.vs_four.specs.Logic.{BitList}
 use Rattle.vs_four.specs.Selects.{Part, one_bit}

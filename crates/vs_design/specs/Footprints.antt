@@ -191,16 +191,21 @@ net_bits d = signals_bits (filter is_net d.signals)
 abbrev pub variable_bits : Design → List ℕ
 variable_bits d = signals_bits (filter is_variable d.signals)
 
--- a memory is a variable that has words, and these are the bits of all memories
+-- a memory has words: a variable, or a net of an array of nets, which is a word by itself (4.9)
 abbrev pub is_memory : Signal → Bool
 is_memory s = is_some s.words
+
+-- the words of a variable are kept
+abbrev pub is_stored : Signal → Bool
+is_stored s = is_memory s && is_variable s
 
 -- the signals whose values a waveform shows: all but memories (4.9), in their order
 abbrev pub shown_signals : Design → List Signal
 shown_signals d = filter (λ s. not (is_memory s)) d.signals
 
+-- the bits of all memories that are variables
 abbrev pub memory_bits : Design → List ℕ
-memory_bits d = signals_bits (filter is_memory d.signals)
+memory_bits d = signals_bits (filter is_stored d.signals)
 
 -- of the bits from 0 to count - 1 those in the list, in ascending order and each once
 abbrev pub ascending : ℕ → List ℕ → List ℕ

@@ -11,7 +11,7 @@ use Rattle.vs_design.specs.Values.{count_from, read}
 use Rattle.vs_design.specs.Statements.{Statement}
 use Rattle.vs_design.specs.Bodies.{body}
 use Rattle.vs_design.specs.Designs.{Process, Continuous, Always, is_clocked, Design}
-use Rattle.vs_design.specs.Footprints.{is_memory}
+use Rattle.vs_design.specs.Footprints.{is_stored}
 use Rattle.vs_design.specs.Resets.{reset_of}
 use Rattle.vs_design.specs.Initials.{start_value}
 use Rattle.vs_design.specs.Clocks.{clock_bits}
@@ -59,7 +59,7 @@ word_along d clocks bits v before (slot ∷ slots) (x ∷ xs) = let w = word_aft
 abbrev pub word : Design → List ℕ → Signal → ℕ → State → List Slot → List State → List BitList
 word d clocks s n before slots xs = word_along d clocks (word_bits s n) (read (start_value d) (word_bits s n)) before slots xs
 
--- in the solution of an accepted design each word of a memory is that at the end of each slot
+-- in the solution of an accepted design each word of a memory that is a variable is that at the end of each slot
 abbrev pub WordsAre : Type 0
 WordsAre = (d : Design) (names : List (List ℕ)) (a : IsAcceptedDesign d names) → let n = network_of d (clock_bits a.clocks) in (slots : List Slot) (xs : List State) → IsSolution n (beginning n) slots xs
-    → (i : ℕ) (s : Signal) → slice_get d.signals i ≡ Some s → is_memory s ≡ true → (k : ℕ) → k < range_length (addresses s) → map (λ x. read x (word_bits s k)) xs ≡ word d (clock_bits a.clocks) s k (beginning n) slots xs
+    → (i : ℕ) (s : Signal) → slice_get d.signals i ≡ Some s → is_stored s ≡ true → (k : ℕ) → k < range_length (addresses s) → map (λ x. read x (word_bits s k)) xs ≡ word d (clock_bits a.clocks) s k (beginning n) slots xs

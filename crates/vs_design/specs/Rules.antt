@@ -1,11 +1,9 @@
 -- The rules on blocks and drivers, each as the list of the places or bits that break it.
 use Rattle.std.specs.Prelude.{ℕ, suc, Bool, false, not, ◌&&◌, ◌||◌, List, [], ◌∷◌, ◌++◌, filter, length, replicate, if◌then◌else◌, ◌==◌, nat_lt}
-use Rattle.std.specs.List.{list_any}
 use Rattle.vs_design.specs.Statements.{Statement, Empty, Assignment, Then, If, Case, Arms, Arm, Default, Function}
 use Rattle.vs_design.specs.Designs.{Process, Continuous, Always, is_clocked, is_combinational, Design}
 use Rattle.vs_design.specs.Footprints.{contains, target_bits, statement_bits, writes_of, reads_of, wait_signals, signals_bits, without}
 use Rattle.vs_design.specs.Fits.{fits_statement}
-use Rattle.vs_design.specs.Races.{nonblocking_bits}
 use Rattle.vs_design.specs.Latches.{latch_bits}
 
 -- the places of the blocking assignments in a statement, or of the nonblocking ones
@@ -21,24 +19,11 @@ abbrev mutual
   mixed_in_arms clocked (Arm items statement rest) = mixed_in clocked statement ++ mixed_in_arms clocked rest
   mixed_in_arms clocked (Default statement) = mixed_in clocked statement
 
--- the places of the blocking assignments in a statement that may write one of these bits
-abbrev mutual
-  pub blocking_to : List ℕ → Statement → List ℕ
-  blocking_to bits Empty = []
-  blocking_to bits (Assignment place target e blocking) = if blocking && list_any (contains bits) (target_bits target) then (place ∷ []) else []
-  blocking_to bits (Then first rest) = blocking_to bits first ++ blocking_to bits rest
-  blocking_to bits (If c taken other) = blocking_to bits taken ++ blocking_to bits other
-  blocking_to bits (Case kind subject arms) = blocking_to_in_arms bits arms
-
-  pub blocking_to_in_arms : List ℕ → Arms → List ℕ
-  blocking_to_in_arms bits (Arm items statement rest) = blocking_to bits statement ++ blocking_to_in_arms bits rest
-  blocking_to_in_arms bits (Default statement) = blocking_to bits statement
-
--- the rule MixedAssign: the blocking assignments of a clocked block to bits that it may also write by `<=`, and the nonblocking ones of a combinational block
+-- the rule MixedAssign: the nonblocking assignments of a combinational block. A clocked block may have both kinds, also to one bit
 abbrev pub mixed_assigns : Process → List ℕ
 mixed_assigns (Continuous place port target_place target e) = []
 mixed_assigns (Always place star events statement) =
-    if is_clocked (Always place star events statement) then blocking_to (nonblocking_bits statement) statement else mixed_in false statement
+    if is_clocked (Always place star events statement) then [] else mixed_in false statement
 
 -- the rule Sensitivity: the bits in a combinational block's reads that are of no signal that it waits on. `@*` waits on every signal that is read
 abbrev pub missing_bits : Process → List ℕ

@@ -244,7 +244,7 @@ pub fn design_examples()
     ensures { DesignsComputed }
 {}
 
-/// Worked designs with blocking assignments in clocked blocks: their sizes, which of them the rules Race and MixedAssign refuse, and the values that their networks have at the end of each slot.
+/// Worked designs with blocking assignments in clocked blocks: their sizes, which of them the rule Race refuses, and the values that their networks have at the end of each slot.
 pub fn blocking_examples()
     ensures { BlockingComputed }
 {}

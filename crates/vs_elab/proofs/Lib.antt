@@ -34,6 +34,7 @@ mod ReadDesigns
 mod SoundInstances
 mod InstanceReads
 mod InstanceCalls
+mod ArraySignals
 mod NewSignals
 mod PlainItems
 mod FineScopes

@@ -1,8 +1,6 @@
 -- The signals of a scope come behind those of a design: each is found there by its number, and they are counted.
-use Rattle.std.proofs.Common.{◌≡◌, ℕ, suc, ◌+◌, Bool, true, false, ◌&&◌, ◌==◌, List, [], ◌∷◌, ◌++◌, length, map, Option, Some, None, refl, sym, ap, ◌∙◌, subst, arith, eq-eqb}
+use Rattle.std.proofs.Common.{◌≡◌, ℕ, suc, ◌+◌, Bool, true, false, ◌&&◌, ◌==◌, List, [], ◌∷◌, ◌++◌, length, Option, Some, None, refl, sym, ap, ◌∙◌, subst, arith, eq-eqb}
 use Rattle.std.specs.Prelude.{slice_get, sum_by}
-use Rattle.std.proofs.lemmas.List.{length-map}
-use Rattle.std.proofs.lemmas.List.Sums.{sum_by-cons}
 use Rattle.vs_four.specs.declared.Range.{Range}
 use Rattle.vs_design.specs.Expressions.{Signal, signal_length}
 use Rattle.vs_design.specs.Designs.{Design}
@@ -10,13 +8,14 @@ use Rattle.vs_design.specs.Clocks.{same_name}
 use Rattle.vs_design.specs.Elaborated.{same_range, same_flag, same_signal, is_this, is_signal}
 use Rattle.vs_grammar.specs.Trees as tree
 use Rattle.vs_grammar.specs.Shapes.{Each}
-use Rattle.vs_elaborated.specs.Signals.{SaidSignal}
+use Rattle.vs_elaborated.specs.Signals.{SaidSignal, all_nets, net_count}
 use Rattle.vs_elaborated.specs.Pieces.{Task}
 use Rattle.vs_elaborated.specs.Surveys.{Totals, Survey}
 use Rattle.vs_elaborated.specs.Sound.{AreCounted}
 use Rattle.vs_elaborated.specs.Scoped.{AreNumberedBelow}
 use Rattle.vs_scope.specs.Surveys.{IsOfParts, signals_in, start_at}
 use Rattle.vs_scope.proofs.NamedLists.{same_self}
+use Rattle.vs_elab.proofs.ArraySignals.{all_counted, all_bits}
 
 -- ---- in the design
 
@@ -77,18 +76,14 @@ pub record IsBehind (totals : Totals) (s : Survey) : Type 0 where
   pub bits : s.totals.bits ≡ totals.bits + sum_by signal_length s.signals
   pub instances : s.totals.instances ≡ totals.instances
 
-sum_mapped : (f : SaidSignal → Signal) (xs : List SaidSignal) → sum_by signal_length (map f xs) ≡ sum_by (λ (x : SaidSignal). signal_length (f x)) xs
-sum_mapped f [] = refl
-sum_mapped f (x ∷ xs) = sum_by-cons signal_length (f x) (map f xs) ∙ ap (λ n. signal_length (f x) + n) (sum_mapped f xs) ∙ sym (sum_by-cons (λ (y : SaidSignal). signal_length (f y)) x xs)
-
 pub survey_behind : (source : tree.Source) (t : Task) (totals : Totals) (s : Survey) → IsOfParts source t totals s → IsBehind totals s
 survey_behind source t totals s p = of (signals_in t.env t.contents (start_at t totals)) p.signals (ap (λ (x : Totals). x.scopes) p.totals_is) (ap (λ (x : Totals). x.signals) p.totals_is) (ap (λ (x : Totals). x.bits) p.totals_is) (ap (λ (x : Totals). x.instances) p.totals_is)
   where
-    of : (ss : List SaidSignal) → s.signals ≡ map (λ (x : SaidSignal). x.meaning.signal) ss → s.totals.scopes ≡ totals.scopes + 1 → s.totals.signals ≡ totals.signals + length ss
+    of : (ss : List SaidSignal) → s.signals ≡ all_nets ss → s.totals.scopes ≡ totals.scopes + 1 → s.totals.signals ≡ totals.signals + net_count ss
         → s.totals.bits ≡ totals.bits + sum_by (λ (x : SaidSignal). signal_length x.meaning.signal) ss → s.totals.instances ≡ totals.instances → IsBehind totals s
     of ss e scopes signals bits instances = record {
       scopes = scopes;
-      signals = signals ∙ ap (λ n. totals.signals + n) (sym (ap length e ∙ length-map ss (λ (x : SaidSignal). x.meaning.signal)));
-      bits = bits ∙ ap (λ n. totals.bits + n) (sym (ap (λ (xs : List Signal). sum_by signal_length xs) e ∙ sum_mapped (λ (x : SaidSignal). x.meaning.signal) ss));
+      signals = signals ∙ ap (λ n. totals.signals + n) (sym (ap length e ∙ all_counted ss));
+      bits = bits ∙ ap (λ n. totals.bits + n) (sym (ap (λ (xs : List Signal). sum_by signal_length xs) e ∙ all_bits ss));
       instances = instances;
     }

@@ -9,7 +9,7 @@ use Rattle.vs_elaborated.specs.Limits.{Limits}
 use Rattle.vs_elaborated.specs.Environments.{Env, Entry, up_to, within, named}
 use Rattle.vs_elaborated.specs.Declarations.{ParameterSort, Sort, SignalOf, ParameterOf, FunctionOf, GenvarSort, IntegerSort, InstanceSort, Declaration, names_of, repeated_names}
 use Rattle.vs_elaborated.specs.Parameters.{Override, chosen, is_signed, said_type, parameter_declared, SaidParameter, said_parameter, put_value, first_entries, SaidEntries, said_parameters}
-use Rattle.vs_elaborated.specs.Signals.{SaidSignal, said_signals, range_faults, array_faults, put_signals}
+use Rattle.vs_elaborated.specs.Signals.{SaidSignal, said_signals, all_nets, net_count, range_faults, put_signals}
 use Rattle.vs_elaborated.specs.Functions.{said_functions}
 use Rattle.vs_elaborated.specs.Generate.{Made}
 use Rattle.vs_elaborated.specs.Constructs.{constructs}
@@ -33,16 +33,16 @@ surveyed limits source parent m depth env totals parameters =
     let said = contents_said limits source (record { scope = totals.scopes; depth = depth; env = within env whole }) loops (OfModule m []) made in
     record {
       entries = whole;
-      signals = map (λ (s : SaidSignal). s.meaning.signal) signals;
+      signals = all_nets signals;
       functions = functions.functions;
       pieces = said.pieces;
       faults =
-          header_of (OfModule m []) ++ (repeated_names [] ds ++ (parameters.faults ++ (range_faults ranged ds ++ (array_faults ds ++ (flat_map (λ (s : SaidSignal). s.faults) signals
-          ++ (functions.faults ++ (flat_map (λ (x : Made). x.faults) made ++ (block_faults entries [] blocks ++ (said.faults ++ (bits_over limits.bits totals.bits signals ++ processes_over limits.processes totals.processes said.pieces))))))))));
+          header_of (OfModule m []) ++ (repeated_names [] ds ++ (parameters.faults ++ (range_faults ranged ds ++ (flat_map (λ (s : SaidSignal). s.faults) signals
+          ++ (functions.faults ++ (flat_map (λ (x : Made). x.faults) made ++ (block_faults entries [] blocks ++ (said.faults ++ (bits_over limits.bits totals.bits signals ++ processes_over limits.processes totals.processes said.pieces)))))))));
       totals =
           record totals {
             scopes = totals.scopes + 1;
-            signals = totals.signals + length signals;
+            signals = totals.signals + net_count signals;
             bits = totals.bits + sum_by (λ (s : SaidSignal). signal_length s.meaning.signal) signals;
             turns = turns_after totals.turns made;
             functions = functions.counts.functions;

@@ -7,7 +7,7 @@ use Rattle.vs_const.specs.declared.faults.Fault.{Fault}
 use Rattle.vs_const.specs.Faults.{least, better}
 use Rattle.vs_elaborated.specs.Limits.{the_limits}
 use Rattle.vs_elaborated.specs.Environments.{Env, find_entry, find_name, named, within}
-use Rattle.vs_elaborated.specs.Signals.{Start, SaidSignal}
+use Rattle.vs_elaborated.specs.Signals.{Start, all_nets}
 use Rattle.vs_elaborated.specs.Generate.{Made}
 use Rattle.vs_elaborated.specs.Pieces.{Task, Said, both_said}
 use Rattle.vs_elaborated.specs.Instances.{Around}
@@ -76,7 +76,7 @@ pub record IsFound (source : tree.Source) (t : Task) (totals : Totals) (did : Lo
   pub kept : KeepsShapes t.env r.names
   pub seen : AreSeen r.names t.env t.contents start before
   pub functions : map function_declaration r.names.functions.items ≡ functions_in (declarations_of t.contents)
-  pub signals : map signal r.signals.items ≡ map (λ (x : SaidSignal). x.meaning.signal) (signals_in t.env t.contents start)
+  pub signals : map signal r.signals.items ≡ all_nets (signals_in t.env t.contents start)
   pub made : map code.made r.made.items ≡ map code.kept (made_in t.env t.contents start before totals.turns)
   pub blocks : Each code.AreShapedBlocks r.made.items
   pub next : start_of r.counts.start ≡ start_behind t.env t.contents start
@@ -150,7 +150,7 @@ module _ (source : tree.Source) (t : Task) (totals : Totals) (did : Loops) (r : 
         f.entries_are (better_first f.found f.said.fault (sym f.first ∙ none)) ∙ both_are (λ b c. entries_in t.env t.contents b c totals.turns) ∙ sym parts.entries
 
     the_signals : map signal r.signals.items ≡ s.signals
-    the_signals = f.signals ∙ ap (λ b. map (λ (x : SaidSignal). x.meaning.signal) (signals_in t.env t.contents b)) f.starts ∙ sym parts.signals
+    the_signals = f.signals ∙ ap (λ b. all_nets (signals_in t.env t.contents b)) f.starts ∙ sym parts.signals
 
     the_totals : r.fault ≡ None → totals_of r.counts did ≡ s.totals
     the_totals none =

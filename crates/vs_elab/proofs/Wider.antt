@@ -1,16 +1,17 @@
 -- What can be built over a design can be built over one that has its signals too.
-use Rattle.std.proofs.Common.{◌≡◌, ◌&&◌, ◌++◌, Bool, true, false, List, refl, ap, ◌∙◌}
+use Rattle.std.proofs.Common.{◌≡◌, ◌++◌, Bool, true, false, List}
+use Rattle.vs_design.specs.Expressions.{Signal}
 use Rattle.vs_design.specs.Designs.{Design}
-use Rattle.vs_design.specs.Footprints.{is_memory}
-use Rattle.vs_design.specs.Elaborated.{inside, is_signal}
+use Rattle.vs_design.specs.Elaborated.{inside}
 use Rattle.vs_grammar.specs.Trees as tree
 use Rattle.vs_design.specs.Statements.{Function}
 use Rattle.vs_const.specs.Meanings.{SignalMeaning, FunctionMeaning, Meaning, AValue, Undefined, ASignal, AMemory, AFunction, Incomplete, Another, Barred, Unknown, Find}
-use Rattle.vs_const.specs.Sound.{IsSoundSignal, IsSoundMemory, IsSoundFunction, IsSound, AreSound}
+use Rattle.vs_const.specs.Selects.{array_net}
+use Rattle.vs_const.specs.Sound.{HasAllWords, IsSoundSignal, IsSoundMemory, IsSoundFunction, IsSound, AreSound}
 use Rattle.vs_elaborated.specs.Environments.{Entry}
 use Rattle.vs_build.specs.Buildable.{IsBuildable}
 use Rattle.vs_build.specs.Outputs.{IsOutput}
-use Rattle.vs_build.proofs.Wider.{IsWider, plain_wider, header_wider, inside_wider, statement_wider}
+use Rattle.vs_build.proofs.Wider.{IsWider, plain_wider, words_wider, header_wider, inside_wider, statement_wider}
 use Rattle.vs_items.specs.declared.connections.Connection.{Connection}
 use Rattle.vs_elab.specs.Wiring.{IsWirable}
 use Rattle.vs_elab.proofs.NumberedNames.{names_numbered}
@@ -19,13 +20,13 @@ signal_wider : (c d : Design) → IsWider c d → (needed : Bool) (s : SignalMea
 signal_wider c d w true s h = h
 signal_wider c d w false s h = (plain_wider c d w s.signal h.0, h.1, h.2)
 
-and_wider : (a b m : Bool) → (a ≡ true → b ≡ true) → (a && m) ≡ true → (b && m) ≡ true
-and_wider true b m f h = ap (λ (x : Bool). x && m) (f refl) ∙ h
-and_wider false b m f h = cc
+words_all_wider : (c d : Design) → IsWider c d → (array : Bool) (s : Signal) → HasAllWords array c s → HasAllWords array d s
+words_all_wider c d w false s h = words_wider c d w s h
+words_all_wider c d w true s h = λ n l k. words_wider c d w (array_net s n) (h n l k)
 
 memory_wider : (c d : Design) → IsWider c d → (needed : Bool) (m : SignalMeaning) → IsSoundMemory c needed m → IsSoundMemory d needed m
 memory_wider c d w true m h = h
-memory_wider c d w false m h = (and_wider (is_signal c m.signal) (is_signal d m.signal) (is_memory m.signal) (w.signals m.signal) h.0, h.1, h.2)
+memory_wider c d w false m h = (words_all_wider c d w m.signal.net m.signal h.0, h.1, h.2)
 
 function_sound : (c d : Design) → IsWider c d → (needed : Bool) (f : FunctionMeaning) → IsSoundFunction c needed f → IsSoundFunction d needed f
 function_sound c d w true f h = tt

@@ -91,7 +91,8 @@ pub(crate) fn survey_scope<'a>(
     };
     let Surveyed {
         names,
-        signals,
+        signals: _,
+        nets,
         made,
         fault: surveyed,
         turns,
@@ -121,7 +122,7 @@ pub(crate) fn survey_scope<'a>(
     )?;
     Ok(SurveyedScope {
         names,
-        signals,
+        signals: nets,
         made,
         fault: first_of(surveyed, said),
         counts: Counts {

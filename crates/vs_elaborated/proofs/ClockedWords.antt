@@ -5,45 +5,45 @@ use Rattle.vs_design.specs.Statements.{Statement}
 use Rattle.vs_design.specs.Designs.{Always, is_edge, is_clocked}
 use Rattle.vs_design.specs.Elaborated.{is_wordless, writes_no_word, arms_write_no_word, has_clocked_words}
 use Rattle.vs_grammar.specs.Trees as tree
-use Rattle.vs_grammar.specs.Trees.{target_place}
+use Rattle.vs_grammar.specs.Trees.{expr_place, target_place}
 use Rattle.vs_const.specs.declared.faults.Fault.{Fault}
 use Rattle.vs_const.specs.Meanings.{Meaning, AValue, Undefined, ASignal, AMemory, AFunction, Incomplete, Another, Barred, Unknown, Find}
 use Rattle.vs_const.specs.Typed.{Typed}
-use Rattle.vs_const.specs.Selects.{Taken, word_range}
+use Rattle.vs_const.specs.Selects.{Taken, word_range, is_array}
 use Rattle.vs_const.specs.Expressions.{typed, taken_by}
 use Rattle.vs_const.proofs.Formed.{both_nil, both}
 use Rattle.vs_elaborated.specs.Targets.{bit_target, further_target, selected_target, typed_target, typed_targets}
 use Rattle.vs_elaborated.specs.Statements.{Body, TypedStatement, typed_list, typed_statement, typed_fallback, typed_sequence, typed_arms, typed_events, typed_control, is_clocked_by, memory_faults, target_memories, targets_memories, word_faults, delayed_faults, scope_locals, local_faults, scoped, unrolled_within}
 use Rattle.vs_elaborated.proofs.TurnsLaw.{loop_law, unrolled_law}
 
-bit_wordless : (place : ℕ) (m : Meaning) (i : Typed) → memory_faults place m ≡ [] → is_wordless (bit_target true place m i).target ≡ true
-bit_wordless place (AValue v r turns) i h = refl
-bit_wordless place (Undefined r) i h = refl
-bit_wordless place (ASignal s) i h = refl
-bit_wordless place (AMemory m) i h = cc
-bit_wordless place (AFunction f) i h = refl
-bit_wordless place Incomplete i h = refl
-bit_wordless place Another i h = refl
-bit_wordless place (Barred rule) i h = refl
-bit_wordless place Unknown i h = refl
+bit_wordless : (place : ℕ) (m : Meaning) (at : ℕ) (i : Typed) → memory_faults place m ≡ [] → is_wordless (bit_target true place m at i).target ≡ true
+bit_wordless place (AValue v r turns) at i h = refl
+bit_wordless place (Undefined r) at i h = refl
+bit_wordless place (ASignal s) at i h = refl
+bit_wordless place (AMemory m) at i h = cc
+bit_wordless place (AFunction f) at i h = refl
+bit_wordless place Incomplete at i h = refl
+bit_wordless place Another at i h = refl
+bit_wordless place (Barred rule) at i h = refl
+bit_wordless place Unknown at i h = refl
 
-further_wordless : (place : ℕ) (m : Meaning) (a : Typed) (t : Taken) → memory_faults place m ≡ [] → is_wordless (further_target true place m a t).target ≡ true
-further_wordless place (AValue v r turns) a t h = refl
-further_wordless place (Undefined r) a t h = refl
-further_wordless place (ASignal s) a t h = refl
-further_wordless place (AMemory m) a t h = cc
-further_wordless place (AFunction f) a t h = refl
-further_wordless place Incomplete a t h = refl
-further_wordless place Another a t h = refl
-further_wordless place (Barred rule) a t h = refl
-further_wordless place Unknown a t h = refl
+further_wordless : (place : ℕ) (m : Meaning) (at : ℕ) (a : Typed) (t : Taken) → memory_faults place m ≡ [] → is_wordless (further_target true place m at a t).target ≡ true
+further_wordless place (AValue v r turns) at a t h = refl
+further_wordless place (Undefined r) at a t h = refl
+further_wordless place (ASignal s) at a t h = refl
+further_wordless place (AMemory m) at a t h = cc
+further_wordless place (AFunction f) at a t h = refl
+further_wordless place Incomplete at a t h = refl
+further_wordless place Another at a t h = refl
+further_wordless place (Barred rule) at a t h = refl
+further_wordless place Unknown at a t h = refl
 
 module _ (find : Find) where
   selected_wordless : (select : tree.Select) (name : tree.Name) → memory_faults name.place (find name.bytes) ≡ [] → is_wordless (selected_target select name find true).target ≡ true
   selected_wordless tree.Whole name h = refl
-  selected_wordless (tree.BitAt bracket index) name h = bit_wordless name.place (find name.bytes) (typed index find false) h
+  selected_wordless (tree.BitAt bracket index) name h = let m = find name.bytes in bit_wordless name.place m (expr_place index) (typed index find (is_array m || false)) h
   selected_wordless (tree.Slice bracket kind e f) name h = refl
-  selected_wordless (tree.OfWord bracket address part) name h = let m = find name.bytes in further_wordless name.place m (typed address find false) (taken_by (word_range m) part find false) h
+  selected_wordless (tree.OfWord bracket address part) name h = let m = find name.bytes in further_wordless name.place m (expr_place address) (typed address find (is_array m || false)) (taken_by (word_range m) part find false) h
 
   mutual
     target_wordless : (t : tree.Target) → target_memories t find ≡ [] → is_wordless (typed_target t find true).target ≡ true

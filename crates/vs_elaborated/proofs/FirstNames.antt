@@ -1,5 +1,5 @@
 -- The entry of a name is that of its first declaration, and where no name is repeated, every other declaration of it is the second one of the same signal.
-use Rattle.std.proofs.Common.{◌≡◌, ℕ, ◌+◌, ◌-◌, Bool, true, false, not, ◌&&◌, ◌||◌, ◌==◌, List, [], ◌∷◌, ◌++◌, map, Option, Some, None, is_some, ◌⊎◌, inl, inr, if◌then◌else◌, refl, sym, ap, ◌∙◌, subst, eqb-true}
+use Rattle.std.proofs.Common.{◌≡◌, ℕ, Bool, true, false, not, ◌&&◌, ◌||◌, ◌==◌, List, [], ◌∷◌, ◌++◌, map, Option, Some, None, is_some, ◌⊎◌, inl, inr, if◌then◌else◌, refl, sym, ap, ◌∙◌, subst, eqb-true}
 use Rattle.std.specs.List.{list_any}
 use Rattle.vs_design.specs.Clocks.{same_name}
 use Rattle.vs_grammar.specs.Trees as tree
@@ -591,24 +591,18 @@ said_plain w env (n ∷ ns) start h = of n.first.name n.first.sort n.second h.0 
     of v IntegerSort second g rest = rest start
     of v InstanceSort second g rest = rest start
 
--- a memory is a variable, with one declaration
-pub memory_variable : (s : SignalSort) (second : Option Declaration) → IsShapedSignal s → (has_addresses s && not (is_reg s.kind)) ≡ false → ((b : Declaration) → second ≡ Some b → are_sorts_of_one (SignalOf s) b.sort ≡ true) → has_addresses s ≡ true
-    → (not (is_reg s.kind || is_reg (second_sort s second).kind) ≡ false) × ((is_input s.kind || is_input (second_sort s second).kind) ≡ false)
-memory_variable s second x r k h = alone second k
+-- what has addresses has one declaration, and is no input
+pub memory_inner : (s : SignalSort) (second : Option Declaration) → IsShapedSignal s → ((b : Declaration) → second ≡ Some b → are_sorts_of_one (SignalOf s) b.sort ≡ true) → has_addresses s ≡ true → (is_input s.kind || is_input (second_sort s second).kind) ≡ false
+memory_inner s second x k h = alone second k
   where
-    reg : (a b : Bool) → a ≡ true → (a && not b) ≡ false → b ≡ true
-    reg true true e i = refl
-    reg true false e i = cc
-    reg false b e i = cc
-
-    one : (kind : SignalKind) → is_port_kind kind ≡ false → is_reg kind ≡ true → (not (is_reg kind || is_reg kind) ≡ false) × ((is_input kind || is_input kind) ≡ false)
-    one Reg e i = (refl, refl)
-    one Wire e i = cc
-    one Input e i = cc
-    one InputWire e i = cc
-    one Output e i = cc
-    one OutputWire e i = cc
-    one OutputReg e i = cc
+    one : (kind : SignalKind) → is_port_kind kind ≡ false → (is_input kind || is_input kind) ≡ false
+    one Reg e = refl
+    one Wire e = refl
+    one Input e = cc
+    one InputWire e = cc
+    one Output e = cc
+    one OutputWire e = cc
+    one OutputReg e = cc
 
     two : (b : Declaration) (l : Sort) → are_sorts_of_one (SignalOf s) l ≡ true → ⊥
     two b (SignalOf t) e = no (sym h ∙ sorts_first s t e)
@@ -618,7 +612,6 @@ memory_variable s second x r k h = alone second k
     two b IntegerSort e = cc
     two b InstanceSort e = cc
 
-    alone : (o : Option Declaration) → ((b : Declaration) → o ≡ Some b → are_sorts_of_one (SignalOf s) b.sort ≡ true)
-        → (not (is_reg s.kind || is_reg (second_sort s o).kind) ≡ false) × ((is_input s.kind || is_input (second_sort s o).kind) ≡ false)
-    alone None k = one s.kind (x.inner h) (reg (has_addresses s) (is_reg s.kind) h r)
+    alone : (o : Option Declaration) → ((b : Declaration) → o ≡ Some b → are_sorts_of_one (SignalOf s) b.sort ≡ true) → (is_input s.kind || is_input (second_sort s o).kind) ≡ false
+    alone None k = one s.kind (x.inner h)
     alone (Some b) k = absurd (two b b.sort (k b refl))

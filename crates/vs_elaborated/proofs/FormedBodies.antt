@@ -3,7 +3,7 @@ use Rattle.std.proofs.Common.{◌≡◌, ℕ, Bool, true, false, not, ◌&&◌, 
 use Rattle.std.specs.List.{list_all}
 use Rattle.vs_four.specs.declared.Range.{Range}
 use Rattle.vs_four.specs.Logic.{BitList}
-use Rattle.vs_design.specs.Expressions.{Signal, OfSignal, items_of, is_constant}
+use Rattle.vs_design.specs.Expressions.{Signal, addresses, OfSignal, items_of, is_constant}
 use Rattle.vs_design.specs.Statements.{Statement}
 use Rattle.vs_design.specs.Clocks.{same_name}
 use Rattle.vs_design.specs.Designs.{Design, Edge, is_edge}
@@ -14,14 +14,15 @@ use Rattle.vs_grammar.specs.Trees as tree
 use Rattle.vs_grammar.specs.Trees.{expr_place, target_place}
 use Rattle.vs_grammar.specs.Shapes.{IsExpr, IsSelect, IsTarget, ArePartsOfTarget, AreTargets, IsStatement, IsFallback, AreStatements, AreArms, OneOrMore, Each, IsControl, AreParts, AreExprs}
 use Rattle.vs_const.specs.Meanings.{SignalMeaning, Meaning, AValue, Undefined, ASignal, AMemory, AFunction, Incomplete, Another, Barred, Unknown, Find, steady, turn_value, turning}
-use Rattle.vs_const.specs.Selects.{Base, is_scalar, Taken, taken, slice_taken, first_needed, first_names, word_range}
+use Rattle.vs_const.specs.Selects.{Base, is_scalar, Taken, taken, slice_taken, first_needed, first_names, word_range, is_array, in_array, addressed_in, addressed}
 use Rattle.vs_const.specs.declared.rules.Rule.{Rule}
+use Rattle.vs_const.specs.declared.faults.Fault.{Fault}
 use Rattle.vs_const.specs.Faults.{fault, fault_if}
 use Rattle.vs_const.specs.Expressions.{typed, taken_by}
-use Rattle.vs_const.specs.Typed.{Typed}
+use Rattle.vs_const.specs.Typed.{Typed, natural}
 use Rattle.vs_const.specs.Sound.{IsSound, AreSound, IsFine}
 use Rattle.vs_const.proofs.Steady.{sound_needed, first_sound, steady_sound}
-use Rattle.vs_const.proofs.Formed.{both_nil, no_fault, both, IsFineTaken, taken_faults, bit_fine, slice_fine, typed_fine, taken_by_fine, word_ranged, same_itself}
+use Rattle.vs_const.proofs.Formed.{both_nil, no_fault, both, IsFineTaken, taken_faults, bit_fine, slice_fine, typed_fine, taken_by_fine, address_fine, address_clean, index_same, need_less, range_same, word_ranged, same_itself}
 use Rattle.vs_elaborated.specs.Targets.{meant_signal, TypedTarget, is_wrong_target, target_rule, unwritten_rule, target_base, part_target, bit_target, word_part_target, further_target, selected_target, typed_target, typed_targets, targeted, and_target, as_target, as_targets}
 use Rattle.vs_elaborated.specs.Statements.{Body, TypedStatement, typed_list, delayed_faults, word_faults, Local, scope_locals, find_local, local_or, scoped, local_faults, typed_statement, typed_fallback, typed_sequence, typed_arms, event_faults, typed_events, typed_control}
 use Rattle.vs_elaborated.proofs.TurnsLaw.{loop_law}
@@ -131,14 +132,38 @@ selected_bit_fine d procedural place m i s i_if h =
     let r = n.range refl in
     part_target_fine d procedural m b (taken b.range true 1 i i.faults) r.0 n r.1 (bit_fine d (not procedural) b.range r.0 i (base_range procedural true place m r.0 k.0 r.1) (i_if (sym (taken_faults b.range true 1 i i.faults) ∙ k.1)))
 
+-- the net of an array may be written where the array may
+allowed_same : (procedural : Bool) (m : SignalMeaning) (at : ℕ) (i : Typed) → allowed procedural (addressed m at i).signal ≡ allowed procedural m.signal
+allowed_same procedural m at i = of m.signal.net
+  where
+    found : (p : Bool) (o : Option ℕ) (fs : List Fault) → allowed p (in_array m i o fs).signal ≡ allowed p m.signal
+    found p None fs = refl
+    found true (Some n) fs = refl
+    found false (Some n) fs = refl
+
+    of : (array : Bool) → allowed procedural (addressed_in array m at i).signal ≡ allowed procedural m.signal
+    of false = refl
+    of true = let n = natural (addresses m.signal).right (addresses m.signal).left at i in found procedural n.number n.faults
+
+or_right : (a b : Bool) → b ≡ true → (a || b) ≡ true
+or_right true b h = refl
+or_right false b h = h
+
+-- the address of a target is a constant where no statement writes it
+address_constant : (d : Design) (procedural : Bool) (m : SignalMeaning) (at : ℕ) (i : Typed) → (i.faults ≡ [] → IsFine d (m.signal.net || not procedural) i) → (addressed m at i).faults ≡ [] → procedural ≡ false → is_constant (addressed m at i).index ≡ true
+address_constant d procedural m at i i_if h e =
+    subst (λ x. is_constant x ≡ true) (sym (index_same m at i)) ((i_if (address_clean m at i h)).constant (or_right m.signal.net (not procedural) (ap not e)))
+
 -- `name[i]`
-bit_target_fine : (d : Design) (procedural : Bool) (place : ℕ) (m : Meaning) (i : Typed) → IsSound d false m → (i.faults ≡ [] → IsFine d (not procedural) i) → (bit_target procedural place m i).faults ≡ [] → IsFineTarget d procedural (bit_target procedural place m i)
-bit_target_fine d procedural place (AMemory m) i s i_if h =
-    let n = both_nil (fault_if (is_wrong_target procedural m) WrongKind place) i.faults h in
-    let f = i_if n.1 in
+bit_target_fine : (d : Design) (procedural : Bool) (place : ℕ) (m : Meaning) (at : ℕ) (i : Typed) → IsSound d false m → (i.faults ≡ [] → IsFine d (is_array m || not procedural) i) → (bit_target procedural place m at i).faults ≡ []
+    → IsFineTarget d procedural (bit_target procedural place m at i)
+bit_target_fine d procedural place (AMemory m) at i s i_if h =
+    let a = addressed m at i in
+    let n = both_nil (fault_if (is_wrong_target procedural m) WrongKind place) a.faults h in
+    let f = address_fine d m at i s.0 (λ k. need_less d m.signal.net (not procedural) i (i_if k)) n.1 in
     record {
-      formed = three (has_words d m.signal) (allowed procedural m.signal) (is_formed d i.expression) s.0 (may_write procedural m (no_fault (is_wrong_target procedural m) WrongKind place n.0) s.2) f.formed;
-      constant = λ k. f.constant (ap not k);
+      formed = three (has_words d a.signal) (allowed procedural a.signal) (is_formed d a.index) f.words (allowed_same procedural m at i ∙ may_write procedural m (no_fault (is_wrong_target procedural m) WrongKind place n.0) s.2) f.formed;
+      constant = address_constant d procedural m at i i_if n.1;
     }
   where
     three : (a b c : Bool) → a ≡ true → b ≡ true → c ≡ true → (a && b && c) ≡ true
@@ -146,29 +171,31 @@ bit_target_fine d procedural place (AMemory m) i s i_if h =
     three true true false h k l = cc
     three true false c h k l = cc
     three false b c h k l = cc
-bit_target_fine d procedural place (AValue v r turns) i s i_if h = selected_bit_fine d procedural place (AValue v r turns) i s i_if h
-bit_target_fine d procedural place (Undefined r) i s i_if h = absurd s
-bit_target_fine d procedural place (ASignal m) i s i_if h = selected_bit_fine d procedural place (ASignal m) i s i_if h
-bit_target_fine d procedural place (AFunction f) i s i_if h = selected_bit_fine d procedural place (AFunction f) i s i_if h
-bit_target_fine d procedural place Incomplete i s i_if h = selected_bit_fine d procedural place Incomplete i s i_if h
-bit_target_fine d procedural place Another i s i_if h = selected_bit_fine d procedural place Another i s i_if h
-bit_target_fine d procedural place (Barred rule) i s i_if h = selected_bit_fine d procedural place (Barred rule) i s i_if h
-bit_target_fine d procedural place Unknown i s i_if h = selected_bit_fine d procedural place Unknown i s i_if h
+bit_target_fine d procedural place (AValue v r turns) at i s i_if h = selected_bit_fine d procedural place (AValue v r turns) i s i_if h
+bit_target_fine d procedural place (Undefined r) at i s i_if h = absurd s
+bit_target_fine d procedural place (ASignal m) at i s i_if h = selected_bit_fine d procedural place (ASignal m) i s i_if h
+bit_target_fine d procedural place (AFunction f) at i s i_if h = selected_bit_fine d procedural place (AFunction f) i s i_if h
+bit_target_fine d procedural place Incomplete at i s i_if h = selected_bit_fine d procedural place Incomplete i s i_if h
+bit_target_fine d procedural place Another at i s i_if h = selected_bit_fine d procedural place Another i s i_if h
+bit_target_fine d procedural place (Barred rule) at i s i_if h = selected_bit_fine d procedural place (Barred rule) i s i_if h
+bit_target_fine d procedural place Unknown at i s i_if h = selected_bit_fine d procedural place Unknown i s i_if h
 
 -- bits of a word
-word_part_target_fine : (d : Design) (procedural : Bool) (place : ℕ) (m : SignalMeaning) (a : Typed) (t : Taken) → IsSound d false (AMemory m) → (a.faults ≡ [] → IsFine d (not procedural) a)
-    → ((r : Range) → m.signal.range ≡ Some r → t.faults ≡ [] → IsFineTaken d (not procedural) r t) → (word_part_target procedural place m a t).faults ≡ [] → IsFineTarget d procedural (word_part_target procedural place m a t)
-word_part_target_fine d procedural place m a t s a_if t_if h =
+word_part_target_fine : (d : Design) (procedural : Bool) (place : ℕ) (m : SignalMeaning) (at : ℕ) (i : Typed) (t : Taken) → IsSound d false (AMemory m) → (i.faults ≡ [] → IsFine d (m.signal.net || not procedural) i)
+    → ((r : Range) → m.signal.range ≡ Some r → t.faults ≡ [] → IsFineTaken d (not procedural) r t) → (word_part_target procedural place m (addressed m at i) t).faults ≡ []
+    → IsFineTarget d procedural (word_part_target procedural place m (addressed m at i) t)
+word_part_target_fine d procedural place m at i t s i_if t_if h =
+    let a = addressed m at i in
     let n = both_nil (fault_if (is_wrong_target procedural m) WrongKind place) (fault_if (is_scalar m) WrongKind place ++ (a.faults ++ t.faults)) h in
     let k = both_nil (fault_if (is_scalar m) WrongKind place) (a.faults ++ t.faults) n.1 in
     let l = both_nil a.faults t.faults k.1 in
     let w = word_ranged m place s.1 k.0 in
-    let f = a_if l.0 in
+    let f = address_fine d m at i s.0 (λ k. need_less d m.signal.net (not procedural) i (i_if k)) l.0 in
     let g = t_if w.0 w.1 l.1 in
     record {
-      formed = four (is_formed_word_part d m.signal t.part) (allowed procedural m.signal) (is_formed d a.expression) (is_formed d t.index) (part w.0 w.1 g)
-          (may_write procedural m (no_fault (is_wrong_target procedural m) WrongKind place n.0) s.2) f.formed g.formed;
-      constant = λ e. both (is_constant a.expression) (is_constant t.index) (f.constant (ap not e)) (g.constant (ap not e));
+      formed = four (is_formed_word_part d a.signal t.part) (allowed procedural a.signal) (is_formed d a.index) (is_formed d t.index) (part w.0 w.1 f.words g)
+          (allowed_same procedural m at i ∙ may_write procedural m (no_fault (is_wrong_target procedural m) WrongKind place n.0) s.2) f.formed g.formed;
+      constant = λ e. both (is_constant a.index) (is_constant t.index) (address_constant d procedural m at i i_if l.0 e) (g.constant (ap not e));
     }
   where
     three : (a b c : Bool) → a ≡ true → b ≡ true → c ≡ true → (a && b && c) ≡ true
@@ -181,8 +208,9 @@ word_part_target_fine d procedural place m a t s a_if t_if h =
     four true b c d h k l m = three b c d k l m
     four false b c d h k l m = cc
 
-    part : (r : Range) → m.signal.range ≡ Some r → IsFineTaken d (not procedural) r t → is_formed_word_part d m.signal t.part ≡ true
-    part r e g = three (has_words d m.signal) (same_range m.signal.range (Some t.part.range)) (fits_64 t.part.width) s.0 (subst (λ q. same_range q (Some t.part.range) ≡ true) (sym e) (subst (λ q. same_range (Some r) (Some q) ≡ true) (sym g.range) (same_itself r))) g.fits
+    part : (r : Range) → m.signal.range ≡ Some r → has_words d (addressed m at i).signal ≡ true → IsFineTaken d (not procedural) r t → is_formed_word_part d (addressed m at i).signal t.part ≡ true
+    part r e w g =
+        three (has_words d (addressed m at i).signal) (same_range (addressed m at i).signal.range (Some t.part.range)) (fits_64 t.part.width) w (subst (λ q. same_range q (Some t.part.range) ≡ true) (sym (range_same m at i ∙ e)) (subst (λ q. same_range (Some r) (Some q) ≡ true) (sym g.range) (same_itself r))) g.fits
 
 -- a name that is no memory has no words
 no_further : (d : Design) (procedural : Bool) (rule : Rule) (place : ℕ) (t : TypedTarget) → fault rule place ≡ [] → IsFineTarget d procedural t
@@ -191,17 +219,17 @@ no_further d procedural rule place t h = absurd (no h)
     no : fault rule place ≡ [] → ⊥
     no k = cc
 
-further_target_fine : (d : Design) (procedural : Bool) (place : ℕ) (m : Meaning) (a : Typed) (t : Taken) → IsSound d false m → (a.faults ≡ [] → IsFine d (not procedural) a)
-    → ((r : Range) → word_range m ≡ Some r → t.faults ≡ [] → IsFineTaken d (not procedural) r t) → (further_target procedural place m a t).faults ≡ [] → IsFineTarget d procedural (further_target procedural place m a t)
-further_target_fine d procedural place (AMemory m) a t s a_if t_if h = word_part_target_fine d procedural place m a t s a_if t_if h
-further_target_fine d procedural place (AValue v r turns) a t s a_if t_if h = no_further d procedural (unwritten_rule (AValue v r turns)) place (further_target procedural place (AValue v r turns) a t) h
-further_target_fine d procedural place (Undefined r) a t s a_if t_if h = absurd s
-further_target_fine d procedural place (ASignal m) a t s a_if t_if h = no_further d procedural WrongKind place (further_target procedural place (ASignal m) a t) h
-further_target_fine d procedural place (AFunction f) a t s a_if t_if h = no_further d procedural WrongKind place (further_target procedural place (AFunction f) a t) h
-further_target_fine d procedural place Incomplete a t s a_if t_if h = no_further d procedural WrongKind place (further_target procedural place Incomplete a t) h
-further_target_fine d procedural place Another a t s a_if t_if h = no_further d procedural WrongKind place (further_target procedural place Another a t) h
-further_target_fine d procedural place (Barred rule) a t s a_if t_if h = no_further d procedural rule place (further_target procedural place (Barred rule) a t) h
-further_target_fine d procedural place Unknown a t s a_if t_if h = no_further d procedural UnknownName place (further_target procedural place Unknown a t) h
+further_target_fine : (d : Design) (procedural : Bool) (place : ℕ) (m : Meaning) (at : ℕ) (i : Typed) (t : Taken) → IsSound d false m → (i.faults ≡ [] → IsFine d (is_array m || not procedural) i)
+    → ((r : Range) → word_range m ≡ Some r → t.faults ≡ [] → IsFineTaken d (not procedural) r t) → (further_target procedural place m at i t).faults ≡ [] → IsFineTarget d procedural (further_target procedural place m at i t)
+further_target_fine d procedural place (AMemory m) at i t s i_if t_if h = word_part_target_fine d procedural place m at i t s i_if t_if h
+further_target_fine d procedural place (AValue v r turns) at i t s i_if t_if h = no_further d procedural (unwritten_rule (AValue v r turns)) place (further_target procedural place (AValue v r turns) at i t) h
+further_target_fine d procedural place (Undefined r) at i t s i_if t_if h = absurd s
+further_target_fine d procedural place (ASignal m) at i t s i_if t_if h = no_further d procedural WrongKind place (further_target procedural place (ASignal m) at i t) h
+further_target_fine d procedural place (AFunction f) at i t s i_if t_if h = no_further d procedural WrongKind place (further_target procedural place (AFunction f) at i t) h
+further_target_fine d procedural place Incomplete at i t s i_if t_if h = no_further d procedural WrongKind place (further_target procedural place Incomplete at i t) h
+further_target_fine d procedural place Another at i t s i_if t_if h = no_further d procedural WrongKind place (further_target procedural place Another at i t) h
+further_target_fine d procedural place (Barred rule) at i t s i_if t_if h = no_further d procedural rule place (further_target procedural place (Barred rule) at i t) h
+further_target_fine d procedural place Unknown at i t s i_if t_if h = no_further d procedural UnknownName place (further_target procedural place Unknown at i t) h
 
 module _ (d : Design) (find : Find) (s : AreSound d false find) where
   selected_target_fine : (select : tree.Select) (name : tree.Name) (procedural : Bool) → IsSelect select → (selected_target select name find procedural).faults ≡ [] → IsFineTarget d procedural (selected_target select name find procedural)
@@ -209,7 +237,9 @@ module _ (d : Design) (find : Find) (s : AreSound d false find) where
       let n = name_of_target d procedural false name.place (find name.bytes) (s name.bytes) h in
       record { formed = both (is_plain d (meant_signal (find name.bytes))) (allowed procedural (meant_signal (find name.bytes))) n.signal n.allowed_to; constant = λ k. refl }
   selected_target_fine (tree.BitAt bracket index) name procedural x h =
-      bit_target_fine d procedural name.place (find name.bytes) (typed index find (not procedural)) (s name.bytes) (λ k. typed_fine d find index (not procedural) (weaker (not procedural)) x k) h
+      let m = find name.bytes in
+      let n = is_array m || not procedural in
+      bit_target_fine d procedural name.place m (expr_place index) (typed index find n) (s name.bytes) (λ k. typed_fine d find index n (weaker n) x k) h
     where
       weaker : (b : Bool) → AreSound d b find
       weaker true = λ name. sound_needed d false (find name) (s name)
@@ -232,8 +262,9 @@ module _ (d : Design) (find : Find) (s : AreSound d false find) where
       weaker false = s
   selected_target_fine (tree.OfWord bracket address part) name procedural x h =
       let m = find name.bytes in
-      further_target_fine d procedural name.place m (typed address find (not procedural)) (taken_by (word_range m) part find (not procedural)) (s name.bytes)
-      (λ k. typed_fine d find address (not procedural) (weaker (not procedural)) x.0 k)
+      let n = is_array m || not procedural in
+      further_target_fine d procedural name.place m (expr_place address) (typed address find n) (taken_by (word_range m) part find (not procedural)) (s name.bytes)
+      (λ k. typed_fine d find address n (weaker n) x.0 k)
       (λ r e k. taken_by_fine d part find (not procedural) (word_range m) r (weaker (not procedural)) x.1 x.2 e k) h
     where
       weaker : (b : Bool) → AreSound d b find

@@ -2,6 +2,7 @@ mod EachOf
 mod TurnsLaw
 mod FormedBodies
 mod SoundNames
+mod Nets
 mod NumberedSignals
 mod Nestings
 mod NamedScopes

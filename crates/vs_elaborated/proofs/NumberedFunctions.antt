@@ -1,7 +1,6 @@
 -- Functions stand at their numbers in a design that has them.
-use Rattle.std.proofs.Common.{◌≡◌, ℕ, zero, suc, ◌+◌, Bool, true, false, List, [], ◌∷◌, ◌++◌, map, length, Option, Some, None, if◌then◌else◌, refl, sym, ap, ◌∙◌, subst, arith, append_assoc, length-append}
+use Rattle.std.proofs.Common.{◌≡◌, ℕ, zero, suc, ◌+◌, Bool, true, false, List, [], ◌∷◌, ◌++◌, map, length, Option, Some, None, if◌then◌else◌, refl, sym, ap, ◌∙◌, arith, append_assoc, length-append}
 use Rattle.std.specs.Prelude.{slice_get}
-use Rattle.std.specs.List.{flat_map}
 use Rattle.vs_four.specs.declared.Range.{Range}
 use Rattle.vs_design.specs.Clocks.{same_name}
 use Rattle.vs_design.specs.Statements.{Function}
@@ -17,7 +16,7 @@ use Rattle.vs_elaborated.specs.Limits.{Limits}
 use Rattle.vs_elaborated.specs.Environments.{Declared, Later, OfSignal, OfParameter, OfGenvar, OfInteger, OfFunction, OfScope, Entry, Env, Turn, within, up_to, turn_of, is_late, find_entry, find_name, parameter_meaning, turn_meaning, with_words, signal_means, unless_outside, declared_meaning, entry_meaning, inside_function, named}
 use Rattle.vs_elaborated.specs.Statements.{Local}
 use Rattle.vs_elaborated.specs.Declarations.{Sort, SignalOf, ParameterOf, FunctionOf, GenvarSort, IntegerSort, InstanceSort, Declaration, Named}
-use Rattle.vs_elaborated.specs.Parameters.{Override, converted, declared_if, valued, put_value, first_declared, first_entries, said_parameter, said_parameters, said_type, is_signed, chosen}
+use Rattle.vs_elaborated.specs.Parameters.{Override, declared_if, valued, put_value, first_declared, first_entries, said_parameter, said_parameters, said_type, is_signed, chosen}
 use Rattle.vs_elaborated.specs.Signals.{SaidSignal, put_signal, put_signals}
 use Rattle.vs_elaborated.specs.Functions.{LocalSignal, Locals, function_locals, declared_locals, all_locals, signal_at, declared_or, local_entries, Counts, next_function, and_function, completed, put_function, said_functions}
 use Rattle.vs_elaborated.specs.Generate.{BlockName, Nested, Made}
@@ -25,7 +24,7 @@ use Rattle.vs_elaborated.specs.Ports.{find_module}
 use Rattle.vs_elaborated.specs.Pieces.{Said, all_said}
 use Rattle.vs_elaborated.specs.Instances.{Around, said_overrides, instance_said}
 use Rattle.vs_elaborated.specs.NamedBlocks.{NamedBlock, named_blocks}
-use Rattle.vs_elaborated.specs.Surveys.{Loops, block_by, loops_after, items_of, declarations_of, overrides_of, block_entries, turned, Totals, counts_of, survey, header_said, assign_said, nested_piece, item_said, items_said}
+use Rattle.vs_elaborated.specs.Surveys.{Loops, block_by, loops_after, items_of, declarations_of, overrides_of, block_entries, turned, counts_of, survey, header_said, assign_said, nested_piece, item_said, items_said}
 use Rattle.vs_elaborated.specs.Numbers.{IsAtNumber, IsNumbered, IsNumberedDeclared, AreNumberedEntries, AreNumberedFrames, IsNumberedPiece, HasFunctions, NamesAreNumbered, FunctionNamesAreNumbered, FunctionsAreNumbered, ScopesAreNumbered, FunctionsAreCounted, NumbersStay, MoreFunctionsStand}
 use Rattle.vs_elaborated.proofs.EachOf.{each_append, each_weaker}
 use Rattle.vs_elaborated.proofs.ValuePieces.{signals_each, header_each}

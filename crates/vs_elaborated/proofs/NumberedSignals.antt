@@ -1,9 +1,12 @@
 -- The signals of an elaborated design are numbered from 0, and so are their bits; their scopes never go back, and are scopes of the design.
-use Rattle.std.proofs.Common.{◌≡◌, ℕ, zero, suc, ◌+◌, ◌≤◌, ◌<◌, Bool, true, false, ◌&&◌, List, [], ◌∷◌, ◌++◌, map, length, Option, Some, None, refl, sym, ap, ◌∙◌, subst, subst₂, arith, nat_le, ◌==◌, eq-eqb, if◌then◌else◌}
+use Rattle.std.proofs.Common.{◌≡◌, ℕ, zero, suc, ◌+◌, ◌*◌, ◌≤◌, ◌<◌, Bool, true, false, ◌&&◌, List, [], ◌∷◌, ◌++◌, map, length, Option, Some, None, refl, sym, ap, ◌∙◌, subst, subst₂, arith, nat_le, ◌==◌, eq-eqb, if◌then◌else◌}
 use Rattle.std.specs.Prelude.{Result, Ok, Err, fold, sum_by}
 use Rattle.std.proofs.lemmas.Bool.{le-leb}
+use Rattle.std.proofs.Math.Nat.{suc-mul}
 use Rattle.std.proofs.lemmas.List.{map-append, length-map}
-use Rattle.vs_design.specs.Expressions.{Signal, signal_length}
+use Rattle.vs_four.specs.Selects.{range_length}
+use Rattle.vs_design.specs.Expressions.{Signal, signal_length, word_length, addresses}
+use Rattle.vs_design.specs.Values.{count_from}
 use Rattle.vs_design.specs.Designs.{Process, Design}
 use Rattle.vs_design.specs.Elaborated.{are_numbered, have_bits_from}
 use Rattle.vs_grammar.specs.Trees.{Name, Module, Source}
@@ -11,11 +14,13 @@ use Rattle.vs_grammar.specs.Shapes.{Each}
 use Rattle.vs_const.specs.declared.faults.Fault.{Fault}
 use Rattle.vs_const.specs.Faults.{least}
 use Rattle.vs_const.specs.declared.names.Role.TheVariants.{InModule}
+use Rattle.vs_const.specs.Selects.{array_net}
 use Rattle.vs_const.proofs.Formed.{both}
 use Rattle.vs_elaborated.specs.Environments.{Env}
 use Rattle.vs_elaborated.specs.Limits.{Limits}
 use Rattle.vs_elaborated.specs.Declarations.{Declaration, Named, Sort, SignalOf, ParameterOf, FunctionOf, GenvarSort, IntegerSort, InstanceSort}
-use Rattle.vs_elaborated.specs.Signals.{Start, SaidSignal, said_signal, said_signals, after}
+use Rattle.vs_elaborated.specs.Signals.{Start, SaidSignal, said_signal, said_signals, nets_of, all_nets, net_count, after}
+use Rattle.vs_elaborated.specs.Sound.{AreCounted}
 use Rattle.vs_elaborated.specs.Ports.{find_module}
 use Rattle.vs_elaborated.specs.Pieces.{Task, ScopedBlock, Piece, Own, OfScopes, Initially, Instance, Within, is_instance}
 use Rattle.vs_elaborated.specs.Statements.{Local, TypedStatement}
@@ -24,6 +29,7 @@ use Rattle.vs_elaborated.specs.Functions.{LocalSignal}
 use Rattle.vs_elaborated.specs.NamedBlocks.{NamedBlock, named_blocks, named_scope, named_signals}
 use Rattle.vs_elaborated.specs.Surveys.{Totals, no_totals, scoped_signals, scoped_statement, Survey, survey}
 use Rattle.vs_elaborated.proofs.SurveyParts.{names_in, ranged_in, start_in, signals_in}
+use Rattle.vs_elaborated.proofs.Nets.{net_length, array_length, by_array, nets_counted}
 use Rattle.vs_elaborated.specs.Elaborated.{both_designs, of_processes, then_do, port_assign, Read, ReadPieces, scoped_design, scoped_totals, scoped_faults, read_scoped, read_piece, read_pieces, counted, limit_faults, scope_design, read_scope, repeated_modules, top_task, scope_depth, elaborated_top, elaborated_within}
 
 abbrev pub bits_of_all : List Signal → ℕ
@@ -58,37 +64,31 @@ below_more c e (s ∷ ss) h p = (omega (arith, p.0), below_more c e ss h p.1)
 -- ---- one scope
 
 abbrev pub signals_of : List SaidSignal → List Signal
-signals_of ss = map (λ (s : SaidSignal). s.meaning.signal) ss
+signals_of ss = all_nets ss
 
-said_numbered : (env : Env) (names : List Named) (start : Start) → Numbered start.signal start.bit start.scope (signals_of (said_signals env start names))
-said_numbered env [] start = tt
-said_numbered env (n ∷ ns) start = of n.first.name n.first.sort n.second (λ next. said_numbered env ns next)
+pub said_counted : (env : Env) (names : List Named) (start : Start) → AreCounted start.scope start.signal start.bit (signals_of (said_signals env start names))
+said_counted env [] start = tt
+said_counted env (n ∷ ns) start = of n.first.name n.first.sort n.second (λ next. said_counted env ns next)
   where
-    of : (w : Name) (k : Sort) (second : Option Declaration) → ((next : Start) → Numbered next.signal next.bit next.scope (signals_of (said_signals env next ns)))
-        → Numbered start.signal start.bit start.scope (signals_of (said_signals env start (record { first = record { name = w; sort = k }; second = second } ∷ ns)))
+    of : (w : Name) (k : Sort) (second : Option Declaration) → ((next : Start) → AreCounted next.scope next.signal next.bit (signals_of (said_signals env next ns)))
+        → AreCounted start.scope start.signal start.bit (signals_of (said_signals env start (record { first = record { name = w; sort = k }; second = second } ∷ ns)))
     of w (SignalOf s) second rest =
         let m : Named = record { first = record { name = w; sort = SignalOf s }; second = second } in
-        (refl, refl, omega arith, rest (after start (said_signal env start m s).meaning))
+        let one = (said_signal env start m s).meaning in
+        nets_counted one.signal (signals_of (said_signals env (after start one) ns)) (rest (after start one))
     of w (ParameterOf p) second rest = rest start
     of w (FunctionOf f) second rest = rest start
     of w GenvarSort second rest = rest start
     of w IntegerSort second rest = rest start
     of w InstanceSort second rest = rest start
 
-said_below : (env : Env) (names : List Named) (start : Start) → AreBelow (start.scope + 1) (signals_of (said_signals env start names))
-said_below env [] start = tt
-said_below env (n ∷ ns) start = of n.first.name n.first.sort n.second (λ next. said_below env ns next)
-  where
-    of : (w : Name) (k : Sort) (second : Option Declaration) → ((next : Start) → AreBelow (next.scope + 1) (signals_of (said_signals env next ns)))
-        → AreBelow (start.scope + 1) (signals_of (said_signals env start (record { first = record { name = w; sort = k }; second = second } ∷ ns)))
-    of w (SignalOf s) second rest =
-        let m : Named = record { first = record { name = w; sort = SignalOf s }; second = second } in
-        (omega arith, rest (after start (said_signal env start m s).meaning))
-    of w (ParameterOf p) second rest = rest start
-    of w (FunctionOf f) second rest = rest start
-    of w GenvarSort second rest = rest start
-    of w IntegerSort second rest = rest start
-    of w InstanceSort second rest = rest start
+counted_numbered : (scope n b : ℕ) (ss : List Signal) → AreCounted scope n b ss → Numbered n b scope ss
+counted_numbered scope n b [] p = tt
+counted_numbered scope n b (s ∷ ss) p = (p.0, p.1, omega (arith, p.2), subst (λ c. Numbered (n + 1) (b + signal_length s) c ss) (sym p.2) (counted_numbered scope (n + 1) (b + signal_length s) ss p.3))
+
+counted_below : (scope n b : ℕ) (ss : List Signal) → AreCounted scope n b ss → AreBelow (scope + 1) ss
+counted_below scope n b [] p = tt
+counted_below scope n b (s ∷ ss) p = (omega (arith, p.2), counted_below scope (n + 1) (b + signal_length s) ss p.3)
 
 -- ---- what was read goes on from the totals
 
@@ -111,7 +111,7 @@ length_both : {A : Type 0} (xs ys : List A) → length (xs ++ ys) ≡ length xs 
 length_both [] ys = omega arith
 length_both (x ∷ xs) ys = let e = length_both xs ys in omega (arith, e)
 
-bits_both : (xs ys : List Signal) → bits_of_all (xs ++ ys) ≡ bits_of_all xs + bits_of_all ys
+pub bits_both : (xs ys : List Signal) → bits_of_all (xs ++ ys) ≡ bits_of_all xs + bits_of_all ys
 bits_both [] ys = omega arith
 bits_both (x ∷ xs) ys = let e = bits_both xs ys in omega (arith, e)
 
@@ -231,13 +231,23 @@ good_pieces limits read h (p ∷ ps) t = of (read_piece limits read p t) (good_p
         rest (Err e) l = tt
         rest (Ok b) l = goes_on_both t a.totals b.totals a.design b.design g l
 
-length_signals : (ss : List SaidSignal) → length (signals_of ss) ≡ length ss
-length_signals [] = refl
-length_signals (s ∷ ss) = ap suc (length_signals ss)
+lengths_from : (k : ℕ) (ss : List SaidSignal) → fold (λ (n : ℕ) (s : SaidSignal). n + length (nets_of s.meaning.signal)) k ss ≡ k + length (signals_of ss)
+lengths_from k [] = omega arith
+lengths_from k (s ∷ ss) = lengths_from (k + length (nets_of s.meaning.signal)) ss ∙ omega (arith, length_both (nets_of s.meaning.signal) (signals_of ss))
+
+length_signals : (ss : List SaidSignal) → length (signals_of ss) ≡ net_count ss
+length_signals ss = sym (lengths_from 0 ss ∙ omega arith)
+
+bits_of_array : (s : Signal) (n count : ℕ) → bits_of_all (map (array_net s) (count_from n count)) ≡ count * word_length s
+bits_of_array s n zero = omega arith
+bits_of_array s n (suc count) = omega (arith, suc-mul count (word_length s), net_length s n, bits_of_array s (suc n) count)
+
+pub bits_of_nets : (s : Signal) → bits_of_all (nets_of s) ≡ signal_length s
+bits_of_nets s = by_array (λ xs. bits_of_all xs ≡ signal_length s) s (λ e. omega arith) (λ e. bits_of_array s (addresses s).right (range_length (addresses s)) ∙ sym (array_length s e))
 
 bits_from : (k : ℕ) (ss : List SaidSignal) → fold (λ (n : ℕ) (s : SaidSignal). n + signal_length s.meaning.signal) k ss ≡ k + bits_of_all (signals_of ss)
 bits_from k [] = omega arith
-bits_from k (s ∷ ss) = bits_from (k + signal_length s.meaning.signal) ss ∙ omega arith
+bits_from k (s ∷ ss) = bits_from (k + signal_length s.meaning.signal) ss ∙ omega (arith, bits_both (nets_of s.meaning.signal) (signals_of ss), bits_of_nets s.meaning.signal)
 
 pub bits_signals : (ss : List SaidSignal) → bits_of_all (signals_of ss) ≡ sum_by (λ (s : SaidSignal). signal_length s.meaning.signal) ss
 bits_signals ss = sym (bits_from 0 ss ∙ omega arith)
@@ -248,8 +258,8 @@ own_part k s = record { scopes = record { name = k.name; parent = k.parent; inst
 
 pub good_survey : (limits : Limits) (source : Source) (k : Task) (t : Totals) → GoesOn t (own_part k (survey limits source k t)) (survey limits source k t).totals
 good_survey limits source k t = record {
-  numbered = said_numbered (ranged_in k t) (names_in k) (start_in k t);
-  below = said_below (ranged_in k t) (names_in k) (start_in k t);
+  numbered = counted_numbered t.scopes t.signals t.bits (signals_of (signals_in k t)) (said_counted (ranged_in k t) (names_in k) (start_in k t));
+  below = counted_below t.scopes t.signals t.bits (signals_of (signals_in k t)) (said_counted (ranged_in k t) (names_in k) (start_in k t));
   signals = ap (λ n. t.signals + n) (sym (length_signals (signals_in k t)));
   bits = ap (λ n. t.bits + n) (sym (bits_signals (signals_in k t)));
   scopes = refl;

@@ -7,31 +7,32 @@ use Rattle.vs_design.specs.Statements.{Target, Whole}
 use Rattle.vs_design.specs.Designs.{Design, InputPort, OutputPort, Continuous}
 use Rattle.vs_design.specs.Clocks.{same_name}
 use Rattle.vs_design.specs.Footprints.{is_net, is_variable, is_memory}
-use Rattle.vs_design.specs.Elaborated.{is_plain, is_formed, is_formed_target, has_constant_selects, is_formed_process, is_lawful_range, are_lawful_words, is_lawful_memory}
+use Rattle.vs_design.specs.Elaborated.{is_plain, is_formed, is_formed_target, has_constant_selects, is_formed_process, is_lawful_range, are_lawful_words, is_array_net, is_lawful_memory}
 use Rattle.vs_grammar.specs.Trees as tree
 use Rattle.vs_grammar.specs.Trees.{RangeTree, Source}
 use Rattle.vs_grammar.specs.Shapes.{Each}
 use Rattle.vs_const.specs.Faults.{fault}
 use Rattle.vs_const.specs.declared.names.Role.TheVariants.{InModule}
-use Rattle.vs_const.specs.declared.rules.Rule.TheVariants.{TooManyBits, WrongKind}
+use Rattle.vs_const.specs.declared.rules.Rule.TheVariants.{TooManyBits}
 use Rattle.vs_const.specs.Meanings.{SignalMeaning}
 use Rattle.vs_const.specs.Sound.{IsSound}
-use Rattle.vs_const.proofs.Formed.{both_nil, no_fault, both, split}
+use Rattle.vs_const.proofs.Formed.{both_nil, both, split}
 use Rattle.vs_elaborated.specs.Limits.{Limits}
 use Rattle.vs_elaborated.specs.Environments.{Declared, Later, OfSignal, OfParameter, OfGenvar, OfInteger, OfFunction, OfScope, Entry, Env, with_words, find_entry}
 use Rattle.vs_elaborated.specs.Targets.{no_signal}
 use Rattle.vs_elaborated.specs.Declarations.{SignalSort, has_addresses, Sort, SignalOf, ParameterOf, FunctionOf, GenvarSort, IntegerSort, InstanceSort, Declaration, Named, are_sorts_of_one, names_of, first_named}
 use Rattle.vs_elaborated.specs.Parameters.{said_type, said_addresses}
-use Rattle.vs_elaborated.specs.Signals.{is_reg, is_input, second_sort, Start, SaidSignal, said_signal, said_signals, after, range_faults, array_fault, array_faults}
+use Rattle.vs_elaborated.specs.Signals.{is_input, second_sort, Start, SaidSignal, said_signal, said_signals, nets_of, after, range_faults}
 use Rattle.vs_elaborated.specs.Pieces.{Task, Connection, IntoInput, FromOutput}
 use Rattle.vs_elaborated.specs.Surveys.{declarations_of, overrides_of, block_entries, bits_over, Totals, counts_of, survey}
 use Rattle.vs_elaborated.specs.Elaborated.{entry_signal, port_assign}
 use Rattle.vs_elaborated.specs.Sound.{IsSoundDeclared, AreSoundEntries, AreSoundFrames, IsShapedContents, IsFineConnection, IsSoundTask}
-use Rattle.vs_elaborated.proofs.NumberedSignals.{bits_of_all, signals_of}
+use Rattle.vs_elaborated.proofs.NumberedSignals.{bits_of_all, signals_of, bits_both, bits_of_nets}
+use Rattle.vs_elaborated.proofs.Nets.{each_of, to_all, lawful_net}
 use Rattle.vs_elaborated.proofs.SurveyParts.{names_in, first_in, parameters_in, ranged_in, start_in, signals_in, entries_in, functions_in, blocks_in, faultless}
-use Rattle.vs_elaborated.proofs.SoundNames.{frames_needed, IsShapedSignal, IsShapedSort, AreShapedDeclarations, type_fine, addresses_fine}
-use Rattle.vs_elaborated.proofs.SurveyNames.{contents_shaped, names_shaped, names_ranges, names_arrays, parameters_sound}
-use Rattle.vs_elaborated.proofs.FirstNames.{same_is, IsFirst, names_first, entry_first, Has, IsFirstOf, first_of, IsDeclaredWith, IsSignalWith, signals_put, parameters_put, functions_put, entry_within, MayBeInput, sort_may, IsNetNamed, net_of, any_signal, first_with, input_net, said_nets, IsPlainSort, plain_of, said_plain, memory_variable}
+use Rattle.vs_elaborated.proofs.SoundNames.{frames_needed, IsShapedSort, AreShapedDeclarations, type_fine, addresses_fine}
+use Rattle.vs_elaborated.proofs.SurveyNames.{contents_shaped, names_shaped, names_ranges, parameters_sound}
+use Rattle.vs_elaborated.proofs.FirstNames.{same_is, IsFirst, names_first, entry_first, Has, IsFirstOf, first_of, IsDeclaredWith, IsSignalWith, signals_put, parameters_put, functions_put, entry_within, MayBeInput, sort_may, IsNetNamed, net_of, any_signal, first_with, input_net, said_nets, IsPlainSort, plain_of, said_plain, memory_inner}
 use Rattle.vs_elaborated.proofs.PortNames.{IsPort, IsDirected}
 
 -- ---- the entry of a port
@@ -185,44 +186,35 @@ pub record IsDeclaredSaid (top : Bool) (scope : ℕ) (s : SaidSignal) : Type 0 w
   pub range : is_lawful_range s.meaning.signal.range ≡ true
   pub input : s.meaning.signal.input ≡ true → (s.meaning.signal.net ≡ true) × (top ≡ true)
   pub scope_is : s.meaning.signal.scope ≡ scope
-  pub memory : is_lawful_memory s.meaning.signal ≡ true
+  pub words : are_lawful_words s.meaning.signal.words ≡ true
+  pub inner : is_some s.meaning.signal.words ≡ true → s.meaning.signal.input ≡ false
 
--- a memory is a variable
-variable : (env : Env) (start : Start) (n : Named) (s : SignalSort) → IsShapedSignal s → (has_addresses s ≡ true → (not (is_reg s.kind || is_reg (second_sort s n.second).kind) ≡ false) × ((is_input s.kind || is_input (second_sort s n.second).kind) ≡ false))
-    → (not (is_memory (said_signal env start n s).meaning.signal) || is_variable (said_signal env start n s).meaning.signal) ≡ true
-variable env start n s x h = of s.addresses refl (λ e. h e)
+-- what has addresses is no input
+inner_signal : (env : Env) (start : Start) (n : Named) (s : SignalSort) → (has_addresses s ≡ true → (is_input s.kind || is_input (second_sort s n.second).kind) ≡ false) → is_some (said_signal env start n s).meaning.signal.words ≡ true → (said_signal env start n s).meaning.signal.input ≡ false
+inner_signal env start n s h = of s.addresses refl
   where
-    two : (a b c : Bool) → a ≡ false → b ≡ false → (not a && not (b && c)) ≡ true
-    two false false c i k = refl
-    two false true c i k = cc
-    two true b c i k = cc
+    none : (a b : Bool) → a ≡ false → (a && b) ≡ false
+    none false b e = refl
+    none true b e = cc
 
-    later : (a b : Bool) → b ≡ true → (a || b) ≡ true
-    later true b k = refl
-    later false b k = k
-
-    of : (o : Option RangeTree) → s.addresses ≡ o → (is_some s.addresses ≡ true → (not (is_reg s.kind || is_reg (second_sort s n.second).kind) ≡ false) × ((is_input s.kind || is_input (second_sort s n.second).kind) ≡ false))
-        → (not (is_some (said_addresses s.addresses env).range) || (not (not (is_reg s.kind || is_reg (second_sort s n.second).kind)) && not ((is_input s.kind || is_input (second_sort s n.second).kind) && start.top))) ≡ true
-    of None e k = ap (λ (o : Option RangeTree). not (is_some (said_addresses o env).range) || (not (not (is_reg s.kind || is_reg (second_sort s n.second).kind)) && not ((is_input s.kind || is_input (second_sort s n.second).kind) && start.top))) e
-    of (Some r) e k =
-        let i = k (ap (λ (o : Option RangeTree). is_some o) e) in
-        later (not (is_some (said_addresses s.addresses env).range)) (not (not (is_reg s.kind || is_reg (second_sort s n.second).kind)) && not ((is_input s.kind || is_input (second_sort s n.second).kind) && start.top))
-        (two (not (is_reg s.kind || is_reg (second_sort s n.second).kind)) (is_input s.kind || is_input (second_sort s n.second).kind) start.top i.0 i.1)
+    of : (o : Option RangeTree) → s.addresses ≡ o → is_some (said_addresses s.addresses env).range ≡ true → ((is_input s.kind || is_input (second_sort s n.second).kind) && start.top) ≡ false
+    of None e k = absurd (no (sym (ap (λ (o : Option RangeTree). is_some (said_addresses o env).range) e) ∙ k))
+      where
+        no : false ≡ true → ⊥
+        no i = cc
+    of (Some r) e k = none (is_input s.kind || is_input (second_sort s n.second).kind) start.top (h (ap (λ (o : Option RangeTree). is_some o) e))
 
 said_declared : (d : Design) (env : Env) → AreSoundFrames d true env.frames → (ds : List Declaration) (names : List Named) (start : Start) → Each (IsFirst [] ds) names → Each (λ (n : Named). IsShapedSort n.first.sort) names
-    → range_faults env (map (λ (n : Named). n.first) names) ≡ [] → array_faults (map (λ (n : Named). n.first) names) ≡ [] → Each (IsDeclaredSaid start.top start.scope) (said_signals env start names)
-said_declared d env s ds [] start f x h l = tt
-said_declared d env s ds (n ∷ ns) start f x h l =
-    let a = both_nil (array_fault n.first.name n.first.sort) (array_faults (map (λ (n : Named). n.first) ns)) l in
-    of n.first.name n.first.sort n.second f.0.second x.0 a.0 h (λ next e. said_declared d env s ds ns next f.1 x.1 e a.1)
+    → range_faults env (map (λ (n : Named). n.first) names) ≡ [] → Each (IsDeclaredSaid start.top start.scope) (said_signals env start names)
+said_declared d env s ds [] start f x h = tt
+said_declared d env s ds (n ∷ ns) start f x h = of n.first.name n.first.sort n.second f.0.second x.0 h (λ next e. said_declared d env s ds ns next f.1 x.1 e)
   where
-    of : (w : tree.Name) (q : Sort) (second : Option Declaration) → ((b : Declaration) → second ≡ Some b → are_sorts_of_one q b.sort ≡ true) → IsShapedSort q → array_fault w q ≡ []
+    of : (w : tree.Name) (q : Sort) (second : Option Declaration) → ((b : Declaration) → second ≡ Some b → are_sorts_of_one q b.sort ≡ true) → IsShapedSort q
         → range_faults env (record { name = w; sort = q } ∷ map (λ (n : Named). n.first) ns) ≡ []
         → ((next : Start) → range_faults env (map (λ (n : Named). n.first) ns) ≡ [] → Each (IsDeclaredSaid next.top next.scope) (said_signals env next ns))
         → Each (IsDeclaredSaid start.top start.scope) (said_signals env start (record { first = record { name = w; sort = q }; second = second } ∷ ns))
-    of w (SignalOf t) second g x y h rest =
+    of w (SignalOf t) second g x h rest =
         let m : Named = record { first = record { name = w; sort = SignalOf t }; second = second } in
-        let one = said_signal env start m t in
         let k = both_nil ((said_type t.value_type env).faults ++ (said_addresses t.addresses env).faults) (range_faults env (map (λ (n : Named). n.first) ns)) h in
         let l = both_nil (said_type t.value_type env).faults (said_addresses t.addresses env).faults k.0 in
         let r = type_fine d t.value_type env s x.value_type l.0 in
@@ -232,20 +224,22 @@ said_declared d env s ds (n ∷ ns) start f x h l =
             range = r.lawful;
             input = λ e. let i = split (is_input t.kind || is_input (second_sort t second).kind) start.top e in (input_net t second g i.0, i.1);
             scope_is = refl;
-            memory = both (are_lawful_words one.meaning.signal.words) (not (is_memory one.meaning.signal) || is_variable one.meaning.signal) a.lawful (variable env start m t x (λ e. memory_variable t second x (no_fault (has_addresses t && not (is_reg t.kind)) WrongKind w.place y) g e));
+            words = a.lawful;
+            inner = inner_signal env start m t (λ e. memory_inner t second x g e);
           },
           rest (after start (said_signal env start m t).meaning) k.1,
         )
-    of w (ParameterOf p) second g x y h rest = rest start h
-    of w (FunctionOf q) second g x y h rest = rest start h
-    of w GenvarSort second g x y h rest = rest start h
-    of w IntegerSort second g x y h rest = rest start h
-    of w InstanceSort second g x y h rest = rest start h
+    of w (ParameterOf p) second g x h rest = rest start h
+    of w (FunctionOf q) second g x h rest = rest start h
+    of w GenvarSort second g x h rest = rest start h
+    of w IntegerSort second g x h rest = rest start h
+    of w InstanceSort second g x h rest = rest start h
 
 not_over : (most total : ℕ) (ss : List SaidSignal) (top : Bool) (scope : ℕ) → Each (IsDeclaredSaid top scope) ss → total ≤ most → bits_over most total ss ≡ [] → total + bits_of_all (signals_of ss) ≤ most
 not_over most total [] top scope x b h = omega (arith, b)
 not_over most total (s ∷ ss) top scope x b h =
-    of (total + (if s.meaning.known then signal_length s.meaning.signal else 0)) (ap (λ c. total + (if c then signal_length s.meaning.signal else 0)) x.0.known) h (λ n c i. not_over most n ss top scope x.1 c i)
+    let q = of (total + (if s.meaning.known then signal_length s.meaning.signal else 0)) (ap (λ c. total + (if c then signal_length s.meaning.signal else 0)) x.0.known) h (λ n c i. not_over most n ss top scope x.1 c i) in
+    omega (arith, q, bits_both (nets_of s.meaning.signal) (signals_of ss), bits_of_nets s.meaning.signal)
   where
     of : (n : ℕ) → n ≡ total + signal_length s.meaning.signal → (if nat_lt most n then fault TooManyBits s.place else bits_over most n ss) ≡ [] → ((n : ℕ) → n ≤ most → bits_over most n ss ≡ [] → n + bits_of_all (signals_of ss) ≤ most)
         → total + (signal_length s.meaning.signal + bits_of_all (signals_of ss)) ≤ most
@@ -267,9 +261,28 @@ survey_signals d limits source k t s b h =
     let ds = declarations_of k.contents in
     let n = faultless limits source k t h in
     let good = parameters_sound d k t s.frames s.overrides s.shaped n.parameters in
-    let all = said_declared d (ranged_in k t) (good.sound, frames_needed d k.env.frames s.frames) ds (names_in k) (start_in k t) (names_first [] ds) (names_shaped [] ds (contents_shaped k.contents s.shaped)) (names_ranges (ranged_in k t) [] ds n.ranges) (names_arrays [] ds n.arrays) in
-    record { declared = each (signals_in k t) all; bits = not_over limits.bits t.bits (signals_in k t) (is_none k.parent) t.scopes all b n.bits }
+    let all = said_declared d (ranged_in k t) (good.sound, frames_needed d k.env.frames s.frames) ds (names_in k) (start_in k t) (names_first [] ds) (names_shaped [] ds (contents_shaped k.contents s.shaped)) (names_ranges (ranged_in k t) [] ds n.ranges) in
+    record {
+      declared = to_all (IsDeclaredSignal (is_none k.parent) t.scopes) (signals_in k t) (each (signals_in k t) all);
+      bits = not_over limits.bits t.bits (signals_in k t) (is_none k.parent) t.scopes all b n.bits;
+    }
   where
-    each : (ss : List SaidSignal) → Each (IsDeclaredSaid (is_none k.parent) t.scopes) ss → Each (IsDeclaredSignal (is_none k.parent) t.scopes) (signals_of ss)
+    kinds : (memory net input array : Bool) → (net && memory) ≡ false → (memory ≡ true → input ≡ false) → (not memory || ((not net && not input) || array)) ≡ true
+    kinds false net input array e h = refl
+    kinds true false false array e h = refl
+    kinds true false true array e h = absurd (no (h refl))
+      where
+        no : true ≡ false → ⊥
+        no i = cc
+    kinds true true input array e h = cc
+
+    one : (s : SaidSignal) → IsDeclaredSaid (is_none k.parent) t.scopes s → Each (IsDeclaredSignal (is_none k.parent) t.scopes) (nets_of s.meaning.signal)
+    one s x =
+        let m = s.meaning.signal in
+        each_of (IsDeclaredSignal (is_none k.parent) t.scopes) m
+        (λ e. (x.range, x.input, x.scope_is, both (are_lawful_words m.words) (not (is_memory m) || (is_variable m || is_array_net m)) x.words (kinds (is_some m.words) m.net m.input (is_array_net m) e x.inner)))
+        (λ e n l u. let p = split m.net (is_some m.words) e in (x.range, x.input, x.scope_is, lawful_net m n p.0 (x.inner p.1) x.words p.1 l u))
+
+    each : (ss : List SaidSignal) → Each (IsDeclaredSaid (is_none k.parent) t.scopes) ss → Each (λ (s : SaidSignal). Each (IsDeclaredSignal (is_none k.parent) t.scopes) (nets_of s.meaning.signal)) ss
     each [] x = tt
-    each (s ∷ ss) x = ((x.0.range, x.0.input, x.0.scope_is, x.0.memory), each ss x.1)
+    each (s ∷ ss) x = (one s x.0, each ss x.1)

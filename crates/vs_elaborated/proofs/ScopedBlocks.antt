@@ -6,7 +6,7 @@ use Rattle.vs_design.specs.Expressions.{Signal, signal_length}
 use Rattle.vs_design.specs.Statements.{Statement}
 use Rattle.vs_design.specs.Designs.{Design, Always}
 use Rattle.vs_design.specs.Footprints.{is_memory, is_variable}
-use Rattle.vs_design.specs.Elaborated.{is_lawful_range, are_lawful_words, is_lawful_memory, is_signal, is_formed_statement, are_formed_events, is_formed_process, has_clocked_words}
+use Rattle.vs_design.specs.Elaborated.{is_lawful_range, are_lawful_words, is_array_net, is_lawful_memory, is_signal, is_formed_statement, are_formed_events, is_formed_process, has_clocked_words}
 use Rattle.vs_grammar.specs.Trees as tree
 use Rattle.vs_grammar.specs.Shapes.{Each, IsStatement, IsFallback, AreStatements, AreArms}
 use Rattle.vs_const.specs.declared.faults.Fault.{Fault}
@@ -111,7 +111,7 @@ lawful_words None k = refl
 lawful_words (Some r) k = cc
 
 pub lawful_memory : (s : Signal) → s.words ≡ None → is_lawful_memory s ≡ true
-lawful_memory s h = both (are_lawful_words s.words) (not (is_memory s) || is_variable s) (lawful_words s.words h) (either (not (is_memory s)) (is_variable s) (no_words s.words h))
+lawful_memory s h = both (are_lawful_words s.words) (not (is_memory s) || (is_variable s || is_array_net s)) (lawful_words s.words h) (either (not (is_memory s)) (is_variable s || is_array_net s) (no_words s.words h))
   where
     either : (a b : Bool) → a ≡ true → (a || b) ≡ true
     either true b k = refl

@@ -1,5 +1,5 @@
 -- What holds of named blocks that are scopes.
-use Rattle.std.proofs.Common.{◌≡◌, ℕ, suc, ◌+◌, ◌<◌, List, [], ◌∷◌, ◌++◌, length, Option, Some, None, subst, arith}
+use Rattle.std.proofs.Common.{ℕ, suc, ◌+◌, List, [], ◌∷◌, ◌++◌, length, Option, Some, None, subst, arith}
 use Rattle.vs_design.specs.Expressions.{Signal, signal_length}
 use Rattle.vs_grammar.specs.Trees as tree
 use Rattle.vs_elaborated.specs.Statements.{Local, scope_locals}

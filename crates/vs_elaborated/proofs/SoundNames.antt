@@ -1,10 +1,10 @@
 -- Where a scope has no fault, each of its names means a known signal of the design, a value, or nothing that an expression can name.
-use Rattle.std.proofs.Common.{◌≡◌, ℕ, zero, suc, ◌*◌, ◌-◌, ◌≤◌, Bool, true, false, ◌&&◌, ◌||◌, List, [], ◌∷◌, ◌++◌, Option, Some, None, is_some, not, length, map, max, min, nat_lt, nat_le, if◌then◌else◌, ◌==◌, ◌⊎◌, inl, inr, refl, sym, ap, ◌∙◌, subst, arith, eq-eqb}
+use Rattle.std.proofs.Common.{◌≡◌, ℕ, zero, suc, ◌*◌, ◌-◌, ◌≤◌, Bool, true, false, ◌&&◌, ◌||◌, List, [], ◌∷◌, ◌++◌, Option, Some, None, is_some, not, length, map, nat_lt, nat_le, if◌then◌else◌, ◌==◌, ◌⊎◌, inl, inr, refl, sym, ap, ◌∙◌, subst, arith, eq-eqb}
 use Rattle.std.specs.List.{list_any}
-use Rattle.std.proofs.lemmas.Bool.{leb-true, leb-false, le-leb, ltb-false}
+use Rattle.std.proofs.lemmas.Bool.{leb-true, le-leb, ltb-false}
 use Rattle.vs_four.specs.declared.Bit4.TheVariants.{X}
 use Rattle.vs_four.specs.declared.Range.{Range}
-use Rattle.vs_four.specs.Selects.{Part, is_descending, range_length}
+use Rattle.vs_four.specs.Selects.{Part, range_length}
 use Rattle.vs_design.specs.Expressions.{Signal, range_or_one, words_length, signal_length, OfSignal as SignalSource, OfConstant, Expression, Literal, Name, Select, Word, WordPart, Unary, Binary, Choice, Join, Repeat, At, Call, UnaryOp, Plus, Minus, BitNot, LogicalNot, ReduceAnd, ReduceNand, ReduceOr, ReduceNor, ReduceXor, ReduceXnor, Signed, Unsigned, unary_length, Way, InContext, Own, Compared, Shifted, Raised, way, binary_length, width, sign}
 use Rattle.vs_design.specs.Values.{constant_value}
 use Rattle.vs_design.specs.Designs.{Design}
@@ -27,8 +27,9 @@ use Rattle.vs_const.proofs.Formed.{IsNumber, natural_fine, IsRange, both_nil, bo
 use Rattle.vs_elaborated.specs.Environments.{Declared, Later, OfSignal, OfParameter, OfGenvar, OfInteger, OfFunction, OfScope, Entry, Env, within, up_to, find_entry, find_name, turn_of, is_late, parameter_meaning, turn_meaning, with_words, signal_means, unless_outside, declared_meaning, entry_meaning, named}
 use Rattle.vs_elaborated.specs.Declarations.{SignalSort, has_addresses, ParameterSort, Sort, SignalOf, ParameterOf, FunctionOf, GenvarSort, IntegerSort, InstanceSort, Declaration, Named}
 use Rattle.vs_elaborated.specs.Parameters.{SaidRange, of_bounds, said_range, descending, of_addresses, said_addresses, said_type, is_signed, Override, override_of, chosen, converted, declared_if, said_parameter, valued, put_value, first_declared, first_entries, said_parameters}
-use Rattle.vs_elaborated.specs.Signals.{Start, said_signal, said_signals, after, SaidSignal, put_signal, put_signals, range_faults}
+use Rattle.vs_elaborated.specs.Signals.{Start, said_signal, said_signals, nets_of, after, SaidSignal, put_signal, put_signals, range_faults}
 use Rattle.vs_elaborated.specs.Sound.{IsSoundDeclared, AreSoundEntries, AreSoundFrames, IsConstantFine, AreFineOverrides}
+use Rattle.vs_elaborated.proofs.Nets.{length_is, no_array, has_all}
 
 -- ---- sound names mean sound things
 
@@ -243,13 +244,6 @@ record AreBounds (o : Option Range) : Type 0 where
   left : r.left ≤ 65535
   right : r.right ≤ 65535
   few : range_length r ≤ 1024
-
-length_is : (r : Range) → range_length r ≡ suc (max r.left r.right - min r.left r.right)
-length_is r = of (is_descending r) refl
-  where
-    of : (b : Bool) → is_descending r ≡ b → (if b then suc (r.left - r.right) else suc (r.right - r.left)) ≡ suc (max r.left r.right - min r.left r.right)
-    of true e = let h = leb-true r.right r.left e in omega (arith, h)
-    of false e = let h = leb-false r.right r.left e in omega (arith, h)
 
 descending_lawful : (r : Range) → r.left ≤ 65535 → r.right ≤ 65535 → range_length r ≤ 1024 → are_lawful_words (Some (descending r)) ≡ true
 descending_lawful r h k l =
@@ -548,18 +542,22 @@ all_settled d (s ∷ ss) es k g = all_settled d ss (put_signal s.meaning es) k.1
             rest true b i k = cc
 
 -- the signals of a scope whose ranges have no fault
-signal_sound : (d : Design) (m : SignalMeaning) (words : Option Range) → m.signal.words ≡ words → is_signal d m.signal ≡ true → m.known ≡ true → (m.signal.input ≡ true → m.input ≡ true) → IsSound d false (with_words words m)
-signal_sound d m None e h k i = (both (is_signal d m.signal) (not (is_memory m.signal)) h (ap (λ (w : Option Range). not (is_some w)) e), k, i)
-signal_sound d m (Some r) e h k i = (both (is_signal d m.signal) (is_memory m.signal) h (ap (λ (w : Option Range). is_some w) e), k, i)
+signal_sound : (d : Design) (m : SignalMeaning) (words : Option Range) → m.signal.words ≡ words → Each (λ x. is_signal d x ≡ true) (nets_of m.signal) → m.known ≡ true → (m.signal.input ≡ true → m.input ≡ true) → IsSound d false (with_words words m)
+signal_sound d m None e h k i = (both (is_signal d m.signal) (not (is_memory m.signal)) (no_array (λ x. is_signal d x ≡ true) m.signal (ap (λ (w : Option Range). m.signal.net && is_some w) e ∙ and_false m.signal.net) h) (ap (λ (w : Option Range). not (is_some w)) e), k, i)
+  where
+    and_false : (b : Bool) → (b && false) ≡ false
+    and_false true = refl
+    and_false false = refl
+signal_sound d m (Some r) e h k i = (has_all d m.signal r e h, k, i)
 
-pub signals_sound : (d : Design) (env : Env) → AreSoundFrames d true env.frames → (names : List Named) (start : Start) → Each (λ (s : SaidSignal). is_signal d s.meaning.signal ≡ true) (said_signals env start names)
+pub signals_sound : (d : Design) (env : Env) → AreSoundFrames d true env.frames → (names : List Named) (start : Start) → Each (λ (s : SaidSignal). Each (λ x. is_signal d x ≡ true) (nets_of s.meaning.signal)) (said_signals env start names)
     → Each (λ (n : Named). IsShapedSort n.first.sort) names → range_faults env (map (λ (n : Named). n.first) names) ≡ [] → Each (IsSoundSaid d) (said_signals env start names)
 signals_sound d env s [] start h x k = tt
 signals_sound d env s (n ∷ ns) start h x k = of n.first.name n.first.sort n.second h x.0 k (λ next g l. signals_sound d env s ns next g x.1 l)
   where
-    of : (w : tree.Name) (q : Sort) (second : Option Declaration) → Each (λ (s : SaidSignal). is_signal d s.meaning.signal ≡ true) (said_signals env start (record { first = record { name = w; sort = q }; second = second } ∷ ns)) → IsShapedSort q
+    of : (w : tree.Name) (q : Sort) (second : Option Declaration) → Each (λ (s : SaidSignal). Each (λ x. is_signal d x ≡ true) (nets_of s.meaning.signal)) (said_signals env start (record { first = record { name = w; sort = q }; second = second } ∷ ns)) → IsShapedSort q
         → range_faults env (record { name = w; sort = q } ∷ map (λ (n : Named). n.first) ns) ≡ []
-        → ((next : Start) → Each (λ (s : SaidSignal). is_signal d s.meaning.signal ≡ true) (said_signals env next ns) → range_faults env (map (λ (n : Named). n.first) ns) ≡ [] → Each (IsSoundSaid d) (said_signals env next ns))
+        → ((next : Start) → Each (λ (s : SaidSignal). Each (λ x. is_signal d x ≡ true) (nets_of s.meaning.signal)) (said_signals env next ns) → range_faults env (map (λ (n : Named). n.first) ns) ≡ [] → Each (IsSoundSaid d) (said_signals env next ns))
         → Each (IsSoundSaid d) (said_signals env start (record { first = record { name = w; sort = q }; second = second } ∷ ns))
     of w (SignalOf t) second h x k rest =
         let m : Named = record { first = record { name = w; sort = SignalOf t }; second = second } in

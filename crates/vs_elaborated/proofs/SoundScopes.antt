@@ -1,20 +1,18 @@
 -- The laws of scopes without a fault.
 use Rattle.std.proofs.Common.{◌≡◌, ◌+◌, ◌≤◌, ℕ, true, false, List, [], ◌∷◌, Option, Some, None, refl, arith}
 use Rattle.vs_design.specs.Designs.{Design}
-use Rattle.vs_grammar.specs.Trees.{Name, Source}
+use Rattle.vs_grammar.specs.Trees.{Source}
 use Rattle.vs_grammar.specs.Shapes.{Each}
 use Rattle.vs_grammar.specs.Depths.{deepest, item_depth}
 use Rattle.vs_elaborated.specs.Limits.{Limits}
-use Rattle.vs_elaborated.specs.Environments.{Declared, Later, OfSignal, OfParameter, OfGenvar, OfInteger, OfFunction, OfScope, Entry, Env, find_entry}
-use Rattle.vs_elaborated.specs.Declarations.{Declaration, Named, Sort, SignalOf, ParameterOf, FunctionOf, GenvarSort, IntegerSort, InstanceSort}
-use Rattle.vs_elaborated.specs.Signals.{Start, said_signal, said_signals, after}
+use Rattle.vs_elaborated.specs.Environments.{Declared, Later, OfSignal, OfParameter, OfGenvar, OfInteger, OfFunction, OfScope, Entry, find_entry}
 use Rattle.vs_elaborated.specs.Generate.{Nested, Made}
 use Rattle.vs_elaborated.specs.Constructs.{constructs}
 use Rattle.vs_elaborated.specs.Pieces.{Task, Connection, IntoInput, FromOutput, Piece, Own, OfScopes, Initially, Instance, Within}
 use Rattle.vs_elaborated.specs.Instances.{connection_name, instance_said}
 use Rattle.vs_elaborated.specs.Surveys.{Totals, survey, declarations_of}
-use Rattle.vs_elaborated.specs.Sound.{AreSoundEntries, IsShapedContents, AreCounted, MeansSignal, HasPorts, FunctionsAreFormed, FunctionsSeeSound, FaultlessIsFair, SignalsAreCounted, PortsAreSignals, BlocksAreLower, OverridesAreFine, InstancesHavePorts}
-use Rattle.vs_elaborated.proofs.NumberedSignals.{signals_of, good_survey}
+use Rattle.vs_elaborated.specs.Sound.{AreSoundEntries, IsShapedContents, MeansSignal, HasPorts, FunctionsAreFormed, FunctionsSeeSound, FaultlessIsFair, SignalsAreCounted, PortsAreSignals, BlocksAreLower, OverridesAreFine, InstancesHavePorts}
+use Rattle.vs_elaborated.proofs.NumberedSignals.{said_counted, good_survey}
 use Rattle.vs_elaborated.proofs.SurveyParts.{names_in, ranged_in, start_in}
 use Rattle.vs_elaborated.proofs.FormedFunctions.{function_formed, function_sees}
 use Rattle.vs_elaborated.proofs.SurveyNames.{survey_functions, survey_names}
@@ -39,21 +37,6 @@ pub functions_see_sound : FunctionsSeeSound
 functions_see_sound d number most scope env f s x b h = function_sees d number most scope env f s x b h
 
 -- ---- signals
-
-said_counted : (env : Env) (names : List Named) (start : Start) → AreCounted start.scope start.signal start.bit (signals_of (said_signals env start names))
-said_counted env [] start = tt
-said_counted env (n ∷ ns) start = of n.first.name n.first.sort n.second (λ next. said_counted env ns next)
-  where
-    of : (w : Name) (k : Sort) (second : Option Declaration) → ((next : Start) → AreCounted next.scope next.signal next.bit (signals_of (said_signals env next ns)))
-        → AreCounted start.scope start.signal start.bit (signals_of (said_signals env start (record { first = record { name = w; sort = k }; second = second } ∷ ns)))
-    of w (SignalOf s) second rest =
-        let m : Named = record { first = record { name = w; sort = SignalOf s }; second = second } in
-        (refl, refl, refl, rest (after start (said_signal env start m s).meaning))
-    of w (ParameterOf p) second rest = rest start
-    of w (FunctionOf f) second rest = rest start
-    of w GenvarSort second rest = rest start
-    of w IntegerSort second rest = rest start
-    of w InstanceSort second rest = rest start
 
 pub signals_counted : SignalsAreCounted
 signals_counted limits source t totals = said_counted (ranged_in t totals) (names_in t) (start_in t totals)

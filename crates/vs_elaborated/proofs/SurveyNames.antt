@@ -13,12 +13,13 @@ use Rattle.vs_elaborated.specs.Limits.{Limits}
 use Rattle.vs_elaborated.specs.Environments.{OfScope, Env}
 use Rattle.vs_elaborated.specs.Declarations.{SignalOf, ParameterOf, GenvarSort, InstanceSort, Declaration, Named, signals_declared, parameters_declared, integer_sort, item_declared, header_declared, second_of, names_after}
 use Rattle.vs_elaborated.specs.Uses.{is_variable_of}
-use Rattle.vs_elaborated.specs.Signals.{SaidSignal, sort_faults, range_faults, array_fault, array_faults}
+use Rattle.vs_elaborated.specs.Signals.{sort_faults, range_faults}
 use Rattle.vs_elaborated.specs.Generate.{BlockName}
 use Rattle.vs_elaborated.specs.Pieces.{Contents, OfModule, OfBlock, Task}
 use Rattle.vs_elaborated.specs.Surveys.{declarations_of, overrides_of, block_entries, Totals, counts_of, survey}
 use Rattle.vs_elaborated.specs.Sound.{AreSoundEntries, AreSoundFrames, AreFineOverrides, IsShapedContents}
 use Rattle.vs_elaborated.proofs.EachOf.{each_append, each_flat}
+use Rattle.vs_elaborated.proofs.Nets.{of_all}
 use Rattle.vs_elaborated.proofs.SoundNames.{frames_needed, IsShapedSort, AreShapedDeclarations, AreGoodEntries, first_entries_sound, parameters_good, there, all_settled, signals_sound}
 use Rattle.vs_elaborated.proofs.FormedFunctions.{AreSoundFunctions, functions_sound}
 use Rattle.vs_elaborated.proofs.SurveyParts.{names_in, first_in, parameters_in, ranged_in, start_in, signals_in, entries_in, functions_in, blocks_in, faultless}
@@ -180,17 +181,6 @@ names_ranges env seen (a ∷ rest) h =
     of true h k e = h
     of false h k e = nil_append (sort_faults env a.sort) (range_faults env (map (λ (n : Named). n.first) (names_after (a.name.bytes ∷ seen) rest))) e k
 
-pub names_arrays : (seen : List (List ℕ)) (ds : List Declaration) → array_faults ds ≡ [] → array_faults (map (λ (n : Named). n.first) (names_after seen ds)) ≡ []
-names_arrays seen [] h = refl
-names_arrays seen (a ∷ rest) h =
-    let k = both_nil (array_fault a.name a.sort) (array_faults rest) h in
-    of (list_any (same_name a.name.bytes) seen) (names_arrays seen rest k.1) (names_arrays (a.name.bytes ∷ seen) rest k.1) k.0
-  where
-    of : (b : Bool) → array_faults (map (λ (n : Named). n.first) (names_after seen rest)) ≡ [] → array_faults (map (λ (n : Named). n.first) (names_after (a.name.bytes ∷ seen) rest)) ≡ [] → array_fault a.name a.sort ≡ []
-        → array_faults (map (λ (n : Named). n.first) (if b then names_after seen rest else record { first = a; second = second_of a rest } ∷ names_after (a.name.bytes ∷ seen) rest)) ≡ []
-    of true h k e = h
-    of false h k e = nil_append (array_fault a.name a.sort) (array_faults (map (λ (n : Named). n.first) (names_after (a.name.bytes ∷ seen) rest))) e k
-
 blocks_sound : (d : Design) (bs : List BlockName) → AreSoundEntries d false (block_entries bs)
 blocks_sound d [] = tt
 blocks_sound d (b ∷ bs) = of b.written (blocks_sound d bs)
@@ -198,10 +188,6 @@ blocks_sound d (b ∷ bs) = of b.written (blocks_sound d bs)
     of : (c : Bool) → AreSoundEntries d false (block_entries bs) → AreSoundEntries d false ((if c then (record { name = b.name; place = b.place; declared = OfScope } ∷ []) else []) ++ block_entries bs)
     of true h = (tt, h)
     of false h = h
-
-signals_in_design : (d : Design) (ss : List SaidSignal) → Each (λ (s : Signal). is_signal d s ≡ true) (map (λ (s : SaidSignal). s.meaning.signal) ss) → Each (λ (s : SaidSignal). is_signal d s.meaning.signal ≡ true) ss
-signals_in_design d [] h = tt
-signals_in_design d (s ∷ ss) h = (h.0, signals_in_design d ss h.1)
 
 -- all names but for functions, which aren't complete yet
 pub parameters_sound : (d : Design) (k : Task) (t : Totals) → AreSoundFrames d false k.env.frames → AreFineOverrides d (overrides_of k.contents) → IsShapedContents k.contents → (parameters_in k t).faults ≡ []
@@ -216,7 +202,7 @@ entries_sound d limits source k t s f x i h =
     let ds = declarations_of k.contents in
     let n = faultless limits source k t h in
     let good = parameters_sound d k t s f x n.parameters in
-    let sound = signals_sound d (ranged_in k t) (good.sound, frames_needed d k.env.frames s) (names_in k) (start_in k t) (signals_in_design d (signals_in k t) i) (names_shaped [] ds (contents_shaped k.contents x)) (names_ranges (ranged_in k t) [] ds n.ranges) in
+    let sound = signals_sound d (ranged_in k t) (good.sound, frames_needed d k.env.frames s) (names_in k) (start_in k t) (of_all (λ s. is_signal d s ≡ true) (signals_in k t) i) (names_shaped [] ds (contents_shaped k.contents x)) (names_ranges (ranged_in k t) [] ds n.ranges) in
     all_settled d (signals_in k t) (parameters_in k t).entries sound good.settled
 
 -- all functions of a scope without a fault

@@ -9,7 +9,7 @@ use Rattle.vs_elaborated.specs.Limits.{Limits}
 use Rattle.vs_elaborated.specs.Environments.{Entry, Env, within}
 use Rattle.vs_elaborated.specs.Declarations.{Named, names_of, repeated_names}
 use Rattle.vs_elaborated.specs.Parameters.{SaidEntries, first_entries, said_parameters}
-use Rattle.vs_elaborated.specs.Signals.{Start, SaidSignal, said_signals, range_faults, array_faults, put_signals}
+use Rattle.vs_elaborated.specs.Signals.{Start, SaidSignal, said_signals, range_faults, put_signals}
 use Rattle.vs_elaborated.specs.Functions.{SaidFunctions, said_functions}
 use Rattle.vs_elaborated.specs.Generate.{BlockName, Made}
 use Rattle.vs_elaborated.specs.Constructs.{constructs}
@@ -68,7 +68,6 @@ pub record AreFaultless (limits : Limits) (source : Source) (k : Task) (t : Tota
   pub repeated : repeated_names [] (declarations_of k.contents) ≡ []
   pub parameters : (parameters_in k t).faults ≡ []
   pub ranges : range_faults (ranged_in k t) (declarations_of k.contents) ≡ []
-  pub arrays : array_faults (declarations_of k.contents) ≡ []
   pub signals : flat_map (λ (s : SaidSignal). s.faults) (signals_in k t) ≡ []
   pub functions : (functions_in limits k t).faults ≡ []
   pub made : flat_map (λ (m : Made). m.faults) (made_in limits k t) ≡ []
@@ -97,11 +96,8 @@ module _ (limits : Limits) (source : Source) (k : Task) (t : Totals) where
   abbrev from_signals : List Fault
   from_signals = flat_map (λ (s : SaidSignal). s.faults) (signals_in k t) ++ from_functions
 
-  abbrev from_arrays : List Fault
-  from_arrays = array_faults (declarations_of k.contents) ++ from_signals
-
   abbrev from_ranges : List Fault
-  from_ranges = range_faults (ranged_in k t) (declarations_of k.contents) ++ from_arrays
+  from_ranges = range_faults (ranged_in k t) (declarations_of k.contents) ++ from_signals
 
   abbrev from_parameters : List Fault
   from_parameters = (parameters_in k t).faults ++ from_ranges
@@ -114,12 +110,11 @@ module _ (limits : Limits) (source : Source) (k : Task) (t : Totals) where
       let a = both_nil (header_of k.contents) from_repeated h in
       let b = both_nil (repeated_names [] (declarations_of k.contents)) from_parameters a.1 in
       let c = both_nil (parameters_in k t).faults from_ranges b.1 in
-      let d = both_nil (range_faults (ranged_in k t) (declarations_of k.contents)) from_arrays c.1 in
-      let e = both_nil (array_faults (declarations_of k.contents)) from_signals d.1 in
-      let f = both_nil (flat_map (λ (s : SaidSignal). s.faults) (signals_in k t)) from_functions e.1 in
+      let d = both_nil (range_faults (ranged_in k t) (declarations_of k.contents)) from_signals c.1 in
+      let f = both_nil (flat_map (λ (s : SaidSignal). s.faults) (signals_in k t)) from_functions d.1 in
       let g = both_nil (functions_in limits k t).faults from_made f.1 in
       let i = both_nil (flat_map (λ (m : Made). m.faults) (made_in limits k t)) from_blocks g.1 in
       let j = both_nil (block_faults (functions_in limits k t).entries [] (blocks_in limits k t)) from_said i.1 in
       let l = both_nil (said_in limits source k t).faults from_bits j.1 in
       let m = both_nil (bits_over limits.bits t.bits (signals_in k t)) (processes_over limits.processes t.processes (said_in limits source k t).pieces) l.1 in
-      record { header = a.0; repeated = b.0; parameters = c.0; ranges = d.0; arrays = e.0; signals = f.0; functions = g.0; made = i.0; blocks = j.0; said = l.0; bits = m.0; processes = m.1 }
+      record { header = a.0; repeated = b.0; parameters = c.0; ranges = d.0; signals = f.0; functions = g.0; made = i.0; blocks = j.0; said = l.0; bits = m.0; processes = m.1 }

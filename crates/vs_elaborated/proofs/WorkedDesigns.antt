@@ -3,7 +3,7 @@ use Rattle.std.specs.Prelude.{refl}
 use Rattle.vs_lexer.specs.Spellings.{signs, keywords, left_out_words, system_names}
 use Rattle.vs_lexer.specs.Tokens.{word_kind, system_kind, sign_kind}
 use Rattle.vs_lexer.specs.Literals.{is_in_range, number_bits, literal_bits, literal_size, is_signed_literal, has_size}
-use Rattle.vs_elaborated.specs.ExampleDesigns.{WholeDesigns, Parameters, Overrides, ConvertedOverrides, Ports, Connections, Numbered, Blocks, Names, LoopsAndFunctions, IntegerVariables, NamedBlocks, InitialValues}
+use Rattle.vs_elaborated.specs.ExampleDesigns.{WholeDesigns, Parameters, Overrides, ConvertedOverrides, Ports, Connections, Numbered, Blocks, Names, LoopsAndFunctions, IntegerVariables, NamedBlocks, ArraysOfNets, InitialValues}
 use Rattle.vs_elaborated.proofs.WorkedTexts.{elaborates, shows, alike}
 
 pub whole_designs : WholeDesigns
@@ -149,6 +149,15 @@ named_blocks = record {
   own = elaborates refl;
   none = shows refl;
   function = shows refl;
+}
+
+pub arrays_of_nets : ArraysOfNets
+unfolding is_in_range word_kind system_kind sign_kind signs keywords left_out_words system_names literal_bits is_signed_literal has_size literal_size number_bits
+arrays_of_nets = record {
+  ascending = shows refl;
+  alike = alike refl refl;
+  by_loops = elaborates refl;
+  connected = elaborates refl;
 }
 
 pub initial_values : InitialValues

@@ -22,6 +22,10 @@ not_constants = record {
   memory = refused refl;
   word = refused refl;
   addresses = refused refl;
+  array = refused refl;
+  array_part = refused refl;
+  array_target = refused refl;
+  array_net = refused refl;
   override = refused refl;
 }
 
@@ -35,6 +39,7 @@ unknown_constants = record {
   count = refused refl;
   condition = refused refl;
   logarithm = refused refl;
+  array = refused refl;
   value = refused refl;
   label = refused refl;
 }
@@ -119,6 +124,9 @@ bad_ranges = record {
   genvar_slice = refused refl;
   words = refused refl;
   address = refused refl;
+  above = refused refl;
+  below = refused refl;
+  negative_address = refused refl;
   unequal = refused refl;
   turned = refused refl;
 }
@@ -159,6 +167,9 @@ wrong_kinds = record {
   combinational_word = refused refl;
   listed_word = refused refl;
   assigned_word = refused refl;
+  array = refused refl;
+  procedural_array = refused refl;
+  array_scalar = refused refl;
   unsized = refused refl;
   unsized_in_brackets = refused refl;
   unsized_copy = refused refl;
@@ -212,7 +223,6 @@ function_rules = record {
   constant = refused refl;
   no_function = refused refl;
   unknown = refused refl;
-  net_array = refused refl;
   block_variable = refused refl;
 }
 

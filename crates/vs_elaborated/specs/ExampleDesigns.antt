@@ -384,6 +384,20 @@ pub record NamedBlocks : Type 0 where
   -- nor is one in a function
   pub function : Shows scopes_of (top_scope ∷ []) (codes "module top(input a, output y); function f(input u); begin : g reg t; t = ~u; f = t; end endfunction assign y = f(a); endmodule")
 
+-- ---- arrays of nets
+
+-- the net at this address of `wire [1:0] n [..]`
+abbrev pub net_at : (address number first : ℕ) → Signal
+net_at address number first = record { name = codes "n"; scope = 0; number = number; net = true; input = false; range = to_zero 1; signed = false; first = first; words = Some (range_of address address); integer = false }
+
+-- each of its nets is a signal, by ascending address
+pub record ArraysOfNets : Type 0 where
+  pub ascending : Shows signals_in (a0 ∷ net_at 3 1 1 ∷ net_at 4 2 3 ∷ wire_of (codes "w") 3 (to_zero 1) 5 ∷ []) (codes "module top(input a); wire [1:0] n [3:4], w; endmodule")
+  pub alike : AreAlike (items (codes "wire [1:0] n [3:4]; assign n[4] = ~n[3]; assign n[3][0] = 1'b1;")) (items (codes "wire [1:0] n [4:3]; assign n[4] = ~n[3]; assign n[3][0] = 1'b1;"))
+  -- an address is any constant
+  pub by_loops : Elaborates the_limits (items (codes "wire [1:0] n [0:2]; genvar g; for (g = 0; g < 2; g = g + 1) assign n[g + 1] = ~n[g]; assign n[0] = 2'd1; reg r; integer i; always @* for (i = 0; i < 3; i = i + 1) r = n[i][0];"))
+  pub connected : Elaborates the_limits (codes "module m(input p, output q); assign q = p; endmodule module top(input a); wire n [0:1]; m u(n[0], n[1]), v(a, n[0]); endmodule")
+
 -- ---- initial processes (9.9.1)
 
 -- how many processes stand before each initial one

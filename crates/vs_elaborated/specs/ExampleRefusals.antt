@@ -21,6 +21,11 @@ pub record NotConstants : Type 0 where
   pub memory : AreRefused NotConstant (codes "reg m [0:1]; localparam P = ") (codes "m;")
   pub word : AreRefused NotConstant (codes "reg m [0:1]; localparam P = ") (codes "m[0];")
   pub addresses : AreRefused NotConstant (codes "reg m [0:") (codes "a];")
+  -- an array of nets is named by constant addresses, and none of its nets is a constant
+  pub array : AreRefused NotConstant (codes "wire n [0:1]; assign y = n[") (codes "a];")
+  pub array_part : AreRefused NotConstant (codes "wire [3:0] n [0:1]; assign y = n[") (codes "a][0];")
+  pub array_target : AreRefused NotConstant (codes "wire n [0:1]; assign n[") (codes "a] = a;")
+  pub array_net : AreRefused NotConstant (codes "wire n [0:1]; localparam P = ") (codes "n[0];")
   -- an override stands where its instance does
   pub override : IsRefused NotConstant (codes "module m #(parameter P = 1)(input p); endmodule module top(input a); m #(") (codes "a) u(a); endmodule")
 
@@ -33,6 +38,7 @@ pub record UnknownConstants : Type 0 where
   pub count : AreRefused UnknownConstant (codes "assign y = {") (codes "1'bx{a}};")
   pub condition : AreRefused UnknownConstant (codes "if (") (codes "1'bz) ;")
   pub logarithm : AreRefused UnknownConstant (codes "assign y = $clog2(") (codes "4'bx);")
+  pub array : AreRefused UnknownConstant (codes "wire n [0:1]; assign y = n[") (codes "1'bx];")
   pub value : AreRefused UnknownConstant (codes "genvar i; for (i = ") (codes "1'bx; i < 2; i = i + 1) ;")
   -- each label is looked at, also behind the one that is taken
   pub label : AreRefused UnknownConstant (codes "case (1) 1: ; ") (codes "1'bx: ; endcase")
@@ -124,6 +130,10 @@ pub record BadRanges : Type 0 where
   -- a memory has at most 1,024 words (4.9)
   pub words : AreRefused BadRange (codes "reg m ") (codes "[0:1024];")
   pub address : AreRefused BadRange (codes "reg m [65535:") (codes "65536];")
+  -- an array of nets has its addresses alone
+  pub above : AreRefused BadRange (codes "wire n [1:2]; assign y = n[") (codes "3];")
+  pub below : AreRefused BadRange (codes "wire n [1:2]; assign n[") (codes "0] = a;")
+  pub negative_address : AreRefused BadRange (codes "wire n [0:1]; assign y = n[") (codes "-1];")
   -- both declarations of a port have the same range
   pub unequal : IsRefused BadRange (codes "module top(y); output [1:0] y; reg ") (codes "y; endmodule")
   pub turned : IsRefused BadRange (codes "module top(y); output [1:0] y; reg [0:1] ") (codes "y; endmodule")
@@ -165,6 +175,10 @@ pub record WrongKinds : Type 0 where
   pub combinational_word : AreRefused WrongKind (codes "reg [3:0] m [0:1]; always @* ") (codes "m[a] = a;")
   pub listed_word : AreRefused WrongKind (codes "reg [3:0] m [0:1]; always @(a) if (a) begin end else ") (codes "m[a] = a;")
   pub assigned_word : AreRefused WrongKind (codes "reg [3:0] m [0:1]; assign ") (codes "m[0] = a;")
+  -- nor is an array of nets named by itself, and blocks write none
+  pub array : AreRefused WrongKind (codes "wire n [0:1]; assign y = ") (codes "n;")
+  pub procedural_array : AreRefused WrongKind (codes "wire n [0:1]; always @(posedge a) ") (codes "n[0] <= a;")
+  pub array_scalar : AreRefused WrongKind (codes "wire n [0:1]; assign y = ") (codes "n[0][0];")
   -- a literal without a size in a concatenation (5.1.14)
   pub unsized : AreRefused WrongKind (codes "assign y = {") (codes "1, a};")
   pub unsized_in_brackets : AreRefused WrongKind (codes "assign y = {(") (codes "1), a};")
@@ -216,8 +230,7 @@ pub record FunctionRules : Type 0 where
   pub constant : AreRefused NotConstant (codes "function f(input u); f = u; endfunction localparam P = ") (codes "f(1'b0);")
   pub no_function : AreRefused WrongKind (codes "assign y = ") (codes "a(a);")
   pub unknown : AreRefused UnknownName (codes "assign y = ") (codes "f(a);")
-  -- nets with addresses, and variables of named blocks, aren't taken
-  pub net_array : AreRefused WrongKind (codes "wire ") (codes "n [0:1];")
+  -- variables of named blocks of initial processes aren't taken
   pub block_variable : AreRefused WrongKind (codes "initial begin : b reg ") (codes "r; r = 1'b0; end")
 
 -- which of several faults is the first: that of the first scope, and there the one at the least place

@@ -1,5 +1,5 @@
 -- Functions by their numbers in a design (IEEE 1364-2005, 10.4): those of a scope come before those of the scopes within it, in the order of the text.
-use Rattle.std.specs.Prelude.{◌≡◌, ℕ, ◌+◌, List, [], ◌∷◌, ◌++◌, length, slice_get, Some, None}
+use Rattle.std.specs.Prelude.{◌≡◌, ℕ, ◌+◌, List, [], ◌∷◌, ◌++◌, length, slice_get, Some}
 use Rattle.vs_design.specs.Statements.{Function}
 use Rattle.vs_design.specs.Designs.{Design}
 use Rattle.vs_grammar.specs.Trees as tree

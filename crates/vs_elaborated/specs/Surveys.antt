@@ -21,7 +21,7 @@ use Rattle.vs_elaborated.specs.Functions.{LocalSignal, signal_at, meaning_or, Co
 use Rattle.vs_elaborated.specs.NamedBlocks.{NamedBlock, named_blocks, named_signals}
 use Rattle.vs_elaborated.specs.Declarations.{Declaration, items_declared, module_declared, names_of, repeated_names}
 use Rattle.vs_elaborated.specs.Parameters.{Override, first_entries, said_parameters}
-use Rattle.vs_elaborated.specs.Signals.{is_reg, SaidSignal, said_signals, range_faults, array_faults, put_signals}
+use Rattle.vs_elaborated.specs.Signals.{is_reg, SaidSignal, said_signals, all_nets, net_count, range_faults, put_signals}
 use Rattle.vs_elaborated.specs.Generate.{Nested, BlockName, Made}
 use Rattle.vs_elaborated.specs.Constructs.{constructs}
 use Rattle.vs_elaborated.specs.Ports.{header_faults}
@@ -313,16 +313,16 @@ survey limits source t totals =
     let said = contents_said limits source (record { scope = totals.scopes; depth = t.depth; env = within t.env whole }) loops t.contents made in
     record {
       entries = whole;
-      signals = map (λ (s : SaidSignal). s.meaning.signal) signals;
+      signals = all_nets signals;
       functions = functions.functions;
       pieces = said.pieces;
       faults =
-          header_of t.contents ++ (repeated_names [] ds ++ (parameters.faults ++ (range_faults ranged ds ++ (array_faults ds ++ (flat_map (λ (s : SaidSignal). s.faults) signals
-          ++ (functions.faults ++ (flat_map (λ (m : Made). m.faults) made ++ (block_faults entries [] blocks ++ (said.faults ++ (bits_over limits.bits totals.bits signals ++ processes_over limits.processes totals.processes said.pieces))))))))));
+          header_of t.contents ++ (repeated_names [] ds ++ (parameters.faults ++ (range_faults ranged ds ++ (flat_map (λ (s : SaidSignal). s.faults) signals
+          ++ (functions.faults ++ (flat_map (λ (m : Made). m.faults) made ++ (block_faults entries [] blocks ++ (said.faults ++ (bits_over limits.bits totals.bits signals ++ processes_over limits.processes totals.processes said.pieces)))))))));
       totals =
           record totals {
             scopes = totals.scopes + 1;
-            signals = totals.signals + length signals;
+            signals = totals.signals + net_count signals;
             bits = totals.bits + sum_by (λ (s : SaidSignal). signal_length s.meaning.signal) signals;
             turns = turns_after totals.turns made;
             functions = functions.counts.functions;

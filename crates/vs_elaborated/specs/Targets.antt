@@ -9,7 +9,7 @@ use Rattle.vs_const.specs.Faults.{fault, fault_if}
 use Rattle.vs_const.specs.declared.rules.Rule.TheVariants.{WrongKind, LoopVariable, FunctionRule}
 use Rattle.vs_const.specs.declared.rules.Rule.{Rule}
 use Rattle.vs_const.specs.Meanings.{SignalMeaning, Meaning, AValue, ASignal, AMemory, Find, steady, is_local}
-use Rattle.vs_const.specs.Selects.{Base, no_base, signal_base, is_scalar, Taken, taken, slice_taken, first_needed, first_names, word_range, wrong_rule}
+use Rattle.vs_const.specs.Selects.{Base, no_base, signal_base, is_scalar, Taken, taken, slice_taken, first_needed, first_names, word_range, is_array, Addressed, addressed, wrong_rule}
 use Rattle.vs_const.specs.Typed.{Typed}
 use Rattle.vs_const.specs.Expressions.{typed, taken_by}
 
@@ -50,38 +50,39 @@ target_base procedural place is_selected m = no_base None (fault (unwritten_rule
 abbrev pub part_target : Signal → Base → Taken → TypedTarget
 part_target s b t = record { target = PartOf s t.part t.index; faults = b.faults ++ t.faults }
 
--- a word of a memory (4.9.3)
-abbrev pub word_target : (procedural : Bool) → (place : ℕ) → SignalMeaning → Typed → TypedTarget
-word_target procedural place m i = record { target = WordOf m.signal i.expression; faults = fault_if (is_wrong_target procedural m) WrongKind place ++ i.faults }
+-- a word of a memory (4.9.3), or a net of an array of nets
+abbrev pub word_target : (procedural : Bool) → (place : ℕ) → SignalMeaning → Addressed → TypedTarget
+word_target procedural place m a = record { target = WordOf a.signal a.index; faults = fault_if (is_wrong_target procedural m) WrongKind place ++ a.faults }
 
--- `name[i]`: a word of a memory, a bit of anything else
-abbrev pub bit_target : (procedural : Bool) → (place : ℕ) → Meaning → Typed → TypedTarget
-bit_target procedural place (AMemory m) i = word_target procedural place m i
-bit_target procedural place m i = let b = target_base procedural place true m in part_target (meant_signal m) b (taken b.range true 1 i i.faults)
+-- `name[i]`, where i stands at the place `at`: a word of a memory, a bit of anything else
+abbrev pub bit_target : (procedural : Bool) → (place : ℕ) → Meaning → (at : ℕ) → Typed → TypedTarget
+bit_target procedural place (AMemory m) at i = word_target procedural place m (addressed m at i)
+bit_target procedural place m at i = let b = target_base procedural place true m in part_target (meant_signal m) b (taken b.range true 1 i i.faults)
 
 -- bits of a word (5.2.2)
-abbrev pub word_part_target : (procedural : Bool) → (place : ℕ) → SignalMeaning → Typed → Taken → TypedTarget
+abbrev pub word_part_target : (procedural : Bool) → (place : ℕ) → SignalMeaning → Addressed → Taken → TypedTarget
 word_part_target procedural place m a t = record {
-  target = WordPartOf m.signal a.expression t.part t.index;
+  target = WordPartOf a.signal a.index t.part t.index;
   faults = fault_if (is_wrong_target procedural m) WrongKind place ++ (fault_if (is_scalar m) WrongKind place ++ (a.faults ++ t.faults));
 }
 
--- `name[address]` with a further select: of a memory
-abbrev pub further_target : (procedural : Bool) → (place : ℕ) → Meaning → Typed → Taken → TypedTarget
-further_target procedural place (AMemory m) a t = word_part_target procedural place m a t
-further_target procedural place m a t = record { target = Whole no_signal; faults = fault (unwritten_rule m) place }
+-- `name[i]` with a further select, where i stands at the place `at`: of a memory
+abbrev pub further_target : (procedural : Bool) → (place : ℕ) → Meaning → (at : ℕ) → Typed → Taken → TypedTarget
+further_target procedural place (AMemory m) at i t = word_part_target procedural place m (addressed m at i) t
+further_target procedural place m at i t = record { target = Whole no_signal; faults = fault (unwritten_rule m) place }
 
 -- the index of an assign's target is a constant
 abbrev pub selected_target : tree.Select → tree.Name → Find → Bool → TypedTarget
 selected_target tree.Whole name find procedural =
     record { target = Whole (meant_signal (find name.bytes)); faults = (target_base procedural name.place false (find name.bytes)).faults }
-selected_target (tree.BitAt bracket index) name find procedural = bit_target procedural name.place (find name.bytes) (typed index find (not procedural))
+selected_target (tree.BitAt bracket index) name find procedural =
+    let m = find name.bytes in bit_target procedural name.place m (expr_place index) (typed index find (is_array m || not procedural))
 selected_target (tree.Slice bracket kind e f) name find procedural =
     let b = target_base procedural name.place true (find name.bytes) in
     part_target (meant_signal (find name.bytes)) b (slice_taken b.range bracket kind (expr_place e) (typed e (first_names kind find) (first_needed kind (not procedural))) (expr_place f) (typed f (steady find) true))
 selected_target (tree.OfWord bracket address part) name find procedural =
     let m = find name.bytes in
-    further_target procedural name.place m (typed address find (not procedural)) (taken_by (word_range m) part find (not procedural))
+    further_target procedural name.place m (expr_place address) (typed address find (is_array m || not procedural)) (taken_by (word_range m) part find (not procedural))
 
 -- the left one has the higher bits
 abbrev pub both_targets : TypedTarget → TypedTarget → TypedTarget

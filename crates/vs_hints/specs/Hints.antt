@@ -59,7 +59,7 @@ at_sentence FunctionRule = codes "a function names a signal or an integer of its
 at_sentence Recursion = codes "a function calls itself, or one that isn't declared before it"
 at_sentence TooWide = codes "an expression or target is longer than 64 bits"
 at_sentence Division = codes "/, % or ** has an operand that names a signal"
-at_sentence MixedAssign = codes "<= stands in a combinational block, or = writes a bit that its clocked block writes by <= too"
+at_sentence MixedAssign = codes "<= stands in a combinational block"
 at_sentence FunctionLatch = codes "a function leaves a variable that it writes unassigned on some path"
 
 abbrev pub at_remedy : AtName → List ℕ
@@ -96,7 +96,7 @@ at_remedy FunctionRule = codes "pass signals as inputs, and give each input its 
 at_remedy Recursion = codes "declare it before its calls, or write a loop"
 at_remedy TooWide = codes "split it"
 at_remedy Division = codes "only constants are divided"
-at_remedy MixedAssign = codes "use the other assignment"
+at_remedy MixedAssign = codes "use ="
 at_remedy FunctionLatch = codes "assign it on every path, as by a default at the top"
 
 abbrev pub process_sentence : ProcessName → List ℕ

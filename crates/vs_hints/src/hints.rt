@@ -75,8 +75,7 @@ fn at_sentence(name: AtName) -> &'static str
         AtName::Recursion => "a function calls itself, or one that isn't declared before it",
         AtName::TooWide => "an expression or target is longer than 64 bits",
         AtName::Division => "/, % or ** has an operand that names a signal",
-        AtName::MixedAssign =>
-            "<= stands in a combinational block, or = writes a bit that its clocked block writes by <= too",
+        AtName::MixedAssign => "<= stands in a combinational block",
         AtName::FunctionLatch =>
             "a function leaves a variable that it writes unassigned on some path",
     }
@@ -125,7 +124,7 @@ fn at_remedy(name: AtName) -> &'static str
         AtName::Recursion => "declare it before its calls, or write a loop",
         AtName::TooWide => "split it",
         AtName::Division => "only constants are divided",
-        AtName::MixedAssign => "use the other assignment",
+        AtName::MixedAssign => "use =",
         AtName::FunctionLatch => "assign it on every path, as by a default at the top",
     }
 }

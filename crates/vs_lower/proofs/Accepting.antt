@@ -12,7 +12,7 @@ use Rattle.vs_design.specs.Fits.{fits_process, fits_target, is_fit}
 use Rattle.vs_design.specs.Footprints.{all_reads, contains, is_net, read_bits, statement_bits, target_bits, target_reads, waits_of, writes_of}
 use Rattle.vs_design.specs.Laws.{BitsOfDesign}
 use Rattle.vs_design.specs.Levels.{at_number, feeds, has_all, has_no_cycle, is_order_after, is_ready, level_order}
-use Rattle.vs_design.specs.Rules.{mixed_assigns}
+use Rattle.vs_design.specs.Rules.{mixed_assigns, mixed_in}
 use Rattle.vs_design.specs.Sizes.{distinct, register_bits, statement_weight, size, process_weight}
 use Rattle.vs_design.specs.Statements.{Statement, Target}
 use Rattle.vs_flat.specs.declared.processes.Event as F
@@ -29,11 +29,10 @@ use Rattle.vs_flat.specs.Trees.{target_tree, tree_at}
 use Rattle.vs_code.specs.Calls.{length_of}
 use Rattle.vs_program.specs.Lowered.{IsLayout, Layout, home, process_stores}
 use Rattle.vs_values.specs.Coded.{Coding}
-use Rattle.vs_lower.specs.Processed.{HasKindNames, HasShadows, IsBlockReady, IsContinuousReady}
+use Rattle.vs_lower.specs.Processed.{HasKindNames, HasShadows, IsBlockReady, IsClockedReady, IsContinuousReady}
 use Rattle.vs_lower.specs.Stated.{AreAmong}
 use Rattle.vs_lower.proofs.Placing.{by_test}
-use Rattle.vs_lower.proofs.Apart.{left_among, right_among}
-use Rattle.vs_lower.proofs.Ruled.{rule_apart}
+use Rattle.vs_lower.proofs.Apart.{left_among, right_among, unmixed_apart}
 use Rattle.vs_values.proofs.Unary.{not_true}
 use Rattle.vs_values.proofs.Values.{both_true}
 use Rattle.vs_design.specs.Within.{FormedIsWithin, TargetIsWithin, StatementIsWithin, names_within, target_within, statement_within}
@@ -254,13 +253,13 @@ in_sum f (y ∷ ps) (suc p) x e = omega (arith, in_sum f ps p x e, sum_by-cons f
 process_light : (d : Design) (p : ℕ) (x : Process) → size d ≤ 16777216 → slice_get d.processes p ≡ Some x → process_weight x ≤ 16777216
 process_light d p x small at = let l = in_sum process_weight d.processes p x at in omega (arith, l, small)
 
-pub block_is_ready : (d : Design) → BitsOfDesign → StatementIsWithin → size d ≤ 16777216 → list_all fits_process d.processes ≡ true → IsLawfulDesign d → (count : ℕ) → bit_count d ≡ count → list_all (λ x. is_empty (mixed_assigns x)) d.processes ≡ true
+pub clocked_is_ready : (d : Design) → BitsOfDesign → StatementIsWithin → size d ≤ 16777216 → list_all fits_process d.processes ≡ true → IsLawfulDesign d → (count : ℕ) → bit_count d ≡ count
     → (code : Coding) (p place : ℕ) (star : Bool) (events : List Event) (st : Statement) → slice_get d.processes p ≡ Some (Always place star events st)
     → home count ≤ code.next
     → ((x : Process) → slice_get d.processes p ≡ Some x → code.next + process_stores x < 2 ^ 32)
     → ((x : Process) → slice_get d.processes p ≡ Some x → length_of code.calls + process_stores x ≤ 2 ^ 32)
-    → IsBlockReady count code st
-block_is_ready d law within small fit lawful count counted unmixed code p place star events st at temps slots few =
+    → IsClockedReady count code st
+clocked_is_ready d law within small fit lawful count counted code p place star events st at temps slots few =
     let x = Always place star events st in
     let stores = stores_are place star events st in
     let room = slots x at in
@@ -271,10 +270,31 @@ block_is_ready d law within small fit lawful count counted unmixed code p place 
       inside = λ b h. let q = writes_inside law d lawful p x at b h in omega (arith, q, counted);
       names = subst (λ (n : ℕ). statement_within n st ≡ true) counted (within d lawful.bits_numbered st formed.1);
       fit = at_process fits_process d.processes p x fit at;
-      apart = rule_apart (is_clocked x) st (none_of (mixed_assigns x) (at_process (λ y. is_empty (mixed_assigns y)) d.processes p x unmixed at));
       light = omega (arith, process_light d p x small at);
       slots = omega (arith, room, stores);
       few = omega (arith, most, stores);
+    }
+
+-- a combinational block has no updates
+pub block_is_ready : (d : Design) → BitsOfDesign → StatementIsWithin → size d ≤ 16777216 → list_all fits_process d.processes ≡ true → IsLawfulDesign d → (count : ℕ) → bit_count d ≡ count → list_all (λ x. is_empty (mixed_assigns x)) d.processes ≡ true
+    → (code : Coding) (p place : ℕ) (star : Bool) (events : List Event) (st : Statement) → slice_get d.processes p ≡ Some (Always place star events st) → is_clocked (Always place star events st) ≡ false
+    → home count ≤ code.next
+    → ((x : Process) → slice_get d.processes p ≡ Some x → code.next + process_stores x < 2 ^ 32)
+    → ((x : Process) → slice_get d.processes p ≡ Some x → length_of code.calls + process_stores x ≤ 2 ^ 32)
+    → IsBlockReady count code st
+block_is_ready d law within small fit lawful count counted unmixed code p place star events st at comb temps slots few =
+    let x = Always place star events st in
+    let r = clocked_is_ready d law within small fit lawful count counted code p place star events st at temps slots few in
+    let none : mixed_assigns x ≡ [] = none_of (mixed_assigns x) (at_process (λ y. is_empty (mixed_assigns y)) d.processes p x unmixed at) in
+    record {
+      temps = r.temps;
+      inside = r.inside;
+      names = r.names;
+      fit = r.fit;
+      apart = unmixed_apart st (subst (λ (c : Bool). (if c then [] else mixed_in false st) ≡ []) comb none);
+      light = r.light;
+      slots = r.slots;
+      few = r.few;
     }
 
 pub assign_is_ready : (d : Design) → BitsOfDesign → FormedIsWithin → TargetIsWithin → size d ≤ 16777216 → list_all fits_process d.processes ≡ true → IsLawfulDesign d → (count : ℕ) → bit_count d ≡ count → has_no_cycle d ≡ true

@@ -47,14 +47,14 @@ pub all_within : (n : ℕ) (es : List Expression) → items_within n (items_of e
 all_within n [] h = All-nil (λ e. names_within n e ≡ true)
 all_within n (e ∷ es) h = let q = both_true (names_within n e) (items_within n (items_of es)) h in All-cons (λ e. names_within n e ≡ true) e es q.0 (all_within n es q.1)
 
-all_listed : (w : ℕ) (es : List Expression) → All (λ e. width e ≤ w) (listed (items_of es)) → All (λ e. width e ≤ w) es
+pub all_listed : (w : ℕ) (es : List Expression) → All (λ e. width e ≤ w) (listed (items_of es)) → All (λ e. width e ≤ w) es
 all_listed w es h = subst (All (λ e. width e ≤ w)) (same es) h
   where
     same : (es : List Expression) → listed (items_of es) ≡ es
     same [] = refl
     same (e ∷ es) = ap (λ (xs : List Expression). e ∷ xs) (same es)
 
-items_count : (es : List Expression) (w : ℕ) → length es ≤ items_weight (items_of es) w
+pub items_count : (es : List Expression) (w : ℕ) → length es ≤ items_weight (items_of es) w
 items_count [] w = omega arith
 items_count (e ∷ es) w = omega (arith, items_count es w)
 
@@ -376,7 +376,7 @@ at_get [] n d l = absurd (omega arith)
 at_get (a ∷ arms) zero d l = refl
 at_get (a ∷ arms) (suc n) d l = at_get arms n d (omega arith)
 
-any_default : (arms : List F.Arm) (n : ℕ) (d e : F.Arm) → n < length arms → get_or arms n d ≡ get_or arms n e
+pub any_default : (arms : List F.Arm) (n : ℕ) (d e : F.Arm) → n < length arms → get_or arms n d ≡ get_or arms n e
 any_default [] n d e l = absurd (omega arith)
 any_default (a ∷ arms) zero d e l = refl
 any_default (a ∷ arms) (suc n) d e l = any_default arms n d e (omega arith)

@@ -8,7 +8,7 @@ use Rattle.std.proofs.lemmas.List.FromFn.{length-range_with_len}
 use Rattle.std.proofs.lemmas.List.Sums.{sum_by-append}
 use Rattle.vs_design.specs.Designs.{Always, Event, is_clocked}
 use Rattle.vs_design.specs.Footprints.{contains, statement_bits}
-use Rattle.vs_design.specs.Races.{blocking_bits}
+use Rattle.vs_design.specs.Races.{blocking_bits, nonblocking_bits}
 use Rattle.vs_design.specs.Sizes.{distinct, statement_weight}
 use Rattle.vs_design.specs.Statements.{Statement}
 use Rattle.vs_code.specs.Calls.{Call, IsCall, call_cost, length_of}
@@ -18,8 +18,9 @@ use Rattle.vs_lower.specs.Copies.{copies, home_copies, moved}
 use Rattle.vs_values.specs.Environments.{homes}
 use Rattle.vs_values.specs.Added.{AreAdded, IsNew}
 use Rattle.vs_lower.specs.Done.{IsStatementDone}
-use Rattle.vs_lower.specs.Processed.{AddsProcess, HasShadows, IsBlockReady}
-use Rattle.vs_lower.specs.Stated.{IsStatementReady, AddsStatement}
+use Rattle.vs_lower.specs.Next.{AddsNext, IsNext, IsNextReady, IsNextSlot}
+use Rattle.vs_lower.specs.Processed.{AddsProcess, HasShadows, IsBlockReady, IsClockedReady}
+use Rattle.vs_lower.specs.Stated.{AreApart, IsStatementReady, AddsStatement}
 use Rattle.vs_values.specs.Valued.{IsSource}
 use Rattle.vs_lower.proofs.Apart.{blocking_among, outside}
 use Rattle.vs_lower.proofs.Branching.{differing_in, still_once}
@@ -31,7 +32,7 @@ use Rattle.vs_lower.proofs.Homeward.{CanGoHome, all_in, from_homes, rising_once}
 use Rattle.vs_lower.proofs.Homing.{home_at, home_calls, member_at, once_places, picked_homes}
 use Rattle.vs_lower.proofs.Joining.{picked, picked_below}
 use Rattle.vs_lower.proofs.Placing.{by_test}
-use Rattle.vs_lower.proofs.Processes.{IsNext, clocked_lowered, comb_lowered, copies_cost, homes_env}
+use Rattle.vs_lower.proofs.Processes.{clocked_lowered, comb_lowered, copies_cost, homes_env}
 
 -- ---- what its parts need
 
@@ -111,6 +112,24 @@ adds_combinational l place star events c0 c1 c2 st now1 later1 bits first comb r
 
 -- ---- a clocked block
 
+pub clocked_next : (count : ℕ) (code : Coding) (st : Statement) → IsClockedReady count code st → IsNextReady count code st
+clocked_next count code st r = record { temps = r.temps; inside = r.inside; names = r.names; fit = r.fit; light = r.light; slots = omega (arith, r.slots); few = omega (arith, r.few) }
+
+-- what the lowering of its statement needs where it writes no bit by both
+pub next_ready : (count : ℕ) (code : Coding) (st : Statement) → IsNextReady count code st → AreApart (blocking_bits st) (nonblocking_bits st) → IsStatementReady count (homes count) (homes count) code st
+next_ready count code st r apart = record {
+  now_env = homes_env count code.next r.temps;
+  later_env = homes_env count code.next r.temps;
+  now_bits = length-range_with_len 4 count;
+  later_bits = length-range_with_len 4 count;
+  names = r.names;
+  fit = r.fit;
+  apart = apart;
+  light = r.light;
+  slots = r.slots;
+  few = r.few;
+}
+
 members : (P : ℕ → Type 0) (xs : List ℕ) → ((b : ℕ) → contains xs b ≡ true → P b) → All P xs
 members P [] f = All-nil P
 members P (x ∷ xs) f =
@@ -124,21 +143,18 @@ pub record CanCopy (count : ℕ) (bits env shadows : List ℕ) (code : Coding) :
   pub few : length_of code.calls + length_of (copies (picked env bits) (picked shadows bits)) ≤ 2 ^ 32
 
 -- no value is in a shadow
-not_shadow : (count mark shadow slot b : ℕ) → b < count → home count ≤ shadow → shadow < mark
-    → (slot ≡ slice_index (homes count) b) ⊎ (IsNew mark slot ⊎ ((c : ℕ) × (c < length (homes count)) × (slot ≡ slice_index (homes count) c))) → slot ≡ shadow → ⊥
-not_shadow count mark shadow slot b l above below (inl e) h = absurd (omega (arith, e, h, home_at count b l, l, above))
-not_shadow count mark shadow slot b l above below (inr (inl (inl k))) h = absurd (omega (arith, k, h, above))
-not_shadow count mark shadow slot b l above below (inr (inl (inr k))) h = absurd (omega (arith, k, h, below))
-not_shadow count mark shadow slot b l above below (inr (inr (c, k, e))) h =
-    let m : c < count = omega (arith, k, length-range_with_len 4 count) in
-    absurd (omega (arith, e, h, home_at count c m, m, above))
+not_shadow : (count mark shadow slot : ℕ) → home count ≤ shadow → shadow < mark → IsNextSlot count mark slot → slot ≡ shadow → ⊥
+not_shadow count mark shadow slot above below (inl (inl k)) h = absurd (omega (arith, k, h, above))
+not_shadow count mark shadow slot above below (inl (inr k)) h = absurd (omega (arith, k, h, below))
+not_shadow count mark shadow slot above below (inr (c, k, e)) h = absurd (omega (arith, e, h, home_at count c k, k, above))
 
 abbrev pub shadow_layout : ℕ → List ℕ → ℕ → Layout
 shadow_layout count shadows first = record { bits = count; shadow = slice_index shadows; first_temp = first }
 
-pub block_copies : (count : ℕ) (c0 c1 : Coding) (st : Statement) (now1 later1 env bits shadows : List ℕ) → IsBlockReady count c0 st → length shadows ≡ count → IsLayout (shadow_layout count shadows c0.next) (statement_bits st)
-    → (d : AddsBlock count c0 c1 st now1 later1) → IsNext count c0.next st d.calls env c1.next → IsStrictlyIncreasing bits → ((b : ℕ) → contains bits b ≡ contains (statement_bits st) b) → CanCopy count bits env shadows c1
-block_copies count c0 c1 st now1 later1 env bits shadows r wide layout d next rising same =
+pub block_copies : (count : ℕ) (c0 c1 : Coding) (st : Statement) (env bits shadows : List ℕ) → IsClockedReady count c0 st → length shadows ≡ count → IsLayout (shadow_layout count shadows c0.next) (statement_bits st)
+    → AddsNext count c0 c1 st env → IsStrictlyIncreasing bits → ((b : ℕ) → contains bits b ≡ contains (statement_bits st) b) → CanCopy count bits env shadows c1
+block_copies count c0 c1 st env bits shadows r wide layout d rising same =
+    let next = d.next in
     let once = rising_once bits rising in
     let inside = all_in count bits (λ b h. r.inside b (sym (same b) ∙ h)) in
     let long = next.long in
@@ -154,7 +170,7 @@ block_copies count c0 c1 st now1 later1 env bits shadows r wide layout d next ri
       inside = inside_env;
       places = All-weaker (λ b. b < count) (λ b. b < length shadows) (λ b l. omega (arith, l, wide)) bits inside;
       calls = copies_are (picked env bits) (picked shadows bits) (from_long ∙ sym to_long) (omega (arith, to_long, most, r.slots))
-          (All-weaker (λ slot. slot < c1.next) (λ slot. slot < 2 ^ 32) (λ slot l. omega (arith, l, r.slots, d.done.added.paid, d.done.added.stores)) (picked env bits) (picked_below env c1.next bits inside_env next.below))
+          (All-weaker (λ slot. slot < c1.next) (λ slot. slot < 2 ^ 32) (λ slot l. omega (arith, l, r.slots, d.added.paid, d.added.stores)) (picked env bits) (picked_below env c1.next bits inside_env next.below))
           (All-map (λ slot. slot < 2 ^ 32) (slice_index shadows) bits (members (λ b. slice_index shadows b < 2 ^ 32) bits (λ b h. omega (arith, layout.shadow_below b (sym (same b) ∙ h), r.slots))))
           (record {
             place = λ j k l m e.
@@ -169,25 +185,25 @@ block_copies count c0 c1 st now1 later1 env bits shadows r wide layout d next ri
                 let b = slice_index bits j in
                 let c = slice_index bits k in
                 let lb : b < count = inside j 0 lj in
-                not_shadow count c0.next (slice_index shadows c) (slice_index env b) b lb (layout.shadow_above c (member k lk)) (layout.shadow_below c (member k lk))
+                not_shadow count c0.next (slice_index shadows c) (slice_index env b) (layout.shadow_above c (member k lk)) (layout.shadow_below c (member k lk))
                 (next.from b lb)
                 (sym (map_at (slice_index env) bits j lj) ∙ e ∙ map_at (slice_index shadows) bits k lk);
           });
-      few = omega (arith, r.few, total, cost, most, d.done.added.stores);
+      few = omega (arith, r.few, total, cost, most, d.added.stores);
     }
 
-pub adds_clocked : (l : Layout) (place : ℕ) (star : Bool) (events : List Event) (c0 c1 c2 : Coding) (st : Statement) (now1 later1 env bits shadows : List ℕ)
-    → HasShadows l.bits c0.next shadows (statement_bits st) l → is_clocked (Always place star events st) ≡ true → IsBlockReady l.bits c0 st → (d : AddsBlock l.bits c0 c1 st now1 later1) → IsNext l.bits c0.next st d.calls env c1.next
+pub adds_clocked : (l : Layout) (place : ℕ) (star : Bool) (events : List Event) (c0 c1 c2 : Coding) (st : Statement) (env bits shadows : List ℕ)
+    → HasShadows l.bits c0.next shadows (statement_bits st) l → is_clocked (Always place star events st) ≡ true → IsClockedReady l.bits c0 st → AddsNext l.bits c0 c1 st env
     → IsStrictlyIncreasing bits → ((b : ℕ) → contains bits b ≡ contains (statement_bits st) b)
     → All IsCall (copies (picked env bits) (picked shadows bits)) → c2.calls ≡ (c1.calls ++ copies (picked env bits) (picked shadows bits))
     → AddsProcess l (Always place star events st) c0.calls c2.calls
-adds_clocked l place star events c0 c1 c2 st now1 later1 env bits shadows h clocked r d next rising same calls added =
+adds_clocked l place star events c0 c1 c2 st env bits shadows h clocked r d rising same calls added =
     let once = rising_once bits rising in
     let inside = all_in l.bits bits (λ b k. r.inside b (sym (same b) ∙ k)) in
     let shadows_are : copies (picked env bits) (picked shadows bits) ≡ copies (picked env bits) (map l.shadow bits) =
     ap (copies (picked env bits)) (map_agree (slice_index shadows) l.shadow bits (members (λ b. slice_index shadows b ≡ l.shadow b) bits (λ b k. sym (h.are b (sym (same b) ∙ k))))) in
-    let added1 = subst (λ (m : ℕ). AreAdded m d.calls c1.next (statement_weight st)) (sym h.temps_are) d.done.added in
-    let next1 = subst (λ (m : ℕ). IsNext l.bits m st d.calls env c1.next) (sym h.temps_are) next in
+    let added1 = subst (λ (m : ℕ). AreAdded m d.calls c1.next (statement_weight st)) (sym h.temps_are) d.added in
+    let next1 = subst (λ (m : ℕ). IsNext l.bits m st d.calls env c1.next) (sym h.temps_are) d.next in
     record {
       calls = d.calls ++ copies (picked env bits) (map l.shadow bits);
       is = added ∙ ap (λ (cs : List Call). c1.calls ++ cs) shadows_are ∙ ap (λ (cs : List Call). cs ++ copies (picked env bits) (map l.shadow bits)) d.is ∙ append_assoc c0.calls d.calls (copies (picked env bits) (map l.shadow bits));
@@ -204,8 +220,8 @@ block_home_at n count values ahead bits slice now1 later1 c0 c1 st k a b r d ris
     subst (λ (xs : List ℕ). CanGoHome count xs now1 c1) (sym is) (subst (λ (m : ℕ). CanGoHome m bits now1 c1) (sym k)
     (block_goes_home n c0 c1 st now1 later1 bits r (from_homes n count values ahead (λ (x y : List ℕ). AddsStatement x y c0 c1 st now1 later1) k a b d) rising same))
 
-pub block_copies_at : (n count : ℕ) (bits slice now1 later1 env shadows : List ℕ) (c0 c1 : Coding) (st : Statement) → count ≡ n → IsBlockReady n c0 st
+pub block_copies_at : (n count : ℕ) (bits slice env shadows : List ℕ) (c0 c1 : Coding) (st : Statement) → count ≡ n → IsClockedReady n c0 st
     → length shadows ≡ count → IsLayout (shadow_layout n shadows c0.next) (statement_bits st)
-    → (d : AddsBlock n c0 c1 st now1 later1) → IsNext n c0.next st d.calls env c1.next → IsStrictlyIncreasing bits → ((b : ℕ) → contains bits b ≡ contains (statement_bits st) b) → slice ≡ bits → CanCopy n slice env shadows c1
-block_copies_at n count bits slice now1 later1 env shadows c0 c1 st k r wide layout d next rising same is =
-    subst (λ (xs : List ℕ). CanCopy n xs env shadows c1) (sym is) (block_copies n c0 c1 st now1 later1 env bits shadows r (wide ∙ k) layout d next rising same)
+    → AddsNext n c0 c1 st env → IsStrictlyIncreasing bits → ((b : ℕ) → contains bits b ≡ contains (statement_bits st) b) → slice ≡ bits → CanCopy n slice env shadows c1
+block_copies_at n count bits slice env shadows c0 c1 st k r wide layout d rising same is =
+    subst (λ (xs : List ℕ). CanCopy n xs env shadows c1) (sym is) (block_copies n c0 c1 st env bits shadows r (wide ∙ k) layout d rising same)

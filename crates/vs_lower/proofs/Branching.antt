@@ -87,10 +87,10 @@ still_once env1 env2 (c ∷ cs) o = by (slice_index env1 c == slice_index env2 c
     by true n h = h
     by false n h = (n, h)
 
-choice_takes : (c n : ℕ) → 1 ≤ c → 1 ≤ n → (nat_le 1 c && nat_le 1 n && n == n && n == n) ≡ true
+pub choice_takes : (c n : ℕ) → 1 ≤ c → 1 ≤ n → (nat_le 1 c && nat_le 1 n && n == n && n == n) ≡ true
 choice_takes c n h k = grind arith
 
-some_length : (xs : List ℕ) → (xs ≡ [] → ⊥) → 1 ≤ length xs
+pub some_length : (xs : List ℕ) → (xs ≡ [] → ⊥) → 1 ≤ length xs
 some_length [] f = absurd (f refl)
 some_length (x ∷ xs) f = omega arith
 

@@ -13,6 +13,7 @@ mod Widest
 mod Parted
 mod Scattered
 mod Fallible
+mod Widths
 mod Partwise
 mod Wordwise
 mod Columns
@@ -36,7 +37,6 @@ pub mod Ordered
 pub mod Naming
 pub mod Stating
 pub mod Effecting
-pub mod Ruled
 pub mod Blocking
 pub mod Nexting
 pub mod Accepting
@@ -44,3 +44,14 @@ pub mod Resetting
 pub mod Sleeping
 pub mod Reaching
 pub mod Templating
+pub mod Bars
+pub mod Noting
+pub mod Unlessing
+pub mod Barring
+pub mod Parting
+pub mod Varying
+pub mod Making
+pub mod Unlessed
+pub mod Skipping
+pub mod Descending
+pub mod Ending

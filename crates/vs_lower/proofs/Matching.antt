@@ -42,11 +42,11 @@ or_one Z One = refl
 or_one Z X = refl
 or_one Z Z = refl
 
-or_assoc : (a b c : Bool) → ((a || b) || c) ≡ (a || (b || c))
+pub or_assoc : (a b c : Bool) → ((a || b) || c) ≡ (a || (b || c))
 or_assoc true b c = refl
 or_assoc false b c = refl
 
-fold_one : (first : Bit4) (xs : BitList) → is_one (fold_with or_bit first xs) ≡ (is_one first || list_any is_one xs)
+pub fold_one : (first : Bit4) (xs : BitList) → is_one (fold_with or_bit first xs) ≡ (is_one first || list_any is_one xs)
 fold_one first [] = or_false (is_one first)
   where
     or_false : (a : Bool) → a ≡ (a || false)

@@ -13,6 +13,7 @@ use Rattle.vs_design.specs.TreeLaws.{BodyWritesWithin}
 use Rattle.vs_values.specs.Added.{IsNew}
 use Rattle.vs_values.specs.Coded.{Coding}
 use Rattle.vs_values.specs.Environments.{homes, placed}
+use Rattle.vs_lower.specs.Next.{AddsNext, IsNext, IsNextSlot}
 use Rattle.vs_lower.specs.Stated.{AreApart, AreInside, AreSettled}
 use Rattle.vs_lower.proofs.Apart.{blocking_among, nonblocking_among, outside}
 use Rattle.vs_lower.proofs.Blocking.{AddsBlock}
@@ -20,7 +21,6 @@ use Rattle.vs_lower.proofs.Effecting.{effect_within}
 use Rattle.vs_lower.proofs.Homeward.{all_in}
 use Rattle.vs_lower.proofs.Joining.{IsLaterSlot, picked, picked_below}
 use Rattle.vs_lower.proofs.Placing.{by_test, placed_all, placed_other, write_all-append, write_all_at, write_all_other}
-use Rattle.vs_lower.proofs.Processes.{IsNext}
 use Rattle.vs_values.proofs.Environments.{placed_length}
 use Rattle.vs_values.proofs.Unary.{not_true}
 
@@ -77,15 +77,20 @@ module _ (law : BodyWritesWithin) (count : ℕ) (c0 c1 : Coding) (st : Statement
       let none = not_true (N.is_written e.writes b) (λ w. true≢false (sym ((effect_within law st fits state).writes b w) ∙ h)) in
       sym (ap (λ (s : N.State). s b) (write_all-append e.writes (N.flatten e.updates) state) ∙ write_all_at (N.flatten e.updates) (N.write_all state e.writes) state b (write_all_other e.writes state b none))
 
-  env_from : (b : ℕ) → b < count → IsLaterSlot (homes count) c0.next (slice_index env b) (slice_index (homes count) b)
+  env_from : (b : ℕ) → b < count → IsNextSlot count c0.next (slice_index env b)
   env_from b l =
       by_test (contains at_once b)
-      (λ h. subst (λ (x : ℕ). IsLaterSlot (homes count) c0.next x (slice_index (homes count) b)) (sym (env_now b h)) (now_slot (d.done.now_from b (omega (arith, l, length-range_with_len 4 count)))))
-      (λ h. subst (λ (x : ℕ). IsLaterSlot (homes count) c0.next x (slice_index (homes count) b)) (sym (env_later b h)) (d.done.later_from b (omega (arith, l, length-range_with_len 4 count))))
+      (λ h. subst (IsNextSlot count c0.next) (sym (env_now b h)) (now_slot (d.done.now_from b (omega (arith, l, length-range_with_len 4 count)))))
+      (λ h. subst (IsNextSlot count c0.next) (sym (env_later b h)) (later_slot (d.done.later_from b (omega (arith, l, length-range_with_len 4 count)))))
     where
-      now_slot : {x y : ℕ} → (x ≡ y) ⊎ IsNew c0.next x → IsLaterSlot (homes count) c0.next x y
-      now_slot (inl e) = inl e
-      now_slot (inr k) = inr (inl k)
+      now_slot : {x : ℕ} → (x ≡ slice_index (homes count) b) ⊎ IsNew c0.next x → IsNextSlot count c0.next x
+      now_slot (inl e) = inr (b, l, e)
+      now_slot (inr k) = inl k
+
+      later_slot : {x : ℕ} → IsLaterSlot (homes count) c0.next x (slice_index (homes count) b) → IsNextSlot count c0.next x
+      later_slot (inl e) = inr (b, l, e)
+      later_slot (inr (inl k)) = inl k
+      later_slot (inr (inr k)) = inr (k.0, omega (arith, k.1, length-range_with_len 4 count), k.2)
 
   env_next : IsNext count c0.next st d.calls env c1.next
   unfolding env
@@ -115,6 +120,10 @@ module _ (law : BodyWritesWithin) (count : ℕ) (c0 c1 : Coding) (st : Statement
 pub next_settled : BodyWritesWithin → (count : ℕ) (c0 c1 : Coding) (st : Statement) (now1 later1 next : List ℕ) → fits_statement st ≡ true → AreApart (blocking_bits st) (nonblocking_bits st) → AreInside count (statement_bits st)
     → (d : AddsBlock count c0 c1 st now1 later1) → AreSettled (blocking_bits st) now1 later1 next → IsNext count c0.next st d.calls next c1.next
 next_settled law count c0 c1 st now1 later1 next fits apart inside d s = next_placed law count c0 c1 st now1 later1 s.bits fits apart inside s.same d next s.are
+
+pub adds_settled : BodyWritesWithin → (count : ℕ) (c0 c1 : Coding) (st : Statement) (now1 later1 next : List ℕ) → fits_statement st ≡ true → AreApart (blocking_bits st) (nonblocking_bits st) → AreInside count (statement_bits st)
+    → AddsBlock count c0 c1 st now1 later1 → AreSettled (blocking_bits st) now1 later1 next → AddsNext count c0 c1 st next
+adds_settled law count c0 c1 st now1 later1 next fits apart inside d s = record { calls = d.calls; is = d.is; added = d.done.added; next = next_settled law count c0 c1 st now1 later1 next fits apart inside d s }
 
 -- what is settled is there
 pub once_inside : (count n : ℕ) (st : Statement) → AreInside count (statement_bits st) → n ≡ count → AreInside n (blocking_bits st)

@@ -4,11 +4,12 @@ use Rattle.std.specs.List.{All, range_with_len}
 use Rattle.std.proofs.lemmas.List.{length-map}
 use Rattle.std.proofs.lemmas.List.Elements.{All-nil, All-cons, All-head, All-tail, All-weaker, All-map, All-replicate}
 use Rattle.std.proofs.lemmas.List.FromFn.{length-range_with_len}
+use Rattle.std.proofs.lemmas.List.Sums.{sum_by-cons}
 use Rattle.vs_four.specs.Logic.{BitList}
 use Rattle.vs_four.specs.Selects.{Part, range_length, places, write_places, at_place}
 use Rattle.vs_design.specs.Expressions.{Signal, signal_length, word_length, addresses, Expression, width, sign, is_constant}
 use Rattle.vs_design.specs.Values.{bits_of_signal, count_from, constant_value, address_place, spread, word_places, word_part_places}
-use Rattle.vs_design.specs.Statements.{Target, Whole, PartOf, WordOf, WordPartOf}
+use Rattle.vs_design.specs.Statements.{Target, Whole, PartOf, WordOf, WordPartOf, target_width}
 use Rattle.vs_design.specs.Bodies.{bits_at}
 use Rattle.vs_design.specs.Fits.{fits_64, fits_target, is_fit, fits, divides_constants, fits_word_part}
 use Rattle.vs_design.specs.Footprints.{contains, somes, target_bits}
@@ -32,6 +33,7 @@ use Rattle.vs_lower.proofs.Placing.{by_test}
 use Rattle.vs_values.proofs.Readying.{fits_64_is, fits_length}
 use Rattle.vs_values.proofs.Selecting.{selection}
 use Rattle.vs_values.proofs.Wording.{memory_long, word_ends, place_less, word_pays}
+use Rattle.vs_lower.proofs.Widths.{chosen_bits, fixed_length}
 use Rattle.vs_lower.proofs.Targets.{IsWithin, IsSelecting, WritesPlaces, places_within, in_run, fixed_written, called_written, write_call}
 use Rattle.vs_values.proofs.Unary.{not_true}
 use Rattle.vs_values.proofs.Values.{both_true}
@@ -66,6 +68,34 @@ fit_word signal index h =
     let l = fits_length index (both_true (fits index) (divides_constants index) x.1).0 in
     record { some = w.0; most = w.1; index_fit = x.1; index_some = l.0; index_most = l.1 }
 
+-- ---- what the write of a part stores, with a store more for each of its bits
+
+pays_twice : (n k i : ℕ) → 1 ≤ k → 1 ≤ i → n + n ≤ k * (n * (i + 1))
+pays_twice n zero i h l = absurd (omega arith)
+pays_twice n (suc k) zero h l = absurd (omega arith)
+pays_twice n (suc k) (suc i) h l = grind arith
+
+-- it makes none by a constant index, and else at most as many as its signal has bits
+pub part_few : (signal : Signal) (part : Part) (index : Expression) → fits_target (PartOf signal part index) ≡ true → (stores : ℕ) (q : Bool) → is_constant index ≡ q → (q ≡ true → stores ≡ 0) → stores ≤ signal_length signal
+    → stores + length (target_bits (PartOf signal part index)) ≤ target_width (PartOf signal part index) + write_weight (PartOf signal part index)
+part_few signal part index h stores true e z l = omega (arith, fixed_length (PartOf signal part index) e, z refl)
+part_few signal part index h stores false e z l =
+    let p = fit_part signal part index h in
+    let bits : length (target_bits (PartOf signal part index)) ≡ signal_length signal = ap (λ (bs : List ℕ). length bs) (chosen_bits signal index (places part (sign index) (constant_value index)) false e) ∙ length_count signal.first (signal_length signal) in
+    let weight : write_weight (PartOf signal part index) ≡ part.width * (range_length part.range * (width index + 1)) = ap (λ (b : Bool). if b then 0 else part.width * (range_length part.range * (width index + 1))) e in
+    omega (arith, bits, weight, pays_twice (range_length part.range) part.width (width index) p.some p.index_some, p.range, l)
+
+pub words_pay : (r m k : ℕ) → r * k + r * k ≤ 2 * (r * (m + k))
+words_pay r m k = grind arith
+
+pub word_few : (signal : Signal) (index : Expression) (stores : ℕ) (q : Bool) → is_constant index ≡ q → (q ≡ true → stores ≡ 0) → stores ≤ signal_length signal
+    → stores + length (target_bits (WordOf signal index)) ≤ target_width (WordOf signal index) + write_weight (WordOf signal index)
+word_few signal index stores true e z l = omega (arith, fixed_length (WordOf signal index) e, z refl)
+word_few signal index stores false e z l =
+    let bits : length (target_bits (WordOf signal index)) ≡ signal_length signal = ap (λ (bs : List ℕ). length bs) (chosen_bits signal index (word_places signal (sign index) (constant_value index)) false e) ∙ length_count signal.first (signal_length signal) in
+    let weight : write_weight (WordOf signal index) ≡ address_weight signal (width index) = ap (λ (b : Bool). if b then 0 else address_weight signal (width index)) e in
+    omega (arith, bits, weight, words_pay (range_length (addresses signal)) (width index) (word_length signal), memory_long signal, l)
+
 -- ---- which bits a part has
 
 not_or : (a b : Bool) → (a || b) ≡ true → a ≡ false → b ≡ true
@@ -90,9 +120,6 @@ fixed_within target signal index at ti s i false e b h =
     let ps = at (constant_bits ti) in
     let out : contains (bits_of_signal signal) b ≡ false = ap (λ (bs : List ℕ). contains bs b) (sym (s.varied e)) ∙ h in
     not_true (contains (somes (bits_at signal ps)) b) (λ c. true≢false (sym (somes_within signal ps b (s.within (constant_bits ti)) c) ∙ out))
-
-pub chosen_bits : (signal : Signal) (index : Expression) (ps : List (Option ℕ)) (b : Bool) → is_constant index ≡ b → (if is_constant index then somes (bits_at signal ps) else bits_of_signal signal) ≡ (if b then somes (bits_at signal ps) else bits_of_signal signal)
-chosen_bits signal index ps b h = ap (λ (k : Bool). if k then somes (bits_at signal ps) else bits_of_signal signal) h
 
 pub part_selecting : (signal : Signal) (part : Part) (index : Expression) → range_length part.range ≡ signal_length signal → IsSelecting (PartOf signal part index) signal index (places part (sign index))
 part_selecting signal part index r = record {
@@ -193,17 +220,19 @@ whole_adds env env_after code signal ti tv w r below is = record {
   calls = [];
   is = sym (append-nil code.calls);
   written = subst (λ (x : List ℕ). IsWritten env code.next (Whole signal) (ti ∷ []) tv 0 [] x code.next) (sym is) (whole_written env code.next signal ti tv r.is_env below);
+  few = λ n. omega (arith, length_count signal.first (signal_length signal));
 }
 
 pub fixed_adds : (env env_after : List ℕ) (code : Coding) (target : Target) (signal : Signal) (index : Expression) (at : BitList → List (Option ℕ)) (ti tv : List ℕ) → IsSelecting target signal index at
-    → HasRoom env code (write_weight target) → All (λ slot. slot < code.next) tv → AreConstant ti → IsIndex index ti
+    → HasRoom env code (write_weight target) → All (λ slot. slot < code.next) tv → AreConstant ti → IsIndex index ti → length (target_bits target) ≤ target_width target + write_weight target
     → env_after ≡ placed env (bits_at signal (at (constant_bits ti))) tv → AddsWrites env env_after code code target (ti ∷ []) tv (write_weight target)
-fixed_adds env env_after code target signal index at ti tv s r below c i is = record {
+fixed_adds env env_after code target signal index at ti tv s r below c i most is = record {
   calls = [];
   is = sym (append-nil code.calls);
   written = subst (λ (x : List ℕ). IsWritten env code.next target (ti ∷ []) tv (write_weight target) [] x code.next) (sym is)
       (written_more env code.next target (ti ∷ []) tv 0 (write_weight target) [] _ code.next (omega arith)
       (fixed_written env code.next target signal index at ti tv s r.is_env below c (fixed_within target signal index at ti s i (is_constant index) refl)));
+  few = λ n. omega (arith, most);
 }
 
 -- ---- the kernel of a write
@@ -215,13 +244,14 @@ pub record IsWriter (kernel : Kernel) (target : Target) (signal : Signal) (index
   pub takes : takes (K.Select kernel) (signal_length signal ∷ width index ∷ long ∷ signal_length signal ∷ []) ≡ true
   pub cost : (env ti tv : List ℕ) (mark : ℕ) → call_cost (write_call (K.Select kernel) signal env ti tv mark) ≡ signal_length signal
   pub weighs : is_constant index ≡ false → signal_length signal ≤ write_weight target
+  pub few : is_constant index ≡ false → signal_length signal + length (target_bits target) ≤ target_width target + write_weight target
   pub index_most : width index ≤ 64
   pub most : long ≤ 64
 
 pub part_takes : (n m i k : ℕ) → n ≡ m → 1 ≤ i → 1 ≤ k → (n == m && nat_le 1 i && nat_le 1 k && n == n) ≡ true
 part_takes n m i k e h l = grind arith
 
-part_pays : (n k i : ℕ) → 1 ≤ k → n ≤ k * (n * (i + 1))
+pub part_pays : (n k i : ℕ) → 1 ≤ k → n ≤ k * (n * (i + 1))
 part_pays n k i h = grind arith
 
 pub part_writer : (signal : Signal) (part : Part) (index : Expression) → fits_target (PartOf signal part index) ≡ true → IsWriter (S.Write (selection part (sign index))) (PartOf signal part index) signal index (places part (sign index)) part.width
@@ -236,6 +266,7 @@ part_writer signal part index h =
       weighs = λ e.
           let weight : write_weight (PartOf signal part index) ≡ part.width * (range_length part.range * (width index + 1)) = ap (λ (b : Bool). if b then 0 else part.width * (range_length part.range * (width index + 1))) e in
           omega (arith, weight, part_pays (range_length part.range) part.width (width index) p.some, p.range);
+      few = λ e. part_few signal part index h (signal_length signal) false e (λ f. absurd (true≢false (sym f))) (omega arith);
       index_most = p.index_most;
       most = p.most;
     }
@@ -252,6 +283,7 @@ word_writer signal index h =
       weighs = λ e.
           let weight : write_weight (WordOf signal index) ≡ address_weight signal (width index) = ap (λ (b : Bool). if b then 0 else address_weight signal (width index)) e in
           omega (arith, weight, word_pays signal (width index) p.index_some);
+      few = λ e. word_few signal index (signal_length signal) false e (λ f. absurd (true≢false (sym f))) (omega arith);
       index_most = p.index_most;
       most = p.most;
     }
@@ -313,4 +345,5 @@ called_adds env env_after code after kernel target signal index at long ti tv p 
       is = ap (λ (x : Coding). x.calls) call;
       written = subst (λ (n : ℕ). IsWritten env code.next target (ti ∷ []) tv (write_weight target) (one ∷ []) env_after n) (sym (ap (λ (x : Coding). x.next) call))
           (subst (λ (x : List ℕ). IsWritten env code.next target (ti ∷ []) tv (write_weight target) (one ∷ []) x (code.next + signal_length signal)) (sym is) written);
+      few = λ n. omega (arith, sum_by-cons call_cost one [], cost, p.few can.varies);
     }

@@ -22,7 +22,8 @@ use Rattle.vs_values.specs.Environments.{homes}
 use Rattle.vs_values.proofs.Lists.{range_at, range_below}
 use Rattle.vs_values.proofs.Adding.{called_parts, one_called, stays}
 use Rattle.vs_lower.proofs.Placing.{by_test}
-use Rattle.vs_lower.proofs.Joining.{IsLaterSlot, picked}
+use Rattle.vs_lower.specs.Next.{IsNext}
+use Rattle.vs_lower.proofs.Joining.{picked}
 
 -- ---- before a process
 
@@ -209,14 +210,6 @@ assign_lowered l place port target_place target e c now later n most js room don
     }
 
 -- ---- a clocked block
-
--- in these slots the bits have what they have after all that a statement gives
-pub record IsNext (count mark : ℕ) (st : Statement) (calls : List Call) (env : List ℕ) (top : ℕ) : Type 0 where
-  pub long : length env ≡ count
-  pub below : All (λ slot. slot < top) env
-  pub kept : (b : ℕ) → contains (statement_bits st) b ≡ false → slice_index env b ≡ slice_index (homes count) b
-  pub from : (b : ℕ) → b < count → IsLaterSlot (homes count) mark (slice_index env b) (slice_index (homes count) b)
-  pub values : (before after : State) (state : N.State) → Holds (homes count) before state → AreCalled calls before after → Holds env after (N.write_all state (N.flatten ((body st state).writes ∷ (body st state).updates)))
 
 pub clocked_lowered : (l : Layout) (place : ℕ) (star : Bool) (events : List Event) (st : Statement) (c : List Call) (env : List ℕ) (n : ℕ) (js : List ℕ)
     → is_clocked (Always place star events st) ≡ true → IsLayout l (statement_bits st)

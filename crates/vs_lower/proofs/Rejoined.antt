@@ -24,18 +24,18 @@ pub width_joined : (t : Target) (ts : List Target) → target_width (joined_targ
 width_joined t [] = sym (sum_by-cons target_width t [] ∙ omega arith)
 width_joined t (u ∷ ts) = ap (λ (n : ℕ). target_width t + n) (width_joined u ts) ∙ sym (sum_by-cons target_width t (u ∷ ts))
 
-one_index : (a : Arena) (leaf : Leaf) (state : N.State) → length (index_values (leaf_target a leaf) state) ≡ 1
+pub one_index : (a : Arena) (leaf : Leaf) (state : N.State) → length (index_values (leaf_target a leaf) state) ≡ 1
 one_index a (L.Whole signal) state = refl
 one_index a (L.Select signal range up width index) state = refl
 one_index a (L.Word signal index) state = refl
 one_index a (L.WordPart signal address range up width index) state = refl
 
-in_drop : (n : ℕ) (xs : List ℕ) (x : ℕ) → Contains (drop n xs) x → Contains xs x
+pub in_drop : (n : ℕ) (xs : List ℕ) (x : ℕ) → Contains (drop n xs) x → Contains xs x
 in_drop zero xs x c = c
 in_drop (suc n) [] x c = c
 in_drop (suc n) (y ∷ xs) x c = Contains-append_right (y ∷ []) xs x (in_drop n xs x c)
 
-all_drop : {X : Type 0} (P : X → Type 0) (n : ℕ) (xs : List X) → All P xs → All P (drop n xs)
+pub all_drop : {X : Type 0} (P : X → Type 0) (n : ℕ) (xs : List X) → All P xs → All P (drop n xs)
 all_drop P zero xs h = h
 all_drop P (suc n) [] h = h
 all_drop P (suc n) (x ∷ xs) h = all_drop P n xs (All-tail P x xs h)
@@ -64,7 +64,23 @@ writes_more a env env1 env2 code code1 code2 (x ∷ y ∷ ls) (ti ∷ tis) value
       calls = p.calls ++ q.calls;
       is = two_added code.calls p.calls q.calls code1.calls code2.calls p.is q.is;
       written = subst (λ (n : ℕ). IsWritten env code.next (Both (g x) rest) (ti ∷ tis) value n (p.calls ++ q.calls) env2 code2.next) (sym (sum_by-cons write_weight (g x) (map g (y ∷ ls)))) both;
+      few = λ h. absurd (h tt);
     }
+
+-- where there is no other
+pub writes_one : (a : Arena) (env env1 : List ℕ) (code code1 : Coding) (leaves : List Leaf) (indices : List (List ℕ)) (value : List ℕ) (low : ℕ) (d : Leaf) (e : List ℕ)
+    → (1 < length leaves → ⊥) → 1 ≤ length leaves → AreIndexed (map (leaf_target a) leaves) indices → length value ≡ sum_by target_width (map (leaf_target a) leaves) → low + target_width (leaf_target a (get_or leaves 0 d)) ≡ length value
+    → AddsWrites env env1 code code1 (leaf_target a (get_or leaves 0 d)) (get_or indices 0 e ∷ []) (drop low value) (write_weight (leaf_target a (get_or leaves 0 d)))
+    → AddsWrites env env1 code code1 (joined_target (map (leaf_target a) leaves)) indices value (sum_by write_weight (map (leaf_target a) leaves))
+writes_one a env env1 code code1 [] indices value low d e one some i long is p = absurd (omega (arith, some))
+writes_one a env env1 code code1 (x ∷ y ∷ ls) indices value low d e one some i long is p = absurd (one (omega arith))
+writes_one a env env1 code code1 (x ∷ []) [] value low d e one some i long is p = absurd i
+writes_one a env env1 code code1 (x ∷ []) (ti ∷ j ∷ js) value low d e one some i long is p = absurd i.1
+writes_one a env env1 code code1 (x ∷ []) (ti ∷ []) value low d e one some i long is p =
+    let t = leaf_target a x in
+    let none : low ≡ 0 = omega (arith, is, long, sum_by-cons target_width t []) in
+    let weight : write_weight t ≡ sum_by write_weight (t ∷ []) = omega (arith, sum_by-cons write_weight t []) in
+    subst (λ (k : ℕ). AddsWrites env env1 code code1 t (ti ∷ []) (drop k value) (sum_by write_weight (t ∷ []))) none (subst (λ (n : ℕ). AddsWrites env env1 code code1 t (ti ∷ []) (drop low value) n) weight p)
 
 -- what the others need, for these lists
 pub record RestReady (known : Templated) (env1 : List ℕ) (code1 : Coding) (top : ℕ) (leaves : List Leaf) (indices : List (List ℕ)) (value : List ℕ) : Type 0 where

@@ -1,5 +1,5 @@
 -- Resets lowered: a reset does what an `if` without other branch does whose branch reads nothing.
-use Rattle.std.proofs.Common.{◌≡◌, ℕ, ◌+◌, ◌<◌, ◌≤◌, ◌^◌, Bool, true, false, ◌&&◌, if◌then◌else◌, List, [], ◌∷◌, ◌++◌, map, length, slice_index, Some, sym, ap, ◌∙◌, subst, refl, arith, append-nil, append_assoc, ◌⊎◌, inl, inr, nat_le}
+use Rattle.std.proofs.Common.{◌≡◌, ℕ, ◌+◌, ◌<◌, ◌≤◌, ◌^◌, Bool, true, false, if◌then◌else◌, List, [], ◌∷◌, ◌++◌, map, length, slice_index, Some, sym, ap, ◌∙◌, subst, refl, arith, append-nil, append_assoc, ◌⊎◌, inl, inr, nat_le}
 use Rattle.std.specs.List.{All}
 use Rattle.std.specs.List.Sorted.{IsStrictlyIncreasing}
 use Rattle.std.proofs.lemmas.List.{length-map}
@@ -16,11 +16,10 @@ use Rattle.vs_net.specs.Solution.{reset_effects}
 use Rattle.vs_design.specs.Bodies.{body}
 use Rattle.vs_design.specs.Designs.{Process}
 use Rattle.vs_design.specs.Expressions.{Name, LogicalNot, Unary, sign, width}
-use Rattle.vs_design.specs.Fits.{fits_statement}
+use Rattle.vs_design.specs.Fits.{is_fit}
 use Rattle.vs_design.specs.Footprints.{contains, statement_bits}
-use Rattle.vs_design.specs.Races.{blocking_bits, nonblocking_bits}
 use Rattle.vs_design.specs.Sizes.{distinct, process_weight, statement_weight, weight}
-use Rattle.vs_design.specs.Statements.{Statement, Empty}
+use Rattle.vs_design.specs.Statements.{Statement}
 use Rattle.vs_design.specs.TreeLaws.{ValueLength}
 use Rattle.vs_design.specs.Values.{apply_unary, own_value}
 use Rattle.vs_code.specs.Calls.{Call, State, AreCalled, IsCall, call_cost, length_of}
@@ -31,14 +30,14 @@ use Rattle.vs_lower.specs.Copies.{copies, home_copies, moved}
 use Rattle.vs_values.specs.Environments.{homes}
 use Rattle.vs_lower.specs.Joined.{IsJoinable, IsJoined, differing_bits}
 use Rattle.vs_values.specs.Ready.{IsReady}
-use Rattle.vs_lower.specs.Stated.{IsStatementReady, AreApart}
+use Rattle.vs_lower.specs.Next.{AddsNext, IsNextReady}
 use Rattle.vs_values.specs.Made.{IsUnary}
 use Rattle.vs_lower.specs.Resetting.{AddsReset, HasResetRoom, IsResetOf, IsResetReady, reset_condition, reset_signal, reset_statement}
 use Rattle.vs_values.specs.Valued.{AddsValue, IsSource}
 use Rattle.vs_values.proofs.Adding.{added_more, added_within, called_parts, env_more, holds_after, vector_stays}
-use Rattle.vs_lower.proofs.Blocking.{AddsBlock, moved_few}
+use Rattle.vs_lower.proofs.Blocking.{moved_few}
 use Rattle.vs_lower.proofs.Branching.{CanJoin, IsFork, can_join}
-use Rattle.vs_lower.proofs.Conditional.{HasGrown, Merges, join_callable, merges, ready_if, ready_yes, total_of}
+use Rattle.vs_lower.proofs.Conditional.{HasGrown, Merges, join_callable, merges, total_of}
 use Rattle.vs_lower.proofs.Differing.{bits_alike, bits_fewer, bits_within}
 use Rattle.vs_lower.proofs.Distinct.{distinct_most}
 use Rattle.vs_lower.proofs.Homeward.{CanGoHome, all_in, rising_once}
@@ -46,45 +45,12 @@ use Rattle.vs_lower.proofs.Homing.{home_at, home_calls, picked_homes}
 use Rattle.vs_lower.proofs.Joining.{condition_is, picked, picked_below}
 use Rattle.vs_values.proofs.Named.{adds_name}
 use Rattle.vs_lower.proofs.Placing.{by_test}
-use Rattle.vs_lower.proofs.Processes.{IsNext, all_slots, copies_cost, copies_slots, home_is, homes_env, homes_hold}
+use Rattle.vs_lower.proofs.Processes.{all_slots, copies_cost, copies_slots, home_is, homes_env, homes_hold}
 use Rattle.vs_values.proofs.Readying.{two_added}
 use Rattle.vs_values.proofs.Unary.{Operand, operand_of, ready_operand, returns_unary}
-use Rattle.vs_design.specs.Within.{statement_within}
+use Rattle.vs_design.specs.Within.{names_within}
 
--- ---- the statement that it is
-
-fit_of : (f : Bool) → f ≡ true → ((true && f) && true) ≡ true
-fit_of true h = refl
-fit_of false h = h
-
-pub reset_ready : (count : ℕ) (code : Coding) (falls : Bool) (input : ℕ) (st : Statement) → IsResetReady count code falls input st → IsStatementReady count (homes count) (homes count) code (reset_statement falls input st)
-reset_ready count code falls input st r = record {
-  now_env = homes_env count code.next r.temps;
-  later_env = homes_env count code.next r.temps;
-  now_bits = length-range_with_len 4 count;
-  later_bits = length-range_with_len 4 count;
-  names = within falls;
-  fit = fits falls;
-  apart = subst (λ (bs : List ℕ). AreApart bs (nonblocking_bits st ++ [])) (sym (append-nil (blocking_bits st))) (subst (AreApart (blocking_bits st)) (sym (append-nil (nonblocking_bits st))) r.apart);
-  light = r.light;
-  slots = omega (arith, r.slots);
-  few = omega (arith, r.few);
-}
-  where
-    fits : (f : Bool) → fits_statement (reset_statement f input st) ≡ true
-    fits false = fit_of (fits_statement st) r.fit
-    fits true = fit_of (fits_statement st) r.fit
-
-    here : nat_le (input + 1) count ≡ true
-    here = let l : input + 1 ≤ count = omega (arith, r.there) in grind arith
-
-    names_of : (a b : Bool) → a ≡ true → b ≡ true → ((a && b) && true) ≡ true
-    names_of true b h k = fit_of b k
-    names_of false b h k = cc
-
-    within : (f : Bool) → statement_within count (reset_statement f input st) ≡ true
-    within false = names_of (nat_le (input + 1) count) (statement_within count st) here r.names
-    within true = names_of (nat_le (input + 1) count) (statement_within count st) here r.names
+-- ---- its condition
 
 one_wide : (falls : Bool) (input : ℕ) → width (reset_condition falls input) ≡ 1
 one_wide false input = refl
@@ -101,8 +67,27 @@ reset_value true env c0 c1 input tc v = v
 
 pub condition_ready : (count : ℕ) (code : Coding) (falls : Bool) (input : ℕ) (st : Statement) → IsResetReady count code falls input st → IsReady (homes count) code (reset_condition falls input) 1
 condition_ready count code falls input st r =
-    subst (IsReady (homes count) code (reset_condition falls input)) (one_wide falls input)
-    (ready_if count (homes count) (homes count) code (reset_condition falls input) st Empty (reset_ready count code falls input st r))
+    subst (IsReady (homes count) code (reset_condition falls input)) (one_wide falls input) (record {
+      is_env = homes_env count code.next r.temps;
+      has_bits = subst (λ (k : ℕ). names_within k (reset_condition falls input) ≡ true) (sym (length-range_with_len 4 count)) (named falls);
+      fit = fits falls;
+      wide = omega arith;
+      at_most_64 = omega (arith, one_wide falls input);
+      light = omega (arith, r.light);
+      slots = omega (arith, r.slots);
+      few = omega (arith, r.few);
+    })
+  where
+    fits : (f : Bool) → is_fit (reset_condition f input) ≡ true
+    fits false = refl
+    fits true = refl
+
+    here : nat_le (input + 1) count ≡ true
+    here = let l : input + 1 ≤ count = omega (arith, r.there) in grind arith
+
+    named : (f : Bool) → names_within count (reset_condition f input) ≡ true
+    named false = here
+    named true = here
 
 name_value : (count : ℕ) (code : Coding) (input : ℕ) (slot : List ℕ) → input < count → slot ≡ (4 + input) ∷ [] → IsReady (homes count) code (Name (reset_signal input)) 1
     → AddsValue (homes count) code.calls code.next code.calls code.next (Name (reset_signal input)) 1 false slot
@@ -166,18 +151,28 @@ reset_gives r falls input st s is =
 -- ---- what its parts need and give
 
 -- the calls so far, before the join: in the slots `env` the bits have what they have after the branch
-pub record Resetting (count : ℕ) (falls : Bool) (input : ℕ) (st : Statement) (c0 c1 c2 : Coding) (tc now1 later1 env bits : List ℕ) : Type 0 where
+pub record Resetting (count : ℕ) (falls : Bool) (input : ℕ) (st : Statement) (c0 c1 c2 : Coding) (tc env bits : List ℕ) : Type 0 where
   pub ready : IsResetReady count c0 falls input st
   pub value : AddsValue (homes count) c0.calls c0.next c1.calls c1.next (reset_condition falls input) 1 false tc
-  pub adds : AddsBlock count c1 c2 st now1 later1
-  pub next : IsNext count c1.next st adds.calls env c2.next
+  pub adds : AddsNext count c1 c2 st env
   pub rising : IsStrictlyIncreasing bits
   pub same_bits : (b : ℕ) → contains bits b ≡ contains (statement_bits st) b
 
 pub branch_ready : (count : ℕ) (falls : Bool) (input : ℕ) (st : Statement) (c0 c1 : Coding) (tc : List ℕ) → IsResetReady count c0 falls input st
-    → AddsValue (homes count) c0.calls c0.next c1.calls c1.next (reset_condition falls input) 1 false tc → IsStatementReady count (homes count) (homes count) c1 st
+    → AddsValue (homes count) c0.calls c0.next c1.calls c1.next (reset_condition falls input) 1 false tc → IsNextReady count c1 st
 branch_ready count falls input st c0 c1 tc r v =
-    ready_yes count (homes count) (homes count) c0 c1 (reset_condition falls input) st Empty tc (reset_ready count c0 falls input st r) (reset_value falls (homes count) c0 c1 input tc v)
+    let w = reset_value falls (homes count) c0 c1 input tc v in
+    let a = w.value.values.added in
+    let total = total_of c0 c1 w.calls w.is in
+    record {
+      temps = omega (arith, r.temps, a.grown);
+      inside = r.inside;
+      names = r.names;
+      fit = r.fit;
+      light = omega (arith, r.light);
+      slots = omega (arith, r.slots, a.paid, a.stores);
+      few = omega (arith, r.few, total, a.stores);
+    }
 
 -- what the calls weigh
 pub reset_weight : (falls : Bool) (input : ℕ) (st : Statement) (bits : List ℕ) → length bits ≤ distinct (statement_bits st)
@@ -186,7 +181,7 @@ reset_weight falls input st bits most =
     let same : distinct (statement_bits st ++ []) ≡ distinct (statement_bits st) = ap distinct (append-nil (statement_bits st)) in
     omega (arith, most, same)
 
-module _ (count : ℕ) (falls : Bool) (input : ℕ) (st : Statement) (c0 c1 c2 : Coding) (tc now1 later1 env bits : List ℕ) (t : Resetting count falls input st c0 c1 c2 tc now1 later1 env bits) where
+module _ (count : ℕ) (falls : Bool) (input : ℕ) (st : Statement) (c0 c1 c2 : Coding) (tc env bits : List ℕ) (t : Resetting count falls input st c0 c1 c2 tc env bits) where
   bits_few : length bits ≤ distinct (statement_bits st)
   bits_few = distinct_most (statement_bits st) bits (rising_once bits t.rising) (λ b h. sym (t.same_bits b) ∙ h)
 
@@ -197,7 +192,7 @@ module _ (count : ℕ) (falls : Bool) (input : ℕ) (st : Statement) (c0 c1 c2 :
   condition_value = reset_value falls (homes count) c0 c1 input tc t.value
 
   before_added : AreAdded c0.next (condition_value.calls ++ t.adds.calls) c2.next (weight (reset_condition falls input) (width (reset_condition falls input)) + statement_weight st)
-  before_added = added_more c0.next condition_value.calls c1.next (weight (reset_condition falls input) (width (reset_condition falls input))) t.adds.calls c2.next (statement_weight st) condition_value.value.values.added t.adds.done.added
+  before_added = added_more c0.next condition_value.calls c1.next (weight (reset_condition falls input) (width (reset_condition falls input))) t.adds.calls c2.next (statement_weight st) condition_value.value.values.added t.adds.added
 
   before_grown : HasGrown c0 c2 (weight (reset_condition falls input) (width (reset_condition falls input)) + statement_weight st)
   before_grown =
@@ -210,9 +205,9 @@ module _ (count : ℕ) (falls : Bool) (input : ℕ) (st : Statement) (c0 c1 c2 :
   reset_fork : IsFork env (homes count) bits c2.next
   reset_fork =
       record {
-        long = t.next.long ∙ sym (length-range_with_len 4 count);
-        same = λ b out. t.next.kept b (sym (t.same_bits b) ∙ out);
-        below1 = t.next.below;
+        long = t.adds.next.long ∙ sym (length-range_with_len 4 count);
+        same = λ b out. t.adds.next.kept b (sym (t.same_bits b) ∙ out);
+        below1 = t.adds.next.below;
         below2 = (homes_env count c2.next (omega (arith, t.ready.temps, before_grown.grown))).below;
       }
 
@@ -222,7 +217,7 @@ module _ (count : ℕ) (falls : Bool) (input : ℕ) (st : Statement) (c0 c1 c2 :
   pub reset_joins : (differing_bits bits (picked env bits) (homes count) ≡ [] → ⊥) → CanJoin env (homes count) (differing_bits bits (picked env bits) (homes count)) tc c2
   reset_joins =
       can_join env (homes count) bits tc c2 reset_fork (All-weaker (λ b. b < count) (λ b. b < length (homes count)) (λ b l. omega (arith, l, length-range_with_len 4 count)) bits reset_inside_bits)
-      (All-weaker (λ slot. slot < c1.next) (λ slot. slot < c2.next) (λ slot h. omega (arith, h, t.adds.done.added.grown)) tc condition_below)
+      (All-weaker (λ slot. slot < c1.next) (λ slot. slot < c2.next) (λ slot h. omega (arith, h, t.adds.added.grown)) tc condition_below)
       (omega (arith, condition_value.value.length, one_wide falls input)) (omega (arith, condition_value.value.length, one_wide falls input))
       (omega (arith, t.ready.slots, before_grown.slots, reset_few_differ, reset_weight falls input st bits bits_few))
       (omega (arith, t.ready.few, before_grown.stores, reset_few_differ, reset_weight falls input st bits bits_few))
@@ -232,7 +227,7 @@ module _ (count : ℕ) (falls : Bool) (input : ℕ) (st : Statement) (c0 c1 c2 :
     reset_merges : Merges env (homes count) tc c2 c3 env3 (length (differing_bits bits (picked env bits) (homes count)))
     reset_merges =
         merges env (homes count) bits tc env3 c2 c3 reset_fork
-        (All-weaker (λ slot. slot < c1.next) (λ slot. slot < c2.next) (λ slot h. omega (arith, h, t.adds.done.added.grown)) tc condition_below)
+        (All-weaker (λ slot. slot < c1.next) (λ slot. slot < c2.next) (λ slot h. omega (arith, h, t.adds.added.grown)) tc condition_below)
         (omega (arith, t.ready.temps, before_grown.grown)) reset_joins j
 
     pub reset_calls : List Call
@@ -260,10 +255,10 @@ module _ (count : ℕ) (falls : Bool) (input : ℕ) (st : Statement) (c0 c1 c2 :
         let homes0 = homes_env count c0.next t.ready.temps in
         let condition = condition_is (homes count) c0.next condition_value.calls tc c1.next (weight (reset_condition falls input) (width (reset_condition falls input))) cond condition_value.value.values in
         let h1 = holds_after (homes count) condition_value.calls c0.next before firsts.0 state homes0 condition.added.fresh firsts.1 h in
-        let h2 = holds_after (homes count) t.adds.calls c1.next firsts.0 parts.0 state (env_more (homes count) c0.next c1.next condition.added.grown homes0) t.adds.done.added.fresh firsts.2 h1 in
-        let is_cond : map parts.0 tc ≡ cond state = vector_stays t.adds.calls c1.next firsts.0 parts.0 tc t.adds.done.added.fresh firsts.2 condition.below ∙ condition.values before firsts.0 state h refl firsts.1 in
+        let h2 = holds_after (homes count) t.adds.calls c1.next firsts.0 parts.0 state (env_more (homes count) c0.next c1.next condition.added.grown homes0) t.adds.added.fresh firsts.2 h1 in
+        let is_cond : map parts.0 tc ≡ cond state = vector_stays t.adds.calls c1.next firsts.0 parts.0 tc t.adds.added.fresh firsts.2 condition.below ∙ condition.values before firsts.0 state h refl firsts.1 in
         subst (λ (s : N.State). Holds env3 after s) (reset_gives r falls input st state is)
-        (reset_merges.merged.values parts.0 after (cond state) (N.write_all state (N.flatten ((body st state).writes ∷ (body st state).updates))) state (t.next.values firsts.0 parts.0 state h1 firsts.2) h2 is_cond parts.2)
+        (reset_merges.merged.values parts.0 after (cond state) (N.write_all state (N.flatten ((body st state).writes ∷ (body st state).updates))) state (t.adds.next.values firsts.0 parts.0 state h1 firsts.2) h2 is_cond parts.2)
 
     reset_from : (b : ℕ) → b < count → (slice_index env3 b ≡ slice_index (homes count) b) ⊎ IsSource (homes count) c0.next [] (slice_index env3 b)
     reset_from b l = by (reset_merges.merged.from b (omega (arith, l, length-range_with_len 4 count)))
@@ -296,15 +291,15 @@ module _ (count : ℕ) (falls : Bool) (input : ℕ) (st : Statement) (c0 c1 c2 :
           few = omega (arith, r.few, total, cost, most, a.stores, w);
         }
 
-pub adds_reset : (l : Layout) (r : N.Reset) (p : Process) (falls : Bool) (input : ℕ) (st : Statement) (c0 c1 c2 c3 c4 : Coding) (tc now1 later1 env bits env3 : List ℕ)
-    → l.first_temp ≡ c0.next → IsResetOf r falls input st → HasResetRoom p falls input st → Resetting l.bits falls input st c0 c1 c2 tc now1 later1 env bits
+pub adds_reset : (l : Layout) (r : N.Reset) (p : Process) (falls : Bool) (input : ℕ) (st : Statement) (c0 c1 c2 c3 c4 : Coding) (tc env bits env3 : List ℕ)
+    → l.first_temp ≡ c0.next → IsResetOf r falls input st → HasResetRoom p falls input st → Resetting l.bits falls input st c0 c1 c2 tc env bits
     → IsJoined tc bits (picked env bits) (homes l.bits) env3 c2 c3 → c4.calls ≡ (c3.calls ++ home_copies l.bits bits env3) → AddsReset l (Some r) p c0.calls c4.calls
-adds_reset l r p falls input st c0 c1 c2 c3 c4 tc now1 later1 env bits env3 first is room t j added =
-    let home_ready = reset_goes_home l.bits falls input st c0 c1 c2 tc now1 later1 env bits t c3 env3 j in
-    let all = reset_calls l.bits falls input st c0 c1 c2 tc now1 later1 env bits t c3 env3 j in
-    let w = reset_weight falls input st bits (bits_few l.bits falls input st c0 c1 c2 tc now1 later1 env bits t) in
-    let done = subst (λ (m : ℕ). AreAdded m all c3.next (weight (reset_condition falls input) (width (reset_condition falls input)) + statement_weight st + length bits)) (sym first) (reset_added l.bits falls input st c0 c1 c2 tc now1 later1 env bits t c3 env3 j) in
-    let m = reset_merges l.bits falls input st c0 c1 c2 tc now1 later1 env bits t c3 env3 j in
+adds_reset l r p falls input st c0 c1 c2 c3 c4 tc env bits env3 first is room t j added =
+    let home_ready = reset_goes_home l.bits falls input st c0 c1 c2 tc env bits t c3 env3 j in
+    let all = reset_calls l.bits falls input st c0 c1 c2 tc env bits t c3 env3 j in
+    let w = reset_weight falls input st bits (bits_few l.bits falls input st c0 c1 c2 tc env bits t) in
+    let done = subst (λ (m : ℕ). AreAdded m all c3.next (weight (reset_condition falls input) (width (reset_condition falls input)) + statement_weight st + length bits)) (sym first) (reset_added l.bits falls input st c0 c1 c2 tc env bits t c3 env3 j) in
+    let m = reset_merges l.bits falls input st c0 c1 c2 tc env bits t c3 env3 j in
     let js = moved l.bits bits env3 in
     let once = rising_once bits t.rising in
     let inside = home_ready.inside in
@@ -323,11 +318,11 @@ adds_reset l r p falls input st c0 c1 c2 c3 c4 tc now1 later1 env bits env3 firs
     let home_run = home_is l.bits l.first_temp all env3 js (λ s. N.write_all s (N.flatten (reset_effects (Some r) s))) low done.fresh long inside_js
     (λ b k out. by_test (contains bits b)
     (λ h. sym (bits_alike (homes l.bits) bits env3 b h out) ∙ home_at l.bits b k)
-    (λ h. m.merged.kept b (t.next.kept b (sym (t.same_bits b) ∙ h)) ∙ home_at l.bits b k))
-    (λ before last constants called. reset_values l.bits falls input st c0 c1 c2 tc now1 later1 env bits t c3 env3 j r is before last (bits_of before) (homes_hold l.bits before constants) called) in
+    (λ h. m.merged.kept b (t.adds.next.kept b (sym (t.same_bits b) ∙ h)) ∙ home_at l.bits b k))
+    (λ before last constants called. reset_values l.bits falls input st c0 c1 c2 tc env bits t c3 env3 j r is before last (bits_of before) (homes_hold l.bits before constants) called) in
     record {
       calls = all ++ cp;
-      is = added ∙ ap (λ (cs : List Call). c3.calls ++ cs) homes_are ∙ ap (λ (cs : List Call). cs ++ cp) (reset_is l.bits falls input st c0 c1 c2 tc now1 later1 env bits t c3 env3 j) ∙ append_assoc c0.calls all cp;
+      is = added ∙ ap (λ (cs : List Call). c3.calls ++ cs) homes_are ∙ ap (λ (cs : List Call). cs ++ cp) (reset_is l.bits falls input st c0 c1 c2 tc env bits t c3 env3 j) ∙ append_assoc c0.calls all cp;
       lowered = record {
         are_calls = All-append IsCall all cp done.are_calls (subst (All IsCall) homes_are home_ready.calls);
         stores = omega (arith, total, cost, few, done.stores, w, room.stores);
@@ -347,33 +342,32 @@ pub value_at : (n count : ℕ) (c0 c1 : Coding) (falls : Bool) (input : ℕ) (tc
     → AddsValue (homes n) c0.calls c0.next c1.calls c1.next (reset_condition falls input) 1 false tc
 value_at n count c0 c1 falls input tc k v = subst (λ (m : ℕ). AddsValue (homes m) c0.calls c0.next c1.calls c1.next (reset_condition falls input) 1 false tc) k v
 
-pub resetting_at : (n count : ℕ) (falls : Bool) (input : ℕ) (st : Statement) (c0 c1 c2 : Coding) (tc now1 later1 env bits : List ℕ) → count ≡ n → IsResetReady n c0 falls input st
-    → AddsValue (homes count) c0.calls c0.next c1.calls c1.next (reset_condition falls input) 1 false tc → (d : AddsBlock n c1 c2 st now1 later1) → IsNext n c1.next st d.calls env c2.next
-    → IsStrictlyIncreasing bits → ((b : ℕ) → contains bits b ≡ contains (statement_bits st) b) → Resetting n falls input st c0 c1 c2 tc now1 later1 env bits
-resetting_at n count falls input st c0 c1 c2 tc now1 later1 env bits k r value d next rising same = record {
+pub resetting_at : (n count : ℕ) (falls : Bool) (input : ℕ) (st : Statement) (c0 c1 c2 : Coding) (tc env bits : List ℕ) → count ≡ n → IsResetReady n c0 falls input st
+    → AddsValue (homes count) c0.calls c0.next c1.calls c1.next (reset_condition falls input) 1 false tc → AddsNext n c1 c2 st env
+    → IsStrictlyIncreasing bits → ((b : ℕ) → contains bits b ≡ contains (statement_bits st) b) → Resetting n falls input st c0 c1 c2 tc env bits
+resetting_at n count falls input st c0 c1 c2 tc env bits k r value d rising same = record {
   ready = r;
   value = value_at n count c0 c1 falls input tc k value;
   adds = d;
-  next = next;
   rising = rising;
   same_bits = same;
 }
 
-pub reset_inside : (n : ℕ) (falls : Bool) (input : ℕ) (st : Statement) (c0 c1 c2 : Coding) (tc now1 later1 env bits : List ℕ) → Resetting n falls input st c0 c1 c2 tc now1 later1 env bits
+pub reset_inside : (n : ℕ) (falls : Bool) (input : ℕ) (st : Statement) (c0 c1 c2 : Coding) (tc env bits : List ℕ) → Resetting n falls input st c0 c1 c2 tc env bits
     → (long : ℕ) → long ≡ n → (bs : List ℕ) → bs ≡ bits → All (λ b. b < long) bs
-reset_inside n falls input st c0 c1 c2 tc now1 later1 env bits t long e bs eb =
+reset_inside n falls input st c0 c1 c2 tc env bits t long e bs eb =
     subst (All (λ b. b < long)) (sym eb) (All-weaker (λ b. b < n) (λ b. b < long) (λ b l. omega (arith, l, e)) bits (all_in n bits (λ b h. t.ready.inside b (sym (t.same_bits b) ∙ h))))
 
-pub reset_few : (n : ℕ) (falls : Bool) (input : ℕ) (st : Statement) (c0 c1 c2 : Coding) (tc now1 later1 env bits : List ℕ) → Resetting n falls input st c0 c1 c2 tc now1 later1 env bits → (bs : List ℕ) → bs ≡ bits → length bs < 2 ^ 32
-reset_few n falls input st c0 c1 c2 tc now1 later1 env bits t bs eb =
+pub reset_few : (n : ℕ) (falls : Bool) (input : ℕ) (st : Statement) (c0 c1 c2 : Coding) (tc env bits : List ℕ) → Resetting n falls input st c0 c1 c2 tc env bits → (bs : List ℕ) → bs ≡ bits → length bs < 2 ^ 32
+reset_few n falls input st c0 c1 c2 tc env bits t bs eb =
     let most = distinct_most (statement_bits st) bits (rising_once bits t.rising) (λ b h. sym (t.same_bits b) ∙ h) in
     omega (arith, most, t.ready.slots, ap (λ (xs : List ℕ). length xs) eb)
 
-pub reset_callable : (n : ℕ) (falls : Bool) (input : ℕ) (st : Statement) (c0 c1 c2 : Coding) (tc now1 later1 env bits : List ℕ) → Resetting n falls input st c0 c1 c2 tc now1 later1 env bits
+pub reset_callable : (n : ℕ) (falls : Bool) (input : ℕ) (st : Statement) (c0 c1 c2 : Coding) (tc env bits : List ℕ) → Resetting n falls input st c0 c1 c2 tc env bits
     → (bs fs homes_now : List ℕ) → bs ≡ bits → fs ≡ picked env bits → homes_now ≡ homes n → IsJoinable tc bs fs homes_now c2
-reset_callable n falls input st c0 c1 c2 tc now1 later1 env bits t bs fs homes_now eb ef ee =
+reset_callable n falls input st c0 c1 c2 tc env bits t bs fs homes_now eb ef ee =
     subst (λ (x : List ℕ). IsJoinable tc x fs homes_now c2) (sym eb) (subst (λ (x : List ℕ). IsJoinable tc bits fs x c2) (sym ee)
-    (join_callable env (homes n) bits tc fs c2 ef (reset_joins n falls input st c0 c1 c2 tc now1 later1 env bits t)))
+    (join_callable env (homes n) bits tc fs c2 ef (reset_joins n falls input st c0 c1 c2 tc env bits t)))
 
 pub joined_as : (n : ℕ) (tc bits env env3 : List ℕ) (c2 c3 : Coding) (bs fs homes_now : List ℕ) → bs ≡ bits → fs ≡ picked env bits → homes_now ≡ homes n → IsJoined tc bs fs homes_now env3 c2 c3 → IsJoined tc bits (picked env bits) (homes n) env3 c2 c3
 joined_as n tc bits env env3 c2 c3 bs fs homes_now eb ef ee j =

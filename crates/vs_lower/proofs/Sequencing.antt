@@ -82,7 +82,7 @@ chain_bits [] = refl
 chain_bits (x ∷ []) = append-nil (statement_bits x)
 chain_bits (x ∷ y ∷ ys) = ap (λ bs. statement_bits x ++ bs) (chain_bits (y ∷ ys))
 
-chain_weight : (xs : List Statement) → statement_weight (chain xs) ≡ statement_weight (sequence xs)
+pub chain_weight : (xs : List Statement) → statement_weight (chain xs) ≡ statement_weight (sequence xs)
 chain_weight [] = refl
 chain_weight (x ∷ []) = omega arith
 chain_weight (x ∷ y ∷ ys) = ap (λ n. statement_weight x + n) (chain_weight (y ∷ ys))
@@ -101,12 +101,12 @@ with_true : (b : Bool) → (b && true) ≡ b
 with_true true = refl
 with_true false = refl
 
-chain_fits : (xs : List Statement) → fits_statement (chain xs) ≡ fits_statement (sequence xs)
+pub chain_fits : (xs : List Statement) → fits_statement (chain xs) ≡ fits_statement (sequence xs)
 chain_fits [] = refl
 chain_fits (x ∷ []) = with_true (fits_statement x)
 chain_fits (x ∷ y ∷ ys) = ap (λ b. fits_statement x && b) (chain_fits (y ∷ ys))
 
-chain_within : (n : ℕ) (xs : List Statement) → statement_within n (chain xs) ≡ statement_within n (sequence xs)
+pub chain_within : (n : ℕ) (xs : List Statement) → statement_within n (chain xs) ≡ statement_within n (sequence xs)
 chain_within n [] = refl
 chain_within n (x ∷ []) = with_true (statement_within n x)
 chain_within n (x ∷ y ∷ ys) = ap (λ b. statement_within n x && b) (chain_within n (y ∷ ys))

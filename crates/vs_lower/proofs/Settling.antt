@@ -146,11 +146,11 @@ joined_append (x ∷ z ∷ zs) (y ∷ ys) v s l m =
     flip : (j k : ℕ) (u : BitList) → drop k (take (j + k) u) ≡ take j (drop k u)
     flip j k u = let z : j + k ≡ k + j = omega arith in ap (λ n. drop k (take n u)) z ∙ drop-take k j u
 
-joined_width : (ts : List Target) → 1 ≤ length ts → target_width (joined_target ts) ≡ sum_by target_width ts
+pub joined_width : (ts : List Target) → 1 ≤ length ts → target_width (joined_target ts) ≡ sum_by target_width ts
 joined_width [] l = absurd (omega arith)
 joined_width (t ∷ ts) l = width_joined t ts
 
-joined_writes : (t : Target) (v : BitList) (s : N.State) → target_writes t v s ≡ target_writes (joined_target (leaves_of t)) v s
+pub joined_writes : (t : Target) (v : BitList) (s : N.State) → target_writes t v s ≡ target_writes (joined_target (leaves_of t)) v s
 joined_writes (Whole signal) v s = refl
 joined_writes (PartOf signal part index) v s = refl
 joined_writes (WordOf signal index) v s = refl
@@ -166,10 +166,10 @@ by_some : (P : List Target → Type 0) (ts : List Target) → 1 ≤ length ts �
 by_some P [] l f = absurd (omega arith)
 by_some P (x ∷ xs) l f = f x xs
 
-same_bits : (t : Target) → target_bits t ≡ target_bits (joined_target (leaves_of t))
+pub same_bits : (t : Target) → target_bits t ≡ target_bits (joined_target (leaves_of t))
 same_bits t = leaf_bits t ∙ by_some (λ ts. flat_map target_bits ts ≡ target_bits (joined_target ts)) (leaves_of t) (some_leaf t) (λ x xs. sym (joined_bits x xs))
 
-same_indices : (t : Target) (s : N.State) → index_values t s ≡ index_values (joined_target (leaves_of t)) s
+pub same_indices : (t : Target) (s : N.State) → index_values t s ≡ index_values (joined_target (leaves_of t)) s
 same_indices t s = leaf_indices t s ∙ by_some (λ ts. flat_map (λ x. index_values x s) ts ≡ index_values (joined_target ts) s) (leaves_of t) (some_leaf t) (λ x xs. sym (joined_indices x xs s))
 
 -- what is written to the parts is written to the target

@@ -429,7 +429,7 @@ sleeper_ready d law within light writes fit lawful count counted unmixed code p 
     let above = is.above in
     let below = is.below in
     record {
-      block = block_is_ready d law within light fit lawful count counted unmixed code p place star events st at (omega (arith, above, below)) slots (λ y h. let q = few y h in omega (arith, q));
+      block = block_is_ready d law within light fit lawful count counted unmixed code p place star events st at (asleep_combinational d place star events st asleep) (omega (arith, above, below)) slots (λ y h. let q = few y h in omega (arith, q));
       mask_is = is;
       waits_are = bits;
       bit = one.0;

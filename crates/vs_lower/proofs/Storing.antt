@@ -171,7 +171,7 @@ ready_to_write known now env code one t e most leaves tis tv are inside f ie nam
 
 -- ---- an update
 
-source_is : (now bits : List ℕ) (m slot : ℕ) → IsSource now m bits slot → IsNew m slot ⊎ ((b : ℕ) × (b < length now) × (slot ≡ slice_index now b))
+pub source_is : (now bits : List ℕ) (m slot : ℕ) → IsSource now m bits slot → IsNew m slot ⊎ ((b : ℕ) × (b < length now) × (slot ≡ slice_index now b))
 source_is now bits m slot (inl h) = inl (inl h)
 source_is now bits m slot (inr (inl h)) = inl (inr h)
 source_is now bits m slot (inr (inr h)) = by_test (nat_lt h.0 (length now)) (λ e. inr (h.0, lt_is h.0 (length now) e, sym h.2)) (λ e. inl (inl (past now h.0 slot (ge_is h.0 (length now) e) h.2)))

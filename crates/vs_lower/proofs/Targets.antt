@@ -85,17 +85,17 @@ fixed_written env mark target signal index at ti tv q e below fixed within =
 
 -- ---- several, the high ones first
 
-map_take : {A B : Type 0} (f : A → B) (n : ℕ) (xs : List A) → map f (take n xs) ≡ take n (map f xs)
+pub map_take : {A B : Type 0} (f : A → B) (n : ℕ) (xs : List A) → map f (take n xs) ≡ take n (map f xs)
 map_take f zero xs = refl
 map_take f (suc n) [] = refl
 map_take f (suc n) (x ∷ xs) = ap (λ ys. f x ∷ ys) (map_take f n xs)
 
-map_drop : {A B : Type 0} (f : A → B) (n : ℕ) (xs : List A) → map f (drop n xs) ≡ drop n (map f xs)
+pub map_drop : {A B : Type 0} (f : A → B) (n : ℕ) (xs : List A) → map f (drop n xs) ≡ drop n (map f xs)
 map_drop f zero xs = refl
 map_drop f (suc n) [] = refl
 map_drop f (suc n) (x ∷ xs) = map_drop f n xs
 
-in_take : (n : ℕ) (xs : List ℕ) (x : ℕ) → Contains (take n xs) x → Contains xs x
+pub in_take : (n : ℕ) (xs : List ℕ) (x : ℕ) → Contains (take n xs) x → Contains xs x
 in_take n xs x c = All-contains (Contains xs) (take n xs) x (All-take (Contains xs) n xs (λ k d l. (k, l, at xs k d x l))) c
   where
     at : (ys : List ℕ) (k d e : ℕ) → k < length ys → get_or ys k (get_or ys k d) ≡ get_or ys k d
@@ -108,7 +108,7 @@ in_take n xs x c = All-contains (Contains xs) (take n xs) x (All-take (Contains 
         other (z ∷ zs) zero e f m = refl
         other (z ∷ zs) (suc k) e f m = other zs k e f (omega arith)
 
-split_vectors : (xs ys us vs : List BitList) → length xs ≡ length us → (xs ++ ys) ≡ (us ++ vs) → (xs ≡ us) × (ys ≡ vs)
+pub split_vectors : (xs ys us vs : List BitList) → length xs ≡ length us → (xs ++ ys) ≡ (us ++ vs) → (xs ≡ us) × (ys ≡ vs)
 split_vectors [] ys [] vs l h = (refl, h)
 split_vectors [] ys (u ∷ us) vs l h = absurd (omega arith)
 split_vectors (x ∷ xs) ys [] vs l h = absurd (omega arith)

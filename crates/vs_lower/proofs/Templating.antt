@@ -1,5 +1,5 @@
 -- A function's statement lowered: what its lowering needs, and what comes of it.
-use Rattle.std.proofs.Common.{◌≡◌, ℕ, zero, suc, ◌+◌, ◌<◌, ◌≤◌, ◌^◌, Bool, true, false, ◌&&◌, ◌||◌, ◌==◌, if◌then◌else◌, List, [], ◌∷◌, ◌++◌, map, length, replicate, slice_get, slice_index, sum_by, Option, Some, sym, ap, ◌∙◌, subst, refl, arith, eqb-true}
+use Rattle.std.proofs.Common.{◌≡◌, ℕ, zero, suc, ◌+◌, ◌<◌, ◌≤◌, Bool, true, false, ◌&&◌, ◌||◌, ◌==◌, if◌then◌else◌, List, [], ◌∷◌, ◌++◌, map, length, replicate, slice_get, slice_index, sum_by, Option, Some, sym, ap, ◌∙◌, subst, refl, arith, eqb-true}
 use Rattle.std.specs.List.{All, list_all}
 use Rattle.std.proofs.lemmas.List.{length-append, length-map, length-replicate}
 use Rattle.std.proofs.lemmas.List.Elements.{All-nil, All-cons, All-append, All-replicate}
@@ -11,7 +11,7 @@ use Rattle.vs_four.specs.Selects.{places}
 use Rattle.vs_net.specs.Network as N
 use Rattle.vs_design.specs.Designs.{Design}
 use Rattle.vs_design.specs.Elaborated.{IsLawfulDesign, have_bits_from, inside, is_formed_function, is_formed_header, is_formed_statement, is_nil}
-use Rattle.vs_design.specs.Expressions.{Signal, signal_length, Expression, Header, is_constant, local_signals, sign}
+use Rattle.vs_design.specs.Expressions.{Signal, signal_length, Header, is_constant, local_signals, sign}
 use Rattle.vs_design.specs.Fits.{fits_64, fits_arms, fits_statement, fits_target, fit_items, is_fit}
 use Rattle.vs_design.specs.Footprints.{arms_bits, contains, somes, statement_bits, target_bits, addressed_bits}
 use Rattle.vs_design.specs.Rules.{mixed_in}
@@ -25,18 +25,18 @@ use Rattle.vs_flat.specs.Arena.{Arena, body_at}
 use Rattle.vs_flat.specs.DesignOf.{arena_statements, arena_trees, callee_of, design_of, statement_in}
 use Rattle.vs_flat.specs.Trees.{tree_at}
 use Rattle.vs_shape.specs.Bodies.{body_of}
-use Rattle.vs_code.specs.Calls.{Call, State, AreCalled, length_of}
+use Rattle.vs_code.specs.Calls.{Call, AreCalled, length_of}
 use Rattle.vs_program.specs.Lowered.{home}
-use Rattle.vs_values.specs.Added.{AreAdded, Holds, IsEnv, vectors}
+use Rattle.vs_values.specs.Added.{AreAdded, IsEnv}
 use Rattle.vs_values.specs.Coded.{Coding}
-use Rattle.vs_values.specs.Environments.{homes, local_slots}
-use Rattle.vs_values.specs.Templates.{IsTemplate, function_at, input_bits, other_bits, result_value, slots_at_call}
+use Rattle.vs_values.specs.Environments.{homes}
+use Rattle.vs_values.specs.Templates.{IsTemplate, function_at, input_bits, other_bits, slots_at_call}
 use Rattle.vs_values.specs.declared.templates.Template.{Template}
 use Rattle.vs_values.proofs.Lists.{range_below}
 use Rattle.vs_values.proofs.Named.{all_run, length_count}
 use Rattle.vs_values.proofs.Values.{both_true}
 use Rattle.vs_lower.proofs.Apart.{unmixed_apart}
-use Rattle.vs_lower.specs.Stated.{AddsStatement, AreInside, IsStatementReady}
+use Rattle.vs_lower.specs.Stated.{AddsStatement, IsStatementReady}
 use Rattle.vs_lower.proofs.Joining.{picked, picked_are, picked_below}
 use Rattle.vs_lower.proofs.Partwise.{fit_part, part_selecting, somes_within, word_selecting, word_part_within}
 use Rattle.vs_lower.proofs.Placing.{by_test}
@@ -64,7 +64,7 @@ in_either xs ys b h f g =
     let both : contains (xs ++ ys) b ≡ (contains xs b || contains ys b) = list_any-append _ xs ys in
     by_test (contains xs b) f (λ e. g (sym (both ∙ ap (λ q. q || contains ys b) e) ∙ h))
 
-target_inside : (n : ℕ) (t : Target) → fits_target t ≡ true → target_within n t ≡ true → (b : ℕ) → contains (target_bits t) b ≡ true → b < n
+pub target_inside : (n : ℕ) (t : Target) → fits_target t ≡ true → target_within n t ≡ true → (b : ℕ) → contains (target_bits t) b ≡ true → b < n
 target_inside n (Whole s) f w b h = signal_inside n s w b h
 target_inside n (PartOf s part index) f w b h =
     let p = fit_part s part index f in

@@ -1,13 +1,14 @@
 -- The tests of an arm's items, one after the other.
-use Rattle.std.proofs.Common.{◌≡◌, ℕ, zero, suc, ◌+◌, ◌<◌, ◌≤◌, ◌^◌, Bool, true, List, [], ◌∷◌, ◌++◌, length, take, get_or, sym, ap, ◌∙◌, subst, arith, append-nil, append_assoc}
+use Rattle.std.proofs.Common.{◌≡◌, ℕ, zero, suc, ◌+◌, ◌<◌, ◌≤◌, ◌^◌, Bool, true, List, [], ◌∷◌, ◌++◌, length, take, get_or, sym, ap, ◌∙◌, subst, arith, append-nil, append_assoc, length-append}
 use Rattle.std.specs.List.{All, range_with_len}
 use Rattle.std.proofs.lemmas.List.{take_more}
+use Rattle.std.proofs.lemmas.List.Sums.{sum_by-append, sum_by-cons}
 use Rattle.std.proofs.lemmas.List.Elements.{All-nil, All-cons, All-weaker}
 use Rattle.vs_design.specs.Expressions.{Expression, items_of}
 use Rattle.vs_design.specs.Sizes.{weight, items_weight}
 use Rattle.vs_design.specs.Statements.{CaseKind}
 use Rattle.vs_code.specs.Kernels.{takes}
-use Rattle.vs_code.specs.Calls.{Call, length_of}
+use Rattle.vs_code.specs.Calls.{Call, call_cost, length_of}
 use Rattle.vs_values.specs.Added.{fresh_call}
 use Rattle.vs_lower.specs.Cases.{matches_of, match_kernel}
 use Rattle.vs_values.specs.Coded.{Coding, with_call}
@@ -38,7 +39,7 @@ so_far env subject code one kind w s items ms a =
 
 pub no_tests : (env subject : List ℕ) (code : Coding) (kind : CaseKind) (w : ℕ) (s : Bool) (ms : List ℕ) → ms ≡ [] → AddsTests env subject code code kind w s [] ms
 no_tests env subject code kind w s ms e =
-    subst (AddsTests env subject code code kind w s []) (sym e) (record { calls = []; is = sym (append-nil code.calls); condition = λ sv. tests_none env subject sv code.next kind w s })
+    subst (AddsTests env subject code code kind w s []) (sym e) (record { calls = []; is = sym (append-nil code.calls); few = omega arith; condition = λ sv. tests_none env subject sv code.next kind w s })
 
 pub ready_item : (env subject : List ℕ) (code one : Coding) (kind : CaseKind) (w : ℕ) (s : Bool) (items : List Expression) (ms : List ℕ) (n : ℕ) (d : Expression) → n < length items
     → AreTestsReady env subject code items w → AddsTests env subject code one kind w s (take n items) ms → IsReady env one (get_or items n d) w
@@ -92,6 +93,7 @@ adds_test env subject code one two three kind w s items ms te to n d l r a v cal
     let all : AddsTests env subject code (with_call two (match_kernel kind) (subject ∷ te ∷ []) 1) kind w s (take n items ++ e ∷ []) (ms ++ range_with_len two.next 1) = record {
       calls = calls;
       is = ap (λ (x : List Call). x ++ one_call ∷ []) (v.is ∙ ap (λ (x : List Call). x ++ v.calls) a.is ∙ append_assoc code.calls a.calls v.calls) ∙ append_assoc code.calls (a.calls ++ v.calls) (one_call ∷ []);
+      few = omega (arith, sum_by-append call_cost (a.calls ++ v.calls) (one_call ∷ []), sum_by-append call_cost a.calls v.calls, sum_by-cons call_cost one_call [], match_cost kind subject te two.next, added.stores, a.few, items_more (take n items) e w, r.some, length-append (take n items) (e ∷ []));
       condition = λ sv.
           subst (λ (k : ℕ). IsCondition env subject sv code.next calls (ms ++ range_with_len two.next 1) (two.next + 1) k (λ state. matches_of kind w s (sv state) (take n items ++ e ∷ []) state)) total
           (tests_more env subject sv code.next kind w s (take n items) e a.calls ms one.next (items_weight (items_of (take n items)) w) v.calls te two.next (weight e w) r.is_env r.below r.long r.some (omega (arith, r.at_most_64))

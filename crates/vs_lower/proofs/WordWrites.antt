@@ -1,5 +1,5 @@
 -- Writes to parts of words of memories.
-use Rattle.std.proofs.Common.{◌≡◌, ℕ, zero, suc, ◌+◌, ◌*◌, ◌<◌, ◌≤◌, ◌^◌, Bool, true, false, ◌&&◌, ◌==◌, nat_le, if◌then◌else◌, List, [], ◌∷◌, ◌++◌, map, length, replicate, slice_index, get_or, Option, Some, None, sym, ap, ◌∙◌, subst, refl, arith, append-nil, zero-add, true≢false, ◌⊎◌, inl, inr, Result, Ok, Err}
+use Rattle.std.proofs.Common.{◌≡◌, ℕ, zero, suc, ◌+◌, ◌*◌, ◌<◌, ◌≤◌, ◌^◌, Bool, true, false, ◌&&◌, ◌==◌, nat_le, if◌then◌else◌, List, [], ◌∷◌, ◌++◌, map, length, take, drop, replicate, slice_index, get_or, Option, Some, None, sym, ap, ◌∙◌, subst, refl, arith, append-nil, zero-add, true≢false, ◌⊎◌, inl, inr, Result, Ok, Err}
 use Rattle.std.specs.Prelude.{option_map, OnOk}
 use Rattle.std.specs.List.{All, Contains, range_with_len}
 use Rattle.std.proofs.lemmas.List.{map-append, length-map}
@@ -14,7 +14,7 @@ use Rattle.vs_four.specs.Selects.{Part, range_length, at_place, places, write_pl
 use Rattle.vs_net.specs.Network.{State, Write, write_all}
 use Rattle.vs_design.specs.Expressions.{Signal, signal_length, word_length, addresses, Expression, width, sign, is_constant}
 use Rattle.vs_design.specs.Values.{bits_of_signal, count_from, own_value, constant_value, address_place, spread, select_word}
-use Rattle.vs_design.specs.Statements.{Target, PartOf, WordPartOf}
+use Rattle.vs_design.specs.Statements.{Target, PartOf, WordOf, WordPartOf}
 use Rattle.vs_design.specs.Bodies.{bits_at, pair_up, target_writes}
 use Rattle.vs_design.specs.Fits.{fits_target, is_fit, fits_word_part}
 use Rattle.vs_design.specs.Footprints.{contains, somes, target_bits}
@@ -36,7 +36,7 @@ use Rattle.vs_values.specs.Made.{IsCallable, word_kernel}
 use Rattle.vs_lower.specs.Done.{index_values, IsWritten}
 use Rattle.vs_lower.specs.Parts.{those_there, bits_there, column_bits}
 use Rattle.vs_lower.specs.Written.{HasRoom, IsIndex, AddsWrites, write_weight}
-use Rattle.vs_values.proofs.Adding.{called_parts, one_called, added_call, added_none, added_more, added_within, holds_after, vector_stays, is_fresh_call, env_more}
+use Rattle.vs_values.proofs.Adding.{called_parts, one_called, added_call, added_none, added_more, added_within, holds_after, vector_stays, is_fresh_call}
 use Rattle.vs_values.proofs.Environments.{placed_length}
 use Rattle.vs_values.proofs.Folding.{bits_are}
 use Rattle.vs_values.proofs.Lists.{range_below, range_from}
@@ -48,9 +48,10 @@ use Rattle.vs_values.proofs.Values.{both_true}
 use Rattle.vs_values.proofs.Wording.{place_less, memory_long, word_ends, word_cost, word_pays}
 use Rattle.vs_lower.proofs.Columns.{map_there, there_long, pair_there, all_there, few_places, all_of, in_all, columns_long, columns_in, column_written}
 use Rattle.vs_lower.proofs.Joining.{picked, picked_are}
-use Rattle.vs_lower.proofs.Partwise.{IsFitWordPart, fit_word_part, fixed_adds, part_selecting, word_selecting, part_writer, part_takes, can_write, CanWrite, called_adds, somes_within, word_within}
+use Rattle.vs_lower.proofs.Partwise.{IsFitWordPart, fit_word_part, part_few, part_pays, words_pay, fixed_adds, part_selecting, word_selecting, part_writer, part_takes, can_write, CanWrite, called_adds, somes_within, word_within}
 use Rattle.vs_lower.proofs.Placing.{placed_all, placed_holds, placed_other, placed_from, written_as}
 use Rattle.vs_lower.proofs.Targets.{IsWithin, places_within, select_writes, length_places}
+use Rattle.vs_lower.proofs.Widths.{fixed_length}
 use Rattle.vs_lower.proofs.Wordwise.{run_from}
 
 -- ---- calls of the same arguments
@@ -137,38 +138,43 @@ part_in_word signal part index n b r c = at (is_constant index) refl
 pub record IsAddressed (signal : Signal) (address : Expression) (part : Part) (ta : List ℕ) (n : ℕ) : Type 0 where
   pub range : range_length part.range ≡ word_length signal
   pub fixed : AreConstant ta
+  pub some : 1 ≤ length ta
   pub known : IsIndex address ta
   pub place : address_place signal (sign address) (constant_bits ta) ≡ Some n
 
 both_fixed : (a b c : Bool) → a ≡ c → (a && b) ≡ (c && b)
 both_fixed a b c h = ap (λ (x : Bool). x && b) h
 
-inside_part : PartsOfWord → (signal : Signal) (address : Expression) (part : Part) (index : Expression) (ta : List ℕ) (n b : ℕ) → IsAddressed signal address part ta n
-    → contains (target_bits (WordPartOf signal address part index)) b ≡ false → contains (target_bits (PartOf (word_at signal n) part index)) b ≡ false
-inside_part law signal address part index ta n b o out = at (is_constant address) (is_constant index) refl refl
+-- by a constant address the part has the bits of the part of the word by itself
+same_part : PartsOfWord → (signal : Signal) (address : Expression) (part : Part) (index : Expression) (ta : List ℕ) (n : ℕ) → IsAddressed signal address part ta n → is_constant address ≡ true
+    → target_bits (WordPartOf signal address part index) ≡ target_bits (PartOf (word_at signal n) part index)
+same_part law signal address part index ta n o e = at (is_constant index) refl
   where
-    same : is_constant address ≡ true → address_place signal (sign address) (constant_value address) ≡ Some n
-    same e = ap (address_place signal (sign address)) (sym (o.known.fixed e)) ∙ o.place
+    same : address_place signal (sign address) (constant_value address) ≡ Some n
+    same = ap (address_place signal (sign address)) (sym (o.known.fixed e)) ∙ o.place
 
-    at : (p q : Bool) → is_constant address ≡ p → is_constant index ≡ q → contains (target_bits (PartOf (word_at signal n) part index)) b ≡ false
-    at true true e f =
+    at : (q : Bool) → is_constant index ≡ q → target_bits (WordPartOf signal address part index) ≡ target_bits (PartOf (word_at signal n) part index)
+    at true f =
         let s = part_selecting (word_at signal n) part index o.range in
-        let are : target_bits (WordPartOf signal address part index) ≡ target_bits (PartOf (word_at signal n) part index) =
         part_constant signal address part index (both_fixed (is_constant address) (is_constant index) true e ∙ f)
-        ∙ ap somes (law signal (sign address) (constant_value address) part (sign index) (constant_value index) n o.range (same e))
-        ∙ sym (s.fixed f) in
-        ap (λ (bs : List ℕ). contains bs b) (sym are) ∙ out
-    at true false e f =
+        ∙ ap somes (law signal (sign address) (constant_value address) part (sign index) (constant_value index) n o.range same)
+        ∙ sym (s.fixed f)
+    at false f =
         let s = part_selecting (word_at signal n) part index o.range in
         let w = word_selecting signal address in
-        let are : target_bits (WordPartOf signal address part index) ≡ target_bits (PartOf (word_at signal n) part index) =
         part_variable signal address part index (both_fixed (is_constant address) (is_constant index) true e ∙ f)
         ∙ w.fixed e
-        ∙ ap (λ (p : Option ℕ). somes (bits_at signal (spread (word_length signal) p))) (same e)
+        ∙ ap (λ (p : Option ℕ). somes (bits_at signal (spread (word_length signal) p))) same
         ∙ word_bits signal n
-        ∙ sym (s.varied f) in
-        ap (λ (bs : List ℕ). contains bs b) (sym are) ∙ out
-    at false q e f =
+        ∙ sym (s.varied f)
+
+inside_part : PartsOfWord → (signal : Signal) (address : Expression) (part : Part) (index : Expression) (ta : List ℕ) (n b : ℕ) → IsAddressed signal address part ta n
+    → contains (target_bits (WordPartOf signal address part index)) b ≡ false → contains (target_bits (PartOf (word_at signal n) part index)) b ≡ false
+inside_part law signal address part index ta n b o out = at (is_constant address) refl
+  where
+    at : (p : Bool) → is_constant address ≡ p → contains (target_bits (PartOf (word_at signal n) part index)) b ≡ false
+    at true e = ap (λ (bs : List ℕ). contains bs b) (sym (same_part law signal address part index ta n o e)) ∙ out
+    at false e =
         let w = word_selecting signal address in
         let are : target_bits (WordPartOf signal address part index) ≡ bits_of_signal signal = part_variable signal address part index (both_fixed (is_constant address) (is_constant index) false e) ∙ w.varied e in
         let gone : contains (bits_of_signal signal) b ≡ false = ap (λ (bs : List ℕ). contains bs b) (sym are) ∙ out in
@@ -213,10 +219,47 @@ weighs_less signal address part index n = behind (if is_constant address then 0 
     behind : (x y : ℕ) → y ≤ x + y
     behind x y = omega arith
 
+-- what a part of a word weighs, and how many bits it has
+weight_varied : (signal : Signal) (address : Expression) (part : Part) (index : Expression) (n : ℕ) → is_constant address ≡ false
+    → write_weight (WordPartOf signal address part index) ≡ address_weight signal (width address) + write_weight (PartOf (word_at signal n) part index)
+weight_varied signal address part index n e = ap (λ (b : Bool). (if b then 0 else address_weight signal (width address)) + write_weight (PartOf (word_at signal n) part index)) e
+
+memory_bits : (signal : Signal) (address : Expression) (part : Part) (index : Expression) → is_constant address ≡ false → length (target_bits (WordPartOf signal address part index)) ≡ signal_length signal
+memory_bits signal address part index e =
+    let w = word_selecting signal address in
+    ap (λ (bs : List ℕ). length bs) (part_variable signal address part index (both_fixed (is_constant address) (is_constant index) false e) ∙ w.varied e) ∙ length_count signal.first (signal_length signal)
+
+bits_pay : (signal : Signal) (address : Expression) (part : Part) (index : Expression) → fits_target (WordPartOf signal address part index) ≡ true
+    → length (target_bits (WordPartOf signal address part index)) ≤ part.width + write_weight (WordPartOf signal address part index)
+bits_pay signal address part index f = at (is_constant address) (is_constant index) refl refl
+  where
+    p : IsFitWordPart signal address part index
+    p = fit_word_part signal address part index f
+
+    at : (a i : Bool) → is_constant address ≡ a → is_constant index ≡ i → length (target_bits (WordPartOf signal address part index)) ≤ part.width + write_weight (WordPartOf signal address part index)
+    at true true e h = omega (arith, fixed_length (WordPartOf signal address part index) (both_fixed (is_constant address) (is_constant index) true e ∙ h))
+    at true false e h =
+        let bits = ap (λ (bs : List ℕ). length bs) (part_variable signal address part index (both_fixed (is_constant address) (is_constant index) true e ∙ h)) in
+        let few = fixed_length (WordOf signal address) e in
+        let weighs : write_weight (WordPartOf signal address part index) ≡ (if is_constant address then 0 else address_weight signal (width address)) + part.width * (range_length part.range * (width index + 1)) =
+        ap (λ (b : Bool). (if is_constant address then 0 else address_weight signal (width address)) + (if b then 0 else part.width * (range_length part.range * (width index + 1)))) h in
+        omega (arith, bits, few, weighs, part_pays (range_length part.range) part.width (width index) p.some, p.range)
+    at false i e h = omega (arith, memory_bits signal address part index e, weight_varied signal address part index 0 e, word_pays signal (width address) p.address_some)
+
+few_as : PartsOfWord → (signal : Signal) (address : Expression) (part : Part) (index : Expression) (ta : List ℕ) (n stores : ℕ) → IsAddressed signal address part ta n → 1 ≤ width address → stores ≤ write_weight (PartOf (word_at signal n) part index)
+    → stores + length (target_bits (PartOf (word_at signal n) part index)) ≤ part.width + write_weight (PartOf (word_at signal n) part index)
+    → stores + length (target_bits (WordPartOf signal address part index)) ≤ part.width + write_weight (WordPartOf signal address part index)
+few_as law signal address part index ta n stores o some most few = at (is_constant address) refl
+  where
+    at : (a : Bool) → is_constant address ≡ a → stores + length (target_bits (WordPartOf signal address part index)) ≤ part.width + write_weight (WordPartOf signal address part index)
+    at true e = omega (arith, few, ap (λ (bs : List ℕ). length bs) (same_part law signal address part index ta n o e), weighs_less signal address part index n)
+    at false e = omega (arith, most, memory_bits signal address part index e, weight_varied signal address part index n e, word_pays signal (width address) some)
+
 adds_as : ValueLength → PartsOfWord → (env env_after : List ℕ) (code after : Coding) (signal : Signal) (address : Expression) (part : Part) (index : Expression) (ta ti tv : List ℕ) (n : ℕ) → IsAddressed signal address part ta n
     → AddsWrites env env_after code after (PartOf (word_at signal n) part index) (ti ∷ []) tv (write_weight (PartOf (word_at signal n) part index))
     → AddsWrites env env_after code after (WordPartOf signal address part index) ((ta ++ ti) ∷ []) tv (write_weight (WordPartOf signal address part index))
 adds_as law words env env_after code after signal address part index ta ti tv n o w = record {
+  few = λ h. few_as words signal address part index ta n (length_of w.calls) o (omega (arith, o.some, o.known.long)) w.written.added.stores (w.few (λ x. x));
   calls = w.calls;
   is = w.is;
   written = as_word_part law words env env_after code.next after.next (write_weight (PartOf (word_at signal n) part index)) (write_weight (WordPartOf signal address part index)) signal address part index ta ti tv n w.calls o
@@ -225,14 +268,16 @@ adds_as law words env env_after code after signal address part index ta ti tv n 
 
 -- and a constant index
 pub fixed_in_word : ValueLength → PartsOfWord → (env env_after : List ℕ) (code : Coding) (signal : Signal) (address : Expression) (part : Part) (index : Expression) (ta ti tv : List ℕ) (n : ℕ) → IsAddressed signal address part ta n
+    → fits_target (WordPartOf signal address part index) ≡ true
     → HasRoom env code (write_weight (WordPartOf signal address part index)) → All (λ slot. slot < code.next) tv → AreConstant ti → IsIndex index ti
     → env_after ≡ placed env (bits_at (word_at signal n) (places part (sign index) (constant_bits ti))) tv
     → AddsWrites env env_after code code (WordPartOf signal address part index) ((ta ++ ti) ∷ []) tv (write_weight (WordPartOf signal address part index))
-fixed_in_word law words env env_after code signal address part index ta ti tv n o r below c i is =
+fixed_in_word law words env env_after code signal address part index ta ti tv n o f r below c i is =
     let word = word_at signal n in
+    let few = part_few word part index (fits_in_word signal address part index n f) 0 (is_constant index) refl (λ e. refl) (omega arith) in
     adds_as law words env env_after code code signal address part index ta ti tv n o
     (fixed_adds env env_after code (PartOf word part index) word index (places part (sign index)) ti tv (part_selecting word part index o.range)
-    (less_room env code (write_weight (WordPartOf signal address part index)) (write_weight (PartOf word part index)) (weighs_less signal address part index n) r) below c i is)
+    (less_room env code (write_weight (WordPartOf signal address part index)) (write_weight (PartOf word part index)) (weighs_less signal address part index n) r) below c i (omega (arith, few)) is)
 
 -- and a variable index
 pub can_in_word : (env : List ℕ) (code : Coding) (signal : Signal) (address : Expression) (part : Part) (index : Expression) (ti tv : List ℕ) (n : ℕ) → fits_target (WordPartOf signal address part index) ≡ true
@@ -266,15 +311,17 @@ nowhere : PartsOfNone → (signal : Signal) (address : Expression) (part : Part)
 nowhere law signal address part index state vs e =
     ap (λ (ps : List (Option ℕ)). pair_up ps vs) (law signal (sign address) (own_value address state) part (sign index) (own_value index state) e) ∙ no_pairs part.width vs
 
-pub nothing_added : (env : List ℕ) (code : Coding) (signal : Signal) (address : Expression) (part : Part) (index : Expression) (tis : List (List ℕ)) (tv : List ℕ) (most : ℕ) → IsEnv env code.next
+pub nothing_added : (env : List ℕ) (code : Coding) (signal : Signal) (address : Expression) (part : Part) (index : Expression) (tis : List (List ℕ)) (tv : List ℕ) → IsEnv env code.next
+    → fits_target (WordPartOf signal address part index) ≡ true
     → ((before : C.State) (state base : State) → Holds env before base → vectors before tis ≡ index_values (WordPartOf signal address part index) state → target_writes (WordPartOf signal address part index) (map before tv) state ≡ [])
-    → AddsWrites env env code code (WordPartOf signal address part index) tis tv most
+    → AddsWrites env env code code (WordPartOf signal address part index) tis tv (write_weight (WordPartOf signal address part index))
 unfolding write_all
-nothing_added env code signal address part index tis tv most e none = record {
+nothing_added env code signal address part index tis tv e f none = record {
+  few = λ h. omega (arith, bits_pay signal address part index f);
   calls = [];
   is = sym (append-nil code.calls);
   written = record {
-    added = added_within code.next [] code.next 0 most (omega arith) (added_none code.next);
+    added = added_within code.next [] code.next 0 (write_weight (WordPartOf signal address part index)) (omega arith) (added_none code.next);
     is_env = e;
     same_length = refl;
     kept = λ b h. refl;
@@ -285,10 +332,10 @@ nothing_added env code signal address part index tis tv most e none = record {
   };
 }
 
-pub no_word_added : ValueLength → PartsOfNone → (env : List ℕ) (code : Coding) (signal : Signal) (address : Expression) (part : Part) (index : Expression) (ta ti tv : List ℕ) (most : ℕ) → IsEnv env code.next → AreConstant ta → IsIndex address ta
-    → address_place signal (sign address) (constant_bits ta) ≡ None → AddsWrites env env code code (WordPartOf signal address part index) ((ta ++ ti) ∷ []) tv most
-no_word_added law none env code signal address part index ta ti tv most e c i place =
-    nothing_added env code signal address part index ((ta ++ ti) ∷ []) tv most e (λ before state base h is.
+pub no_word_added : ValueLength → PartsOfNone → (env : List ℕ) (code : Coding) (signal : Signal) (address : Expression) (part : Part) (index : Expression) (ta ti tv : List ℕ) → IsEnv env code.next → fits_target (WordPartOf signal address part index) ≡ true → AreConstant ta → IsIndex address ta
+    → address_place signal (sign address) (constant_bits ta) ≡ None → AddsWrites env env code code (WordPartOf signal address part index) ((ta ++ ti) ∷ []) tv (write_weight (WordPartOf signal address part index))
+no_word_added law none env code signal address part index ta ti tv e f c i place =
+    nothing_added env code signal address part index ((ta ++ ti) ∷ []) tv e f (λ before state base h is.
     let known = known_parts law before state address index ta ti i.long is in
     nowhere none signal address part index state (map before tv) (ap (address_place signal (sign address)) (sym known.0 ∙ bits_are before ta h.constants c) ∙ place))
 
@@ -321,12 +368,12 @@ renewed env mark target tis tv most calls bits low n next e added l m within val
     new_from {x = x} (inr h) = inr (inr (All-contains (λ slot. mark ≤ slot) (range_with_len low n) x (range_from low n mark l) h))
 
 -- what is written by a variable address are bits of the whole memory
-all_bits : (signal : Signal) (address : Expression) (part : Part) (index : Expression) → is_constant address ≡ false → target_bits (WordPartOf signal address part index) ≡ bits_of_signal signal
+pub all_bits : (signal : Signal) (address : Expression) (part : Part) (index : Expression) → is_constant address ≡ false → target_bits (WordPartOf signal address part index) ≡ bits_of_signal signal
 all_bits signal address part index e =
     let w = word_selecting signal address in
     part_variable signal address part index (both_fixed (is_constant address) (is_constant index) false e) ∙ w.varied e
 
-nothing_placed : (a : BitList) (k : ℕ) (vs : BitList) → write_places a (replicate k None) vs ≡ a
+pub nothing_placed : (a : BitList) (k : ℕ) (vs : BitList) → write_places a (replicate k None) vs ≡ a
 nothing_placed a zero vs = refl
 nothing_placed a (suc k) [] = refl
 nothing_placed a (suc k) (v ∷ vs) = nothing_placed a k vs
@@ -336,11 +383,11 @@ nothing_placed a (suc k) (v ∷ vs) = nothing_placed a k vs
 abbrev pub word_writer_kernel : Signal → Bool → AnyKernel
 word_writer_kernel signal s = K.Select (S.WriteWord (record { range = addresses signal; signed = s }))
 
-word_operator : (signal : Signal) (s : Bool) (n : ℕ) (a x v : BitList) → operator_of (word_writer_kernel signal s) n (a ∷ x ∷ v ∷ []) ≡ write_places a (spread (length v) (address_place signal s x)) v
+pub word_operator : (signal : Signal) (s : Bool) (n : ℕ) (a x v : BitList) → operator_of (word_writer_kernel signal s) n (a ∷ x ∷ v ∷ []) ≡ write_places a (spread (length v) (address_place signal s x)) v
 word_operator signal s n a x v = refl
 
 -- the write of a word of the memory of the columns
-abbrev index_places : Part → Expression → State → List (Option ℕ)
+abbrev pub index_places : Part → Expression → State → List (Option ℕ)
 index_places part index state = places part (sign index) (own_value index state)
 
 abbrev columns_after : Signal → Expression → State → State → List (Option ℕ) → BitList → BitList
@@ -523,6 +570,7 @@ module _ (env : List ℕ) (code : Coding) (signal : Signal) (address : Expressio
         let written = renewed env code.next target ((ta ++ ti) ∷ []) tv most (column_call ∷ []) stored code.next n (code.next + n) o.room.is_env added (omega arith) (omega arith) out column_is in
         record {
           calls = column_call ∷ [];
+          few = λ h. omega (arith, sum_by-cons call_cost column_call [], cost, few_stored, memory_bits signal address part index varies, weight_varied signal address part index 0 varies, memory_long signal, words_pay (range_length (addresses signal)) (width address) (word_length signal));
           is = ap (λ (x : Coding). x.calls) call;
           written = subst (λ (m : ℕ). IsWritten env code.next target ((ta ++ ti) ∷ []) tv most (column_call ∷ []) env_after m) (sym (ap (λ (x : Coding). x.next) call))
               (subst (λ (x : List ℕ). IsWritten env code.next target ((ta ++ ti) ∷ []) tv most (column_call ∷ []) x (code.next + n)) (sym is) written);
@@ -531,7 +579,7 @@ module _ (env : List ℕ) (code : Coding) (signal : Signal) (address : Expressio
     -- where nothing of the part is in the word, nothing is written
     pub no_columns_add : those_there (places part (sign index) (constant_bits ti)) tv ≡ [] → AddsWrites env env code code (WordPartOf signal address part index) ((ta ++ ti) ∷ []) tv (write_weight (WordPartOf signal address part index))
     no_columns_add gone =
-        nothing_added env code signal address part index ((ta ++ ti) ∷ []) tv (write_weight (WordPartOf signal address part index)) o.room.is_env (λ before state base h is.
+        nothing_added env code signal address part index ((ta ++ ti) ∷ []) tv o.room.is_env o.fit (λ before state base h is.
         let known = known_parts law before state address index ta ti o.addressed.long is in
         let index_is : constant_bits ti ≡ own_value index state = sym (bits_are before ti h.constants o.fixed) ∙ known.1 in
         let left : those_there (places part (sign index) (own_value index state)) (map before tv) ≡ [] =
@@ -569,13 +617,13 @@ pick_run {A} other f first len m (suc k) h =
     one first (suc len) (suc m) h = let z : suc first + m ≡ first + suc m = omega arith in one (suc first) len m (omega arith) ∙ ap f z
 
 -- a word that is changed and written again
-abbrev word_changed : Signal → Expression → State → State → List (Option ℕ) → BitList → BitList
+abbrev pub word_changed : Signal → Expression → State → State → List (Option ℕ) → BitList → BitList
 word_changed signal address state base ps vs = write_places (select_word signal (sign address) (map base (bits_of_signal signal)) (own_value address state)) ps vs
 
-abbrev memory_after : Signal → Expression → State → State → BitList → BitList
+abbrev pub memory_after : Signal → Expression → State → State → BitList → BitList
 memory_after signal address state base v = write_places (map base (bits_of_signal signal)) (spread (length v) (address_place signal (sign address) (own_value address state))) v
 
-changed_values : PartsOfWord → PartsOfNone → (signal : Signal) (address : Expression) (part : Part) (index : Expression) (state base : State) (vs : BitList) (b : ℕ) → range_length part.range ≡ word_length signal
+pub changed_values : PartsOfWord → PartsOfNone → (signal : Signal) (address : Expression) (part : Part) (index : Expression) (state base : State) (vs : BitList) (b : ℕ) → range_length part.range ≡ word_length signal
     → write_all base (pair_up (map Some (bits_of_signal signal)) (memory_after signal address state base (word_changed signal address state base (index_places part index state) vs))) b ≡ write_all base (target_writes (WordPartOf signal address part index) vs state) b
 unfolding write_all
 changed_values law none signal address part index state base vs b r = at (address_place signal (sign address) (own_value address state)) refl
@@ -624,6 +672,18 @@ changed_values law none signal address part index state base vs b r = at (addres
 read_takes : (n m i k : ℕ) → n ≡ m → 1 ≤ i → 1 ≤ k → (n == m && nat_le 1 i && nat_le 1 k) ≡ true
 read_takes n m i k e h l = grind arith
 
+take_front : (n : ℕ) (xs ys : List ℕ) → length xs ≡ n → take n (xs ++ ys) ≡ xs
+take_front zero [] ys e = refl
+take_front zero (x ∷ xs) ys e = absurd (omega (arith, e))
+take_front (suc n) [] ys e = absurd (omega (arith, e))
+take_front (suc n) (x ∷ xs) ys e = ap (λ (zs : List ℕ). x ∷ zs) (take_front n xs ys (omega (arith, e)))
+
+drop_front : (n : ℕ) (xs ys : List ℕ) → length xs ≡ n → drop n (xs ++ ys) ≡ ys
+drop_front zero [] ys e = refl
+drop_front zero (x ∷ xs) ys e = absurd (omega (arith, e))
+drop_front (suc n) [] ys e = absurd (omega (arith, e))
+drop_front (suc n) (x ∷ xs) ys e = drop_front n xs ys (omega (arith, e))
+
 -- what the three calls need
 pub record IsVaried (env : List ℕ) (code : Coding) (signal : Signal) (address : Expression) (part : Part) (index : Expression) (ta ti tv : List ℕ) : Type 0 where
   pub fit : fits_target (WordPartOf signal address part index) ≡ true
@@ -657,6 +717,12 @@ module _ (env : List ℕ) (code : Coding) (signal : Signal) (address : Expressio
   abbrev pub after_change : Coding
   after_change = with_call after_read change (range_with_len code.next (word_length signal) ∷ ti ∷ tv ∷ []) (word_length signal)
 
+  -- the calls of the word read, and changed
+  abbrev pub change_calls : List Call
+  change_calls =
+      fresh_call (word_kernel signal (sign address)) (picked env (bits_of_signal signal) ∷ ta ∷ []) code.next (word_length signal)
+      ∷ fresh_call change (range_with_len code.next (word_length signal) ∷ ti ∷ tv ∷ []) (code.next + word_length signal) (word_length signal) ∷ []
+
   abbrev read_call : Call
   read_call = fresh_call (word_kernel signal (sign address)) (picked env (bits_of_signal signal) ∷ ta ∷ []) code.next (word_length signal)
 
@@ -666,16 +732,16 @@ module _ (env : List ℕ) (code : Coding) (signal : Signal) (address : Expressio
   abbrev store_call : Call
   store_call = fresh_call (word_writer_kernel signal (sign address)) (under ∷ ta ∷ changed ∷ []) ((code.next + word_length signal) + word_length signal) (signal_length signal)
 
-  fit_is : IsFitWordPart signal address part index
+  pub fit_is : IsFitWordPart signal address part index
   fit_is = fit_word_part signal address part index o.fit
 
-  address_varies : is_constant address ≡ false
+  pub address_varies : is_constant address ≡ false
   address_varies = not_true (is_constant address) (λ h. o.variable (o.addressed.constant h))
 
   index_varies : is_constant index ≡ false
   index_varies = not_true (is_constant index) (λ h. o.index_variable (o.indexed.constant h))
 
-  some_word : 1 ≤ word_length signal
+  pub some_word : 1 ≤ word_length signal
   some_word = omega (arith, fit_is.range, range_is_some part.range)
 
   memory_some : (d k : ℕ) → 1 ≤ d → k ≤ d * k
@@ -691,7 +757,7 @@ module _ (env : List ℕ) (code : Coding) (signal : Signal) (address : Expressio
   change_pays p n i h l = grind arith
 
   -- the weight has room for all three
-  total : (word_length signal + signal_length signal) + (word_length signal + signal_length signal) ≤ write_weight (WordPartOf signal address part index)
+  pub total : (word_length signal + signal_length signal) + (word_length signal + signal_length signal) ≤ write_weight (WordPartOf signal address part index)
   total =
       let d = range_length (addresses signal) in
       let is : write_weight (WordPartOf signal address part index) ≡ address_weight signal (width address) + part.width * (range_length part.range * (width index + 1)) =
@@ -699,16 +765,22 @@ module _ (env : List ℕ) (code : Coding) (signal : Signal) (address : Expressio
       ∙ ap (λ (b : Bool). address_weight signal (width address) + (if b then 0 else part.width * (range_length part.range * (width index + 1)))) index_varies in
       omega (arith, is, memory_long signal, twice_pays d (width address) (word_length signal), change_pays part.width (range_length part.range) (width index) fit_is.some fit_is.index_some, fit_is.range)
 
-  bits_inside : All (λ b. b < length env) (bits_of_signal signal)
+  varied_front : AreConstant (take (width address) (ta ++ ti)) → ⊥
+  varied_front h = o.variable (subst AreConstant (take_front (width address) ta ti o.addressed.long) h)
+
+  varied_back : AreConstant (drop (width address) (ta ++ ti)) → ⊥
+  varied_back h = o.index_variable (subst AreConstant (drop_front (width address) ta ti o.addressed.long) h)
+
+  pub bits_inside : All (λ b. b < length env) (bits_of_signal signal)
   bits_inside = all_run signal.first (signal_length signal) (length env) o.inside
 
   more_below : (m n : ℕ) (xs : List ℕ) → m ≤ n → All (λ slot. slot < m) xs → All (λ slot. slot < n) xs
   more_below m n xs l h = All-weaker (λ slot. slot < m) (λ slot. slot < n) (λ slot k. omega arith) xs h
 
-  under_below : All (λ slot. slot < code.next) under
+  pub under_below : All (λ slot. slot < code.next) under
   under_below = All-map (λ slot. slot < code.next) (slice_index env) (bits_of_signal signal) (All-weaker (λ b. b < length env) (λ b. slice_index env b < code.next) (λ b l. o.room.is_env.below b 0 l) (bits_of_signal signal) bits_inside)
 
-  under_long : length under ≡ signal_length signal
+  pub under_long : length under ≡ signal_length signal
   under_long = length-map (bits_of_signal signal) (slice_index env) ∙ length_count signal.first (signal_length signal)
 
   read_below : All (λ to. All (λ slot. slot < code.next) to) (under ∷ ta ∷ [])
@@ -745,7 +817,7 @@ module _ (env : List ℕ) (code : Coding) (signal : Signal) (address : Expressio
       let one : length_of (read_call ∷ []) ≡ call_cost read_call = sum_by-cons call_cost read_call [] ∙ omega arith in
       omega (arith, stores_of code.calls (read_call ∷ []) after_read.calls refl, one, read_cost)
 
-  change_stores : length_of after_change.calls ≡ length_of code.calls + ((word_length signal + signal_length signal) + word_length signal)
+  pub change_stores : length_of after_change.calls ≡ length_of code.calls + ((word_length signal + signal_length signal) + word_length signal)
   change_stores =
       let one : length_of (change_call ∷ []) ≡ call_cost change_call = sum_by-cons call_cost change_call [] ∙ omega arith in
       omega (arith, stores_of after_read.calls (change_call ∷ []) after_change.calls refl, one, change_cost, read_stores)
@@ -813,45 +885,58 @@ module _ (env : List ℕ) (code : Coding) (signal : Signal) (address : Expressio
     store_added =
         added_call (word_writer_kernel signal (sign address)) (under ∷ ta ∷ changed ∷ []) ((code.next + word_length signal) + word_length signal) (signal_length signal) (signal_length signal) store_callable.is store_below (omega (arith, store_cost)) (omega (arith, store_cost))
 
-    -- what a lane has in the new slots
-    stored_is : (before after : C.State) (state base : State) → Holds env before base → vectors before ((ta ++ ti) ∷ []) ≡ index_values (WordPartOf signal address part index) state → C.AreCalled (read_call ∷ change_call ∷ store_call ∷ []) before after
-        → (b : ℕ) → write_all base (pair_up (map Some (bits_of_signal signal)) (map after (range_with_len ((code.next + word_length signal) + word_length signal) (signal_length signal)))) b ≡ write_all base (target_writes (WordPartOf signal address part index) (map before tv) state) b
-    stored_is before after state base h is called b =
+    pub change_calls_added : AreAdded code.next change_calls ((code.next + word_length signal) + word_length signal) ((word_length signal + signal_length signal) + word_length signal)
+    change_calls_added =
+        added_more code.next (read_call ∷ []) (code.next + word_length signal) (word_length signal + signal_length signal) (change_call ∷ []) ((code.next + word_length signal) + word_length signal) (word_length signal) read_added change_added
+
+    -- what a lane has in the slots of the changed word
+    pub change_is : (before after : C.State) (state base : State) → Holds env before base → vectors before ((ta ++ ti) ∷ []) ≡ index_values (WordPartOf signal address part index) state → C.AreCalled change_calls before after
+        → map after changed ≡ word_changed signal address state base (index_places part index state) (map before tv)
+    change_is before after state base h is called =
         let bits = bits_of_signal signal in
         let k = word_length signal in
-        let one = code.next + k in
         let g = sign address in
-        let p = called_parts (read_call ∷ []) (change_call ∷ store_call ∷ []) before after called in
+        let p = called_parts (read_call ∷ []) (change_call ∷ []) before after called in
         let m1 = p.0 in
-        let q = called_parts (change_call ∷ []) (store_call ∷ []) m1 after p.2 in
-        let m2 = q.0 in
         let known = known_parts law before state address index ta ti o.addressed.long is in
-        let h1 = holds_after env (read_call ∷ []) code.next before m1 base o.room.is_env read_added.fresh p.1 h in
-        let h2 = holds_after env (change_call ∷ []) one m1 m2 base (env_more env code.next one (omega arith) o.room.is_env) change_added.fresh q.1 h1 in
         let stays : (xs : List ℕ) → All (λ slot. slot < code.next) xs → map m1 xs ≡ map before xs = λ xs below. vector_stays (read_call ∷ []) code.next before m1 xs read_added.fresh p.1 below in
-        let address_is : map m2 ta ≡ own_value address state = vector_stays (change_call ∷ []) one m1 m2 ta change_added.fresh q.1 (more_below code.next one ta (omega arith) o.address_below) ∙ stays ta o.address_below ∙ known.0 in
         let index_is : map m1 ti ≡ own_value index state = stays ti o.index_below ∙ known.1 in
-        let vs = map before tv in
         let av = own_value address state in
         let iv = own_value index state in
         let W = select_word signal g (map base bits) av in
-        let V = write_places W (places part (sign index) iv) vs in
         let read_is : map m1 word ≡ W =
         (one_called read_call before m1 p.1).value
         ∙ ap (λ (n : ℕ). operator_of (word_kernel signal g) n (map before under ∷ map before ta ∷ [])) (length-range_with_len code.next k)
         ∙ ap (λ (a : BitList). select_word signal g a (map before ta)) (picked_are env before base bits bits_inside h)
         ∙ ap (select_word signal g (map base bits)) known.0 in
-        let changed_is : map m2 changed ≡ V =
-        (one_called change_call m1 m2 q.1).value
+        (one_called change_call m1 after p.2).value
         ∙ ap (λ (n : ℕ). write_places (map m1 word) (places (record { range = part.range; up = part.up; width = n }) (sign index) (map m1 ti)) (map m1 tv)) (length-map tv m1 ∙ o.long)
         ∙ ap (λ (a : BitList). write_places a (places part (sign index) (map m1 ti)) (map m1 tv)) read_is
         ∙ ap (λ (x : BitList). write_places W (places part (sign index) x) (map m1 tv)) index_is
-        ∙ ap (write_places W (places part (sign index) iv)) (stays tv o.value_below) in
-        let value_is : map after (range_with_len (one + k) (signal_length signal)) ≡ write_places (map base bits) (spread (length V) (address_place signal g av)) V =
-        (one_called store_call m2 after q.2).value
-        ∙ word_operator signal g (length (range_with_len (one + k) (signal_length signal))) (map m2 under) (map m2 ta) (map m2 changed)
-        ∙ ap (λ (a : BitList). write_places a (spread (length (map m2 changed)) (address_place signal g (map m2 ta))) (map m2 changed)) (picked_are env m2 base bits bits_inside h2)
-        ∙ ap (λ (x : BitList). write_places (map base bits) (spread (length (map m2 changed)) (address_place signal g x)) (map m2 changed)) address_is
+        ∙ ap (write_places W (places part (sign index) iv)) (stays tv o.value_below)
+
+    -- what it has in the new slots
+    stored_is : (before after : C.State) (state base : State) → Holds env before base → vectors before ((ta ++ ti) ∷ []) ≡ index_values (WordPartOf signal address part index) state → C.AreCalled (read_call ∷ change_call ∷ store_call ∷ []) before after
+        → (b : ℕ) → write_all base (pair_up (map Some (bits_of_signal signal)) (map after (range_with_len ((code.next + word_length signal) + word_length signal) (signal_length signal)))) b ≡ write_all base (target_writes (WordPartOf signal address part index) (map before tv) state) b
+    stored_is before after state base h is called b =
+        let bits = bits_of_signal signal in
+        let k = word_length signal in
+        let low = (code.next + k) + k in
+        let g = sign address in
+        let p = called_parts change_calls (store_call ∷ []) before after called in
+        let mid = p.0 in
+        let known = known_parts law before state address index ta ti o.addressed.long is in
+        let held = holds_after env change_calls code.next before mid base o.room.is_env change_calls_added.fresh p.1 h in
+        let address_is : map mid ta ≡ own_value address state = vector_stays change_calls code.next before mid ta change_calls_added.fresh p.1 o.address_below ∙ known.0 in
+        let vs = map before tv in
+        let av = own_value address state in
+        let V = word_changed signal address state base (index_places part index state) vs in
+        let changed_is : map mid changed ≡ V = change_is before mid state base h is p.1 in
+        let value_is : map after (range_with_len low (signal_length signal)) ≡ write_places (map base bits) (spread (length V) (address_place signal g av)) V =
+        (one_called store_call mid after p.2).value
+        ∙ word_operator signal g (length (range_with_len low (signal_length signal))) (map mid under) (map mid ta) (map mid changed)
+        ∙ ap (λ (a : BitList). write_places a (spread (length (map mid changed)) (address_place signal g (map mid ta))) (map mid changed)) (picked_are env mid base bits bits_inside held)
+        ∙ ap (λ (x : BitList). write_places (map base bits) (spread (length (map mid changed)) (address_place signal g x)) (map mid changed)) address_is
         ∙ ap (λ (v : BitList). write_places (map base bits) (spread (length v) (address_place signal g av)) v) changed_is in
         ap (λ (x : BitList). write_all base (pair_up (map Some bits) x) b) value_is
         ∙ changed_values words none signal address part index state base vs b fit_is.range
@@ -873,6 +958,7 @@ module _ (env : List ℕ) (code : Coding) (signal : Signal) (address : Expressio
         let written = renewed env code.next target ((ta ++ ti) ∷ []) tv most calls (bits_of_signal signal) low n (low + n) o.room.is_env added (omega arith) (omega arith) out stored_is in
         record {
           calls = calls;
+          few = λ h. absurd (h (varied_front, varied_back));
           is = two_added code.calls (read_call ∷ change_call ∷ []) (store_call ∷ []) after_change.calls after.calls (two_added code.calls (read_call ∷ []) (change_call ∷ []) after_read.calls after_change.calls refl refl) (ap (λ (x : Coding). x.calls) call);
           written = subst (λ (m : ℕ). IsWritten env code.next target ((ta ++ ti) ∷ []) tv most calls env_after m) (sym (ap (λ (x : Coding). x.next) call))
               (subst (λ (x : List ℕ). IsWritten env code.next target ((ta ++ ti) ∷ []) tv most calls x (low + n)) (sym is) written);

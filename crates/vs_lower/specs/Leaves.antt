@@ -47,6 +47,13 @@ leaf_target a (L.Word signal index) = WordOf (signal_at (arena_signals a) signal
 leaf_target a (L.WordPart signal address range up width index) =
     WordPartOf (signal_at (arena_signals a) signal) (tree_at (arena_trees a) address) (record { range = range; up = up; width = width }) (tree_at (arena_trees a) index)
 
+-- what it is a part of
+abbrev pub leaf_name : Leaf → Named
+leaf_name (L.Whole signal) = signal
+leaf_name (L.Select signal range up width index) = signal
+leaf_name (L.Word signal index) = N.Global signal
+leaf_name (L.WordPart signal address range up width index) = N.Global signal
+
 -- what it names is there, and its index calls functions that have been looked at alone
 abbrev pub IsInside : Templated → Leaf → Type 0
 IsInside t (L.Whole signal) = IsNamed t.arena signal

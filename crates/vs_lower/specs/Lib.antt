@@ -11,3 +11,5 @@ pub mod Stated
 pub mod Processed
 pub mod Resetting
 pub mod Asleep
+pub mod Unless
+pub mod Next

@@ -1,5 +1,5 @@
 -- What the lowering of a process needs and gives.
-use Rattle.std.specs.Prelude.{◌≡◌, ℕ, ◌+◌, ◌<◌, ◌≤◌, ◌^◌, true, false, List, [], ◌++◌, length, slice_index, is_some}
+use Rattle.std.specs.Prelude.{◌≡◌, ℕ, ◌+◌, ◌<◌, ◌≤◌, ◌^◌, true, false, List, ◌++◌, length, slice_index, is_some}
 use Rattle.vs_design.specs.Designs.{Process}
 use Rattle.vs_design.specs.Elaborated.{has_constant_selects}
 use Rattle.vs_design.specs.Expressions.{Expression}
@@ -42,13 +42,23 @@ pub record IsContinuousReady (bits : ℕ) (code : Coding) (target : Target) (e :
 
 -- ---- blocks
 
--- What the lowering of a block needs, in a design of as many bits: what it names are bits of the design, it writes none of them both by a blocking and by a nonblocking assignment (9.2), all of it fits, and there is room
+-- What the lowering of a combinational block needs, in a design of as many bits: what it names are bits of the design, it writes none of them both by a blocking and by a nonblocking assignment (9.2), all of it fits, and there is room
 pub record IsBlockReady (count : ℕ) (code : Coding) (st : Statement) : Type 0 where
   pub temps : home count ≤ code.next
   pub inside : AreInside count (statement_bits st)
   pub names : statement_within count st ≡ true
   pub fit : fits_statement st ≡ true
   pub apart : AreApart (blocking_bits st) (nonblocking_bits st)
+  pub light : statement_weight st ≤ 16777216
+  pub slots : code.next + (statement_weight st + distinct (statement_bits st)) < 2 ^ 32
+  pub few : length_of code.calls + (statement_weight st + distinct (statement_bits st)) ≤ 2 ^ 32
+
+-- the same of a clocked block, which may write a bit by both
+pub record IsClockedReady (count : ℕ) (code : Coding) (st : Statement) : Type 0 where
+  pub temps : home count ≤ code.next
+  pub inside : AreInside count (statement_bits st)
+  pub names : statement_within count st ≡ true
+  pub fit : fits_statement st ≡ true
   pub light : statement_weight st ≤ 16777216
   pub slots : code.next + (statement_weight st + distinct (statement_bits st)) < 2 ^ 32
   pub few : length_of code.calls + (statement_weight st + distinct (statement_bits st)) ≤ 2 ^ 32

@@ -6,14 +6,13 @@ use Rattle.vs_design.specs.Designs.{Process}
 use Rattle.vs_design.specs.Expressions.{Expression, LogicalNot, Name, Signal, Unary}
 use Rattle.vs_design.specs.Fits.{fits_statement}
 use Rattle.vs_design.specs.Footprints.{statement_bits}
-use Rattle.vs_design.specs.Races.{blocking_bits, nonblocking_bits}
 use Rattle.vs_design.specs.Sizes.{distinct, process_weight, statement_weight}
 use Rattle.vs_design.specs.Statements.{Statement, Empty, If}
 use Rattle.vs_design.specs.Within.{statement_within}
 use Rattle.vs_program.specs.Lowered.{IsLoweredReset, Layout, home, process_stores}
 use Rattle.vs_code.specs.Calls.{Call, length_of}
 use Rattle.vs_values.specs.Coded.{Coding}
-use Rattle.vs_lower.specs.Stated.{AreApart, AreInside}
+use Rattle.vs_lower.specs.Stated.{AreInside}
 
 -- a signal of the one bit of the reset's input
 abbrev pub reset_signal : ℕ → Signal
@@ -28,14 +27,13 @@ reset_condition true input = Unary LogicalNot (Name (reset_signal input))
 abbrev pub reset_statement : Bool → ℕ → Statement → Statement
 reset_statement falls input st = If (reset_condition falls input) st Empty
 
--- the input is a bit of the design, the branch writes bits of the design, none both by a blocking and by a nonblocking assignment, by assignments that fit, and there is room
+-- the input is a bit of the design, the branch writes bits of the design by assignments that fit, and there is room
 pub record IsResetReady (count : ℕ) (code : Coding) (falls : Bool) (input : ℕ) (st : Statement) : Type 0 where
   pub temps : home count ≤ code.next
   pub there : input < count
   pub inside : AreInside count (statement_bits st)
   pub names : statement_within count st ≡ true
   pub fit : fits_statement st ≡ true
-  pub apart : AreApart (blocking_bits st) (nonblocking_bits st)
   pub light : statement_weight (reset_statement falls input st) ≤ 16777216
   pub slots : code.next + (statement_weight (reset_statement falls input st) + distinct (statement_bits st)) < 2 ^ 32
   pub few : length_of code.calls + (statement_weight (reset_statement falls input st) + distinct (statement_bits st)) ≤ 2 ^ 32

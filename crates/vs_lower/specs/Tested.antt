@@ -31,4 +31,6 @@ pub record AreTestsReady (env subject : List ℕ) (code : Coding) (items : List 
 pub record AddsTests (env subject : List ℕ) (old new : Coding) (kind : CaseKind) (w : ℕ) (s : Bool) (items : List Expression) (ms : List ℕ) : Type 0 where
   pub calls : List Call
   pub is : new.calls ≡ old.calls ++ calls
+  -- a store more for each item is no more than they weigh
+  pub few : length_of calls + length items ≤ items_weight (items_of items) w
   pub condition : (sv : N.State → BitList) → IsCondition env subject sv old.next calls ms new.next (items_weight (items_of items) w) (λ state. matches_of kind w s (sv state) items state)

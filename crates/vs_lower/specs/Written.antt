@@ -4,8 +4,9 @@ use Rattle.std.specs.List.{flat_map}
 use Rattle.vs_four.specs.Selects.{range_length}
 use Rattle.vs_design.specs.Expressions.{Expression, width, sign, is_constant}
 use Rattle.vs_design.specs.Values.{constant_value}
-use Rattle.vs_design.specs.Statements.{Target, PartOf, WordOf, WordPartOf, target_width}
+use Rattle.vs_design.specs.Statements.{Target, PartOf, WordOf, WordPartOf, Both, target_width}
 use Rattle.vs_design.specs.Fits.{fits_target, is_fit}
+use Rattle.vs_design.specs.Footprints.{target_bits}
 use Rattle.vs_design.specs.Sizes.{weight, address_weight}
 use Rattle.vs_design.specs.Within.{names_within, target_within}
 use Rattle.vs_code.specs.Calls.{Call, length_of}
@@ -106,8 +107,16 @@ pub record IsWriteReady (t : Templated) (env : List ℕ) (code : Coding) (leaves
   pub indices_below : All (λ ti. All (λ slot. slot < code.next) ti) indices
   pub indexed : AreIndexed (map (leaf_target t.arena) leaves) indices
 
+-- A part of a word whose address and index are both in slots that aren't all constants': the write reads the word, and weighs too little for a store more for each bit of the memory. Of concatenations nothing is said.
+abbrev pub IsVariedPart : Target → List (List ℕ) → Type 0
+IsVariedPart (WordPartOf signal address part index) (ti ∷ []) = (AreConstant (take (width address) ti) → ⊥) × (AreConstant (drop (width address) ti) → ⊥)
+IsVariedPart (Both high low) tis = Unit {0}
+IsVariedPart target tis = ⊥
+
 -- what is added for the write of a value, in the slots `tv`, to a target whose indices are in the slots `tis`
 pub record AddsWrites (env env_after : List ℕ) (old new : Coding) (target : Target) (tis : List (List ℕ)) (tv : List ℕ) (most : ℕ) : Type 0 where
   pub calls : List Call
   pub is : new.calls ≡ old.calls ++ calls
   pub written : IsWritten env old.next target tis tv most calls env_after new.next
+  -- a store more for each bit of the target is no more than its length and this weight
+  pub few : (IsVariedPart target tis → ⊥) → length_of calls + length (target_bits target) ≤ target_width target + most

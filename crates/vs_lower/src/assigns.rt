@@ -101,14 +101,14 @@ pub(crate) fn owned(
 
 /// The parts of a target, with the slots of their indices, and of the value that is written.
 #[derive(Drop)]
-struct Operands {
-    leaves: Vec<Leaf>,
-    at: Vec<List<u32>>,
-    value: Vec<u32>,
+pub(crate) struct Operands {
+    pub leaves: Vec<Leaf>,
+    pub at: Vec<List<u32>>,
+    pub value: Vec<u32>,
 }
 
 /// Adds the calls of an assignment's right side and of its target's indices.
-fn lower_operands(
+pub(crate) fn lower_operands(
     alloc: Global,
     templates: &Templates,
     target: u32,

@@ -22,7 +22,11 @@ use vs_shape::ascend;
 use vs_values::{Code, Environment, Templates};
 
 /// The bits that a target writes, in ascending order and each once.
-fn target_written(alloc: Global, templates: &Templates, target: u32) -> Result<Vec<u32>, AllocError>
+pub(crate) fn target_written(
+    alloc: Global,
+    templates: &Templates,
+    target: u32,
+) -> Result<Vec<u32>, AllocError>
     requires there { target < length templates.now.arena.nodes }
     requires target { IsTarget (tree_at (arena_trees templates.now.arena) target) }
     ensures rising { IfOk result (λ v. IsStrictlyIncreasing v.items) }

@@ -2,6 +2,7 @@
 #![tactic(auto)]
 
 mod assigns;
+mod barred;
 mod blocks;
 mod branches;
 mod cases;
@@ -19,6 +20,7 @@ mod reach;
 mod resets;
 mod sleepers;
 mod statements;
+mod unless;
 mod writes;
 
 pub use functions::templates;

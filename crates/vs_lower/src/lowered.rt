@@ -35,7 +35,7 @@ pub(crate) fn kind_at<'a>(templates: &'a Templates, p: u32) -> &'a Kind
     &templates.flat().process(p).kind
 }
 
-/// Adds the calls of process p, in a design of `count` bits that mixes no assignments in a block and has no combinational cycle. `shadows` has a slot for each bit, which is asked for where the bit is one of a register; the temporaries begin at the least slot that is new. The only error is that there is no memory; the program then has some of the calls.
+/// Adds the calls of process p, in a design of `count` bits whose combinational blocks have no `<=` and which has no combinational cycle. `shadows` has a slot for each bit, which is asked for where the bit is one of a register; the temporaries begin at the least slot that is new. The only error is that there is no memory; the program then has some of the calls.
 pub fn process(
     alloc: Global,
     templates: &Templates,

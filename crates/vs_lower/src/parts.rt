@@ -246,7 +246,7 @@ fn write_columns(
 }
 
 /// The word at a variable address with a value written to bits of it by a variable index: two calls.
-fn changed_word(
+pub(crate) fn changed_word(
     alloc: Global,
     templates: &Templates,
     env: &Environment,

@@ -1,6 +1,6 @@
 //! Asynchronous resets (IEEE 1364-2005, 9.9.2).
 
-ghost use Rattle.std.specs.Prelude.{◌≡◌, ◌+◌, ◌<◌, ◌≤◌, ◌^◌, length, IfOk, OnOk, Some, false};
+ghost use Rattle.std.specs.Prelude.{◌≡◌, ◌+◌, ◌<◌, ◌≤◌, ◌^◌, IfOk, OnOk, Some, false};
 ghost use Rattle.vs_net.specs.Network as N;
 ghost use Rattle.vs_design.specs.Designs as D;
 ghost use Rattle.vs_flat.specs.Arena.{bit_count};
@@ -12,11 +12,11 @@ ghost use Rattle.vs_values.specs.Templates.{statement_bound};
 ghost use Rattle.vs_lower.specs.Resetting.{AddsReset, HasResetRoom, IsResetOf, IsResetReady, reset_condition};
 ghost use Rattle.vs_values.specs.Valued.{AddsValue};
 
+use crate::blocks::next_values;
 use crate::branches::join;
 use crate::copies::copy_home;
-use crate::environments::Environments;
 use crate::reach::reach;
-use crate::statements::{settle, statement, written_bits};
+use crate::statements::written_bits;
 use std::alloc::{AllocError, Global};
 use vs_base::{Context, UnaryOp};
 use vs_design::{value_law, write_law};
@@ -69,14 +69,9 @@ pub fn reset(
     write_law();
     let condition = active(alloc, input, falls, count, code)?;
     reach(templates);
-    let mut env = Environments {
-        values: Environment::at_home(alloc, count),
-        ahead: Environment::at_home(alloc, count),
-    };
-    statement(alloc, templates, s, &mut env, code)?;
-    settle(alloc, templates, s, &mut env)?;
+    let next = next_values(alloc, templates, s, count, code)?;
     let bits = written_bits(alloc, templates, s)?;
-    let first = picked(alloc, &env.ahead, bits.as_slice())?;
+    let first = picked(alloc, &next, bits.as_slice())?;
     let mut after = Environment::at_home(alloc, count);
     join(
         alloc,

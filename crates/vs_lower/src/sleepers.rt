@@ -185,7 +185,7 @@ fn asleep(
     finish(alloc, mask, bits.as_slice(), now, code)
 }
 
-/// Adds the calls of process p as a block that sleeps, in a design of `count` bits that mixes no assignments in a block: as long as its mask is 0, and the bits `waits` that it waits on are x, so are its bits. The slot `mask` holds the mask, and the temporaries begin at the least slot that is new. The only error is that there is no memory; the program then has some of the calls.
+/// Adds the calls of process p as a block that sleeps, in a design of `count` bits whose combinational blocks have no `<=`: as long as its mask is 0, and the bits `waits` that it waits on are x, so are its bits. The slot `mask` holds the mask, and the temporaries begin at the least slot that is new. The only error is that there is no memory; the program then has some of the calls.
 pub fn sleeper(
     alloc: Global,
     templates: &Templates,

@@ -68,7 +68,7 @@ pub(crate) fn settle(
 }
 
 /// Statement s of a lawful design: it names expressions and earlier statements, its tree is made of theirs, and each arm of a case has an item.
-fn statement_of<'a>(templates: &'a Templates, s: u32) -> &'a Statement
+pub(crate) fn statement_of<'a>(templates: &'a Templates, s: u32) -> &'a Statement
     requires there { s < statement_bound templates.now }
     ensures names { HasBodyNames (node_bound templates.now) s result.now }
     ensures target { HasTarget templates.now.arena result.now }

@@ -224,7 +224,7 @@ fn write_word(
 }
 
 /// How many bits a part of a target has.
-fn leaf_width(templates: &Templates, leaf: Leaf) -> u32
+pub(crate) fn leaf_width(templates: &Templates, leaf: Leaf) -> u32
     requires { IsInside templates.now leaf }
     ensures { result ≡ target_width (leaf_target templates.now.arena leaf) }
 {
@@ -237,7 +237,7 @@ fn leaf_width(templates: &Templates, leaf: Leaf) -> u32
 }
 
 /// Adds the calls of a write to a part of a target, whose index is in these slots.
-fn write_leaf(
+pub(crate) fn write_leaf(
     alloc: Global,
     templates: &Templates,
     env: &mut Environment,

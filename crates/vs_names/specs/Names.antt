@@ -17,9 +17,9 @@ scope_text (suc left) scopes n =
 abbrev pub signal_text : Design → Signal → List ℕ
 signal_text d s = scope_text (length d.scopes) d.scopes s.scope ++ escaped s.name
 
--- a net, a variable, or a memory (4.2, 4.9)
+-- a net, also one of an array of nets, a variable, or a memory (4.2, 4.9)
 abbrev pub kind_text : Signal → List ℕ
-kind_text s = option_map_or (λ (words : Range). codes "memory ") s.words (if s.net then codes "net " else codes "variable ")
+kind_text s = if s.net then codes "net " else option_map_or (λ (words : Range). codes "memory ") s.words (codes "variable ")
 
 -- the index of bit k of a vector, counted from its least significant one (3.3, 5.2.1)
 abbrev pub index_at : Range → ℕ → ℕ
@@ -49,6 +49,10 @@ bit_of_signal d b s = kind_text s ++ (signal_text d s ++ place_text s.words s.ra
 abbrev pub bit_text : Design → ℕ → List ℕ
 bit_text d b = option_map_or (bit_of_signal d b) (find (has_bit b) d.signals) (codes "bit " ++ decimal b)
 
+-- of an array of nets the net's address
+abbrev pub address_text : Signal → List ℕ
+address_text s = option_map_or (λ (words : Range). if s.net then bracketed words.right else []) s.words []
+
 -- the signal by its name, and by its number where there is none: `net top.u.q`
 abbrev pub signal_of_number : Design → ℕ → List ℕ
-signal_of_number d n = option_map_or (λ (s : Signal). kind_text s ++ signal_text d s) (slice_get d.signals n) (codes "signal " ++ decimal n)
+signal_of_number d n = option_map_or (λ (s : Signal). kind_text s ++ (signal_text d s ++ address_text s)) (slice_get d.signals n) (codes "signal " ++ decimal n)

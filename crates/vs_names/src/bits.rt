@@ -8,7 +8,7 @@ ghost use Rattle.vs_flat.specs.Trees.{signal_at, signal_of};
 ghost use Rattle.vs_names.specs.Names as spec;
 ghost use Rattle.vs_names.specs.Drawn as D;
 
-use crate::indices::push_place;
+use crate::indices::{push_bracketed, push_place};
 use crate::scopes::push_scope;
 use std::alloc::AllocError;
 use vs_excerpt::Page;
@@ -70,8 +70,8 @@ fn push_kind(page: &mut Page, signal: &Signal) -> Result<(), AllocError>
     ensures { (n : ℕ) → OnOk result (page.new ≡ page.old ++ spec.kind_text (signal_of n signal.now)) }
 {
     page.text(match (signal.words, signal.net) {
-        (Some(_), _) => "memory ",
-        (None, true) => "net ",
+        (_, true) => "net ",
+        (Some(_), false) => "memory ",
         (None, false) => "variable ",
     })
 }
@@ -82,6 +82,16 @@ fn push_name(page: &mut Page, flat: &Flat, signal: &Signal) -> Result<(), AllocE
 {
     push_scope(page, flat, signal.scope, flat.scope_count())?;
     page.escaped(signal.name.as_slice())
+}
+
+/// Adds the address of a net of an array of nets.
+fn push_address(page: &mut Page, signal: &Signal) -> Result<(), AllocError>
+    ensures { (n : ℕ) → OnOk result (page.new ≡ page.old ++ spec.address_text (signal_of n signal.now)) }
+{
+    match signal.words {
+        Some(words) if signal.net => push_bracketed(page, u64::from(words.right)),
+        _ => Ok(()),
+    }
 }
 
 /// Adds the name of a signal's bit.
@@ -123,5 +133,6 @@ pub(crate) fn push_signal(page: &mut Page, flat: &Flat, signal: u32) -> Result<(
     }
     let known = flat.signal(signal);
     push_kind(page, known)?;
-    push_name(page, flat, known)
+    push_name(page, flat, known)?;
+    push_address(page, known)
 }

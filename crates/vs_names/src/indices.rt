@@ -22,7 +22,7 @@ fn index_at(range: Range, k: u32) -> u64
 }
 
 /// Adds a number in brackets.
-fn push_bracketed(page: &mut Page, number: u64) -> Result<(), AllocError>
+pub(crate) fn push_bracketed(page: &mut Page, number: u64) -> Result<(), AllocError>
     ensures { OnOk result (page.new ≡ page.old ++ spec.bracketed number) }
 {
     page.text("[")?;

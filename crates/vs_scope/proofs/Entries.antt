@@ -1,5 +1,5 @@
 -- The entries of a scope, as the pairs of its map.
-use Rattle.std.proofs.Common.{◌≡◌, ℕ, Bool, true, false, ◌==◌, List, [], ◌∷◌, Option, Some, None, map, MatchOption, option_map, if◌then◌else◌, refl, sym, ap, subst}
+use Rattle.std.proofs.Common.{◌≡◌, ℕ, Bool, true, false, List, [], ◌∷◌, Option, Some, None, map, MatchOption, option_map, if◌then◌else◌, refl, sym, ap, subst}
 use Rattle.vs_design.specs.Clocks.{same_name}
 use Rattle.vs_elaborated.specs.Environments.{find_entry}
 pub use Rattle.vs_maps.proofs.NameSets.{same_is}

@@ -15,6 +15,7 @@ pub mod Changes
 pub mod Evaluations
 pub mod Signalling
 pub mod SignalLoops
+pub mod ArrayNets
 pub mod FirstFaults
 pub mod WholeScopes
 pub mod ShapedDeclarations

@@ -11,7 +11,7 @@ use Rattle.vs_const.proofs.Least.{least_append}
 use Rattle.vs_grammar.specs.Trees.{Name}
 use Rattle.vs_elaborated.specs.Environments.{Env}
 use Rattle.vs_elaborated.specs.Declarations.{Sort, SignalOf, ParameterOf, FunctionOf, GenvarSort, IntegerSort, InstanceSort, Declaration, Named}
-use Rattle.vs_elaborated.specs.Signals.{Start, SaidSignal, said_signals, after}
+use Rattle.vs_elaborated.specs.Signals.{Start, SaidSignal, said_signals, nets_of, net_count, after}
 use Rattle.vs_scope.specs.declared.names.Entry.{Entry}
 use Rattle.vs_scope.specs.declared.names.Signal.{Signal}
 use Rattle.vs_scope.specs.declared.signals.SaidSignal.{SaidSignal as SignalFound}
@@ -72,11 +72,20 @@ sum_from n (x ∷ ss) =
     let b = sum_from (0 + signal_length x.meaning.signal) ss in
     omega (arith, a, b)
 
+count_more : (n : ℕ) (ss : List SaidSignal) → fold (λ a (y : SaidSignal). a + length (nets_of y.meaning.signal)) n ss ≡ n + net_count ss
+count_more n [] = omega arith
+count_more n (x ∷ ss) =
+    let a = count_more (n + length (nets_of x.meaning.signal)) ss in
+    let b = count_more (0 + length (nets_of x.meaning.signal)) ss in
+    omega (arith, a, b)
+
 after_more : (s : Start) (x : SaidSignal) (ss : List SaidSignal) → start_after (after s x.meaning) ss ≡ start_after s (x ∷ ss)
 after_more s x ss =
+    let a = count_more (0 + length (nets_of x.meaning.signal)) ss in
     let b = sum_from (0 + signal_length x.meaning.signal) ss in
-    same_start s.scope s.top (s.signal + 1 + length ss) (s.bit + signal_length x.meaning.signal + sum_by (λ (y : SaidSignal). signal_length y.meaning.signal) ss) (s.signal + suc (length ss))
-    (s.bit + fold (λ a (y : SaidSignal). a + signal_length y.meaning.signal) (0 + signal_length x.meaning.signal) ss) (omega arith) (omega (arith, b))
+    same_start s.scope s.top (s.signal + length (nets_of x.meaning.signal) + net_count ss) (s.bit + signal_length x.meaning.signal + sum_by (λ (y : SaidSignal). signal_length y.meaning.signal) ss)
+    (s.signal + fold (λ a (y : SaidSignal). a + length (nets_of y.meaning.signal)) (0 + length (nets_of x.meaning.signal)) ss)
+    (s.bit + fold (λ a (y : SaidSignal). a + signal_length y.meaning.signal) (0 + signal_length x.meaning.signal) ss) (omega (arith, a)) (omega (arith, b))
 
 after_none : (s : Start) → start_after s [] ≡ s
 after_none s = same_start s.scope s.top _ _ s.signal s.bit (let e : s.signal + 0 ≡ s.signal = omega arith in e) (let e : s.bit + 0 ≡ s.bit = omega arith in e)

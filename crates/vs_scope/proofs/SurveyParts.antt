@@ -12,7 +12,7 @@ use Rattle.vs_elaborated.specs.Limits.{the_limits}
 use Rattle.vs_elaborated.specs.Pieces.{Task}
 use Rattle.vs_elaborated.specs.Environments.{within}
 use Rattle.vs_elaborated.specs.Declarations.{repeated_names}
-use Rattle.vs_elaborated.specs.Signals.{range_faults, array_faults}
+use Rattle.vs_elaborated.specs.Signals.{range_faults}
 use Rattle.vs_elaborated.specs.Surveys.{Totals, counts_of, survey, header_of, declarations_of, overrides_of, block_faults, bits_over, processes_over}
 use Rattle.vs_scope.specs.Signalled.{faults_of}
 use Rattle.vs_scope.specs.Scopes.{evaluated_entries, said_functions_of}
@@ -70,14 +70,14 @@ swap x y z =
     ∙ ap (λ (o : Option Fault). better o (least z)) (least_append x y ∙ better_comm (least x) (least y) ∙ sym (least_append y x))
     ∙ sym (least_append (y ++ x) z) ∙ ap least (append_assoc y x z)
 
-gather : (h r p g a s f m b i bits procs : List Fault) → least (h ++ (r ++ (p ++ (g ++ (a ++ (s ++ (f ++ (m ++ (b ++ (i ++ (bits ++ procs)))))))))))
-    ≡ better (least (h ++ (((r ++ (p ++ (g ++ (a ++ s)))) ++ f) ++ (m ++ (b ++ bits))))) (least (i ++ procs))
-gather h r p g a s f m b i bits procs =
-    under h _ _ (under r _ _ (under p _ _ (under g _ _ (under a _ _ (under s _ _ (under f _ _ (under m _ _ (under b _ _ (swap i bits procs)))))))))
+gather : (h r p g s f m b i bits procs : List Fault) → least (h ++ (r ++ (p ++ (g ++ (s ++ (f ++ (m ++ (b ++ (i ++ (bits ++ procs))))))))))
+    ≡ better (least (h ++ (((r ++ (p ++ (g ++ s))) ++ f) ++ (m ++ (b ++ bits))))) (least (i ++ procs))
+gather h r p g s f m b i bits procs =
+    under h _ _ (under r _ _ (under p _ _ (under g _ _ (under s _ _ (under f _ _ (under m _ _ (under b _ _ (swap i bits procs))))))))
     ∙ ap least (sym (flat (i ++ procs)))
-    ∙ least_append (h ++ (((r ++ (p ++ (g ++ (a ++ s)))) ++ f) ++ (m ++ (b ++ bits)))) (i ++ procs)
+    ∙ least_append (h ++ (((r ++ (p ++ (g ++ s))) ++ f) ++ (m ++ (b ++ bits)))) (i ++ procs)
   where
-    flat : (rest : List Fault) → (h ++ (((r ++ (p ++ (g ++ (a ++ s)))) ++ f) ++ (m ++ (b ++ bits)))) ++ rest ≡ h ++ (r ++ (p ++ (g ++ (a ++ (s ++ (f ++ (m ++ (b ++ (bits ++ rest)))))))))
+    flat : (rest : List Fault) → (h ++ (((r ++ (p ++ (g ++ s))) ++ f) ++ (m ++ (b ++ bits)))) ++ rest ≡ h ++ (r ++ (p ++ (g ++ (s ++ (f ++ (m ++ (b ++ (bits ++ rest))))))))
     flat rest = simp append_assoc
 
 pub survey_parts : (source : tree.Source) (t : Task) (totals : Totals) → IsOfParts source t totals (survey the_limits source t totals)
@@ -93,7 +93,7 @@ survey_parts source t totals =
       functions = refl;
       pieces = refl;
       fault =
-          gather (header_of t.contents) (repeated_names [] ds) parameters.faults (range_faults (within t.env parameters.entries) ds) (array_faults ds) (flat_map faults_of signals)
+          gather (header_of t.contents) (repeated_names [] ds) parameters.faults (range_faults (within t.env parameters.entries) ds) (flat_map faults_of signals)
           (said_functions_of t.env (overrides_of t.contents) start before ds).faults (made_faults (made_in t.env t.contents start before totals.turns))
           (block_faults (declared_in t.env t.contents start before) [] (blocks_in t.env t.contents start before totals.turns)) (said_in source t totals).faults (bits_over the_limits.bits totals.bits signals)
           (processes_over the_limits.processes totals.processes (said_in source t totals).pieces);

@@ -11,7 +11,7 @@ use Rattle.vs_elaborated.specs.Declarations.{Declaration, Named, are_sorts_of_on
 use Rattle.vs_elaborated.specs.Parameters.{Override, first_entries, said_parameters}
 use Rattle.vs_elaborated.specs.Limits.{the_limits}
 use Rattle.vs_elaborated.specs.Functions.{Counts, said_functions}
-use Rattle.vs_elaborated.specs.Signals.{Start, SaidSignal, said_signals, range_faults, array_faults}
+use Rattle.vs_elaborated.specs.Signals.{Start, SaidSignal, said_signals, range_faults}
 use Rattle.vs_scope.specs.declared.counts.Counts.{Counts as CountsOf}
 use Rattle.vs_scope.specs.declared.names.Signal.{Signal}
 use Rattle.vs_scope.specs.Counts.{counted}
@@ -42,20 +42,19 @@ pub names_shaped : (ds : List Declaration) (ns : List Named) → AreShaped ds �
 names_shaped ds ns h e = subst AreShapedNames (sym e) (shaped_after [] ds h)
 
 -- what a loop over each kind has found
-pub record AreFound (env : Env) (os : List Override) (start : Start) (ds : List Declaration) (first evaluated whole : List Entry) (ns : List Named) (cs : List Signal) (a b c k d : Option Fault) : Type 0 where
+pub record AreFound (env : Env) (os : List Override) (start : Start) (ds : List Declaration) (first evaluated whole : List Entry) (ns : List Named) (cs : List Signal) (a b c d : Option Fault) : Type 0 where
   pub first_is : first ≡ first_entries start.scope (names_of ds)
   pub repeated : a ≡ least (repeated_names [] ds)
   pub evaluated_is : evaluated ≡ (said_parameters env os ds first).entries
   pub parameters : b ≡ least (said_parameters env os ds first).faults
   pub names : ns ≡ names_of ds
   pub ranges : c ≡ least (range_faults (within env evaluated) ds)
-  pub arrays : k ≡ least (array_faults ds)
   pub signals : map placed cs ≡ map placed_of (said_signals (within env evaluated) start ns)
   pub seconds : d ≡ least (flat_map faults_of (said_signals (within env evaluated) start ns))
   pub whole_is : whole ≡ put_all (map signal_meaning cs) evaluated
 
-module _ {env : Env} {os : List Override} {start : Start} {ds : List Declaration} {first evaluated whole : List Entry} {ns : List Named} {cs : List Signal} {a b c k d : Option Fault}
-    (f : AreFound env os start ds first evaluated whole ns cs a b c k d) where
+module _ {env : Env} {os : List Override} {start : Start} {ds : List Declaration} {first evaluated whole : List Entry} {ns : List Named} {cs : List Signal} {a b c d : Option Fault}
+    (f : AreFound env os start ds first evaluated whole ns cs a b c d) where
   values : evaluated ≡ (evaluated_entries start.scope env os ds).entries
   values = f.evaluated_is ∙ ap (λ (e : List Entry). (said_parameters env os ds e).entries) f.first_is
 
@@ -71,23 +70,20 @@ module _ {env : Env} {os : List Override} {start : Start} {ds : List Declaration
   pub found_next : (next : Start) → next ≡ start_after start (said_signals (within env evaluated) start ns) → next ≡ start_after start (said_signals_of env os start ds)
   found_next next h = h ∙ ap (start_after start) said
 
-  pub found_plain : better a (better b (better c (better k d))) ≡ least (plain_faults env os start ds)
+  pub found_plain : better a (better b (better c d)) ≡ least (plain_faults env os start ds)
   found_plain =
       let p = (evaluated_entries start.scope env os ds).faults in
       let r = range_faults (within env (evaluated_entries start.scope env os ds).entries) ds in
       let s = flat_map faults_of (said_signals_of env os start ds) in
-      ap (λ (x : Option Fault). better x (better b (better c (better k d)))) f.repeated
+      ap (λ (x : Option Fault). better x (better b (better c d))) f.repeated
       ∙ ap (better (least (repeated_names [] ds)))
-      (ap (λ (x : Option Fault). better x (better c (better k d))) (f.parameters ∙ ap (λ (e : List Entry). least (said_parameters env os ds e).faults) f.first_is)
+      (ap (λ (x : Option Fault). better x (better c d)) (f.parameters ∙ ap (λ (e : List Entry). least (said_parameters env os ds e).faults) f.first_is)
       ∙ ap (better (least p))
-      (ap (λ (x : Option Fault). better x (better k d)) (f.ranges ∙ ap (λ (e : List Entry). least (range_faults (within env e) ds)) values)
-      ∙ ap (better (least r))
-      (ap (λ (x : Option Fault). better x d) f.arrays
-      ∙ ap (better (least (array_faults ds))) (f.seconds ∙ ap (λ (x : List SaidSignal). least (flat_map faults_of x)) said)
-      ∙ sym (least_append (array_faults ds) s))
-      ∙ sym (least_append r (array_faults ds ++ s)))
-      ∙ sym (least_append p (r ++ (array_faults ds ++ s))))
-      ∙ sym (least_append (repeated_names [] ds) (p ++ (r ++ (array_faults ds ++ s))))
+      (ap (λ (x : Option Fault). better x d) (f.ranges ∙ ap (λ (e : List Entry). least (range_faults (within env e) ds)) values)
+      ∙ ap (better (least r)) (f.seconds ∙ ap (λ (x : List SaidSignal). least (flat_map faults_of x)) said)
+      ∙ sym (least_append r s))
+      ∙ sym (least_append p (r ++ s)))
+      ∙ sym (least_append (repeated_names [] ds) (p ++ (r ++ s)))
 
   pub found_functions : (before : Counts) → said_functions the_limits start.scope env before ds whole ≡ said_functions_of env os start before ds
   found_functions before = ap (said_functions the_limits start.scope env before ds) found_entries
@@ -96,7 +92,7 @@ module _ {env : Env} {os : List Override} {start : Start} {ds : List Declaration
   found_said scope now before h k =
       ap (λ (n : ℕ). said_functions the_limits n env (counted now) ds whole) h ∙ ap (λ (n : CountsOf). said_functions the_limits start.scope env (counted n) ds whole) k ∙ found_functions (counted before)
 
-  pub found_faults : (before : Counts) (p u : Option Fault) → p ≡ better a (better b (better c (better k d))) → u ≡ least (said_functions_of env os start before ds).faults
+  pub found_faults : (before : Counts) (p u : Option Fault) → p ≡ better a (better b (better c d)) → u ≡ least (said_functions_of env os start before ds).faults
       → better p u ≡ least (said_faults env os start before ds)
   found_faults before p u h e =
       ap (λ (x : Option Fault). better x u) (h ∙ found_plain)

@@ -47,7 +47,7 @@ use Rattle.vs_scope.specs.Complete.{KeepsShapes, complete, function_declaration}
 use Rattle.vs_scope.specs.Functions.{functions_in}
 use Rattle.vs_scope.specs.Scopes.{said_entries, said_signals_of, said_functions_of, said_faults}
 use Rattle.vs_scope.specs.Wholes.{IsDeclared}
-use Rattle.vs_scope.specs.Signalled.{Placed, placed, placed_of, start_of, start_after}
+use Rattle.vs_scope.specs.Signalled.{Placed, placed, placed_of, nets_in, start_of, start_after}
 use Rattle.vs_scope.specs.Surveys.{contents_of, IsShapedScope, declared_in, made_in, entries_in, made_faults, turns_behind}
 use Rattle.vs_scope.specs.Views.{entries, pair_entry, signal_meaning}
 use Rattle.vs_scope.proofs.BlocksBehind.{entries_behind}
@@ -85,6 +85,18 @@ signals_same cs ss h = sym (of_code cs) ∙ ap (map (λ (p : Placed). p.meaning.
     of_said : (ss : List spec.SaidSignal) → map (λ (p : Placed). p.meaning.signal) (map placed_of ss) ≡ map (λ (x : spec.SaidSignal). x.meaning.signal) ss
     of_said [] = refl
     of_said (s ∷ ss) = ap (λ (r : List Signal). s.meaning.signal ∷ r) (of_said ss)
+
+-- the signals of the design
+pub nets_same : (cs : List SignalOf) (ss : List spec.SaidSignal) → map placed cs ≡ map placed_of ss → flat_map nets_in cs ≡ spec.all_nets ss
+nets_same cs ss h = sym (of_code cs) ∙ ap (flat_map (λ (p : Placed). spec.nets_of p.meaning.signal)) h ∙ of_said ss
+  where
+    of_code : (cs : List SignalOf) → flat_map (λ (p : Placed). spec.nets_of p.meaning.signal) (map placed cs) ≡ flat_map nets_in cs
+    of_code [] = refl
+    of_code (c ∷ cs) = ap (λ (r : List Signal). nets_in c ++ r) (of_code cs)
+
+    of_said : (ss : List spec.SaidSignal) → flat_map (λ (p : Placed). spec.nets_of p.meaning.signal) (map placed_of ss) ≡ spec.all_nets ss
+    of_said [] = refl
+    of_said (s ∷ ss) = ap (λ (r : List Signal). spec.nets_of s.meaning.signal ++ r) (of_said ss)
 
 pub bits_same : (most total : ℕ) (ss : List spec.SaidSignal) → over most total (map placed_of ss) ≡ bits_over most total ss
 bits_same most total [] = refl

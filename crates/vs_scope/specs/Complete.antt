@@ -19,7 +19,7 @@ use Rattle.vs_scope.specs.declared.names.Names.{Names}
 use Rattle.vs_maps.specs.Maps.{Pair}
 use Rattle.vs_maps.specs.MapViews.{pairs}
 use Rattle.vs_scope.specs.Counts.{counted}
-use Rattle.vs_scope.specs.Views.{declared, entries}
+use Rattle.vs_scope.specs.Views.{entries}
 
 -- ---- what the names of a scope mean once these functions are complete
 

@@ -6,7 +6,7 @@ use Rattle.vs_elaborated.specs.Environments.{Entry, Env, within}
 use Rattle.vs_elaborated.specs.Functions.{Counts, SaidFunctions, said_functions}
 use Rattle.vs_elaborated.specs.Declarations.{Declaration, names_of, repeated_names}
 use Rattle.vs_elaborated.specs.Parameters.{Override, SaidEntries, first_entries, said_parameters}
-use Rattle.vs_elaborated.specs.Signals.{Start, SaidSignal, said_signals, range_faults, array_faults, put_signals}
+use Rattle.vs_elaborated.specs.Signals.{Start, SaidSignal, said_signals, range_faults, put_signals}
 use Rattle.vs_scope.specs.Signalled.{faults_of}
 
 -- the parameters have their values
@@ -30,7 +30,7 @@ abbrev pub plain_faults : Env → List Override → Start → List Declaration �
 plain_faults env overrides start ds =
     repeated_names [] ds
     ++ ((evaluated_entries start.scope env overrides ds).faults
-    ++ (range_faults (within env (evaluated_entries start.scope env overrides ds).entries) ds ++ (array_faults ds ++ flat_map faults_of (said_signals_of env overrides start ds))))
+    ++ (range_faults (within env (evaluated_entries start.scope env overrides ds).entries) ds ++ flat_map faults_of (said_signals_of env overrides start ds)))
 
 -- and with them
 abbrev pub said_faults : Env → List Override → Start → Counts → List Declaration → List Fault

@@ -1,5 +1,6 @@
 -- What the code finds of signals.
-use Rattle.std.specs.Prelude.{◌≡◌, ℕ, ◌+◌, Bool, List, [], ◌∷◌, length, sum_by, Option, Some, None}
+use Rattle.std.specs.Prelude.{◌≡◌, ℕ, ◌+◌, Bool, List, [], ◌∷◌, sum_by, Option, Some, None}
+use Rattle.vs_design.specs.Expressions as design
 use Rattle.vs_design.specs.Expressions.{signal_length}
 use Rattle.vs_ast.specs.Views as view
 use Rattle.vs_grammar.specs.Trees.{RangeTree, ValueType, IntegerType, RangeType, SignalKind, Reg}
@@ -25,7 +26,7 @@ start_of s = record { scope = s.scope; top = s.top; signal = s.signal; bit = s.b
 
 -- behind all of these
 abbrev pub start_after : spec.Start → List spec.SaidSignal → spec.Start
-start_after s ss = record s { signal = s.signal + length ss; bit = s.bit + sum_by (λ (x : spec.SaidSignal). signal_length x.meaning.signal) ss }
+start_after s ss = record s { signal = s.signal + spec.net_count ss; bit = s.bit + sum_by (λ (x : spec.SaidSignal). signal_length x.meaning.signal) ss }
 
 -- the kind and the type of a declaration
 abbrev pub form_kind : Form → SignalKind
@@ -72,6 +73,14 @@ placed_of s = record { place = s.place; meaning = s.meaning }
 -- the faults of a signal
 abbrev pub faults_of : spec.SaidSignal → List Fault
 faults_of s = s.faults
+
+-- a signal in the design
+abbrev pub net : Signal → design.Signal
+net s = (signal_meaning s).signal
+
+-- those of the design that a name stands for
+abbrev pub nets_in : Signal → List design.Signal
+nets_in s = spec.nets_of (signal_meaning s).signal
 
 -- the signal of one name, if it is one
 abbrev pub IsSignalAt : Option SaidSignal → List spec.SaidSignal → Type 0

@@ -1,5 +1,5 @@
 -- All that one scope says but for its items, part by part; the survey of a scope is of these parts (IEEE 1364-2005, clause 12).
-use Rattle.std.specs.Prelude.{◌≡◌, ℕ, ◌+◌, false, List, [], ◌++◌, map, flat_map, length, sum_by, is_none}
+use Rattle.std.specs.Prelude.{◌≡◌, ℕ, ◌+◌, false, List, [], ◌++◌, flat_map, sum_by, is_none}
 use Rattle.vs_ast.specs.Views as view
 use Rattle.vs_grammar.specs.Trees as tree
 use Rattle.vs_grammar.specs.Shapes.{Each, IsGenerateItem, IsModule}
@@ -9,7 +9,7 @@ use Rattle.vs_const.specs.Faults.{least, better}
 use Rattle.vs_elaborated.specs.Limits.{the_limits}
 use Rattle.vs_elaborated.specs.Environments.{Entry, Env, within, find_entry}
 use Rattle.vs_elaborated.specs.Functions.{Counts}
-use Rattle.vs_elaborated.specs.Signals.{Start, SaidSignal}
+use Rattle.vs_elaborated.specs.Signals.{Start, SaidSignal, all_nets, net_count}
 use Rattle.vs_elaborated.specs.Generate.{BlockName, Made}
 use Rattle.vs_elaborated.specs.Constructs.{constructs}
 use Rattle.vs_elaborated.specs.Pieces.{Contents as ContentsOf, OfModule, OfBlock, Task, Said}
@@ -22,7 +22,7 @@ use Rattle.vs_maps.specs.declared.maps.NameMap.{NameMap}
 use Rattle.vs_scope.specs.declared.parameters.Override.{Override}
 use Rattle.vs_scope.specs.Contents.{block_items}
 use Rattle.vs_scope.specs.Overrides as code
-use Rattle.vs_scope.specs.Scopes.{said_entries, said_signals_of, said_functions_of, said_faults}
+use Rattle.vs_scope.specs.Scopes.{said_signals_of, said_functions_of, said_faults}
 
 -- ---- a scope of the code
 
@@ -89,7 +89,7 @@ turns_behind env c start before turns = turns_after turns (made_in env c start b
 abbrev pub start_behind : Env → ContentsOf → Start → Start
 start_behind env c start =
     let ss = signals_in env c start in
-    record { scope = start.scope + 1; top = false; signal = start.signal + length ss; bit = start.bit + sum_by (λ (s : SaidSignal). signal_length s.meaning.signal) ss }
+    record { scope = start.scope + 1; top = false; signal = start.signal + net_count ss; bit = start.bit + sum_by (λ (s : SaidSignal). signal_length s.meaning.signal) ss }
 
 -- ---- the survey
 
@@ -131,7 +131,7 @@ totals_behind source t totals =
 -- a survey is of these parts
 pub record IsOfParts (source : tree.Source) (t : Task) (totals : Totals) (s : Survey) : Type 0 where
   pub entries : s.entries ≡ entries_in t.env t.contents (start_at t totals) (counts_of totals) totals.turns
-  pub signals : s.signals ≡ map (λ (x : SaidSignal). x.meaning.signal) (signals_in t.env t.contents (start_at t totals))
+  pub signals : s.signals ≡ all_nets (signals_in t.env t.contents (start_at t totals))
   pub functions : s.functions ≡ called_in t.env t.contents (start_at t totals) (counts_of totals)
   pub pieces : s.pieces ≡ (said_in source t totals).pieces
   pub fault : least s.faults ≡ better (least (faults_in t.env t.contents (start_at t totals) (counts_of totals) totals.turns)) (least (items_faults source t totals))

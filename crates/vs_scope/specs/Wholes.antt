@@ -1,5 +1,5 @@
 -- What the code finds of the declarations of a scope.
-use Rattle.std.specs.Prelude.{◌≡◌, ◌+◌, ℕ, false, length, map}
+use Rattle.std.specs.Prelude.{◌≡◌, ◌+◌, false, length, map}
 use Rattle.vs_const.specs.Faults.{least}
 use Rattle.vs_elaborated.specs.Environments.{Env}
 use Rattle.vs_elaborated.specs.Functions.{Counts}

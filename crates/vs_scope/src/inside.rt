@@ -63,6 +63,7 @@ fn local_means(s: &LocalSignal<'_>) -> Named
         known: s.known,
         net: false,
         input: s.input,
+        words: None,
     })
 }
 

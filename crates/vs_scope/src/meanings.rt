@@ -23,6 +23,7 @@ pub(crate) fn signal_means(s: &Signal<'_>) -> Named
         known: s.known,
         net: s.net,
         input: s.is_input,
+        words: s.words,
     };
     match s.words {
         None => Named::Signal(shape),
@@ -42,6 +43,7 @@ pub(crate) fn no_signal() -> Named
         known: false,
         net: true,
         input: false,
+        words: None,
     })
 }
 

@@ -49,8 +49,9 @@ pub struct Declaration<'a> {
 
 /// A signal of a scope (3.2, 3.3). `number` and `first` are the numbers of the signal and of its first bit in the design, `input` says whether
 /// it is an input of the top and `is_input` whether it is one of its own module, and `known` that no fault leaves its range undefined. A memory
-/// (4.9) has addresses in `words`, the greater bound on the left, at most 1,024; `range`, of at most 64 bits, is then that of each word. `integer`
-/// says that it is declared as an integer (4.8), and `place` is that of its first declaration.
+/// (4.9) and an array of nets have addresses in `words`, the greater bound on the left, at most 1,024; `range`, of at most 64 bits, is then that of
+/// each word. An array's number and first bit are those of its net at the least address. `integer` says that it is declared as an integer (4.8), and
+/// `place` is that of its first declaration.
 #[derive(Clone, Copy)]
 pub struct Signal<'a> {
     pub name: &'a [u8],

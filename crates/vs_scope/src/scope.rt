@@ -27,9 +27,9 @@ use crate::names::{Declaration, Names, Signal, Sort};
 use crate::numbers::{said_addresses, said_range};
 use crate::parameters::{Override, evaluate};
 use crate::places::{Around, View};
-use crate::signals::{SaidSignals, Start, is_reg, said_signals};
+use crate::signals::{SaidSignals, Start, said_signals};
 use std::alloc::{AllocError, Global};
-use vs_const::{Fault, Rule, fault_if, first_of};
+use vs_const::{Fault, first_of};
 use vs_maps::NameMap;
 
 /// The names of a scope with the values of its parameters, its signals and its functions, the signals in order of declaration, the first fault of the
@@ -94,35 +94,6 @@ fn range_faults(
     Ok(fault)
 }
 
-/// The fault of addresses of what is no variable: only a variable is a memory (4.9).
-fn array_fault(d: &Declaration<'_>) -> Option<Fault>
-    ensures { result ≡ least (spec.array_fault (declaration d.now).name (declaration d.now).sort) }
-{
-    match d.sort {
-        Sort::Signal {
-            signals,
-            addresses,
-            ..
-        } => fault_if(
-            addresses.is_some() && !is_reg(signals.kind),
-            Rule::WrongKind,
-            d.name.place,
-        ),
-        _ => None,
-    }
-}
-
-/// The first fault of addresses of what is no variable.
-fn array_faults(declarations: &[Declaration<'_>]) -> Option<Fault>
-    ensures { result ≡ least (spec.array_faults (map declaration declarations.now)) }
-{
-    let mut fault = None;
-    for d in declarations {
-        fault = first_of(fault, array_fault(d));
-    }
-    fault
-}
-
 /// What a scope declares, but for its generate blocks: its names with the values of its parameters, its signals and its functions. `around` is what is
 /// around the scope, `overrides` are those of an instance, `start` says where its signals begin, and `counts` are those before it.
 ///
@@ -130,7 +101,6 @@ fn array_faults(declarations: &[Declaration<'_>]) -> Option<Fault>
 /// the one with the least number:
 /// - `DuplicateName`: a second declaration of a name (12.7).
 /// - `BadRange`: a range or addresses that have no meaning, or unequal ranges of one signal.
-/// - `WrongKind`: a net has addresses, at its name (4.9).
 /// - what a constant of a parameter, a range or addresses breaks: `NotConstant`, `UnknownConstant`, `UnknownName`, `BadRange` and `WrongKind`.
 /// - and those of a function (`said_function`).
 ///
@@ -180,15 +150,11 @@ pub(crate) fn declare_scope<'a>(
         fault,
         next,
     } = said;
-    let arrays = array_faults(all);
     let SaidFunctions {
         fault: called,
         counts,
     } = said_functions(alloc, around, all, &mut names)?;
-    let plain = first_of(
-        repeated,
-        first_of(parameters, first_of(ranges, first_of(arrays, fault))),
-    );
+    let plain = first_of(repeated, first_of(parameters, first_of(ranges, fault)));
     Ok(SaidScope {
         names,
         signals,

@@ -1,6 +1,6 @@
 //! The signals of a scope, with their ranges and numbers (IEEE 1364-2005, 3.2, 3.3, 4.9 and 12.3.3).
 
-ghost use Rattle.std.specs.Prelude.{◌≡◌, ◌≤◌, ◌&&◌, ◌||◌, ◌∷◌, [], not, Bool, Option, None, IfOk, IfSome, map, flat_map};
+ghost use Rattle.std.specs.Prelude.{◌≡◌, ◌≤◌, ◌<◌, ◌+◌, ◌&&◌, ◌||◌, ◌∷◌, ◌++◌, [], not, length, Bool, Option, None, IfOk, OnOk, IfSome, Some, map, flat_map};
 ghost use Rattle.vs_design.specs.Expressions.{range_or_one, signal_length};
 ghost use Rattle.vs_design.specs.Elaborated.{same_range};
 ghost use Rattle.vs_four.specs.Selects.{range_length};
@@ -8,6 +8,7 @@ ghost use Rattle.vs_grammar.specs.Trees as tree;
 ghost use Rattle.vs_grammar.specs.Shapes.{IsValueType, Given};
 ghost use Rattle.vs_ast.specs.Views as view;
 ghost use Rattle.vs_const.specs.Faults.{least};
+ghost use Rattle.vs_const.specs.Selects.{array_net};
 ghost use Rattle.vs_elaborated.specs.Environments.{Env};
 ghost use Rattle.vs_elaborated.specs.Signals as spec;
 ghost use Rattle.vs_elaborated.specs.Parameters as parameters;
@@ -15,7 +16,7 @@ ghost use Rattle.vs_scope.specs.Declares.{named_list};
 ghost use Rattle.vs_scope.specs.Frames.{view_env};
 ghost use Rattle.vs_scope.specs.Numbers.{IsSaidRange};
 ghost use Rattle.vs_scope.specs.Shaped.{IsShaped, AreShapedNames};
-ghost use Rattle.vs_scope.specs.Signalled.{start_of, form_kind, form_type, signal_sort, second_faults, placed, placed_of, faults_of, start_after, IsSortOf, IsSaidSignal, IsSignalAt};
+ghost use Rattle.vs_scope.specs.Signalled.{start_of, form_kind, form_type, signal_sort, second_faults, placed, placed_of, faults_of, net, nets_in, start_after, IsSortOf, IsSaidSignal, IsSignalAt};
 ghost use Rattle.vs_scope.specs.Views as scope;
 
 use crate::names::{Declaration, Entry, Names, Signal, Sort};
@@ -223,7 +224,7 @@ pub(crate) fn length_or_one(range: Option<Range>) -> u64
     }
 }
 
-/// How many bits a signal has, a memory those of all its words.
+/// How many bits a signal has, a memory those of all its words and an array those of all its nets.
 pub(crate) fn signal_length(s: &Signal<'_>) -> u64
     ensures { result ≡ signal_length (scope.signal_meaning s.now).signal }
 {
@@ -234,8 +235,8 @@ pub(crate) fn signal_length(s: &Signal<'_>) -> u64
     }
 }
 
-/// One signal, of its one or two declarations: a variable, an input, signed, an integer where one of them says so; a memory, with the addresses
-/// `words`, has one alone.
+/// One signal, of its one or two declarations: a variable, an input, signed, an integer where one of them says so; a memory and an array of nets, with
+/// the addresses `words`, have one alone.
 fn said_signal<'a>(
     alloc: Global,
     here: &View<'_, 'a>,
@@ -325,11 +326,83 @@ fn signal_at<'a>(
     }
 }
 
+/// How many signals of the design a name stands for: an array of nets for each of its nets.
+fn net_count(s: &Signal<'_>) -> u32
+    ensures { result ≡ length (spec.nets_of (scope.signal_meaning s.now).signal) }
+{
+    match s.words {
+        Some(words) if s.net => words.length() as u32,
+        _ => 1,
+    }
+}
+
+/// The net of an array with these addresses that has k others below it.
+fn array_net<'a>(s: &Signal<'a>, words: Range, k: u32) -> Result<Signal<'a>, AllocError>
+    requires addresses { s.now.words ≡ Some words }
+    requires there { k < range_length words }
+    ensures { IfOk result (λ r. (scope.signal_meaning r).signal ≡ array_net (scope.signal_meaning s.now).signal (words.right + k)) }
+{
+    let n = words.right.checked_add(k).ok_or(AllocError)?;
+    let number = s.number.checked_add(k).ok_or(AllocError)?;
+    let first = s
+        .first
+        .checked_add(u64::from(k) * length_or_one(s.range))
+        .ok_or(AllocError)?;
+    Ok(Signal {
+        name: s.name,
+        place: s.place,
+        scope: s.scope,
+        number,
+        net: s.net,
+        input: s.input,
+        range: s.range,
+        signed: s.signed,
+        first,
+        words: Some(Range { left: n, right: n }),
+        integer: s.integer,
+        is_input: s.is_input,
+        known: s.known,
+    })
+}
+
+/// Adds the signals of the design that a name stands for.
+fn push_nets<'a>(s: &Signal<'a>, nets: &mut Vec<Signal<'a>>) -> Result<(), AllocError>
+    ensures { OnOk result (map net nets.new.items ≡ map net nets.old.items ++ spec.nets_of (scope.signal_meaning s.now).signal) }
+{
+    match s.words {
+        Some(words) if s.net => {
+            for k in 0..words.length() as u32 {
+                let net = array_net(s, words, k)?;
+                nets.push(net)?;
+            }
+            Ok(())
+        }
+        _ => {
+            nets.push(*s)?;
+            Ok(())
+        }
+    }
+}
+
+/// The signals of the design that the names of a scope stand for, by their numbers.
+pub(crate) fn all_nets<'a>(
+    alloc: Global,
+    signals: &[Signal<'a>],
+) -> Result<Vec<Signal<'a>>, AllocError>
+    ensures { IfOk result (λ r. map net r.items ≡ flat_map nets_in signals.now) }
+{
+    let mut nets = Vec::new(alloc);
+    for s in signals {
+        push_nets(s, &mut nets)?;
+    }
+    Ok(nets)
+}
+
 /// Where the next signal begins, behind this one. More signals than 32 bits count, and more bits than 64, are too many for memory.
 fn after(start: Start, s: &Signal<'_>) -> Result<Start, AllocError>
     ensures { IfOk result (λ r. start_of r ≡ spec.after (start_of start) (scope.signal_meaning s.now)) }
 {
-    let signal = start.signal.checked_add(1).ok_or(AllocError)?;
+    let signal = start.signal.checked_add(net_count(s)).ok_or(AllocError)?;
     let bit = start.bit.checked_add(signal_length(s)).ok_or(AllocError)?;
     Ok(Start {
         scope: start.scope,

@@ -3,7 +3,7 @@
 ghost use Rattle.std.specs.Prelude.{◌≡◌, None, IfOk, List, map};
 ghost use Rattle.vs_grammar.specs.Shapes.{Each};
 ghost use Rattle.vs_const.specs.Faults.{least};
-ghost use Rattle.vs_elaborated.specs.Signals.{SaidSignal};
+ghost use Rattle.vs_elaborated.specs.Signals.{SaidSignal, all_nets};
 ghost use Rattle.vs_elaborated.specs.Surveys.{header_of, declarations_of};
 ghost use Rattle.vs_scope.specs.Again.{AreSeen};
 ghost use Rattle.vs_scope.specs.Complete.{KeepsShapes, complete, function_declaration};
@@ -16,7 +16,7 @@ ghost use Rattle.vs_maps.specs.declared.maps.NameMap.{NameMap};
 ghost use Rattle.vs_scope.specs.declared.parameters.Override.{Override};
 ghost use Rattle.vs_scope.specs.Made as code;
 ghost use Rattle.vs_scope.specs.Overrides.{AreOverrides};
-ghost use Rattle.vs_scope.specs.Signalled.{placed, placed_of, start_of};
+ghost use Rattle.vs_scope.specs.Signalled.{net, placed, placed_of, start_of};
 ghost use Rattle.vs_scope.specs.Surveys.{IsShapedScope, MeanTheSame, contents_of, counts_behind, entries_in, faults_in, made_in, signals_in, start_behind, turns_behind};
 ghost use Rattle.vs_scope.specs.Views.{signal_meaning};
 
@@ -30,18 +30,20 @@ use crate::names::{Names, Signal};
 use crate::parameters::Override;
 use crate::places::{Around, View};
 use crate::scope::{SaidScope, declare_scope};
-use crate::signals::Start;
+use crate::signals::{Start, all_nets};
 use std::alloc::{AllocError, Global};
 use vs_const::{Fault, first_of};
 use vs_maps::NameMap;
 
 /// What one scope says but for its items: its names with the values of its parameters, its signals, its functions and the names of its blocks; the
-/// signals in order of declaration; what each of its items makes, in order; the first fault of all of it; the count of all generate loops' turns behind
-/// it; the counts behind its functions; and where the next scope's signals begin.
+/// signals in order of declaration, and as `nets` those of the design, where an array of nets is each of its nets; what each of its items makes, in
+/// order; the first fault of all of it; the count of all generate loops' turns behind it; the counts behind its functions; and where the next scope's
+/// signals begin.
 #[derive(Drop)]
 pub struct Surveyed<'a> {
     pub names: Names<'a>,
     pub signals: Vec<Signal<'a>>,
+    pub nets: Vec<Signal<'a>>,
     pub made: Vec<Made<'a>>,
     pub fault: Option<Fault>,
     pub turns: u32,
@@ -108,7 +110,6 @@ fn next_scope(start: Start) -> Result<Start, AllocError>
 /// - `UnknownName`, `DuplicateName`, `UnknownPort`: a name of the header's plain list without a direction, one that stands there again, and a direction of another name (12.3.3).
 /// - `DuplicateName`: a second declaration of a name (12.7), a block of a declared name, or a loop's variable that has a value again.
 /// - `BadRange`: a range or addresses that have no meaning, unequal ranges of one signal, or a negative value of a loop's variable.
-/// - `WrongKind`: a net has addresses, at its name (4.9).
 /// - `UnknownName`, `WrongKind`: a loop's variable that is no genvar, and a second assignment to another name (12.4.1).
 /// - `GenerateTurns`: over 4,096 turns of one loop, or 1,048,576 of all.
 /// - `TooManyBits`: over 1,048,576 bits of all signals.
@@ -136,6 +137,7 @@ pub fn survey<'a>(
     ensures counts { IfOk result (λ r. counted r.counts ≡ counts_behind (around_env around.entry) (contents_of around.entry.frames.now overrides.now contents.entry) (start_of start) (counted counts)) }
     ensures placed { IfOk result (λ r. map placed r.signals.items ≡ map placed_of (signals_in (around_env around.entry) (contents_of around.entry.frames.now overrides.now contents.entry) (start_of start))) }
     ensures signals { IfOk result (λ r. map (λ (x : _). (signal_meaning x).signal) r.signals.items ≡ map (λ (x : SaidSignal). x.meaning.signal) (signals_in (around_env around.entry) (contents_of around.entry.frames.now overrides.now contents.entry) (start_of start))) }
+    ensures nets { IfOk result (λ r. map net r.nets.items ≡ all_nets (signals_in (around_env around.entry) (contents_of around.entry.frames.now overrides.now contents.entry) (start_of start))) }
     ensures made { IfOk result (λ r. map code.made r.made.items ≡ map code.kept (made_in (around_env around.entry) (contents_of around.entry.frames.now overrides.now contents.entry) (start_of start) (counted counts) turns)) }
     ensures blocks { IfOk result (λ r. Each code.AreShapedBlocks r.made.items) }
     ensures fault { IfOk result (λ r. r.fault ≡ least (faults_in (around_env around.entry) (contents_of around.entry.frames.now overrides.now contents.entry) (start_of start) (counted counts) turns)) }
@@ -166,6 +168,7 @@ pub fn survey<'a>(
     } = constructs(alloc, contents, &here, turns)?;
     let clashes = names.add_blocks(alloc, made.as_slice())?;
     let bits = bits_fault(start.bit, signals.as_slice());
+    let nets = all_nets(alloc, signals.as_slice())?;
     let next = next_scope(next)?;
     let fault = first_of(
         header,
@@ -174,6 +177,7 @@ pub fn survey<'a>(
     Ok(Surveyed {
         names,
         signals,
+        nets,
         made,
         fault,
         turns,

@@ -9,9 +9,9 @@ use Rattle.std.proofs.lemmas.List.Elements.{All-cons, All-nil}
 use Rattle.std.proofs.lemmas.List.Sums.{sum_by-cons}
 use Rattle.vs_four.specs.declared.Range.{Range}
 use Rattle.vs_four.specs.Selects.{range_length, is_descending}
-use Rattle.vs_design.specs.Expressions.{Signal, range_or_one, words_length, signal_length}
+use Rattle.vs_design.specs.Expressions.{Signal, range_or_one, words_length, signal_length, addresses}
 use Rattle.vs_design.specs.Designs.{Design, bit_count}
-use Rattle.vs_design.specs.Elaborated.{is_lawful_range, is_declared, are_lawful_words, is_lawful_memory, have_bits_from, IsLawfulDesign}
+use Rattle.vs_design.specs.Elaborated.{is_lawful_range, is_declared, are_lawful_words, is_array_net, is_lawful_memory, have_bits_from, IsLawfulDesign}
 use Rattle.vs_design.specs.Clocks.{same_name}
 use Rattle.vs_design.specs.Footprints.{is_memory, is_variable, contains}
 use Rattle.vs_flat.specs.declared.processes.Signal as F
@@ -83,15 +83,15 @@ few_bits d s h =
     let first = (and_parts (nat_lt s.scope (length d.scopes) && is_lawful_range s.range) (not s.input || (s.net && (s.scope == 0))) h).0 in
     at_most_64 s.range (and_parts (nat_lt s.scope (length d.scopes)) (is_lawful_range s.range) first).1
 
--- a memory is a variable, so an input is none, and its bits are those of its range
+-- a memory is no input, and the bits of an input are those of its range
 plain_input : (s : Signal) → is_lawful_memory s ≡ true → s.input ≡ true → signal_length s ≡ range_or_one s.range
-plain_input s h e = long s.words (none (is_some s.words) s.net s.input (and_parts (are_lawful_words s.words) (not (is_memory s) || is_variable s) h).1 e)
+plain_input s h e = long s.words (none (is_some s.words) s.net s.input (range_length (addresses s) == 1) (and_parts (are_lawful_words s.words) (not (is_memory s) || (is_variable s || is_array_net s)) h).1 e)
   where
-    none : (memory net input : Bool) → (not memory || (not net && not input)) ≡ true → input ≡ true → memory ≡ false
-    none false net input h e = refl
-    none true net false h e = cc
-    none true true true h e = cc
-    none true false true h e = cc
+    none : (memory net input one : Bool) → (not memory || ((not net && not input) || (net && not input && one))) ≡ true → input ≡ true → memory ≡ false
+    none false net input one h e = refl
+    none true net false one h e = cc
+    none true true true one h e = cc
+    none true false true one h e = cc
 
     long : (words : Option Range) → is_some words ≡ false → words_length words (range_or_one s.range) ≡ range_or_one s.range
     long None e = refl

@@ -10,7 +10,7 @@ use Rattle.vs_design.specs.Statements.{Statement}
 use Rattle.vs_design.specs.Designs.{Event, Process, Always, Design, has_edge, is_clocked, bit_count}
 use Rattle.vs_design.specs.Elaborated.{IsLawfulDesign}
 use Rattle.vs_design.specs.Values.{bits_of_signal}
-use Rattle.vs_design.specs.Footprints.{is_memory, signals_bits, statement_bits, writes_of, waits_of, ascending}
+use Rattle.vs_design.specs.Footprints.{is_stored, signals_bits, statement_bits, writes_of, waits_of, ascending}
 use Rattle.vs_design.specs.Races.{doubled, doubled_bits}
 use Rattle.vs_design.specs.Sizes.{distinct, statement_weight, process_weight, sleeper_weight, register_bits}
 use Rattle.vs_design.specs.Sleepers.{is_sleeping}
@@ -76,14 +76,14 @@ pub doubled_noted : (ps : List Process) (p : ℕ) (x : Process) (old new : List 
 doubled_noted = noted doubled doubled_bits refl (λ p ps. refl) []
 
 -- of memories
-pub memories_noted : (start : List ℕ) (ss : List Signal) (n : ℕ) (s : Signal) (old new : List ℕ) → slice_get ss n ≡ Some s → old ≡ start ++ signals_bits (filter is_memory (take n ss)) → new ≡ old ++ (if is_memory s then bits_of_signal s else [])
-    → new ≡ start ++ signals_bits (filter is_memory (take (n + 1) ss))
-memories_noted = noted (λ s. if is_memory s then bits_of_signal s else []) (λ ss. signals_bits (filter is_memory ss)) refl one
+pub memories_noted : (start : List ℕ) (ss : List Signal) (n : ℕ) (s : Signal) (old new : List ℕ) → slice_get ss n ≡ Some s → old ≡ start ++ signals_bits (filter is_stored (take n ss)) → new ≡ old ++ (if is_stored s then bits_of_signal s else [])
+    → new ≡ start ++ signals_bits (filter is_stored (take (n + 1) ss))
+memories_noted = noted (λ s. if is_stored s then bits_of_signal s else []) (λ ss. signals_bits (filter is_stored ss)) refl one
   where
-    one : (s : Signal) (ss : List Signal) → signals_bits (filter is_memory (s ∷ ss)) ≡ (if is_memory s then bits_of_signal s else []) ++ signals_bits (filter is_memory ss)
-    one s ss = go (is_memory s)
+    one : (s : Signal) (ss : List Signal) → signals_bits (filter is_stored (s ∷ ss)) ≡ (if is_stored s then bits_of_signal s else []) ++ signals_bits (filter is_stored ss)
+    one s ss = go (is_stored s)
       where
-        go : (k : Bool) → signals_bits (if k then s ∷ filter is_memory ss else filter is_memory ss) ≡ (if k then bits_of_signal s else []) ++ signals_bits (filter is_memory ss)
+        go : (k : Bool) → signals_bits (if k then s ∷ filter is_stored ss else filter is_stored ss) ≡ (if k then bits_of_signal s else []) ++ signals_bits (filter is_stored ss)
         go true = refl
         go false = refl
 

@@ -10,8 +10,7 @@ use Rattle.vs_design.specs.Footprints.{contains, statement_bits, writes_of, wait
 use Rattle.vs_design.specs.Lifted.{Family}
 use Rattle.vs_design.specs.LiftedBodies.{assign_sets}
 use Rattle.vs_design.specs.Refusals.{block_refusal, width_refusal}
-use Rattle.vs_design.specs.Races.{nonblocking_bits}
-use Rattle.vs_design.specs.Rules.{mixed_in, blocking_to}
+use Rattle.vs_design.specs.Rules.{mixed_in}
 use Rattle.vs_design.specs.Sleepers.{is_sleeping}
 use Rattle.vs_design.specs.TimeZero.{Families, block_sets, is_quiet, early_end, late_end, settle_early, settle_late, settle_some, families_along, wakes, is_uncertain}
 use Rattle.vs_flat.specs.declared.processes.Event.{Event}
@@ -81,7 +80,7 @@ block_is within each names fits has a l w b p r star events statement i h clocke
     record {
       there = statement_there names a l.names p r star events statement i h;
       fits = process_fits fits each a l w p r (K.Block star events statement) i h;
-      unmixed = ap (λ (t : Bool). let s = statement_of a statement in if t then blocking_to (nonblocking_bits s) s else mixed_in false s) (sym clocked) ∙ (clean (design_of a) l.design b p x is).unmixed;
+      unmixed = ap (λ (t : Bool). let s = statement_of a statement in if t then [] else mixed_in false s) (sym clocked) ∙ (clean (design_of a) l.design b p x is).unmixed;
       names = block_within within each a l p r star events statement i h;
       within = all_below (bit_count (design_of a)) bits (writes_of x) mine;
       own = λ b. mine.same b;

@@ -1,4 +1,4 @@
-use Rattle.std.proofs.Common.{◌≡◌, map, true, false, refl, sym, ap, ◌∙◌, subst, Some, None}
+use Rattle.std.proofs.Common.{◌≡◌, [], map, true, false, refl, sym, ap, ◌∙◌, subst, Some, None}
 use Rattle.vs_design.specs.Designs.{Process, bit_count}
 use Rattle.vs_design.specs.Fits.{fits_statement}
 use Rattle.vs_design.specs.Footprints.{contains, statement_bits}
@@ -15,8 +15,8 @@ use Rattle.vs_block.proofs.Blocks.{block_in, one_process, is_clocked_as, mixed_a
 use Rattle.vs_reads.proofs.Told.{told}
 use Rattle.vs_block.proofs.block.check_block.Goals as goal
 
-pub first_mixed-requires-clause-fits : goal.first_mixed-requires-clause-fits
-first_mixed-requires-clause-fits c = subst (λ (x : Arena). fits_statement (body_of x c.args.statement) ≡ true) (sym c.shapes.ensures) c.requires.block.fits
+pub least_mixed-requires-clause-fits : goal.least_mixed-requires-clause-fits
+least_mixed-requires-clause-fits c = subst (λ (x : Arena). fits_statement (body_of x c.args.statement) ≡ true) (sym c.shapes.ensures) c.requires.block.fits
 
 pub returns-in-Some-clause-refused : goal.returns-in-Some-clause-refused
 returns-in-Some-clause-refused c process at =
@@ -25,7 +25,7 @@ returns-in-Some-clause-refused c process at =
     let es = map (event_of (signal_at (arena_signals a))) c.args.events.now in
     subst (λ (y : Process). block_refusal_of (design_of a) c.args.p y ≡ Some (R.MixedAssign c.in-Some.at)) (one_process (design_of a).processes c.args.p _ process b.is at)
     (mixed_refused (design_of a) c.args.p c.args.at b.star es (body_of a c.args.statement) c.in-Some.at
-    (mixed_as a c.shapes.result.now c.args.at b.star c.args.events.now c.args.statement c.has_edge-clocked.result c.in_ok-mixed.mixed (Some c.in-Some.at) c.shapes.ensures c.has_edge-clocked.ensures c.in_ok-mixed.ensures c.in-Some.is))
+    (mixed_as a c.shapes.result.now c.args.at b.star c.args.events.now c.args.statement c.has_edge-clocked.result c.least_mixed.result (Some c.in-Some.at) c.shapes.ensures c.has_edge-clocked.ensures c.if-clocked.false (c.least_mixed.ensures [] refl) c.in-Some.is))
 
 pub returns-then-clocked-clause-kept : goal.returns-then-clocked-clause-kept
 returns-then-clocked-clause-kept c process at =
@@ -34,7 +34,6 @@ returns-then-clocked-clause-kept c process at =
     let es = map (event_of (signal_at (arena_signals a))) c.args.events.now in
     subst (λ (y : Process). block_refusal_of (design_of a) c.args.p y ≡ None) (one_process (design_of a).processes c.args.p _ process b.is at)
     (clocked_kept (design_of a) c.args.p c.args.at b.star es (body_of a c.args.statement)
-    (mixed_as a c.shapes.result.now c.args.at b.star c.args.events.now c.args.statement c.has_edge-clocked.result c.in_ok-mixed.mixed None c.shapes.ensures c.has_edge-clocked.ensures c.in_ok-mixed.ensures c.in_default.is)
     (is_clocked_as a c.args.at b.star c.args.events.now c.args.statement c.has_edge-clocked.result true c.has_edge-clocked.ensures c.if-clocked.true))
 
 pub first_missing-requires-clause-reads : goal.first_missing-requires-clause-reads
@@ -67,7 +66,7 @@ returns-in-Some-first_missing-clause-refused c process at =
     let signal = c.signal_with-signal.ensures ∙ ap (λ (y : Arena). R.signal_of (arena_signals y) c.in-Some-first_missing.bit) c.flat-flat.ensures.same in
     subst (λ (y : Process). block_refusal_of d c.args.p y ≡ Some (R.Sensitivity c.args.p c.signal_with-signal.result c.args.at)) (one_process d.processes c.args.p x process b.is at)
     (none_mixed d c.args.p c.args.at b.star es (body_of a c.args.statement)
-    (mixed_as a c.shapes.result.now c.args.at b.star c.args.events.now c.args.statement c.has_edge-clocked.result c.in_ok-mixed.mixed None c.shapes.ensures c.has_edge-clocked.ensures c.in_ok-mixed.ensures c.in_default.is)
+    (mixed_as a c.shapes.result.now c.args.at b.star c.args.events.now c.args.statement c.has_edge-clocked.result c.least_mixed.result None c.shapes.ensures c.has_edge-clocked.ensures c.if-clocked.false (c.least_mixed.ensures [] refl) c.in_default.is)
     (Some c.in-Some-first_missing.bit) (least (latches x)) missing refl
     ∙ ap (λ n. Some (R.Sensitivity c.args.p n c.args.at)) (sym signal))
 
@@ -107,7 +106,7 @@ returns-in-Some-latch-clause-refused c process at =
     in
     subst (λ (y : Process). block_refusal_of d c.args.p y ≡ Some (R.Latch c.args.p c.in-Some-latch.bit c.args.at)) (one_process d.processes c.args.p x process b.is at)
     (none_mixed d c.args.p c.args.at b.star es (body_of a c.args.statement)
-    (mixed_as a c.shapes.result.now c.args.at b.star c.args.events.now c.args.statement c.has_edge-clocked.result c.in_ok-mixed.mixed None c.shapes.ensures c.has_edge-clocked.ensures c.in_ok-mixed.ensures c.in_default.is)
+    (mixed_as a c.shapes.result.now c.args.at b.star c.args.events.now c.args.statement c.has_edge-clocked.result c.least_mixed.result None c.shapes.ensures c.has_edge-clocked.ensures c.if-clocked.false (c.least_mixed.ensures [] refl) c.in_default.is)
     None (Some c.in-Some-latch.bit) missing latch)
 
 pub returns-clause-kept : goal.returns-clause-kept
@@ -130,5 +129,5 @@ returns-clause-kept c process at =
     in
     subst (λ (y : Process). block_refusal_of d c.args.p y ≡ None) (one_process d.processes c.args.p x process b.is at)
     (none_mixed d c.args.p c.args.at b.star es (body_of a c.args.statement)
-    (mixed_as a c.shapes.result.now c.args.at b.star c.args.events.now c.args.statement c.has_edge-clocked.result c.in_ok-mixed.mixed None c.shapes.ensures c.has_edge-clocked.ensures c.in_ok-mixed.ensures c.in_default.is)
+    (mixed_as a c.shapes.result.now c.args.at b.star c.args.events.now c.args.statement c.has_edge-clocked.result c.least_mixed.result None c.shapes.ensures c.has_edge-clocked.ensures c.if-clocked.false (c.least_mixed.ensures [] refl) c.in_default.is)
     None None missing latch)

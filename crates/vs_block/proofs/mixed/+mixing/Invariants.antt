@@ -19,7 +19,7 @@ abbrev pub decreases-least_in_parts : goal.decreases-least_in_parts
 decreases-least_in_parts l = 2 * l.s
 
 abbrev pub invariant-least_in_arms-loop-arm : goal.invariant-least_in_arms-loop-arm
-invariant-least_in_arms-loop-arm l = (places : List ℕ) → l.fn.first ≡ least places → l.so_far ≡ least (places ++ mixed_of l.clocked l.later (map (λ (arm : Arm). body_of l.shapes arm.statement) (take l.arm-index l.arms)))
+invariant-least_in_arms-loop-arm l = (places : List ℕ) → l.fn.first ≡ least places → l.so_far ≡ least (places ++ mixed_of (map (λ (arm : Arm). body_of l.shapes arm.statement) (take l.arm-index l.arms)))
 
 abbrev pub invariant-least_in_parts-loop-part : goal.invariant-least_in_parts-loop-part
-invariant-least_in_parts-loop-part l = (places : List ℕ) → l.fn.first ≡ least places → l.so_far ≡ least (places ++ mixed_of l.clocked l.later (map (body_of l.shapes) (take l.part-index l.parts)))
+invariant-least_in_parts-loop-part l = (places : List ℕ) → l.fn.first ≡ least places → l.so_far ≡ least (places ++ mixed_of (map (body_of l.shapes) (take l.part-index l.parts)))

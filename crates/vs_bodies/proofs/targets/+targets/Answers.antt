@@ -1,5 +1,4 @@
 use Rattle.std.proofs.Common.{rules, ◌≡◌, ◌<◌, List, length, IfOk, ap, subst, sym, ◌∙◌, arith}
-use denote.Param.Weighed.{most}
 use Rattle.vs_grammar.specs.Trees as tree
 use Rattle.vs_grammar.specs.Shapes.{IsTarget, AreTargets}
 use Rattle.vs_ast.specs.Views as view

@@ -1,4 +1,4 @@
-use Rattle.std.proofs.Common.{◌≡◌, ℕ, true, not, List, Option, IfOk, sym, ap, ◌∙◌, subst}
+use Rattle.std.proofs.Common.{◌||◌, ◌≡◌, ℕ, true, not, List, Option, IfOk, sym, ap, ◌∙◌, subst}
 use Rattle.vs_four.specs.declared.Range.{Range}
 use Rattle.vs_grammar.specs.Trees.{expr_place}
 use Rattle.vs_ast.specs.declared.expressions.Expr.{Expr}
@@ -7,7 +7,7 @@ use Rattle.vs_ast.specs.Views as view
 use Rattle.vs_const.specs.Checks.{ChecksTaken}
 use Rattle.vs_const.specs.Meanings.{Means, steady}
 use Rattle.vs_const.specs.Expressions.{typed, taken_by}
-use Rattle.vs_const.specs.Selects.{Taken, slice_taken, first_names, first_needed, word_range}
+use Rattle.vs_const.specs.Selects.{Taken, slice_taken, first_names, first_needed, word_range, is_array}
 use Rattle.vs_elaborated.specs.Targets.{meant_signal, target_base, bit_target, further_target, selected_target}
 use Rattle.vs_bodies.specs.declared.told.Told.{Told}
 use Rattle.vs_bodies.specs.Told.{broken, joined, told_target}
@@ -28,7 +28,7 @@ returns-in-Bit g c =
     let name = view.name c.args.name.now in
     let p = c.args.procedural in
     subst (λ (s : Select). IfOk c.bit_told.result (λ (w : Told). w ≡ told_target (selected_target (view.select s) name find p))) (sym c.in-Bit.is)
-    (subst (λ (e : Expr). IfOk c.bit_told.result (λ (w : Told). w ≡ told_target (bit_target p name.place (find name.bytes) (typed (view.expr e) find (not p))))) c.deref.ensures c.bit_told.ensures)
+    (subst (λ (e : Expr). IfOk c.bit_told.result (λ (w : Told). w ≡ told_target (bit_target p name.place (find name.bytes) (expr_place (view.expr e)) (typed (view.expr e) find (is_array (find name.bytes) || not p))))) c.deref.ensures c.bit_told.ensures)
 
 pub returns-in_ok-bits-in-Slice : goal.returns-in_ok-bits-in-Slice
 returns-in_ok-bits-in-Slice g c =
@@ -59,7 +59,7 @@ returns-in-Word g c =
     let name = view.name c.args.name.now in
     let p = c.args.procedural in
     let m = find name.bytes in
-    let said = λ (e : Expr) (s : Select). told_target (further_target p name.place m (typed (view.expr e) find (not p)) (taken_by (word_range m) (view.select s) find (not p))) in
+    let said = λ (e : Expr) (s : Select). told_target (further_target p name.place m (expr_place (view.expr e)) (typed (view.expr e) find (is_array m || not p)) (taken_by (word_range m) (view.select s) find (not p))) in
     subst (λ (s : Select). IfOk c.further_told.result (λ (w : Told). w ≡ told_target (selected_target (view.select s) name find p))) (sym c.in-Word.is)
     (subst (λ (s : Select). IfOk c.further_told.result (λ (w : Told). w ≡ said c.in-Word.address.value s)) c.deref-in-Word-2.ensures
     (subst (λ (e : Expr). IfOk c.further_told.result (λ (w : Told). w ≡ said e c.deref-in-Word-2.result.now)) c.deref-in-Word.ensures c.further_told.ensures))

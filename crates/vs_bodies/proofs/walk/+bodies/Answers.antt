@@ -17,7 +17,7 @@ use Rattle.vs_elaborated.specs.Statements.{typed_list, scope_locals, scoped}
 use Rattle.vs_bodies.specs.declared.told.Told.{Told}
 use Rattle.vs_bodies.specs.Bodies.{body_of}
 use Rattle.vs_bodies.specs.Layers.{within}
-use Rattle.vs_bodies.specs.Told.{broken, nothing, joined, one, told_labels, turn, tells, tells_sequence, tells_arms, tells_turns}
+use Rattle.vs_bodies.specs.Told.{nothing, joined, one, told_labels, turn, tells, tells_sequence, tells_arms, tells_turns}
 use Rattle.vs_bodies.specs.Turns.{IsGiven, IsTested}
 use Rattle.vs_bodies.specs.Walks.{tells_arm}
 use Rattle.vs_bodies.proofs.Gathered.{empty_told, empty_over, assigned_told, assigned_over, assignment_shaped, if_shaped, else_shaped, if_first_over, if_second_over, if_third_over, if_alone_told, if_else_told, case_shaped, default_shaped, case_first_over, case_second_over, case_third_over, case_alone_told, case_default_told, sequence_shaped, plain_told, plain_over, block_told, block_over, for_shaped, for_told, for_over}

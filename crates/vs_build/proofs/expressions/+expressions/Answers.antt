@@ -1,4 +1,4 @@
-use Rattle.std.proofs.Common.{rules, ℕ, true, false, OnOk, ◌++◌, ◌≤◌, ◌+◌, ◌<◌, ◌≡◌, max, min, take, length, Some, refl, ap, subst, sym, ◌∙◌, arith}
+use Rattle.std.proofs.Common.{rules, ℕ, true, false, ◌||◌, OnOk, ◌++◌, ◌≤◌, ◌+◌, ◌<◌, ◌≡◌, max, min, take, length, Some, None, refl, ap, subst, sym, ◌∙◌, arith}
 use denote.Param.Weighed.{most}
 use Rattle.vs_four.specs.Numbers.{bits_of}
 use Rattle.vs_four.specs.Selects.{range_length}
@@ -13,18 +13,18 @@ use Rattle.vs_ast.proofs.Rows.{expr_rows}
 use Rattle.vs_ast.specs.declared.expressions.Expr.{the_lemmas}
 use Rattle.vs_const.specs.Meanings.{steady}
 use Rattle.vs_const.specs.Typed.{begins_at, natural}
-use Rattle.vs_const.specs.Selects.{taken, bounds, lesser_bound}
+use Rattle.vs_const.specs.Selects.{taken, bounds, lesser_bound, is_array}
 use Rattle.vs_const.specs.Expressions.{constant, typed, taken_by}
 use Rattle.vs_const.proofs.Rows.{some_part}
 use Rattle.vs_const.proofs.Sizes.{arguments_size, unary_size, left_size, right_size, condition_size, yes_size, no_size, call_size, brackets_size, falls}
 use Rattle.vs_flat.specs.Targets.{source_of}
 use Rattle.vs_build.specs.Drafts.{Draft, home, AddsExpression, EndsInSelect}
 use Rattle.vs_build.specs.Growth.{draft}
-use Rattle.vs_build.specs.Buildable.{IsBuildable, IsSelectable, IsTakable, AreBuildable, AreArguments, HasBits, IsWithin, AreBounds, IsRangeOf, IsConstant, part_expressions, selected_by}
+use Rattle.vs_build.specs.Buildable.{IsBuildable, memory_of, IsWordAddressable, IsSelectable, IsTakable, AreBuildable, AreArguments, HasBits, IsWithin, AreBounds, IsRangeOf, IsConstant, part_expressions, selected_by}
 use Rattle.vs_build.proofs.Arms.{up_to, begins_twice, begins_itself, child, child_ends, children_end, ends_three, after, same_home, ok_up_to, unary_operand, brackets_inner, binary_left, binary_right, choice_condition, choice_yes, choice_no, unary_arm, binary_arm, choice_arm}
 use Rattle.vs_build.proofs.Lists.{concatenation_view, replication_view, each_part, part_levels, part_falls, taken_more, taken_all, parts_none, parts_more, parts_are, ends_parts, part_after, part_count, concatenation_parts, join_arm, each_argument, apply_view, call_is, call_many, function_at, call_arm, replication_is, replication_expression, deeper_up_to}
-use Rattle.vs_build.proofs.Selects.{named_select, named_expression, bit_taken, bit_index, bit_word, word_ends, word_arm, moving_taken, moving_is, between_is, between_taken, select_ends, select_arm, signed_operand, unsigned_operand, clog2_constant, clog2_arm}
-use Rattle.vs_build.proofs.Further.{index_parts, moving_parts, moving_bits, between_parts, between_bits, taken_index, taken_part, further_is, takable_after, IsLookedUp, further_ends, further_arm}
+use Rattle.vs_build.proofs.Selects.{named_select, named_expression, bit_taken, bit_index, bit_address, bit_word, word_ends, word_arm, moving_taken, moving_is, between_is, between_taken, select_ends, select_arm, signed_operand, unsigned_operand, clog2_constant, clog2_arm}
+use Rattle.vs_build.proofs.Further.{index_parts, moving_parts, moving_bits, between_parts, between_bits, taken_index, taken_part, further_is, takable_after, looked_up, further_ends, further_arm}
 use Rattle.vs_build.proofs.expressions.+expressions.Goals as goal
 
 pub expression-unary-requires : goal.expression-unary-requires
@@ -178,33 +178,159 @@ expression-returns-in_ok-bits-in-Clog2 g t c =
     (clog2_arm c.literal-in-Clog2.result (draft c.args.builder.now) (draft c.literal-in-Clog2.new.self) (home (draft c.args.builder.now)) (g.E.Env.names c.args.env.now) c.args.needed c.args.at c.in-Call.place (view.expr c.in-Call.a.value) c.in_ok-bits-in-Clog2.bits
     (subst (λ f. IsBuildable (home (draft c.args.builder.now)) (g.E.Env.names c.args.env.now) c.args.needed (tree.Call c.in-Call.place (view.system_function f) (view.expr c.in-Call.a.value))) c.in-Clog2.is (subst (λ x. IsBuildable (home (draft c.args.builder.now)) (g.E.Env.names c.args.env.now) c.args.needed (view.expr x)) c.in-Call.is c.requires)) bits c.literal-in-Clog2.ensures))
 
+pub selected-operand-requires : goal.selected-operand-requires
+selected-operand-requires g t c κs within =
+    let find = g.E.Env.names c.args.env.now in
+    let d = home (draft c.args.builder.now) in
+    let name = view.name c.args.name.now in
+    let index = view.expr c.in-Bit.index.value in
+    let n = is_array (find name.bytes) || c.args.needed in
+    let s = subst (λ x. IsSelectable d find c.args.fixed c.args.needed name (view.select x)) c.in-Bit.is c.requires in
+    let b = bit_index d find c.args.fixed c.args.needed name c.in-Bit.bracket index s in
+    (search (rules, the_lemmas), (within, subst (λ k. IsBuildable d find k (view.expr c.deref.result.now)) (sym c.index_needed.ensures) (child d find n c.deref.result.now c.in-Bit.index.value c.deref.ensures b)))
+
+pub selected-memory-requires : goal.selected-memory-requires
+selected-memory-requires g t c =
+    let find = g.E.Env.names c.args.env.now in
+    let d = home (draft c.args.builder.now) in
+    let name = view.name c.args.name.now in
+    let index = view.expr c.in-Bit.index.value in
+    let s = subst (λ x. IsSelectable d find c.args.fixed c.args.needed name (view.select x)) c.in-Bit.is c.requires in
+    subst (λ x. IsWordAddressable (find name.bytes) find (view.expr x)) (sym c.deref-in-Bit.ensures) (bit_address d find c.args.fixed c.args.needed name c.in-Bit.bracket index s)
+
 pub selected-word-requires-clause-there : goal.selected-word-requires-clause-there
-selected-word-requires-clause-there g t c = (word_ends (draft c.args.builder.now) (draft c.operand.new.builder) (selected_by (tree.BitAt c.in-Bit.bracket (view.expr c.in-Bit.index.value)) (view.name c.args.name.now) (g.E.Env.names c.args.env.now) c.args.fixed c.args.needed) (typed (view.expr c.in-Bit.index.value) (g.E.Env.names c.args.env.now) c.args.needed) c.in-Some.signal (1 + expr_depth (view.expr c.in-Bit.index.value)) (bit_word (home (draft c.args.builder.now)) (g.E.Env.names c.args.env.now) c.args.fixed c.args.needed (view.name c.args.name.now) c.in-Bit.bracket (view.expr c.in-Bit.index.value) c.in-Some.signal (sym c.memory.ensures ∙ c.in-Some.is) (subst (λ x. IsSelectable (home (draft c.args.builder.now)) (g.E.Env.names c.args.env.now) c.args.fixed c.args.needed (view.name c.args.name.now) (view.select x)) c.in-Bit.is c.requires)) (subst (λ x. AddsExpression (draft c.args.builder.now) (draft c.operand.new.builder) (typed (view.expr x) (g.E.Env.names c.args.env.now) c.args.needed).expression (1 + expr_depth (view.expr x))) c.deref.ensures c.in_ok-operand-in-Bit.ensures) (omega (arith, (bit_index (home (draft c.args.builder.now)) (g.E.Env.names c.args.env.now) c.args.fixed c.args.needed (view.name c.args.name.now) c.in-Bit.bracket (view.expr c.in-Bit.index.value) (subst (λ x. IsSelectable (home (draft c.args.builder.now)) (g.E.Env.names c.args.env.now) c.args.fixed c.args.needed (view.name c.args.name.now) (view.select x)) c.in-Bit.is c.requires)).shallow))).there
+selected-word-requires-clause-there g k c =
+    let find = g.E.Env.names c.args.env.now in
+    let d = home (draft c.args.builder.now) in
+    let name = view.name c.args.name.now in
+    let index = view.expr c.in-Bit.index.value in
+    let n = is_array (find name.bytes) || c.args.needed in
+    let s = subst (λ x. IsSelectable d find c.args.fixed c.args.needed name (view.select x)) c.in-Bit.is c.requires in
+    let found : memory_of (find name.bytes) (expr_place index) (constant index find) ≡ Some c.in-Some.signal =
+    ap (λ x. memory_of (find name.bytes) (expr_place (view.expr x)) (constant (view.expr x) find)) (sym c.deref-in-Bit.ensures) ∙ sym c.in_ok-there-in-Bit.ensures ∙ c.in-Some.is
+    in
+    let a : AddsExpression (draft c.args.builder.now) (draft c.operand.new.builder) (typed index find n).expression (1 + expr_depth index) =
+    subst (λ x. AddsExpression (draft c.args.builder.now) (draft c.operand.new.builder) (typed (view.expr x) find n).expression (1 + expr_depth (view.expr x))) c.deref.ensures
+    (subst (λ k. AddsExpression (draft c.args.builder.now) (draft c.operand.new.builder) (typed (view.expr c.deref.result.now) find k).expression (1 + expr_depth (view.expr c.deref.result.now))) c.index_needed.ensures c.in_ok-operand-in-Bit.ensures)
+    in
+    let t = selected_by (tree.BitAt c.in-Bit.bracket index) name find c.args.fixed c.args.needed in
+    let w = bit_word d find c.args.fixed c.args.needed name c.in-Bit.bracket index c.in-Some.signal found s in
+    (word_ends (draft c.args.builder.now) (draft c.operand.new.builder) t (typed index find n) c.in-Some.signal (1 + expr_depth index) w a (omega (arith, (bit_index d find c.args.fixed c.args.needed name c.in-Bit.bracket index s).shallow))).there
 
 pub selected-word-requires-clause-memory : goal.selected-word-requires-clause-memory
-selected-word-requires-clause-memory g t c = (word_ends (draft c.args.builder.now) (draft c.operand.new.builder) (selected_by (tree.BitAt c.in-Bit.bracket (view.expr c.in-Bit.index.value)) (view.name c.args.name.now) (g.E.Env.names c.args.env.now) c.args.fixed c.args.needed) (typed (view.expr c.in-Bit.index.value) (g.E.Env.names c.args.env.now) c.args.needed) c.in-Some.signal (1 + expr_depth (view.expr c.in-Bit.index.value)) (bit_word (home (draft c.args.builder.now)) (g.E.Env.names c.args.env.now) c.args.fixed c.args.needed (view.name c.args.name.now) c.in-Bit.bracket (view.expr c.in-Bit.index.value) c.in-Some.signal (sym c.memory.ensures ∙ c.in-Some.is) (subst (λ x. IsSelectable (home (draft c.args.builder.now)) (g.E.Env.names c.args.env.now) c.args.fixed c.args.needed (view.name c.args.name.now) (view.select x)) c.in-Bit.is c.requires)) (subst (λ x. AddsExpression (draft c.args.builder.now) (draft c.operand.new.builder) (typed (view.expr x) (g.E.Env.names c.args.env.now) c.args.needed).expression (1 + expr_depth (view.expr x))) c.deref.ensures c.in_ok-operand-in-Bit.ensures) (omega (arith, (bit_index (home (draft c.args.builder.now)) (g.E.Env.names c.args.env.now) c.args.fixed c.args.needed (view.name c.args.name.now) c.in-Bit.bracket (view.expr c.in-Bit.index.value) (subst (λ x. IsSelectable (home (draft c.args.builder.now)) (g.E.Env.names c.args.env.now) c.args.fixed c.args.needed (view.name c.args.name.now) (view.select x)) c.in-Bit.is c.requires)).shallow))).memory
+selected-word-requires-clause-memory g k c =
+    let find = g.E.Env.names c.args.env.now in
+    let d = home (draft c.args.builder.now) in
+    let name = view.name c.args.name.now in
+    let index = view.expr c.in-Bit.index.value in
+    let n = is_array (find name.bytes) || c.args.needed in
+    let s = subst (λ x. IsSelectable d find c.args.fixed c.args.needed name (view.select x)) c.in-Bit.is c.requires in
+    let found : memory_of (find name.bytes) (expr_place index) (constant index find) ≡ Some c.in-Some.signal =
+    ap (λ x. memory_of (find name.bytes) (expr_place (view.expr x)) (constant (view.expr x) find)) (sym c.deref-in-Bit.ensures) ∙ sym c.in_ok-there-in-Bit.ensures ∙ c.in-Some.is
+    in
+    let a : AddsExpression (draft c.args.builder.now) (draft c.operand.new.builder) (typed index find n).expression (1 + expr_depth index) =
+    subst (λ x. AddsExpression (draft c.args.builder.now) (draft c.operand.new.builder) (typed (view.expr x) find n).expression (1 + expr_depth (view.expr x))) c.deref.ensures
+    (subst (λ k. AddsExpression (draft c.args.builder.now) (draft c.operand.new.builder) (typed (view.expr c.deref.result.now) find k).expression (1 + expr_depth (view.expr c.deref.result.now))) c.index_needed.ensures c.in_ok-operand-in-Bit.ensures)
+    in
+    let t = selected_by (tree.BitAt c.in-Bit.bracket index) name find c.args.fixed c.args.needed in
+    let w = bit_word d find c.args.fixed c.args.needed name c.in-Bit.bracket index c.in-Some.signal found s in
+    (word_ends (draft c.args.builder.now) (draft c.operand.new.builder) t (typed index find n) c.in-Some.signal (1 + expr_depth index) w a (omega (arith, (bit_index d find c.args.fixed c.args.needed name c.in-Bit.bracket index s).shallow))).memory
 
 pub selected-word-requires-clause-ends : goal.selected-word-requires-clause-ends
-selected-word-requires-clause-ends g t c = (word_ends (draft c.args.builder.now) (draft c.operand.new.builder) (selected_by (tree.BitAt c.in-Bit.bracket (view.expr c.in-Bit.index.value)) (view.name c.args.name.now) (g.E.Env.names c.args.env.now) c.args.fixed c.args.needed) (typed (view.expr c.in-Bit.index.value) (g.E.Env.names c.args.env.now) c.args.needed) c.in-Some.signal (1 + expr_depth (view.expr c.in-Bit.index.value)) (bit_word (home (draft c.args.builder.now)) (g.E.Env.names c.args.env.now) c.args.fixed c.args.needed (view.name c.args.name.now) c.in-Bit.bracket (view.expr c.in-Bit.index.value) c.in-Some.signal (sym c.memory.ensures ∙ c.in-Some.is) (subst (λ x. IsSelectable (home (draft c.args.builder.now)) (g.E.Env.names c.args.env.now) c.args.fixed c.args.needed (view.name c.args.name.now) (view.select x)) c.in-Bit.is c.requires)) (subst (λ x. AddsExpression (draft c.args.builder.now) (draft c.operand.new.builder) (typed (view.expr x) (g.E.Env.names c.args.env.now) c.args.needed).expression (1 + expr_depth (view.expr x))) c.deref.ensures c.in_ok-operand-in-Bit.ensures) (omega (arith, (bit_index (home (draft c.args.builder.now)) (g.E.Env.names c.args.env.now) c.args.fixed c.args.needed (view.name c.args.name.now) c.in-Bit.bracket (view.expr c.in-Bit.index.value) (subst (λ x. IsSelectable (home (draft c.args.builder.now)) (g.E.Env.names c.args.env.now) c.args.fixed c.args.needed (view.name c.args.name.now) (view.select x)) c.in-Bit.is c.requires)).shallow))).ends
+selected-word-requires-clause-ends g k c =
+    let find = g.E.Env.names c.args.env.now in
+    let d = home (draft c.args.builder.now) in
+    let name = view.name c.args.name.now in
+    let index = view.expr c.in-Bit.index.value in
+    let n = is_array (find name.bytes) || c.args.needed in
+    let s = subst (λ x. IsSelectable d find c.args.fixed c.args.needed name (view.select x)) c.in-Bit.is c.requires in
+    let found : memory_of (find name.bytes) (expr_place index) (constant index find) ≡ Some c.in-Some.signal =
+    ap (λ x. memory_of (find name.bytes) (expr_place (view.expr x)) (constant (view.expr x) find)) (sym c.deref-in-Bit.ensures) ∙ sym c.in_ok-there-in-Bit.ensures ∙ c.in-Some.is
+    in
+    let a : AddsExpression (draft c.args.builder.now) (draft c.operand.new.builder) (typed index find n).expression (1 + expr_depth index) =
+    subst (λ x. AddsExpression (draft c.args.builder.now) (draft c.operand.new.builder) (typed (view.expr x) find n).expression (1 + expr_depth (view.expr x))) c.deref.ensures
+    (subst (λ k. AddsExpression (draft c.args.builder.now) (draft c.operand.new.builder) (typed (view.expr c.deref.result.now) find k).expression (1 + expr_depth (view.expr c.deref.result.now))) c.index_needed.ensures c.in_ok-operand-in-Bit.ensures)
+    in
+    let t = selected_by (tree.BitAt c.in-Bit.bracket index) name find c.args.fixed c.args.needed in
+    let w = bit_word d find c.args.fixed c.args.needed name c.in-Bit.bracket index c.in-Some.signal found s in
+    (word_ends (draft c.args.builder.now) (draft c.operand.new.builder) t (typed index find n) c.in-Some.signal (1 + expr_depth index) w a (omega (arith, (bit_index d find c.args.fixed c.args.needed name c.in-Bit.bracket index s).shallow))).ends
 
 pub selected-returns-in-Some : goal.selected-returns-in-Some
-selected-returns-in-Some g t c =
-    subst (λ x. OnOk c.word.result (AddsExpression (draft c.args.builder.now) (draft c.word.new.self) (begins_at c.args.at (selected_by (view.select x) (view.name c.args.name.now) (g.E.Env.names c.args.env.now) c.args.fixed c.args.needed).expression) (1 + select_depth (view.select x)))) (sym c.in-Bit.is)
-    (word_arm c.word.result (draft c.args.builder.now) (draft c.operand.new.builder) (draft c.word.new.self) (selected_by (tree.BitAt c.in-Bit.bracket (view.expr c.in-Bit.index.value)) (view.name c.args.name.now) (g.E.Env.names c.args.env.now) c.args.fixed c.args.needed) (typed (view.expr c.in-Bit.index.value) (g.E.Env.names c.args.env.now) c.args.needed) c.in-Some.signal (1 + expr_depth (view.expr c.in-Bit.index.value)) c.args.at (1 + (1 + expr_depth (view.expr c.in-Bit.index.value))) (bit_word (home (draft c.args.builder.now)) (g.E.Env.names c.args.env.now) c.args.fixed c.args.needed (view.name c.args.name.now) c.in-Bit.bracket (view.expr c.in-Bit.index.value) c.in-Some.signal (sym c.memory.ensures ∙ c.in-Some.is) (subst (λ x. IsSelectable (home (draft c.args.builder.now)) (g.E.Env.names c.args.env.now) c.args.fixed c.args.needed (view.name c.args.name.now) (view.select x)) c.in-Bit.is c.requires)) (subst (λ x. AddsExpression (draft c.args.builder.now) (draft c.operand.new.builder) (typed (view.expr x) (g.E.Env.names c.args.env.now) c.args.needed).expression (1 + expr_depth (view.expr x))) c.deref.ensures c.in_ok-operand-in-Bit.ensures) c.word.ensures (omega arith))
+selected-returns-in-Some g k c =
+    let find = g.E.Env.names c.args.env.now in
+    let d = home (draft c.args.builder.now) in
+    let name = view.name c.args.name.now in
+    let index = view.expr c.in-Bit.index.value in
+    let n = is_array (find name.bytes) || c.args.needed in
+    let s = subst (λ x. IsSelectable d find c.args.fixed c.args.needed name (view.select x)) c.in-Bit.is c.requires in
+    let found : memory_of (find name.bytes) (expr_place index) (constant index find) ≡ Some c.in-Some.signal =
+    ap (λ x. memory_of (find name.bytes) (expr_place (view.expr x)) (constant (view.expr x) find)) (sym c.deref-in-Bit.ensures) ∙ sym c.in_ok-there-in-Bit.ensures ∙ c.in-Some.is
+    in
+    let a : AddsExpression (draft c.args.builder.now) (draft c.operand.new.builder) (typed index find n).expression (1 + expr_depth index) =
+    subst (λ x. AddsExpression (draft c.args.builder.now) (draft c.operand.new.builder) (typed (view.expr x) find n).expression (1 + expr_depth (view.expr x))) c.deref.ensures
+    (subst (λ k. AddsExpression (draft c.args.builder.now) (draft c.operand.new.builder) (typed (view.expr c.deref.result.now) find k).expression (1 + expr_depth (view.expr c.deref.result.now))) c.index_needed.ensures c.in_ok-operand-in-Bit.ensures)
+    in
+    let t = selected_by (tree.BitAt c.in-Bit.bracket index) name find c.args.fixed c.args.needed in
+    let w = bit_word d find c.args.fixed c.args.needed name c.in-Bit.bracket index c.in-Some.signal found s in
+    subst (λ x. OnOk c.word.result (AddsExpression (draft c.args.builder.now) (draft c.word.new.self) (begins_at c.args.at (selected_by (view.select x) name find c.args.fixed c.args.needed).expression) (1 + select_depth (view.select x)))) (sym c.in-Bit.is)
+    (word_arm c.word.result (draft c.args.builder.now) (draft c.operand.new.builder) (draft c.word.new.self) t (typed index find n) c.in-Some.signal (1 + expr_depth index) c.args.at (1 + (1 + expr_depth index)) w a c.word.ensures (omega arith))
 
 pub selected-source-requires : goal.selected-source-requires
-selected-source-requires g t c =
-    subst (λ d. HasBits d c.args.fixed c.args.name.now.place ((g.E.Env.names c.args.env.now) c.args.name.now.text)) (same_home (draft c.args.builder.now) (draft c.operand.new.builder) (typed (view.expr c.in-Bit.index.value) (g.E.Env.names c.args.env.now) c.args.needed).expression (1 + expr_depth (view.expr c.in-Bit.index.value)) (subst (λ x. AddsExpression (draft c.args.builder.now) (draft c.operand.new.builder) (typed (view.expr x) (g.E.Env.names c.args.env.now) c.args.needed).expression (1 + expr_depth (view.expr x))) c.deref.ensures c.in_ok-operand-in-Bit.ensures))
-    (bit_taken (home (draft c.args.builder.now)) (g.E.Env.names c.args.env.now) c.args.fixed c.args.needed (view.name c.args.name.now) c.in-Bit.bracket (view.expr c.in-Bit.index.value) (sym c.memory.ensures ∙ c.in-None.is) (subst (λ x. IsSelectable (home (draft c.args.builder.now)) (g.E.Env.names c.args.env.now) c.args.fixed c.args.needed (view.name c.args.name.now) (view.select x)) c.in-Bit.is c.requires)).bits
+selected-source-requires g k c =
+    let find = g.E.Env.names c.args.env.now in
+    let d = home (draft c.args.builder.now) in
+    let name = view.name c.args.name.now in
+    let index = view.expr c.in-Bit.index.value in
+    let n = is_array (find name.bytes) || c.args.needed in
+    let s = subst (λ x. IsSelectable d find c.args.fixed c.args.needed name (view.select x)) c.in-Bit.is c.requires in
+    let found : memory_of (find name.bytes) (expr_place index) (constant index find) ≡ None =
+    ap (λ x. memory_of (find name.bytes) (expr_place (view.expr x)) (constant (view.expr x) find)) (sym c.deref-in-Bit.ensures) ∙ sym c.in_ok-there-in-Bit.ensures ∙ c.in-None.is
+    in
+    let a : AddsExpression (draft c.args.builder.now) (draft c.operand.new.builder) (typed index find n).expression (1 + expr_depth index) =
+    subst (λ x. AddsExpression (draft c.args.builder.now) (draft c.operand.new.builder) (typed (view.expr x) find n).expression (1 + expr_depth (view.expr x))) c.deref.ensures
+    (subst (λ k. AddsExpression (draft c.args.builder.now) (draft c.operand.new.builder) (typed (view.expr c.deref.result.now) find k).expression (1 + expr_depth (view.expr c.deref.result.now))) c.index_needed.ensures c.in_ok-operand-in-Bit.ensures)
+    in
+    subst (λ h. HasBits h c.args.fixed c.args.name.now.place (find name.bytes)) (same_home (draft c.args.builder.now) (draft c.operand.new.builder) (typed index find n).expression (1 + expr_depth index) a)
+    (bit_taken d find c.args.fixed c.args.needed name c.in-Bit.bracket index found s).bits
 
 pub selected-bit-requires : goal.selected-bit-requires
-selected-bit-requires g t c =
-    select_ends (home (draft c.args.builder.now)) (g.E.Env.names c.args.env.now) c.args.fixed c.args.needed (view.name c.args.name.now) (tree.BitAt c.in-Bit.bracket (view.expr c.in-Bit.index.value)) true 1 (typed (view.expr c.in-Bit.index.value) (g.E.Env.names c.args.env.now) c.args.needed).expression (draft c.args.builder.now) (draft c.operand.new.builder) (draft c.source.new.builder) (1 + expr_depth (view.expr c.in-Bit.index.value)) c.in_ok-range-in-None.range (bit_taken (home (draft c.args.builder.now)) (g.E.Env.names c.args.env.now) c.args.fixed c.args.needed (view.name c.args.name.now) c.in-Bit.bracket (view.expr c.in-Bit.index.value) (sym c.memory.ensures ∙ c.in-None.is) (subst (λ x. IsSelectable (home (draft c.args.builder.now)) (g.E.Env.names c.args.env.now) c.args.fixed c.args.needed (view.name c.args.name.now) (view.select x)) c.in-Bit.is c.requires)) refl (subst (λ x. AddsExpression (draft c.args.builder.now) (draft c.operand.new.builder) (typed (view.expr x) (g.E.Env.names c.args.env.now) c.args.needed).expression (1 + expr_depth (view.expr x))) c.deref.ensures c.in_ok-operand-in-Bit.ensures) (omega (arith, (bit_index (home (draft c.args.builder.now)) (g.E.Env.names c.args.env.now) c.args.fixed c.args.needed (view.name c.args.name.now) c.in-Bit.bracket (view.expr c.in-Bit.index.value) (subst (λ x. IsSelectable (home (draft c.args.builder.now)) (g.E.Env.names c.args.env.now) c.args.fixed c.args.needed (view.name c.args.name.now) (view.select x)) c.in-Bit.is c.requires)).shallow)) c.in_ok-range-in-None.ensures
+selected-bit-requires g k c =
+    let find = g.E.Env.names c.args.env.now in
+    let d = home (draft c.args.builder.now) in
+    let name = view.name c.args.name.now in
+    let index = view.expr c.in-Bit.index.value in
+    let n = is_array (find name.bytes) || c.args.needed in
+    let s = subst (λ x. IsSelectable d find c.args.fixed c.args.needed name (view.select x)) c.in-Bit.is c.requires in
+    let found : memory_of (find name.bytes) (expr_place index) (constant index find) ≡ None =
+    ap (λ x. memory_of (find name.bytes) (expr_place (view.expr x)) (constant (view.expr x) find)) (sym c.deref-in-Bit.ensures) ∙ sym c.in_ok-there-in-Bit.ensures ∙ c.in-None.is
+    in
+    let a : AddsExpression (draft c.args.builder.now) (draft c.operand.new.builder) (typed index find n).expression (1 + expr_depth index) =
+    subst (λ x. AddsExpression (draft c.args.builder.now) (draft c.operand.new.builder) (typed (view.expr x) find n).expression (1 + expr_depth (view.expr x))) c.deref.ensures
+    (subst (λ k. AddsExpression (draft c.args.builder.now) (draft c.operand.new.builder) (typed (view.expr c.deref.result.now) find k).expression (1 + expr_depth (view.expr c.deref.result.now))) c.index_needed.ensures c.in_ok-operand-in-Bit.ensures)
+    in
+    let b = bit_taken d find c.args.fixed c.args.needed name c.in-Bit.bracket index found s in
+    select_ends d find c.args.fixed c.args.needed name (tree.BitAt c.in-Bit.bracket index) true 1 (typed index find n).expression (draft c.args.builder.now) (draft c.operand.new.builder) (draft c.source.new.builder) (1 + expr_depth index) c.in_ok-range-in-None.range
+    b refl a (omega (arith, (bit_index d find c.args.fixed c.args.needed name c.in-Bit.bracket index s).shallow)) c.in_ok-range-in-None.ensures
 
 pub selected-returns-in_ok-range-in-None : goal.selected-returns-in_ok-range-in-None
-selected-returns-in_ok-range-in-None g t c =
-    subst (λ x. OnOk c.bit.result (AddsExpression (draft c.args.builder.now) (draft c.bit.new.self) (begins_at c.args.at (selected_by (view.select x) (view.name c.args.name.now) (g.E.Env.names c.args.env.now) c.args.fixed c.args.needed).expression) (1 + select_depth (view.select x)))) (sym c.in-Bit.is)
-    (select_arm c.bit.result (home (draft c.args.builder.now)) (g.E.Env.names c.args.env.now) c.args.fixed c.args.needed (view.name c.args.name.now) (tree.BitAt c.in-Bit.bracket (view.expr c.in-Bit.index.value)) true 1 (typed (view.expr c.in-Bit.index.value) (g.E.Env.names c.args.env.now) c.args.needed).expression (draft c.args.builder.now) (draft c.operand.new.builder) (draft c.source.new.builder) (draft c.bit.new.self) (1 + expr_depth (view.expr c.in-Bit.index.value)) c.args.at (1 + (1 + expr_depth (view.expr c.in-Bit.index.value))) c.in_ok-range-in-None.range (bit_taken (home (draft c.args.builder.now)) (g.E.Env.names c.args.env.now) c.args.fixed c.args.needed (view.name c.args.name.now) c.in-Bit.bracket (view.expr c.in-Bit.index.value) (sym c.memory.ensures ∙ c.in-None.is) (subst (λ x. IsSelectable (home (draft c.args.builder.now)) (g.E.Env.names c.args.env.now) c.args.fixed c.args.needed (view.name c.args.name.now) (view.select x)) c.in-Bit.is c.requires)) (subst (λ x. AddsExpression (draft c.args.builder.now) (draft c.operand.new.builder) (typed (view.expr x) (g.E.Env.names c.args.env.now) c.args.needed).expression (1 + expr_depth (view.expr x))) c.deref.ensures c.in_ok-operand-in-Bit.ensures) c.in_ok-range-in-None.ensures c.bit.ensures (omega arith))
+selected-returns-in_ok-range-in-None g k c =
+    let find = g.E.Env.names c.args.env.now in
+    let d = home (draft c.args.builder.now) in
+    let name = view.name c.args.name.now in
+    let index = view.expr c.in-Bit.index.value in
+    let n = is_array (find name.bytes) || c.args.needed in
+    let s = subst (λ x. IsSelectable d find c.args.fixed c.args.needed name (view.select x)) c.in-Bit.is c.requires in
+    let found : memory_of (find name.bytes) (expr_place index) (constant index find) ≡ None =
+    ap (λ x. memory_of (find name.bytes) (expr_place (view.expr x)) (constant (view.expr x) find)) (sym c.deref-in-Bit.ensures) ∙ sym c.in_ok-there-in-Bit.ensures ∙ c.in-None.is
+    in
+    let a : AddsExpression (draft c.args.builder.now) (draft c.operand.new.builder) (typed index find n).expression (1 + expr_depth index) =
+    subst (λ x. AddsExpression (draft c.args.builder.now) (draft c.operand.new.builder) (typed (view.expr x) find n).expression (1 + expr_depth (view.expr x))) c.deref.ensures
+    (subst (λ k. AddsExpression (draft c.args.builder.now) (draft c.operand.new.builder) (typed (view.expr c.deref.result.now) find k).expression (1 + expr_depth (view.expr c.deref.result.now))) c.index_needed.ensures c.in_ok-operand-in-Bit.ensures)
+    in
+    let b = bit_taken d find c.args.fixed c.args.needed name c.in-Bit.bracket index found s in
+    subst (λ x. OnOk c.bit.result (AddsExpression (draft c.args.builder.now) (draft c.bit.new.self) (begins_at c.args.at (selected_by (view.select x) name find c.args.fixed c.args.needed).expression) (1 + select_depth (view.select x)))) (sym c.in-Bit.is)
+    (select_arm c.bit.result d find c.args.fixed c.args.needed name (tree.BitAt c.in-Bit.bracket index) true 1 (typed index find n).expression (draft c.args.builder.now) (draft c.operand.new.builder) (draft c.source.new.builder) (draft c.bit.new.self) (1 + expr_depth index) c.args.at
+    (1 + (1 + expr_depth index)) c.in_ok-range-in-None.range b a c.in_ok-range-in-None.ensures c.bit.ensures (omega arith))
 
 pub selected-number_within-requires : goal.selected-number_within-requires
 selected-number_within-requires g t c =
@@ -378,27 +504,32 @@ selected-operand-requires-in-Word g t c κs within =
     let find = g.E.Env.names c.args.env.now in
     let d = home (draft c.args.builder.now) in
     let name = view.name c.args.name.now in
+    let m = find name.bytes in
+    let n = is_array m || c.args.needed in
     let address = view.expr c.in-Word.address.value in
     let part = view.select c.in-Word.part.value in
     let f = further_is d find c.args.fixed c.args.needed name c.in-Word.bracket address part (subst (λ x. IsSelectable d find c.args.fixed c.args.needed name (view.select x)) c.in-Word.is c.requires) in
-    (search (rules, the_lemmas), (within, child d find c.args.needed c.deref-in-Word.result.now c.in-Word.address.value c.deref-in-Word.ensures f.address_is))
+    (search (rules, the_lemmas), (within, subst (λ k. IsBuildable d find k (view.expr c.deref-in-Word.result.now)) (sym c.index_needed-in-Word.ensures) (child d find n c.deref-in-Word.result.now c.in-Word.address.value c.deref-in-Word.ensures f.address_is)))
 
 pub selected-bits_taken-requires : goal.selected-bits_taken-requires
 selected-bits_taken-requires g t c κs within =
     let find = g.E.Env.names c.args.env.now in
     let d = home (draft c.args.builder.now) in
     let name = view.name c.args.name.now in
+    let m = find name.bytes in
+    let n = is_array m || c.args.needed in
     let address = view.expr c.in-Word.address.value in
     let part = view.select c.in-Word.part.value in
     let f = further_is d find c.args.fixed c.args.needed name c.in-Word.bracket address part (subst (λ x. IsSelectable d find c.args.fixed c.args.needed name (view.select x)) c.in-Word.is c.requires) in
-    let a : AddsExpression (draft c.args.builder.now) (draft c.operand-in-Word.new.builder) (typed address find c.args.needed).expression (1 + expr_depth address) =
-    subst (λ x. AddsExpression (draft c.args.builder.now) (draft c.operand-in-Word.new.builder) (typed (view.expr x) find c.args.needed).expression (1 + expr_depth (view.expr x))) c.deref-in-Word.ensures c.in_ok-operand-in-Word.ensures
+    let a : AddsExpression (draft c.args.builder.now) (draft c.operand-in-Word.new.builder) (typed address find n).expression (1 + expr_depth address) =
+    subst (λ x. AddsExpression (draft c.args.builder.now) (draft c.operand-in-Word.new.builder) (typed (view.expr x) find n).expression (1 + expr_depth (view.expr x))) c.deref-in-Word.ensures
+    (subst (λ k. AddsExpression (draft c.args.builder.now) (draft c.operand-in-Word.new.builder) (typed (view.expr c.deref-in-Word.result.now) find k).expression (1 + expr_depth (view.expr c.deref-in-Word.result.now))) c.index_needed-in-Word.ensures c.in_ok-operand-in-Word.ensures)
     in
-    let k = takable_after (draft c.args.builder.now) (draft c.operand-in-Word.new.builder) (typed address find c.args.needed).expression (1 + expr_depth address) find c.args.needed f.words.range part a f.takable in
+    let k = takable_after (draft c.args.builder.now) (draft c.operand-in-Word.new.builder) (typed address find n).expression (1 + expr_depth address) find c.args.needed f.words.range part a f.takable in
     (search (rules, the_lemmas), (within, (f.words.range, subst (λ x. IsTakable (home (draft c.operand-in-Word.new.builder)) find c.args.needed f.words.range (view.select x)) (sym c.deref-in-Word-2.ensures) k)))
 
-pub selected-words-m-requires : goal.selected-words-m-requires
-selected-words-m-requires g t c =
+pub selected-words-requires-clause-words : goal.selected-words-requires-clause-words
+selected-words-requires-clause-words g t c =
     let find = g.E.Env.names c.args.env.now in
     let d = home (draft c.args.builder.now) in
     let name = view.name c.args.name.now in
@@ -407,29 +538,41 @@ selected-words-m-requires g t c =
     let f = further_is d find c.args.fixed c.args.needed name c.in-Word.bracket address part (subst (λ x. IsSelectable d find c.args.fixed c.args.needed name (view.select x)) c.in-Word.is c.requires) in
     f.words
 
+pub selected-words-requires-clause-address : goal.selected-words-requires-clause-address
+selected-words-requires-clause-address g t c =
+    let find = g.E.Env.names c.args.env.now in
+    let d = home (draft c.args.builder.now) in
+    let name = view.name c.args.name.now in
+    let m = find name.bytes in
+    let address = view.expr c.in-Word.address.value in
+    let part = view.select c.in-Word.part.value in
+    let f = further_is d find c.args.fixed c.args.needed name c.in-Word.bracket address part (subst (λ x. IsSelectable d find c.args.fixed c.args.needed name (view.select x)) c.in-Word.is c.requires) in
+    subst (λ x. IsWordAddressable m find (view.expr x)) (sym c.deref-in-Word-3.ensures) f.addressable
+
 pub selected-word_part-requires-clause-there : goal.selected-word_part-requires-clause-there
 selected-word_part-requires-clause-there g t c =
     let find = g.E.Env.names c.args.env.now in
     let d = home (draft c.args.builder.now) in
     let name = view.name c.args.name.now in
+    let m = find name.bytes in
+    let n = is_array m || c.args.needed in
     let address = view.expr c.in-Word.address.value in
     let part = view.select c.in-Word.part.value in
     let f = further_is d find c.args.fixed c.args.needed name c.in-Word.bracket address part (subst (λ x. IsSelectable d find c.args.fixed c.args.needed name (view.select x)) c.in-Word.is c.requires) in
-    let a : AddsExpression (draft c.args.builder.now) (draft c.operand-in-Word.new.builder) (typed address find c.args.needed).expression (1 + expr_depth address) =
-    subst (λ x. AddsExpression (draft c.args.builder.now) (draft c.operand-in-Word.new.builder) (typed (view.expr x) find c.args.needed).expression (1 + expr_depth (view.expr x))) c.deref-in-Word.ensures c.in_ok-operand-in-Word.ensures
+    let a : AddsExpression (draft c.args.builder.now) (draft c.operand-in-Word.new.builder) (typed address find n).expression (1 + expr_depth address) =
+    subst (λ x. AddsExpression (draft c.args.builder.now) (draft c.operand-in-Word.new.builder) (typed (view.expr x) find n).expression (1 + expr_depth (view.expr x))) c.deref-in-Word.ensures
+    (subst (λ k. AddsExpression (draft c.args.builder.now) (draft c.operand-in-Word.new.builder) (typed (view.expr c.deref-in-Word.result.now) find k).expression (1 + expr_depth (view.expr c.deref-in-Word.result.now))) c.index_needed-in-Word.ensures c.in_ok-operand-in-Word.ensures)
     in
-    let k = takable_after (draft c.args.builder.now) (draft c.operand-in-Word.new.builder) (typed address find c.args.needed).expression (1 + expr_depth address) find c.args.needed f.words.range part a f.takable in
+    let k = takable_after (draft c.args.builder.now) (draft c.operand-in-Word.new.builder) (typed address find n).expression (1 + expr_depth address) find c.args.needed f.words.range part a f.takable in
     let there : IsTakable (home (draft c.operand-in-Word.new.builder)) find c.args.needed f.words.range (view.select c.deref-in-Word-2.result.now) = subst (λ x. IsTakable (home (draft c.operand-in-Word.new.builder)) find c.args.needed f.words.range (view.select x)) (sym c.deref-in-Word-2.ensures) k in
     let b : AddsExpression (draft c.operand-in-Word.new.builder) (draft c.bits_taken.new.builder) (taken_by (Some f.words.range) part find c.args.needed).index (select_depth part) =
     subst (λ x. AddsExpression (draft c.operand-in-Word.new.builder) (draft c.bits_taken.new.builder) (taken_by (Some f.words.range) (view.select x) find c.args.needed).index (select_depth (view.select x))) c.deref-in-Word-2.ensures (c.in_ok-bits-in-Word.ensures.adds f.words.range there)
     in
-    let l : IsLookedUp f.words.memory f.words.range (taken_by (Some f.words.range) part find c.args.needed) c.words-m.result.0 c.words-m.result.1 c.in_ok-bits-in-Word.bits.0 c.in_ok-bits-in-Word.bits.1 = record {
-      number = c.words-m.ensures.number f.words.memory f.words.is;
-      range_is = c.words-m.ensures.range f.words.memory f.words.is;
-      part = ap (λ x. (taken_by (Some f.words.range) (view.select x) find c.args.needed).part) (sym c.deref-in-Word-2.ensures) ∙ c.in_ok-bits-in-Word.ensures.part f.words.range there;
-    }
+    let l = looked_up d find c.args.needed m address part (selected_by (tree.OfWord c.in-Word.bracket address part) name find c.args.fixed c.args.needed) f c.in_ok-m-in-Word.m.0 c.in_ok-m-in-Word.m.1 c.in_ok-bits-in-Word.bits.0 c.in_ok-bits-in-Word.bits.1
+    (ap (λ x. memory_of m (expr_place (view.expr x)) (constant (view.expr x) find)) (sym c.deref-in-Word-3.ensures) ∙ c.in_ok-m-in-Word.ensures.number) (c.in_ok-m-in-Word.ensures.range f.words.memory f.words.is)
+    (ap (λ x. (taken_by (Some f.words.range) (view.select x) find c.args.needed).part) (sym c.deref-in-Word-2.ensures) ∙ c.in_ok-bits-in-Word.ensures.part f.words.range there)
     in
-    (further_ends d find c.args.needed (find name.bytes) address part (selected_by (tree.OfWord c.in-Word.bracket address part) name find c.args.fixed c.args.needed) f c.words-m.result.0 c.words-m.result.1 c.in_ok-bits-in-Word.bits.0 c.in_ok-bits-in-Word.bits.1
+    (further_ends d find c.args.needed m address part (selected_by (tree.OfWord c.in-Word.bracket address part) name find c.args.fixed c.args.needed) f c.in_ok-m-in-Word.m.0 c.in_ok-m-in-Word.m.1 c.in_ok-bits-in-Word.bits.0 c.in_ok-bits-in-Word.bits.1
     (draft c.args.builder.now) (draft c.operand-in-Word.new.builder) (draft c.bits_taken.new.builder) refl l a b).there
 
 pub selected-word_part-requires-clause-formed : goal.selected-word_part-requires-clause-formed
@@ -437,24 +580,25 @@ selected-word_part-requires-clause-formed g t c =
     let find = g.E.Env.names c.args.env.now in
     let d = home (draft c.args.builder.now) in
     let name = view.name c.args.name.now in
+    let m = find name.bytes in
+    let n = is_array m || c.args.needed in
     let address = view.expr c.in-Word.address.value in
     let part = view.select c.in-Word.part.value in
     let f = further_is d find c.args.fixed c.args.needed name c.in-Word.bracket address part (subst (λ x. IsSelectable d find c.args.fixed c.args.needed name (view.select x)) c.in-Word.is c.requires) in
-    let a : AddsExpression (draft c.args.builder.now) (draft c.operand-in-Word.new.builder) (typed address find c.args.needed).expression (1 + expr_depth address) =
-    subst (λ x. AddsExpression (draft c.args.builder.now) (draft c.operand-in-Word.new.builder) (typed (view.expr x) find c.args.needed).expression (1 + expr_depth (view.expr x))) c.deref-in-Word.ensures c.in_ok-operand-in-Word.ensures
+    let a : AddsExpression (draft c.args.builder.now) (draft c.operand-in-Word.new.builder) (typed address find n).expression (1 + expr_depth address) =
+    subst (λ x. AddsExpression (draft c.args.builder.now) (draft c.operand-in-Word.new.builder) (typed (view.expr x) find n).expression (1 + expr_depth (view.expr x))) c.deref-in-Word.ensures
+    (subst (λ k. AddsExpression (draft c.args.builder.now) (draft c.operand-in-Word.new.builder) (typed (view.expr c.deref-in-Word.result.now) find k).expression (1 + expr_depth (view.expr c.deref-in-Word.result.now))) c.index_needed-in-Word.ensures c.in_ok-operand-in-Word.ensures)
     in
-    let k = takable_after (draft c.args.builder.now) (draft c.operand-in-Word.new.builder) (typed address find c.args.needed).expression (1 + expr_depth address) find c.args.needed f.words.range part a f.takable in
+    let k = takable_after (draft c.args.builder.now) (draft c.operand-in-Word.new.builder) (typed address find n).expression (1 + expr_depth address) find c.args.needed f.words.range part a f.takable in
     let there : IsTakable (home (draft c.operand-in-Word.new.builder)) find c.args.needed f.words.range (view.select c.deref-in-Word-2.result.now) = subst (λ x. IsTakable (home (draft c.operand-in-Word.new.builder)) find c.args.needed f.words.range (view.select x)) (sym c.deref-in-Word-2.ensures) k in
     let b : AddsExpression (draft c.operand-in-Word.new.builder) (draft c.bits_taken.new.builder) (taken_by (Some f.words.range) part find c.args.needed).index (select_depth part) =
     subst (λ x. AddsExpression (draft c.operand-in-Word.new.builder) (draft c.bits_taken.new.builder) (taken_by (Some f.words.range) (view.select x) find c.args.needed).index (select_depth (view.select x))) c.deref-in-Word-2.ensures (c.in_ok-bits-in-Word.ensures.adds f.words.range there)
     in
-    let l : IsLookedUp f.words.memory f.words.range (taken_by (Some f.words.range) part find c.args.needed) c.words-m.result.0 c.words-m.result.1 c.in_ok-bits-in-Word.bits.0 c.in_ok-bits-in-Word.bits.1 = record {
-      number = c.words-m.ensures.number f.words.memory f.words.is;
-      range_is = c.words-m.ensures.range f.words.memory f.words.is;
-      part = ap (λ x. (taken_by (Some f.words.range) (view.select x) find c.args.needed).part) (sym c.deref-in-Word-2.ensures) ∙ c.in_ok-bits-in-Word.ensures.part f.words.range there;
-    }
+    let l = looked_up d find c.args.needed m address part (selected_by (tree.OfWord c.in-Word.bracket address part) name find c.args.fixed c.args.needed) f c.in_ok-m-in-Word.m.0 c.in_ok-m-in-Word.m.1 c.in_ok-bits-in-Word.bits.0 c.in_ok-bits-in-Word.bits.1
+    (ap (λ x. memory_of m (expr_place (view.expr x)) (constant (view.expr x) find)) (sym c.deref-in-Word-3.ensures) ∙ c.in_ok-m-in-Word.ensures.number) (c.in_ok-m-in-Word.ensures.range f.words.memory f.words.is)
+    (ap (λ x. (taken_by (Some f.words.range) (view.select x) find c.args.needed).part) (sym c.deref-in-Word-2.ensures) ∙ c.in_ok-bits-in-Word.ensures.part f.words.range there)
     in
-    (further_ends d find c.args.needed (find name.bytes) address part (selected_by (tree.OfWord c.in-Word.bracket address part) name find c.args.fixed c.args.needed) f c.words-m.result.0 c.words-m.result.1 c.in_ok-bits-in-Word.bits.0 c.in_ok-bits-in-Word.bits.1
+    (further_ends d find c.args.needed m address part (selected_by (tree.OfWord c.in-Word.bracket address part) name find c.args.fixed c.args.needed) f c.in_ok-m-in-Word.m.0 c.in_ok-m-in-Word.m.1 c.in_ok-bits-in-Word.bits.0 c.in_ok-bits-in-Word.bits.1
     (draft c.args.builder.now) (draft c.operand-in-Word.new.builder) (draft c.bits_taken.new.builder) refl l a b).formed
 
 pub selected-word_part-requires-clause-ends : goal.selected-word_part-requires-clause-ends
@@ -462,50 +606,52 @@ selected-word_part-requires-clause-ends g t c =
     let find = g.E.Env.names c.args.env.now in
     let d = home (draft c.args.builder.now) in
     let name = view.name c.args.name.now in
+    let m = find name.bytes in
+    let n = is_array m || c.args.needed in
     let address = view.expr c.in-Word.address.value in
     let part = view.select c.in-Word.part.value in
     let f = further_is d find c.args.fixed c.args.needed name c.in-Word.bracket address part (subst (λ x. IsSelectable d find c.args.fixed c.args.needed name (view.select x)) c.in-Word.is c.requires) in
-    let a : AddsExpression (draft c.args.builder.now) (draft c.operand-in-Word.new.builder) (typed address find c.args.needed).expression (1 + expr_depth address) =
-    subst (λ x. AddsExpression (draft c.args.builder.now) (draft c.operand-in-Word.new.builder) (typed (view.expr x) find c.args.needed).expression (1 + expr_depth (view.expr x))) c.deref-in-Word.ensures c.in_ok-operand-in-Word.ensures
+    let a : AddsExpression (draft c.args.builder.now) (draft c.operand-in-Word.new.builder) (typed address find n).expression (1 + expr_depth address) =
+    subst (λ x. AddsExpression (draft c.args.builder.now) (draft c.operand-in-Word.new.builder) (typed (view.expr x) find n).expression (1 + expr_depth (view.expr x))) c.deref-in-Word.ensures
+    (subst (λ k. AddsExpression (draft c.args.builder.now) (draft c.operand-in-Word.new.builder) (typed (view.expr c.deref-in-Word.result.now) find k).expression (1 + expr_depth (view.expr c.deref-in-Word.result.now))) c.index_needed-in-Word.ensures c.in_ok-operand-in-Word.ensures)
     in
-    let k = takable_after (draft c.args.builder.now) (draft c.operand-in-Word.new.builder) (typed address find c.args.needed).expression (1 + expr_depth address) find c.args.needed f.words.range part a f.takable in
+    let k = takable_after (draft c.args.builder.now) (draft c.operand-in-Word.new.builder) (typed address find n).expression (1 + expr_depth address) find c.args.needed f.words.range part a f.takable in
     let there : IsTakable (home (draft c.operand-in-Word.new.builder)) find c.args.needed f.words.range (view.select c.deref-in-Word-2.result.now) = subst (λ x. IsTakable (home (draft c.operand-in-Word.new.builder)) find c.args.needed f.words.range (view.select x)) (sym c.deref-in-Word-2.ensures) k in
     let b : AddsExpression (draft c.operand-in-Word.new.builder) (draft c.bits_taken.new.builder) (taken_by (Some f.words.range) part find c.args.needed).index (select_depth part) =
     subst (λ x. AddsExpression (draft c.operand-in-Word.new.builder) (draft c.bits_taken.new.builder) (taken_by (Some f.words.range) (view.select x) find c.args.needed).index (select_depth (view.select x))) c.deref-in-Word-2.ensures (c.in_ok-bits-in-Word.ensures.adds f.words.range there)
     in
-    let l : IsLookedUp f.words.memory f.words.range (taken_by (Some f.words.range) part find c.args.needed) c.words-m.result.0 c.words-m.result.1 c.in_ok-bits-in-Word.bits.0 c.in_ok-bits-in-Word.bits.1 = record {
-      number = c.words-m.ensures.number f.words.memory f.words.is;
-      range_is = c.words-m.ensures.range f.words.memory f.words.is;
-      part = ap (λ x. (taken_by (Some f.words.range) (view.select x) find c.args.needed).part) (sym c.deref-in-Word-2.ensures) ∙ c.in_ok-bits-in-Word.ensures.part f.words.range there;
-    }
+    let l = looked_up d find c.args.needed m address part (selected_by (tree.OfWord c.in-Word.bracket address part) name find c.args.fixed c.args.needed) f c.in_ok-m-in-Word.m.0 c.in_ok-m-in-Word.m.1 c.in_ok-bits-in-Word.bits.0 c.in_ok-bits-in-Word.bits.1
+    (ap (λ x. memory_of m (expr_place (view.expr x)) (constant (view.expr x) find)) (sym c.deref-in-Word-3.ensures) ∙ c.in_ok-m-in-Word.ensures.number) (c.in_ok-m-in-Word.ensures.range f.words.memory f.words.is)
+    (ap (λ x. (taken_by (Some f.words.range) (view.select x) find c.args.needed).part) (sym c.deref-in-Word-2.ensures) ∙ c.in_ok-bits-in-Word.ensures.part f.words.range there)
     in
-    (further_ends d find c.args.needed (find name.bytes) address part (selected_by (tree.OfWord c.in-Word.bracket address part) name find c.args.fixed c.args.needed) f c.words-m.result.0 c.words-m.result.1 c.in_ok-bits-in-Word.bits.0 c.in_ok-bits-in-Word.bits.1
+    (further_ends d find c.args.needed m address part (selected_by (tree.OfWord c.in-Word.bracket address part) name find c.args.fixed c.args.needed) f c.in_ok-m-in-Word.m.0 c.in_ok-m-in-Word.m.1 c.in_ok-bits-in-Word.bits.0 c.in_ok-bits-in-Word.bits.1
     (draft c.args.builder.now) (draft c.operand-in-Word.new.builder) (draft c.bits_taken.new.builder) refl l a b).ends
 
-pub selected-returns-in_ok-bits-in-Word : goal.selected-returns-in_ok-bits-in-Word
-selected-returns-in_ok-bits-in-Word g t c =
+pub selected-returns-in_ok-m-in-Word : goal.selected-returns-in_ok-m-in-Word
+selected-returns-in_ok-m-in-Word g t c =
     let find = g.E.Env.names c.args.env.now in
     let d = home (draft c.args.builder.now) in
     let name = view.name c.args.name.now in
+    let m = find name.bytes in
+    let n = is_array m || c.args.needed in
     let address = view.expr c.in-Word.address.value in
     let part = view.select c.in-Word.part.value in
     let f = further_is d find c.args.fixed c.args.needed name c.in-Word.bracket address part (subst (λ x. IsSelectable d find c.args.fixed c.args.needed name (view.select x)) c.in-Word.is c.requires) in
-    let a : AddsExpression (draft c.args.builder.now) (draft c.operand-in-Word.new.builder) (typed address find c.args.needed).expression (1 + expr_depth address) =
-    subst (λ x. AddsExpression (draft c.args.builder.now) (draft c.operand-in-Word.new.builder) (typed (view.expr x) find c.args.needed).expression (1 + expr_depth (view.expr x))) c.deref-in-Word.ensures c.in_ok-operand-in-Word.ensures
+    let a : AddsExpression (draft c.args.builder.now) (draft c.operand-in-Word.new.builder) (typed address find n).expression (1 + expr_depth address) =
+    subst (λ x. AddsExpression (draft c.args.builder.now) (draft c.operand-in-Word.new.builder) (typed (view.expr x) find n).expression (1 + expr_depth (view.expr x))) c.deref-in-Word.ensures
+    (subst (λ k. AddsExpression (draft c.args.builder.now) (draft c.operand-in-Word.new.builder) (typed (view.expr c.deref-in-Word.result.now) find k).expression (1 + expr_depth (view.expr c.deref-in-Word.result.now))) c.index_needed-in-Word.ensures c.in_ok-operand-in-Word.ensures)
     in
-    let k = takable_after (draft c.args.builder.now) (draft c.operand-in-Word.new.builder) (typed address find c.args.needed).expression (1 + expr_depth address) find c.args.needed f.words.range part a f.takable in
+    let k = takable_after (draft c.args.builder.now) (draft c.operand-in-Word.new.builder) (typed address find n).expression (1 + expr_depth address) find c.args.needed f.words.range part a f.takable in
     let there : IsTakable (home (draft c.operand-in-Word.new.builder)) find c.args.needed f.words.range (view.select c.deref-in-Word-2.result.now) = subst (λ x. IsTakable (home (draft c.operand-in-Word.new.builder)) find c.args.needed f.words.range (view.select x)) (sym c.deref-in-Word-2.ensures) k in
     let b : AddsExpression (draft c.operand-in-Word.new.builder) (draft c.bits_taken.new.builder) (taken_by (Some f.words.range) part find c.args.needed).index (select_depth part) =
     subst (λ x. AddsExpression (draft c.operand-in-Word.new.builder) (draft c.bits_taken.new.builder) (taken_by (Some f.words.range) (view.select x) find c.args.needed).index (select_depth (view.select x))) c.deref-in-Word-2.ensures (c.in_ok-bits-in-Word.ensures.adds f.words.range there)
     in
-    let l : IsLookedUp f.words.memory f.words.range (taken_by (Some f.words.range) part find c.args.needed) c.words-m.result.0 c.words-m.result.1 c.in_ok-bits-in-Word.bits.0 c.in_ok-bits-in-Word.bits.1 = record {
-      number = c.words-m.ensures.number f.words.memory f.words.is;
-      range_is = c.words-m.ensures.range f.words.memory f.words.is;
-      part = ap (λ x. (taken_by (Some f.words.range) (view.select x) find c.args.needed).part) (sym c.deref-in-Word-2.ensures) ∙ c.in_ok-bits-in-Word.ensures.part f.words.range there;
-    }
+    let l = looked_up d find c.args.needed m address part (selected_by (tree.OfWord c.in-Word.bracket address part) name find c.args.fixed c.args.needed) f c.in_ok-m-in-Word.m.0 c.in_ok-m-in-Word.m.1 c.in_ok-bits-in-Word.bits.0 c.in_ok-bits-in-Word.bits.1
+    (ap (λ x. memory_of m (expr_place (view.expr x)) (constant (view.expr x) find)) (sym c.deref-in-Word-3.ensures) ∙ c.in_ok-m-in-Word.ensures.number) (c.in_ok-m-in-Word.ensures.range f.words.memory f.words.is)
+    (ap (λ x. (taken_by (Some f.words.range) (view.select x) find c.args.needed).part) (sym c.deref-in-Word-2.ensures) ∙ c.in_ok-bits-in-Word.ensures.part f.words.range there)
     in
     subst (λ x. OnOk c.word_part.result (AddsExpression (draft c.args.builder.now) (draft c.word_part.new.self) (begins_at c.args.at (selected_by (view.select x) name find c.args.fixed c.args.needed).expression) (1 + select_depth (view.select x)))) (sym c.in-Word.is)
-    (further_arm c.word_part.result d find c.args.needed (find name.bytes) address part (selected_by (tree.OfWord c.in-Word.bracket address part) name find c.args.fixed c.args.needed) f c.words-m.result.0 c.words-m.result.1 c.in_ok-bits-in-Word.bits.0 c.in_ok-bits-in-Word.bits.1
+    (further_arm c.word_part.result d find c.args.needed m address part (selected_by (tree.OfWord c.in-Word.bracket address part) name find c.args.fixed c.args.needed) f c.in_ok-m-in-Word.m.0 c.in_ok-m-in-Word.m.1 c.in_ok-bits-in-Word.bits.0 c.in_ok-bits-in-Word.bits.1
     (draft c.args.builder.now) (draft c.operand-in-Word.new.builder) (draft c.bits_taken.new.builder) (draft c.word_part.new.self) c.args.at refl l a b c.word_part.ensures)
 
 pub bits_taken-operand-requires : goal.bits_taken-operand-requires

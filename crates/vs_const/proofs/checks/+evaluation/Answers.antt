@@ -1,4 +1,4 @@
-use Rattle.std.proofs.Common.{◌≡◌, Bool, false, ◌-◌, IfOk, List, Option, None, inl, inr, refl, subst, sym, ap, ◌∙◌, true, length, arith, ◌<◌}
+use Rattle.std.proofs.Common.{◌≡◌, ◌||◌, Bool, false, ◌-◌, IfOk, List, Option, None, inl, inr, refl, subst, sym, ap, ◌∙◌, true, length, arith, ◌<◌}
 use Rattle.vs_four.specs.declared.Range.{Range}
 use denote.Param.Weighed.{most}
 use Rattle.vs_ast.specs.Views as view
@@ -11,15 +11,15 @@ use Rattle.vs_grammar.specs.Shapes.{IsExpr, AreParts}
 use Rattle.vs_const.specs.declared.found.Found.{Found}
 use Rattle.vs_const.specs.Checks.{ChecksNumber, ChecksTaken}
 use Rattle.vs_const.specs.Expressions.{selected, typed, typed_parts, typed_arguments, taken_by, number, replication_typed, call_typed, argument_needed, applied, call_rule}
-use Rattle.vs_const.specs.Faults.{fault, NotConstant}
+use Rattle.vs_const.specs.Faults.{fault}
 use Rattle.vs_const.specs.Typed.{broken, unary_typed, choice_typed, noted, number_of}
-use Rattle.vs_const.specs.Selects.{wrong_rule, word_range, moving}
+use Rattle.vs_const.specs.Selects.{wrong_rule, is_array, bit_typed, further_typed, word_range, moving}
 use Rattle.vs_const.specs.Found.{Finds, Says}
 use Rattle.vs_const.specs.Meanings.{Means, steady}
 use Rattle.vs_const.specs.Needs.{is_needed, names_for}
 use Rattle.vs_const.proofs.Rows.{some_part, part_shaped, part_at_most, last_arm, more_arm, no_argument_left, argument_arm, argument_count}
 use Rattle.vs_const.proofs.CalledFunctions.{needed_arm, misnamed_arm}
-use Rattle.vs_const.proofs.Steady.{fair_for, steady_number, argument_says}
+use Rattle.vs_const.proofs.Steady.{fair_for, steady_number, argument_says, address_says}
 use Rattle.vs_const.proofs.Sizes.{arguments_size, application_view, unary_size, left_size, right_size, condition_size, yes_size, no_size, parts_size, count_size, copied_size, call_size, brackets_size, falls, concatenation_view, replication_view}
 use Rattle.vs_const.proofs.Arms.{binary_arm, clog2_arm, between_arm, moving_arm}
 use Rattle.vs_const.proofs.RangeArms.{between_taken}
@@ -208,21 +208,30 @@ find_selected-returns-then-needed g t c =
     let name = view.name c.args.name.now in
     let means : Means c.meant-named.result (find name.bytes) = subst (λ b. Means c.meant-named.result (find b)) c.as_slice.ensures c.meant-named.ensures in
     subst (λ x. Finds n c.find_misnamed.result (selected (view.select x) name find n)) (sym c.in-Word.is)
-    (needed_word n name.place c.in-Memory.s (find name.bytes) (typed (view.expr c.in-Word.address.value) find n) (taken_by (word_range (find name.bytes)) (view.select c.in-Word.part.value) find n) c.find_misnamed.result
+    (needed_word n name.place c.in-Memory.s (find name.bytes) (expr_place (view.expr c.in-Word.address.value)) (typed (view.expr c.in-Word.address.value) find (is_array (find name.bytes) || n)) (taken_by (word_range (find name.bytes)) (view.select c.in-Word.part.value) find n) c.find_misnamed.result
     (sym c.is_needed-needed.ensures ∙ c.if-needed.true) (subst (λ k. Means k (find name.bytes)) c.in-Memory.is means) (c.find_misnamed.ensures n))
 
 pub find_selected-returns-in_ok-bits-in-Memory : goal.find_selected-returns-in_ok-bits-in-Memory
 find_selected-returns-in_ok-bits-in-Memory g t c =
     let n = is_needed c.args.need in
-    let find = names_for c.args.need (g.E.Env.names c.args.env.now) in
+    let names = g.E.Env.names c.args.env.now in
+    let find = names_for c.args.need names in
     let name = view.name c.args.name.now in
-    let means : Means c.meant-named.result (find name.bytes) = subst (λ b. Means c.meant-named.result (find b)) c.as_slice.ensures c.meant-named.ensures in
+    let m = find name.bytes in
+    let e = c.in-Word.address.value in
+    let at = expr_place (view.expr e) in
+    let means : Means c.meant-named.result m = subst (λ b. Means c.meant-named.result (find b)) c.as_slice.ensures c.meant-named.ensures in
     let take = λ (q : Option Range). taken_by q (view.select c.in-Word.part.value) find n in
-    let says : Says n c.in_ok-at-in-Memory.at (typed (view.expr c.in-Word.address.value) find n) = subst (λ x. Says n c.in_ok-at-in-Memory.at (typed (view.expr x) find n)) c.deref-else-needed.ensures c.in_ok-at-in-Memory.ensures in
+    let says : Says (is_array m || n) c.in_ok-at-in-Memory.at (typed (view.expr e) find (is_array m || n)) =
+    subst (λ x. Says (is_array m || n) c.in_ok-at-in-Memory.at (typed (view.expr x) find (is_array m || n))) c.deref-else-needed.ensures
+    (address_says c.address_need-else-needed.result c.args.need names c.in_ok-at-in-Memory.at (view.expr c.deref-else-needed.result.now) (is_array m || n) (c.address_need-else-needed.ensures.needed m (subst (λ k. Means k m) c.in-Memory.is means)) (c.address_need-else-needed.ensures.names names) c.in_ok-at-in-Memory.ensures)
+    in
+    let place : c.place_of-else-needed.result ≡ at = c.place_of-else-needed.ensures ∙ ap (λ x. expr_place (view.expr x)) c.deref-else-needed-3.ensures in
     let bits : ChecksTaken c.in_ok-bits-in-Memory.bits (take c.in-Memory.s.range) = subst (λ x. ChecksTaken c.in_ok-bits-in-Memory.bits (taken_by c.in-Memory.s.range (view.select x) find n)) c.deref-else-needed-2.ensures c.in_ok-bits-in-Memory.ensures in
     subst (λ x. Finds n c.find_word_part.result (selected (view.select x) name find n)) (sym c.in-Word.is)
-    (memory_word n name.place c.in-Memory.s (find name.bytes) (typed (view.expr c.in-Word.address.value) find n) take c.in_ok-at-in-Memory.at c.in_ok-bits-in-Memory.bits c.find_word_part.result
-    (sym c.is_needed-needed.ensures ∙ c.if-needed.false) (subst (λ k. Means k (find name.bytes)) c.in-Memory.is means) says bits c.find_word_part.ensures)
+    (subst (λ k. Finds n c.find_word_part.result (further_typed n name.place m k (typed (view.expr e) find (is_array m || n)) (take (word_range m)))) place
+    (memory_word n name.place c.in-Memory.s m c.place_of-else-needed.result (typed (view.expr e) find (is_array m || n)) take c.in_ok-at-in-Memory.at c.in_ok-bits-in-Memory.bits c.find_word_part.result
+    (sym c.is_needed-needed.ensures ∙ c.if-needed.false) (subst (λ k. Means k m) c.in-Memory.is means) says bits c.find_word_part.ensures))
 
 pub find_selected-returns-in_default : goal.find_selected-returns-in_default
 find_selected-returns-in_default g t c =
@@ -232,26 +241,34 @@ find_selected-returns-in_default g t c =
     let means : Means c.meant-named.result (find name.bytes) = subst (λ b. Means c.meant-named.result (find b)) c.as_slice.ensures c.meant-named.ensures in
     let rule : c.wrong_rule.result ≡ wrong_rule n (find name.bytes) = (rw c.is_needed-needed.ensures at c.wrong_rule.ensures) (find name.bytes) means in
     subst (λ x. Finds n c.find_misnamed-in_default.result (selected (view.select x) name find n)) (sym c.in-Word.is)
-    (other_word n name.place c.meant-named.result (find name.bytes) (typed (view.expr c.in-Word.address.value) find n) (taken_by (word_range (find name.bytes)) (view.select c.in-Word.part.value) find n) c.find_misnamed-in_default.result
+    (other_word n name.place c.meant-named.result (find name.bytes) (expr_place (view.expr c.in-Word.address.value)) (typed (view.expr c.in-Word.address.value) find (is_array (find name.bytes) || n)) (taken_by (word_range (find name.bytes)) (view.select c.in-Word.part.value) find n) c.find_misnamed-in_default.result
     c.in_default.not-Memory means (subst (λ k. Finds n c.find_misnamed-in_default.result (broken None (fault k name.place))) rule (c.find_misnamed-in_default.ensures n)))
 
 pub find_selected-returns-in_ok-i-in-Bit : goal.find_selected-returns-in_ok-i-in-Bit
 find_selected-returns-in_ok-i-in-Bit g t c =
     let n = is_needed c.args.need in
-    let find = names_for c.args.need (g.E.Env.names c.args.env.now) in
+    let names = g.E.Env.names c.args.env.now in
+    let find = names_for c.args.need names in
     let name = view.name c.args.name.now in
-    let i = typed (view.expr c.in-Bit.index.value) find n in
-    let says : Says n c.in_ok-i-in-Bit.i i = subst (λ x. Says n c.in_ok-i-in-Bit.i (typed (view.expr x) find n)) c.deref.ensures c.in_ok-i-in-Bit.ensures in
+    let m = find name.bytes in
+    let e = c.in-Bit.index.value in
+    let i = typed (view.expr e) find (is_array m || n) in
+    let means : Means c.meant-named.result m = subst (λ b. Means c.meant-named.result (find b)) c.as_slice.ensures c.meant-named.ensures in
+    let says : Says (is_array m || n) c.in_ok-i-in-Bit.i i =
+    subst (λ x. Says (is_array m || n) c.in_ok-i-in-Bit.i (typed (view.expr x) find (is_array m || n))) c.deref.ensures
+    (address_says c.address_need.result c.args.need names c.in_ok-i-in-Bit.i (view.expr c.deref.result.now) (is_array m || n) (c.address_need.ensures.needed m means) (c.address_need.ensures.names names) c.in_ok-i-in-Bit.ensures)
+    in
+    let place : c.place_of.result ≡ expr_place (view.expr e) = c.place_of.ensures ∙ ap (λ x. expr_place (view.expr x)) c.deref-in-Bit.ensures in
     subst (λ x. IfOk c.find_bit.result (λ s. Finds n s (selected (view.select x) name find n))) (sym c.in-Bit.is)
-    ((rw c.is_needed-needed.ensures at c.find_bit.ensures) (find name.bytes) i (fair_for c.args.need (g.E.Env.names c.args.env.now) c.requires.fair name.bytes)
-    (subst (λ b. Means c.meant-named.result (find b)) c.as_slice.ensures c.meant-named.ensures) says)
+    (subst (λ k. IfOk c.find_bit.result (λ s. Finds n s (bit_typed n name.place m k i))) place
+    ((rw c.is_needed-needed.ensures at c.find_bit.ensures) m i (fair_for c.args.need names c.requires.fair name.bytes) means says))
 
 pub find_selected-returns-in_ok-m-in-Between : goal.find_selected-returns-in_ok-m-in-Between
 find_selected-returns-in_ok-m-in-Between g t c =
     subst (λ x. IfOk c.find_between.result (λ s. Finds (is_needed c.args.need) s (selected (view.select x) (view.name c.args.name.now) (names_for c.args.need (g.E.Env.names c.args.env.now)) (is_needed c.args.need)))) (sym c.in-Slice.is)
     (subst (λ k. IfOk c.find_between.result (λ s. Finds (is_needed c.args.need) s (selected (tree.Slice c.in-Slice.bracket (view.slice_kind k) (view.expr c.in-Slice.left.value) (view.expr c.in-Slice.right.value)) (view.name c.args.name.now) (names_for c.args.need (g.E.Env.names c.args.env.now)) (is_needed c.args.need)))) (sym c.in-Between.is)
-    (between_arm (is_needed c.args.need) (names_for c.args.need (g.E.Env.names c.args.env.now)) (view.name c.args.name.now) c.in-Slice.bracket c.in-Slice.left.value c.in-Slice.right.value _ _ _ _ c.place_of.result c.place_of-in-Between.result c.meant-named.result c.in_ok-m-in-Between.m c.in_ok-n-in-Slice.n c.find_between.result
-    (fair_for c.args.need (g.E.Env.names c.args.env.now) c.requires.fair) (subst (λ b. Means c.meant-named.result (names_for c.args.need (g.E.Env.names c.args.env.now) b)) c.as_slice.ensures c.meant-named.ensures) c.deref-in-Between.ensures c.deref-in-Slice.ensures c.deref-in-Between-2.ensures c.deref-in-Between-3.ensures c.place_of.ensures c.place_of-in-Between.ensures
+    (between_arm (is_needed c.args.need) (names_for c.args.need (g.E.Env.names c.args.env.now)) (view.name c.args.name.now) c.in-Slice.bracket c.in-Slice.left.value c.in-Slice.right.value _ _ _ _ c.place_of-in-Between.result c.place_of-in-Between-2.result c.meant-named.result c.in_ok-m-in-Between.m c.in_ok-n-in-Slice.n c.find_between.result
+    (fair_for c.args.need (g.E.Env.names c.args.env.now) c.requires.fair) (subst (λ b. Means c.meant-named.result (names_for c.args.need (g.E.Env.names c.args.env.now) b)) c.as_slice.ensures c.meant-named.ensures) c.deref-in-Between.ensures c.deref-in-Slice.ensures c.deref-in-Between-2.ensures c.deref-in-Between-3.ensures c.place_of-in-Between.ensures c.place_of-in-Between-2.ensures
     (steady_number c.args.need (g.E.Env.names c.args.env.now) c.in_ok-m-in-Between.m (view.expr c.deref-in-Between.result.now) c.in_ok-m-in-Between.ensures) (steady_number c.args.need (g.E.Env.names c.args.env.now) c.in_ok-n-in-Slice.n (view.expr c.deref-in-Slice.result.now) c.in_ok-n-in-Slice.ensures) (rw c.is_needed-needed.ensures at c.find_between.ensures)))
 
 pub find_selected-returns-in_ok-a-in-Upward : goal.find_selected-returns-in_ok-a-in-Upward

@@ -37,7 +37,7 @@ returns c =
     let items = c.in_ok-said.ensures in
     let r : SurveyedScope = record {
       names = names.names;
-      signals = names.signals;
+      signals = names.nets;
       made = names.made;
       fault = c.first_of.result;
       counts = record { start = names.next; instances = counts.instances; turns = names.turns; functions = names.counts.functions; processes = said.processes };
@@ -68,7 +68,7 @@ returns c =
       kept = is.kept;
       seen = is.seen;
       functions = is.functions;
-      signals = is.signals;
+      signals = is.nets;
       made = is.made;
       blocks = is.blocks;
       next = is.next;

@@ -1,7 +1,6 @@
 use Rattle.std.proofs.Common.{◌≡◌, ◌∙◌, ℕ, ◌<◌, ◌≤◌, true, false, min, nat_le, Some, slice_get, sym, ap, arith}
 use Rattle.vs_design.specs.Fits.{fits_statement}
 use Rattle.vs_design.specs.Sizes.{statement_weight}
-use Rattle.vs_design.specs.Statements.{Function}
 use Rattle.vs_flat.specs.Arena.{Arena}
 use Rattle.vs_flat.specs.DesignOf.{design_of}
 use Rattle.vs_values.specs.Templates.{function_at}

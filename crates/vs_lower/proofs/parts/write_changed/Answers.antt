@@ -16,7 +16,6 @@ use Rattle.vs_values.specs.Templates.{Templated}
 use Rattle.vs_lower.specs.declared.parts.WordPart.{WordPart}
 use Rattle.vs_lower.specs.Parts.{IsPartReady, changed_code, changed_slots}
 use Rattle.vs_values.specs.Environments.{placed}
-use Rattle.vs_values.proofs.Selecting.{selection}
 use Rattle.vs_lower.proofs.Reaching.{within_is}
 use Rattle.vs_lower.proofs.WordWrites.{IsVaried, word_writer_kernel, after_change, store_callable, changed_adds, both_ok}
 use Rattle.vs_lower.proofs.parts.write_changed.Goals as goal

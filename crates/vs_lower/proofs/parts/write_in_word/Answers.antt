@@ -56,6 +56,7 @@ word_of t env code p ta ti tv g word first r c h is inside e =
       addressed = record {
         range = (fit_word_part s (address_of_part t p) (select_of_part p (length tv)) (index_of_part t p) r.fit).range;
         fixed = c;
+        some = omega (arith, (fit_word_part s (address_of_part t p) (select_of_part p (length tv)) (index_of_part t p) r.fit).address_some, r.addressed.long);
         known = r.addressed;
         place = ap (λ (b : Bool). address_place s b (constant_bits ta)) (sym h) ∙ w.1;
       };
@@ -155,7 +156,7 @@ returns-then-are_constant c =
     let are : map (λ (q : Option ℕ). option_map (λ n. c.in-Some.first + n) q) c.in_ok-places-in-Some.places ≡ bits_at word (places part (sign index) (constant_bits ti)) =
     ap₂ (λ (f : ℕ) (ps : List (Option ℕ)). map (λ (q : Option ℕ). option_map (λ n. f + n) q) ps) w.is (c.in_ok-places-in-Some.ensures.value ∙ ap (λ (b : Bool). places part b (constant_bits ti)) c.requires.ready.sign_is) in
     on_ok c.place_at.result c.place_at.ensures
-    (λ is. fixed_in_word c.value_law.ensures.length c.word_part_law.ensures.words env c.place_at.new.env code (signal_of_part t p) (address_of_part t p) part index ta ti tv w.n w.addressed c.requires.ready.room c.requires.ready.value_below
+    (λ is. fixed_in_word c.value_law.ensures.length c.word_part_law.ensures.words env c.place_at.new.env code (signal_of_part t p) (address_of_part t p) part index ta ti tv w.n w.addressed c.requires.ready.fit c.requires.ready.room c.requires.ready.value_below
     (c.are_constant.ensures.0 c.if-are_constant.true) c.requires.ready.indexed (is ∙ ap (λ (ps : List (Option ℕ)). placed env ps tv) are))
 
 pub returns-in_ok-bits-in-Some : goal.returns-in_ok-bits-in-Some
@@ -189,5 +190,5 @@ returns-in-None c =
     let p = c.args.part in
     let s = signal_of_part t p in
     let ta = c.args.address.now in
-    no_word_added c.value_law.ensures.length c.word_part_law.ensures.none c.args.env.now c.args.code.now s (address_of_part t p) (select_of_part p (length c.args.value.now)) (index_of_part t p) ta c.args.index.now c.args.value.now _ c.requires.ready.room.is_env c.requires.fixed c.requires.ready.addressed
+    no_word_added c.value_law.ensures.length c.word_part_law.ensures.none c.args.env.now c.args.code.now s (address_of_part t p) (select_of_part p (length c.args.value.now)) (index_of_part t p) ta c.args.index.now c.args.value.now c.requires.ready.room.is_env c.requires.ready.fit c.requires.fixed c.requires.ready.addressed
     (ap (λ (b : Bool). address_place s b (constant_bits ta)) (sym c.signed-signed.ensures) ∙ found_none (λ n. s.first + n * word_length s) (address_place s c.signed-signed.result (constant_bits ta)) (sym c.in_ok-word.ensures.value ∙ c.in-None.is))

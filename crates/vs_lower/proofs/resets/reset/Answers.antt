@@ -1,4 +1,4 @@
-use Rattle.std.proofs.Common.{◌≡◌, ◌∙◌, ◌++◌, ℕ, List, sym, ap, map, slice_index, length, subst, arith}
+use Rattle.std.proofs.Common.{◌≡◌, ◌∙◌, ◌++◌, ℕ, List, sym, ap, map, slice_index, length, subst}
 use Rattle.std.proofs.lemmas.List.FromFn.{length-range_with_len}
 use Rattle.vs_code.specs.Calls.{Call}
 use Rattle.vs_flat.specs.Arena.{bit_count}
@@ -6,12 +6,8 @@ use Rattle.vs_shape.specs.Bodies.{body_of}
 use Rattle.vs_values.specs.Environments.{homes}
 use Rattle.vs_lower.specs.Copies.{home_copies}
 use Rattle.vs_values.specs.Ready.{IsReady}
-use Rattle.vs_lower.specs.Stated.{AddsStatement, IsStatementReady}
 use Rattle.vs_lower.specs.Resetting.{reset_condition}
-use Rattle.vs_lower.proofs.Nexting.{next_settled, once_inside}
-use Rattle.vs_lower.proofs.Homeward.{at_homes, from_homes}
 use Rattle.vs_lower.proofs.Resetting.{Resetting, adds_reset, branch_ready, condition_ready, home_at_steps, joined_as, reset_callable, reset_few, reset_goes_home, reset_inside, resetting_at, value_at}
-use Rattle.vs_lower.proofs.Reaching.{own_bits}
 use Rattle.vs_lower.proofs.resets.reset.Goals as goal
 
 pub active-requires-clause-ready : goal.active-requires-clause-ready
@@ -19,29 +15,11 @@ active-requires-clause-ready c =
     let n = bit_count c.args.templates.now.arena.signals in
     subst (λ (m : ℕ). IsReady (homes m) c.args.code.now (reset_condition c.args.falls c.args.input) 1) (sym c.requires.count) (condition_ready n c.args.code.now c.args.falls c.args.input (body_of c.args.templates.now.arena c.args.s) c.requires.ready)
 
-pub statement-requires-clause-ready : goal.statement-requires-clause-ready
-statement-requires-clause-ready c =
+pub next_values-requires-clause-ready : goal.next_values-requires-clause-ready
+next_values-requires-clause-ready c =
     let n = bit_count c.args.templates.now.arena.signals in
-    let st = body_of c.args.templates.now.arena c.args.s in
     let tc = c.in_ok-condition.condition.items in
-    own_bits _ _ _ _ _
-    (at_homes n c.args.count c.at_home.result c.at_home-2.result (λ (x y : List ℕ). IsStatementReady n x y c.active.new.code st) c.requires.count c.at_home.ensures c.at_home-2.ensures
-    (branch_ready n c.args.falls c.args.input st c.args.code.now c.active.new.code tc c.requires.ready (value_at n c.args.count c.args.code.now c.active.new.code c.args.falls c.args.input tc c.requires.count c.in_ok-condition.ensures)))
-
-pub statement-requires-clause-inside : goal.statement-requires-clause-inside
-statement-requires-clause-inside c b h =
-    let q = c.requires.ready.inside b h in
-    omega (arith, q, c.requires.count, ap (λ (xs : List ℕ). length xs) c.at_home.ensures, length-range_with_len 4 c.args.count)
-
-pub settle-requires-clause-values : goal.settle-requires-clause-values
-settle-requires-clause-values c =
-    once_inside (bit_count c.args.templates.now.arena.signals) (length c.statement.new.env.values) (body_of c.args.templates.now.arena c.args.s) c.requires.ready.inside
-    (c.in_ok-statement.ensures.done.now_length ∙ ap (λ (xs : List ℕ). length xs) c.at_home.ensures ∙ length-range_with_len 4 c.args.count ∙ c.requires.count)
-
-pub settle-requires-clause-ahead : goal.settle-requires-clause-ahead
-settle-requires-clause-ahead c =
-    once_inside (bit_count c.args.templates.now.arena.signals) (length c.statement.new.env.ahead) (body_of c.args.templates.now.arena c.args.s) c.requires.ready.inside
-    (c.in_ok-statement.ensures.done.later_length ∙ ap (λ (xs : List ℕ). length xs) c.at_home-2.ensures ∙ length-range_with_len 4 c.args.count ∙ c.requires.count)
+    branch_ready n c.args.falls c.args.input (body_of c.args.templates.now.arena c.args.s) c.args.code.now c.active.new.code tc c.requires.ready (value_at n c.args.count c.args.code.now c.active.new.code c.args.falls c.args.input tc c.requires.count c.in_ok-condition.ensures)
 
 pub picked-requires : goal.picked-requires
 picked-requires c =
@@ -50,14 +28,11 @@ picked-requires c =
     let tc = c.in_ok-condition.condition.items in
     let c0 = c.args.code.now in
     let c1 = c.active.new.code in
-    let c2 = c.statement.new.code in
-    let now1 = c.statement.new.env.values in
-    let later1 = c.statement.new.env.ahead in
-    let env = c.settle.new.env.ahead in
+    let c2 = c.next_values.new.code in
+    let env = c.in_ok-next.next in
     let bits = c.in_ok-bits.bits.items in
-    let d = from_homes n c.args.count c.at_home.result c.at_home-2.result (λ (x y : List ℕ). AddsStatement x y c1 c2 st now1 later1) c.requires.count c.at_home.ensures c.at_home-2.ensures c.in_ok-statement.ensures in
-    let t = resetting_at n c.args.count c.args.falls c.args.input st c0 c1 c2 tc now1 later1 env bits c.requires.count c.requires.ready c.in_ok-condition.ensures d (next_settled c.write_law.ensures.body n c1 c2 st now1 later1 env c.requires.ready.fit c.requires.ready.apart c.requires.ready.inside d c.in_ok-settle.ensures) c.in_ok-bits.ensures.rising c.in_ok-bits.ensures.same in
-    reset_inside n c.args.falls c.args.input st c0 c1 c2 tc now1 later1 env bits t (length env) t.next.long c.as_slice.result.now c.as_slice.ensures.value
+    let t = resetting_at n c.args.count c.args.falls c.args.input st c0 c1 c2 tc env bits c.requires.count c.requires.ready c.in_ok-condition.ensures c.in_ok-next.ensures c.in_ok-bits.ensures.rising c.in_ok-bits.ensures.same in
+    reset_inside n c.args.falls c.args.input st c0 c1 c2 tc env bits t (length env) t.adds.next.long c.as_slice.result.now c.as_slice.ensures.value
 
 pub join-requires-clause-inside : goal.join-requires-clause-inside
 join-requires-clause-inside c =
@@ -66,14 +41,11 @@ join-requires-clause-inside c =
     let tc = c.in_ok-condition.condition.items in
     let c0 = c.args.code.now in
     let c1 = c.active.new.code in
-    let c2 = c.statement.new.code in
-    let now1 = c.statement.new.env.values in
-    let later1 = c.statement.new.env.ahead in
-    let env = c.settle.new.env.ahead in
+    let c2 = c.next_values.new.code in
+    let env = c.in_ok-next.next in
     let bits = c.in_ok-bits.bits.items in
-    let d = from_homes n c.args.count c.at_home.result c.at_home-2.result (λ (x y : List ℕ). AddsStatement x y c1 c2 st now1 later1) c.requires.count c.at_home.ensures c.at_home-2.ensures c.in_ok-statement.ensures in
-    let t = resetting_at n c.args.count c.args.falls c.args.input st c0 c1 c2 tc now1 later1 env bits c.requires.count c.requires.ready c.in_ok-condition.ensures d (next_settled c.write_law.ensures.body n c1 c2 st now1 later1 env c.requires.ready.fit c.requires.ready.apart c.requires.ready.inside d c.in_ok-settle.ensures) c.in_ok-bits.ensures.rising c.in_ok-bits.ensures.same in
-    reset_inside n c.args.falls c.args.input st c0 c1 c2 tc now1 later1 env bits t (length c.at_home-after.result) (ap (λ (xs : List ℕ). length xs) c.at_home-after.ensures ∙ length-range_with_len 4 c.args.count ∙ c.requires.count) c.as_slice-2.result.now c.as_slice-2.ensures.value
+    let t = resetting_at n c.args.count c.args.falls c.args.input st c0 c1 c2 tc env bits c.requires.count c.requires.ready c.in_ok-condition.ensures c.in_ok-next.ensures c.in_ok-bits.ensures.rising c.in_ok-bits.ensures.same in
+    reset_inside n c.args.falls c.args.input st c0 c1 c2 tc env bits t (length c.at_home-after.result) (ap (λ (xs : List ℕ). length xs) c.at_home-after.ensures ∙ length-range_with_len 4 c.args.count ∙ c.requires.count) c.as_slice-2.result.now c.as_slice-2.ensures.value
 
 pub join-requires-clause-few : goal.join-requires-clause-few
 join-requires-clause-few c =
@@ -82,14 +54,11 @@ join-requires-clause-few c =
     let tc = c.in_ok-condition.condition.items in
     let c0 = c.args.code.now in
     let c1 = c.active.new.code in
-    let c2 = c.statement.new.code in
-    let now1 = c.statement.new.env.values in
-    let later1 = c.statement.new.env.ahead in
-    let env = c.settle.new.env.ahead in
+    let c2 = c.next_values.new.code in
+    let env = c.in_ok-next.next in
     let bits = c.in_ok-bits.bits.items in
-    let d = from_homes n c.args.count c.at_home.result c.at_home-2.result (λ (x y : List ℕ). AddsStatement x y c1 c2 st now1 later1) c.requires.count c.at_home.ensures c.at_home-2.ensures c.in_ok-statement.ensures in
-    let t = resetting_at n c.args.count c.args.falls c.args.input st c0 c1 c2 tc now1 later1 env bits c.requires.count c.requires.ready c.in_ok-condition.ensures d (next_settled c.write_law.ensures.body n c1 c2 st now1 later1 env c.requires.ready.fit c.requires.ready.apart c.requires.ready.inside d c.in_ok-settle.ensures) c.in_ok-bits.ensures.rising c.in_ok-bits.ensures.same in
-    reset_few n c.args.falls c.args.input st c0 c1 c2 tc now1 later1 env bits t c.as_slice-2.result.now c.as_slice-2.ensures.value
+    let t = resetting_at n c.args.count c.args.falls c.args.input st c0 c1 c2 tc env bits c.requires.count c.requires.ready c.in_ok-condition.ensures c.in_ok-next.ensures c.in_ok-bits.ensures.rising c.in_ok-bits.ensures.same in
+    reset_few n c.args.falls c.args.input st c0 c1 c2 tc env bits t c.as_slice-2.result.now c.as_slice-2.ensures.value
 
 pub join-requires-clause-call : goal.join-requires-clause-call
 join-requires-clause-call c =
@@ -98,15 +67,12 @@ join-requires-clause-call c =
     let tc = c.in_ok-condition.condition.items in
     let c0 = c.args.code.now in
     let c1 = c.active.new.code in
-    let c2 = c.statement.new.code in
-    let now1 = c.statement.new.env.values in
-    let later1 = c.statement.new.env.ahead in
-    let env = c.settle.new.env.ahead in
+    let c2 = c.next_values.new.code in
+    let env = c.in_ok-next.next in
     let bits = c.in_ok-bits.bits.items in
-    let d = from_homes n c.args.count c.at_home.result c.at_home-2.result (λ (x y : List ℕ). AddsStatement x y c1 c2 st now1 later1) c.requires.count c.at_home.ensures c.at_home-2.ensures c.in_ok-statement.ensures in
-    let t = resetting_at n c.args.count c.args.falls c.args.input st c0 c1 c2 tc now1 later1 env bits c.requires.count c.requires.ready c.in_ok-condition.ensures d (next_settled c.write_law.ensures.body n c1 c2 st now1 later1 env c.requires.ready.fit c.requires.ready.apart c.requires.ready.inside d c.in_ok-settle.ensures) c.in_ok-bits.ensures.rising c.in_ok-bits.ensures.same in
+    let t = resetting_at n c.args.count c.args.falls c.args.input st c0 c1 c2 tc env bits c.requires.count c.requires.ready c.in_ok-condition.ensures c.in_ok-next.ensures c.in_ok-bits.ensures.rising c.in_ok-bits.ensures.same in
     let first = c.as_slice-3.ensures.value ∙ c.in_ok-first.ensures ∙ ap (map (slice_index env)) c.as_slice.ensures.value in
-    reset_callable n c.args.falls c.args.input st c0 c1 c2 tc now1 later1 env bits t c.as_slice-2.result.now c.as_slice-3.result.now c.at_home-after.result c.as_slice-2.ensures.value first (c.at_home-after.ensures ∙ ap homes c.requires.count)
+    reset_callable n c.args.falls c.args.input st c0 c1 c2 tc env bits t c.as_slice-2.result.now c.as_slice-3.result.now c.at_home-after.result c.as_slice-2.ensures.value first (c.at_home-after.ensures ∙ ap homes c.requires.count)
 
 pub copy_home-requires-clause-long : goal.copy_home-requires-clause-long
 copy_home-requires-clause-long c =
@@ -115,18 +81,15 @@ copy_home-requires-clause-long c =
     let tc = c.in_ok-condition.condition.items in
     let c0 = c.args.code.now in
     let c1 = c.active.new.code in
-    let c2 = c.statement.new.code in
-    let now1 = c.statement.new.env.values in
-    let later1 = c.statement.new.env.ahead in
-    let env = c.settle.new.env.ahead in
+    let c2 = c.next_values.new.code in
+    let env = c.in_ok-next.next in
     let bits = c.in_ok-bits.bits.items in
-    let d = from_homes n c.args.count c.at_home.result c.at_home-2.result (λ (x y : List ℕ). AddsStatement x y c1 c2 st now1 later1) c.requires.count c.at_home.ensures c.at_home-2.ensures c.in_ok-statement.ensures in
-    let t = resetting_at n c.args.count c.args.falls c.args.input st c0 c1 c2 tc now1 later1 env bits c.requires.count c.requires.ready c.in_ok-condition.ensures d (next_settled c.write_law.ensures.body n c1 c2 st now1 later1 env c.requires.ready.fit c.requires.ready.apart c.requires.ready.inside d c.in_ok-settle.ensures) c.in_ok-bits.ensures.rising c.in_ok-bits.ensures.same in
+    let t = resetting_at n c.args.count c.args.falls c.args.input st c0 c1 c2 tc env bits c.requires.count c.requires.ready c.in_ok-condition.ensures c.in_ok-next.ensures c.in_ok-bits.ensures.rising c.in_ok-bits.ensures.same in
     let c3 = c.join.new.code in
     let env3 = c.join.new.env in
     let first = c.as_slice-3.ensures.value ∙ c.in_ok-first.ensures ∙ ap (map (slice_index env)) c.as_slice.ensures.value in
     let j = joined_as n tc bits env env3 c2 c3 c.as_slice-2.result.now c.as_slice-3.result.now c.at_home-after.result c.as_slice-2.ensures.value first (c.at_home-after.ensures ∙ ap homes c.requires.count) c.in_ok-join.ensures in
-    let home = home_at_steps n c.args.count bits c.as_slice-4.result.now env3 c3 c.requires.count c.as_slice-4.ensures.value (reset_goes_home n c.args.falls c.args.input st c0 c1 c2 tc now1 later1 env bits t c3 env3 j) in
+    let home = home_at_steps n c.args.count bits c.as_slice-4.result.now env3 c3 c.requires.count c.as_slice-4.ensures.value (reset_goes_home n c.args.falls c.args.input st c0 c1 c2 tc env bits t c3 env3 j) in
     home.long
 
 pub copy_home-requires-clause-inside : goal.copy_home-requires-clause-inside
@@ -136,18 +99,15 @@ copy_home-requires-clause-inside c =
     let tc = c.in_ok-condition.condition.items in
     let c0 = c.args.code.now in
     let c1 = c.active.new.code in
-    let c2 = c.statement.new.code in
-    let now1 = c.statement.new.env.values in
-    let later1 = c.statement.new.env.ahead in
-    let env = c.settle.new.env.ahead in
+    let c2 = c.next_values.new.code in
+    let env = c.in_ok-next.next in
     let bits = c.in_ok-bits.bits.items in
-    let d = from_homes n c.args.count c.at_home.result c.at_home-2.result (λ (x y : List ℕ). AddsStatement x y c1 c2 st now1 later1) c.requires.count c.at_home.ensures c.at_home-2.ensures c.in_ok-statement.ensures in
-    let t = resetting_at n c.args.count c.args.falls c.args.input st c0 c1 c2 tc now1 later1 env bits c.requires.count c.requires.ready c.in_ok-condition.ensures d (next_settled c.write_law.ensures.body n c1 c2 st now1 later1 env c.requires.ready.fit c.requires.ready.apart c.requires.ready.inside d c.in_ok-settle.ensures) c.in_ok-bits.ensures.rising c.in_ok-bits.ensures.same in
+    let t = resetting_at n c.args.count c.args.falls c.args.input st c0 c1 c2 tc env bits c.requires.count c.requires.ready c.in_ok-condition.ensures c.in_ok-next.ensures c.in_ok-bits.ensures.rising c.in_ok-bits.ensures.same in
     let c3 = c.join.new.code in
     let env3 = c.join.new.env in
     let first = c.as_slice-3.ensures.value ∙ c.in_ok-first.ensures ∙ ap (map (slice_index env)) c.as_slice.ensures.value in
     let j = joined_as n tc bits env env3 c2 c3 c.as_slice-2.result.now c.as_slice-3.result.now c.at_home-after.result c.as_slice-2.ensures.value first (c.at_home-after.ensures ∙ ap homes c.requires.count) c.in_ok-join.ensures in
-    let home = home_at_steps n c.args.count bits c.as_slice-4.result.now env3 c3 c.requires.count c.as_slice-4.ensures.value (reset_goes_home n c.args.falls c.args.input st c0 c1 c2 tc now1 later1 env bits t c3 env3 j) in
+    let home = home_at_steps n c.args.count bits c.as_slice-4.result.now env3 c3 c.requires.count c.as_slice-4.ensures.value (reset_goes_home n c.args.falls c.args.input st c0 c1 c2 tc env bits t c3 env3 j) in
     home.inside
 
 pub copy_home-requires-clause-calls : goal.copy_home-requires-clause-calls
@@ -157,18 +117,15 @@ copy_home-requires-clause-calls c =
     let tc = c.in_ok-condition.condition.items in
     let c0 = c.args.code.now in
     let c1 = c.active.new.code in
-    let c2 = c.statement.new.code in
-    let now1 = c.statement.new.env.values in
-    let later1 = c.statement.new.env.ahead in
-    let env = c.settle.new.env.ahead in
+    let c2 = c.next_values.new.code in
+    let env = c.in_ok-next.next in
     let bits = c.in_ok-bits.bits.items in
-    let d = from_homes n c.args.count c.at_home.result c.at_home-2.result (λ (x y : List ℕ). AddsStatement x y c1 c2 st now1 later1) c.requires.count c.at_home.ensures c.at_home-2.ensures c.in_ok-statement.ensures in
-    let t = resetting_at n c.args.count c.args.falls c.args.input st c0 c1 c2 tc now1 later1 env bits c.requires.count c.requires.ready c.in_ok-condition.ensures d (next_settled c.write_law.ensures.body n c1 c2 st now1 later1 env c.requires.ready.fit c.requires.ready.apart c.requires.ready.inside d c.in_ok-settle.ensures) c.in_ok-bits.ensures.rising c.in_ok-bits.ensures.same in
+    let t = resetting_at n c.args.count c.args.falls c.args.input st c0 c1 c2 tc env bits c.requires.count c.requires.ready c.in_ok-condition.ensures c.in_ok-next.ensures c.in_ok-bits.ensures.rising c.in_ok-bits.ensures.same in
     let c3 = c.join.new.code in
     let env3 = c.join.new.env in
     let first = c.as_slice-3.ensures.value ∙ c.in_ok-first.ensures ∙ ap (map (slice_index env)) c.as_slice.ensures.value in
     let j = joined_as n tc bits env env3 c2 c3 c.as_slice-2.result.now c.as_slice-3.result.now c.at_home-after.result c.as_slice-2.ensures.value first (c.at_home-after.ensures ∙ ap homes c.requires.count) c.in_ok-join.ensures in
-    let home = home_at_steps n c.args.count bits c.as_slice-4.result.now env3 c3 c.requires.count c.as_slice-4.ensures.value (reset_goes_home n c.args.falls c.args.input st c0 c1 c2 tc now1 later1 env bits t c3 env3 j) in
+    let home = home_at_steps n c.args.count bits c.as_slice-4.result.now env3 c3 c.requires.count c.as_slice-4.ensures.value (reset_goes_home n c.args.falls c.args.input st c0 c1 c2 tc env bits t c3 env3 j) in
     home.calls
 
 pub copy_home-requires-clause-few : goal.copy_home-requires-clause-few
@@ -178,18 +135,15 @@ copy_home-requires-clause-few c =
     let tc = c.in_ok-condition.condition.items in
     let c0 = c.args.code.now in
     let c1 = c.active.new.code in
-    let c2 = c.statement.new.code in
-    let now1 = c.statement.new.env.values in
-    let later1 = c.statement.new.env.ahead in
-    let env = c.settle.new.env.ahead in
+    let c2 = c.next_values.new.code in
+    let env = c.in_ok-next.next in
     let bits = c.in_ok-bits.bits.items in
-    let d = from_homes n c.args.count c.at_home.result c.at_home-2.result (λ (x y : List ℕ). AddsStatement x y c1 c2 st now1 later1) c.requires.count c.at_home.ensures c.at_home-2.ensures c.in_ok-statement.ensures in
-    let t = resetting_at n c.args.count c.args.falls c.args.input st c0 c1 c2 tc now1 later1 env bits c.requires.count c.requires.ready c.in_ok-condition.ensures d (next_settled c.write_law.ensures.body n c1 c2 st now1 later1 env c.requires.ready.fit c.requires.ready.apart c.requires.ready.inside d c.in_ok-settle.ensures) c.in_ok-bits.ensures.rising c.in_ok-bits.ensures.same in
+    let t = resetting_at n c.args.count c.args.falls c.args.input st c0 c1 c2 tc env bits c.requires.count c.requires.ready c.in_ok-condition.ensures c.in_ok-next.ensures c.in_ok-bits.ensures.rising c.in_ok-bits.ensures.same in
     let c3 = c.join.new.code in
     let env3 = c.join.new.env in
     let first = c.as_slice-3.ensures.value ∙ c.in_ok-first.ensures ∙ ap (map (slice_index env)) c.as_slice.ensures.value in
     let j = joined_as n tc bits env env3 c2 c3 c.as_slice-2.result.now c.as_slice-3.result.now c.at_home-after.result c.as_slice-2.ensures.value first (c.at_home-after.ensures ∙ ap homes c.requires.count) c.in_ok-join.ensures in
-    let home = home_at_steps n c.args.count bits c.as_slice-4.result.now env3 c3 c.requires.count c.as_slice-4.ensures.value (reset_goes_home n c.args.falls c.args.input st c0 c1 c2 tc now1 later1 env bits t c3 env3 j) in
+    let home = home_at_steps n c.args.count bits c.as_slice-4.result.now env3 c3 c.requires.count c.as_slice-4.ensures.value (reset_goes_home n c.args.falls c.args.input st c0 c1 c2 tc env bits t c3 env3 j) in
     home.few
 
 pub returns : goal.returns
@@ -199,13 +153,10 @@ returns c l r p hb hf is room =
     let tc = c.in_ok-condition.condition.items in
     let c0 = c.args.code.now in
     let c1 = c.active.new.code in
-    let c2 = c.statement.new.code in
-    let now1 = c.statement.new.env.values in
-    let later1 = c.statement.new.env.ahead in
-    let env = c.settle.new.env.ahead in
+    let c2 = c.next_values.new.code in
+    let env = c.in_ok-next.next in
     let bits = c.in_ok-bits.bits.items in
-    let d = from_homes n c.args.count c.at_home.result c.at_home-2.result (λ (x y : List ℕ). AddsStatement x y c1 c2 st now1 later1) c.requires.count c.at_home.ensures c.at_home-2.ensures c.in_ok-statement.ensures in
-    let t = resetting_at n c.args.count c.args.falls c.args.input st c0 c1 c2 tc now1 later1 env bits c.requires.count c.requires.ready c.in_ok-condition.ensures d (next_settled c.write_law.ensures.body n c1 c2 st now1 later1 env c.requires.ready.fit c.requires.ready.apart c.requires.ready.inside d c.in_ok-settle.ensures) c.in_ok-bits.ensures.rising c.in_ok-bits.ensures.same in
+    let t = resetting_at n c.args.count c.args.falls c.args.input st c0 c1 c2 tc env bits c.requires.count c.requires.ready c.in_ok-condition.ensures c.in_ok-next.ensures c.in_ok-bits.ensures.rising c.in_ok-bits.ensures.same in
     let c3 = c.join.new.code in
     let env3 = c.join.new.env in
     let first = c.as_slice-3.ensures.value ∙ c.in_ok-first.ensures ∙ ap (map (slice_index env)) c.as_slice.ensures.value in
@@ -213,7 +164,7 @@ returns c l r p hb hf is room =
     let all : c.args.count ≡ l.bits = c.requires.count ∙ sym hb in
     let copied : home_copies c.args.count c.as_slice-4.result.now env3 ≡ home_copies l.bits bits env3 =
     ap (λ (xs : List ℕ). home_copies c.args.count xs env3) c.as_slice-4.ensures.value ∙ ap (λ (m : ℕ). home_copies m bits env3) all in
-    adds_reset l r p c.args.falls c.args.input st c0 c1 c2 c3 c.copy_home.new.code tc now1 later1 env bits env3 hf is room
-    (subst (λ (m : ℕ). Resetting m c.args.falls c.args.input st c0 c1 c2 tc now1 later1 env bits) (sym hb) t)
+    adds_reset l r p c.args.falls c.args.input st c0 c1 c2 c3 c.copy_home.new.code tc env bits env3 hf is room
+    (subst (λ (m : ℕ). Resetting m c.args.falls c.args.input st c0 c1 c2 tc env bits) (sym hb) t)
     (joined_as l.bits tc bits env env3 c2 c3 c.as_slice-2.result.now c.as_slice-3.result.now c.at_home-after.result c.as_slice-2.ensures.value first (c.at_home-after.ensures ∙ ap homes all) c.in_ok-join.ensures)
     (c.in_ok-copy_home.ensures.calls ∙ ap (λ (cs : List Call). c3.calls ++ cs) copied)

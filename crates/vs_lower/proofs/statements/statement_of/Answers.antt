@@ -1,6 +1,5 @@
-use Rattle.std.proofs.Common.{◌≡◌, ◌∙◌, Some, length, sym, ap, subst, arith}
+use Rattle.std.proofs.Common.{◌∙◌, sym, ap, arith}
 use Rattle.vs_design.specs.Elaborated.{is_formed_statement}
-use Rattle.vs_flat.specs.Arena.{Arena, statement_at}
 use Rattle.vs_flat.specs.Lawful.{statement_design}
 use Rattle.vs_shape.specs.Bodies.{body_place}
 use Rattle.vs_lower.proofs.Naming.{items_of, names_of}

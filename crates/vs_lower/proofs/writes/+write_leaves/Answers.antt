@@ -8,7 +8,7 @@ use Rattle.vs_lower.specs.declared.named.Named.TheVariants as M
 use Rattle.vs_values.specs.Coded.{Coding}
 use Rattle.vs_lower.specs.Leaves.{joined_target, leaf_target}
 use Rattle.vs_lower.specs.Written.{AddsWrites, write_weight}
-use Rattle.vs_lower.proofs.Rejoined.{rest_ready, rest_as, suffix_is, writes_more}
+use Rattle.vs_lower.proofs.Rejoined.{rest_ready, rest_as, suffix_is, writes_more, writes_one}
 use Rattle.vs_lower.proofs.writes.+write_leaves.Goals as goal
 
 -- where the first part's bits begin
@@ -57,3 +57,19 @@ returns-in_ok-write_leaves t c =
     writes_more a c.args.env.now c.write_leaf.new.env c.write_leaves.new.env c.args.code.now c.write_leaf.new.code c.write_leaves.new.code leaves indices value low d ti c.if-leaves-gt1.true c.requires.indexed c.requires.long w c.requires.value c.requires.indices
     (subst (λ (x : List ℕ). AddsWrites c.args.env.now c.write_leaf.new.env c.args.code.now c.write_leaf.new.code (leaf_target a (get_or leaves 0 d)) (x ∷ []) (drop low value) (write_weight (leaf_target a (get_or leaves 0 d)))) c.index-indices-0.is p)
     q
+
+pub returns-else-leaves-gt1 : goal.returns-else-leaves-gt1
+returns-else-leaves-gt1 t c =
+    let a = c.args.templates.now.arena in
+    let leaves = c.args.leaves.now in
+    let indices = c.args.indices.now in
+    let value = c.args.value.now in
+    let low = length value - c.leaf_width.result in
+    let ti = c.index-indices-0.result in
+    let d = L.Whole (M.Global 0) in
+    let env1 = c.write_leaf.new.env in
+    let code1 = c.write_leaf.new.code in
+    let p = first (leaf_target a) c.args.env.now env1 c.args.code.now code1 (get_or leaves 0 d) ti c.as_slice.result.now value low c.as_slice.ensures c.in_ok-write_leaf.ensures in
+    let w : low + target_width (leaf_target a (get_or leaves 0 d)) ≡ length value = low_is a leaves d value c.leaf_width.result c.requires.some c.leaf_width.ensures c.requires.long in
+    writes_one a c.args.env.now env1 c.args.code.now code1 leaves indices value low d ti (λ l. omega (arith, l, c.if-leaves-gt1.false)) c.requires.some c.requires.indexed c.requires.long w
+    (subst (λ (x : List ℕ). AddsWrites c.args.env.now env1 c.args.code.now code1 (leaf_target a (get_or leaves 0 d)) (x ∷ []) (drop low value) (write_weight (leaf_target a (get_or leaves 0 d)))) c.index-indices-0.is p)

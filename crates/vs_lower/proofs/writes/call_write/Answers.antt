@@ -1,6 +1,5 @@
 use Rattle.std.proofs.Common.{◌≡◌, ◌<◌, ◌∙◌, ℕ, List, [], ◌∷◌, map, length, slice_index, Some, sym, ap, subst, arith, Result, Ok, Err}
 use Rattle.std.specs.List.{range_with_len}
-use Rattle.std.proofs.lemmas.List.{length-map}
 use Rattle.std.proofs.lemmas.List.FromFn.{length-range_with_len}
 use Rattle.vs_design.specs.Expressions.{signal_length}
 use Rattle.vs_design.specs.Values.{bits_of_signal}
@@ -9,10 +8,8 @@ use Rattle.vs_values.specs.Coded.{Coding, with_call}
 use Rattle.vs_values.specs.Environments.{placed}
 use Rattle.vs_values.specs.Made.{IsCallable}
 use Rattle.vs_values.proofs.Named.{all_run, length_count}
-use Rattle.vs_design.specs.Expressions as E
-use Rattle.vs_flat.specs.Trees.{signal_of}
 use Rattle.std.specs.List.{All}
-use Rattle.vs_lower.specs.Leaves.{named_number, named_signal}
+use Rattle.vs_lower.specs.Leaves.{named_signal}
 use Rattle.vs_lower.proofs.Reaching.{within_is}
 use Rattle.std.specs.Prelude.{OnOk}
 use Rattle.vs_lower.proofs.writes.call_write.Goals as goal

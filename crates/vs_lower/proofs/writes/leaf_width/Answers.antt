@@ -1,4 +1,4 @@
-use Rattle.std.proofs.Common.{◌≡◌, ◌∙◌, sym, ap, subst, arith}
+use Rattle.std.proofs.Common.{◌∙◌, sym, ap, subst, arith}
 use Rattle.vs_design.specs.Expressions.{signal_length}
 use Rattle.vs_design.specs.Statements.{target_width}
 use Rattle.vs_lower.specs.declared.leaves.Leaf.{Leaf}

@@ -1,10 +1,10 @@
-use Rattle.std.proofs.Common.{◌≡◌, ◌∙◌, ◌+◌, ◌≤◌, ◌<◌, ◌&&◌, ℕ, List, [], ◌∷◌, Bool, true, map, length, slice_index, sym, ap, subst, arith, true≢false}
+use Rattle.std.proofs.Common.{◌≡◌, ◌∙◌, ◌+◌, ◌≤◌, ◌<◌, ◌&&◌, ℕ, List, [], ◌∷◌, Bool, true, map, length, slice_index, sym, ap, subst, refl, arith, true≢false}
 use Rattle.std.specs.Prelude.{OnOk}
 use Rattle.std.specs.List.{All}
 use Rattle.vs_four.specs.Selects.{Part, places}
 use Rattle.vs_design.specs.Bodies.{bits_at}
 use Rattle.vs_design.specs.Expressions as E
-use Rattle.vs_design.specs.Expressions.{sign, width, signal_length}
+use Rattle.vs_design.specs.Expressions.{is_constant, sign, width, signal_length}
 use Rattle.vs_design.specs.Fits.{fits_target}
 use Rattle.vs_design.specs.Statements.{Target, PartOf, WordPartOf, target_width}
 use Rattle.vs_design.specs.Values.{bits_of_signal}
@@ -18,7 +18,7 @@ use Rattle.vs_lower.specs.declared.leaves.Leaf.TheVariants as L
 use Rattle.vs_values.specs.Coded.{Coding, with_call}
 use Rattle.vs_values.specs.Constants.{AreConstant, constant_bits}
 use Rattle.vs_values.specs.Environments.{placed}
-use Rattle.vs_lower.specs.Leaves.{leaf_target, named_signal, IsInside, IsNamed}
+use Rattle.vs_lower.specs.Leaves.{leaf_target, named_signal, IsInside}
 use Rattle.vs_values.specs.Made.{IsCallable}
 use Rattle.vs_lower.specs.Written.{AddsWrites, HasRoom, IsIndexed, IsIndex, write_weight}
 use Rattle.vs_values.proofs.Values.{both_true}
@@ -26,7 +26,7 @@ use Rattle.vs_design.specs.Within.{names_within, signal_within, target_within}
 use Rattle.vs_lower.specs.declared.named.Named.{Named}
 use Rattle.vs_lower.proofs.Reaching.{within_is}
 use Rattle.vs_values.proofs.Selecting.{selection}
-use Rattle.vs_lower.proofs.Partwise.{fit_part, whole_adds, fixed_adds, part_selecting, part_writer, CanWrite, can_write, called_adds}
+use Rattle.vs_lower.proofs.Partwise.{fit_part, part_few, whole_adds, fixed_adds, part_selecting, part_writer, CanWrite, can_write, called_adds}
 use Rattle.vs_lower.proofs.writes.write_leaf.Goals as goal
 
 -- what is known of a select
@@ -72,6 +72,7 @@ returns-then-are_constant c =
     subst (λ (x : Leaf). AddsWrites c.args.env.now c.place_select.new.env c.args.code.now c.args.code.now (leaf_target a x) (ti ∷ []) tv (write_weight (leaf_target a x))) (sym c.in-Select.is)
     (fixed_adds c.args.env.now c.place_select.new.env c.args.code.now (PartOf signal part index) signal index (places part (sign index)) ti tv
     (part_selecting signal part index (fit_part signal part index q.fit).range) q.room c.requires.value (c.are_constant.ensures.0 c.if-are_constant.true) q.indexed
+    (let few = part_few signal part index q.fit 0 (is_constant index) refl (λ e. refl) (omega arith) in omega (arith, few))
     (c.in_ok-place_select-in-Select.ensures
     ∙ ap (λ (n : ℕ). placed c.args.env.now (bits_at signal (places (record { range = part.range; up = part.up; width = n }) c.signed.result (constant_bits ti))) tv) q.long
     ∙ ap (λ (b : Bool). placed c.args.env.now (bits_at signal (places part b (constant_bits ti))) tv) c.signed.ensures))

@@ -1,9 +1,9 @@
-use Rattle.std.proofs.Common.{◌≡◌, ◌∙◌, ◌+◌, ◌≤◌, ◌<◌, ℕ, List, [], ◌∷◌, Bool, true, map, length, slice_index, sym, ap, subst, arith, true≢false}
+use Rattle.std.proofs.Common.{◌≡◌, ◌∙◌, ◌+◌, ◌≤◌, ◌<◌, ℕ, List, [], ◌∷◌, Bool, true, map, length, slice_index, sym, ap, subst, refl, arith, true≢false}
 use Rattle.std.specs.List.{All}
 use Rattle.vs_four.specs.declared.Range.{Range}
 use Rattle.vs_design.specs.Bodies.{bits_at}
 use Rattle.vs_design.specs.Expressions as E
-use Rattle.vs_design.specs.Expressions.{sign, width, addresses, signal_length, word_length}
+use Rattle.vs_design.specs.Expressions.{is_constant, sign, width, addresses, signal_length, word_length}
 use Rattle.vs_design.specs.Fits.{fits_target}
 use Rattle.vs_design.specs.Statements.{WordOf}
 use Rattle.vs_design.specs.Values.{bits_of_signal, word_places}
@@ -19,7 +19,7 @@ use Rattle.vs_values.specs.Environments.{placed}
 use Rattle.vs_values.specs.Made.{IsCallable}
 use Rattle.vs_lower.specs.Written.{HasRoom, IsIndex, write_weight}
 use Rattle.vs_lower.proofs.Reaching.{within_is}
-use Rattle.vs_lower.proofs.Partwise.{fit_word, fixed_adds, word_selecting, word_writer, CanWrite, can_write, called_adds}
+use Rattle.vs_lower.proofs.Partwise.{fit_word, fixed_adds, word_few, word_selecting, word_writer, CanWrite, can_write, called_adds}
 use Rattle.vs_lower.proofs.writes.write_word.Goals as goal
 
 abbrev writer : E.Signal → E.Expression → Kernel
@@ -56,7 +56,7 @@ returns-then-are_constant c =
     let ti = c.args.address.now in
     let tv = c.args.value.now in
     fixed_adds c.args.env.now c.place_word.new.env c.args.code.now (WordOf signal index) signal index (word_places signal (sign index)) ti tv (word_selecting signal index) c.requires.room c.requires.value
-    (c.are_constant.ensures.0 c.if-are_constant.true) c.requires.indexed
+    (c.are_constant.ensures.0 c.if-are_constant.true) c.requires.indexed (let few = word_few signal index 0 (is_constant index) refl (λ e. refl) (omega arith) in omega (arith, few))
     (c.in_ok-place_word.ensures ∙ ap (λ (b : Bool). placed c.args.env.now (bits_at signal (word_places signal b (constant_bits ti))) tv) c.signed-signed.ensures)
 
 pub call_write-requires-clause-call : goal.call_write-requires-clause-call

@@ -19,7 +19,8 @@ returns c =
     let s = c.signal-known.result.now in
     let d = design_of a in
     let within : n < length (arena_signals a) = omega (arith, (c.trees_law.ensures.counts a).signals, c.signal_count.ensures.count, c.if-signal-signal_count.false) in
-    as_ok c.push_name.result _ _ _ _
-    (there (λ (s : E.Signal). spec.kind_text s ++ spec.signal_text d s) (codes "signal " ++ decimal n) (slice_get (arena_signals a) n) _ (signal_of n s) (slice_get-get_or (arena_signals a) n no_signal within)
+    as_ok c.push_address.result _ _ _ _
+    (there (λ (s : E.Signal). spec.kind_text s ++ (spec.signal_text d s ++ spec.address_text s)) (codes "signal " ++ decimal n) (slice_get (arena_signals a) n) _ (signal_of n s) (slice_get-get_or (arena_signals a) n no_signal within)
     (c.trees_law.ensures.signals a n s c.signal-known.ensures))
-    (then_ok c.push_name.result _ _ _ (spec.kind_text (signal_of n s)) _ (c.in_ok-push_kind.ensures n) (c.push_name.ensures n))
+    (then_ok c.push_address.result _ _ _ (spec.kind_text (signal_of n s)) _ (c.in_ok-push_kind.ensures n)
+    (then_ok c.push_address.result _ _ _ (spec.signal_text d (signal_of n s)) _ (c.in_ok-push_name.ensures n) (c.push_address.ensures n)))

@@ -1,4 +1,4 @@
-use Rattle.std.proofs.Common.{◌≡◌, ◌+◌, ◌++◌, ℕ, List, Option, OnOk, map, length, refl, sym, ap, ◌∙◌, subst}
+use Rattle.std.proofs.Common.{◌≡◌, ◌++◌, ℕ, List, Option, OnOk, map, length, refl, sym, ap, ◌∙◌, subst}
 use Rattle.vs_ast.specs.Views as view
 use Rattle.vs_ast.specs.declared.statements.Statement.{Statement}
 use Rattle.vs_elaborated.specs.NamedBlocks as spec

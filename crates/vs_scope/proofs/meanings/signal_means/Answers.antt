@@ -12,4 +12,4 @@ returns-in-None c =
 pub returns-in-Some : goal.returns-in-Some
 returns-in-Some c =
     let s = signal_meaning c.args.s.now in
-    (s, ap (λ (w : Option Range). with_words w s) c.in-Some.is, refl, refl, refl, refl, refl, ap (λ (w : Option Range). is_some w) c.in-Some.is, refl, refl)
+    (s, ap (λ (w : Option Range). with_words w s) c.in-Some.is, refl, refl, refl, refl, refl, ap (λ (w : Option Range). is_some w) c.in-Some.is, refl, refl, refl)

@@ -42,14 +42,13 @@ returns c =
     let start = start_of c.args.start in
     let inc = c.in_ok-parameters.ensures.still.incomplete c.in_ok-names.ensures.incomplete in
     let none = complete_none env c.evaluate.new.names inc.functions in
-    let found : AreFound env os start ds (entries c.in_ok-names.field-0.names) (complete env c.evaluate.new.names) (entries c.put_signals.new.names) (named_list c.evaluate.new.names) c.in_ok-said.said.signals.items c.in_ok-names.field-0.fault c.in_ok-parameters.parameters c.in_ok-ranges.ranges c.array_faults-arrays.result c.in_ok-said.said.fault = record {
+    let found : AreFound env os start ds (entries c.in_ok-names.field-0.names) (complete env c.evaluate.new.names) (entries c.put_signals.new.names) (named_list c.evaluate.new.names) c.in_ok-said.said.signals.items c.in_ok-names.field-0.fault c.in_ok-parameters.parameters c.in_ok-ranges.ranges c.in_ok-said.said.fault = record {
       first_is = c.in_ok-names.ensures.entries;
       repeated = c.in_ok-names.ensures.fault;
       evaluated_is = none ∙ c.in_ok-parameters.ensures.entries;
       parameters = c.in_ok-parameters.ensures.fault;
       names = c.in_ok-parameters.ensures.named ∙ c.in_ok-names.ensures.named;
       ranges = c.in_ok-ranges.ensures;
-      arrays = c.array_faults-arrays.ensures;
       signals = c.in_ok-said.ensures.signals;
       seconds = c.in_ok-said.ensures.fault;
       whole_is = c.in_ok-put_signals.ensures.entries ∙ ap (λ (x : List Signal). put_all (map signal_meaning x) (entries c.evaluate.new.names)) c.as_slice.ensures.value ∙ ap (put_all (map signal_meaning c.in_ok-said.said.signals.items)) (sym none);
@@ -69,9 +68,9 @@ returns c =
       functions = end.functions ∙ ap functions_in whole;
       counts = end.counts_are ∙ ap (λ (x : functions.SaidFunctions). x.counts) same ∙ ap (λ (x : List declarations.Declaration). (said_functions_of env os start (counted c.args.counts) x).counts) whole;
       fault =
-          c.first_of-4.ensures
+          c.first_of-3.ensures
           ∙ found_faults found (counted c.args.counts) c.first_of-plain.result c.in_ok-called.field-0.fault
-          (c.first_of-plain.ensures ∙ ap (better c.in_ok-names.field-0.fault) (c.first_of-3.ensures ∙ ap (better c.in_ok-parameters.parameters) (c.first_of-2.ensures ∙ ap (better c.in_ok-ranges.ranges) c.first_of.ensures)))
+          (c.first_of-plain.ensures ∙ ap (better c.in_ok-names.field-0.fault) (c.first_of-2.ensures ∙ ap (better c.in_ok-parameters.parameters) c.first_of.ensures))
           (end.fault ∙ ap (λ (x : functions.SaidFunctions). least x.faults) same)
           ∙ ap (λ (x : List declarations.Declaration). least (said_faults env os start (counted c.args.counts) x)) whole;
       next = found_next found (start_of c.in_ok-said.said.next) c.in_ok-said.ensures.next ∙ ap (λ (x : List declarations.Declaration). start_after start (said_signals_of env os start x)) whole;

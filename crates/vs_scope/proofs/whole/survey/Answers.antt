@@ -1,4 +1,4 @@
-use Rattle.std.proofs.Common.{◌≡◌, ◌++◌, List, [], map, sym, ap, ◌∙◌, subst}
+use Rattle.std.proofs.Common.{◌≡◌, ◌++◌, List, [], map, flat_map, sym, ap, ◌∙◌, subst}
 use Rattle.std.proofs.lemmas.List.{append_cancel_left}
 use Rattle.vs_grammar.specs.Shapes.{Each}
 use Rattle.vs_const.specs.Faults.{least}
@@ -13,14 +13,14 @@ use Rattle.vs_scope.specs.Clashes.{blocks_of}
 use Rattle.vs_scope.specs.Counts.{counted}
 use Rattle.vs_scope.specs.Frames.{around_env}
 use Rattle.vs_scope.specs.Scopes.{said_faults}
-use Rattle.vs_scope.specs.Signalled.{Placed, placed, start_of}
+use Rattle.vs_scope.specs.Signalled.{Placed, placed, nets_in, start_of}
 use Rattle.vs_scope.specs.Complete.{complete, function_declaration}
 use Rattle.vs_scope.specs.Surveys.{MeanTheSame, contents_of, declared_in, signals_in, made_in, blocks_in, made_faults}
 use Rattle.vs_scope.specs.Views.{entries, pair_entry}
 use Rattle.vs_scope.proofs.Completing.{names_completed}
 use Rattle.vs_scope.proofs.BlocksBehind.{clashes_same, complete_behind, entries_behind, keeps_behind, mean_behind}
 use Rattle.vs_scope.specs.Wholes.{scope_after}
-use Rattle.vs_scope.proofs.WholeSurveys.{items_same, scope_constructs, signals_same, bits_same, blocks_same, five, no_better, seen_behind, whole_made, whole_entries, whole_shaped}
+use Rattle.vs_scope.proofs.WholeSurveys.{items_same, scope_constructs, signals_same, nets_same, bits_same, blocks_same, five, no_better, seen_behind, whole_made, whole_entries, whole_shaped}
 use Rattle.vs_scope.proofs.whole.survey.Goals as goal
 
 pub constructs-requires-clause-shaped : goal.constructs-requires-clause-shaped
@@ -63,6 +63,7 @@ returns c =
       counts = declared.counts_is;
       placed = declared.signals_are;
       signals = signals_same said.signals.items _ declared.signals_are;
+      nets = c.in_ok-nets.ensures ∙ ap (flat_map nets_in) c.as_slice-3.ensures.value ∙ nets_same said.signals.items _ declared.signals_are;
       made = w.0;
       blocks = whole_shaped env con start before c.args.turns mk.made.items (subst (Each IsConstruct) items (scope_constructs c.args.contents c.requires.shaped)) w.0;
       fault =

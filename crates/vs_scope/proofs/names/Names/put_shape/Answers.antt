@@ -1,11 +1,10 @@
 use Rattle.std.proofs.Common.{Some, map, refl, sym, ap, ◌∙◌, subst}
-use Rattle.vs_elaborated.specs.Environments as environment
 use Rattle.vs_scope.specs.declared.names.Entry.{Entry}
 use Rattle.vs_scope.specs.declared.names.Declared.TheVariants as states
 use Rattle.vs_maps.specs.Maps.{AreDistinct}
 use Rattle.vs_maps.specs.MapViews.{pairs}
 use Rattle.vs_scope.specs.Complete.{shapes_in}
-use Rattle.vs_scope.specs.Views.{declared, pair_entry}
+use Rattle.vs_scope.specs.Views.{pair_entry}
 use Rattle.vs_scope.proofs.Changes.{changed_some, unchanged}
 use Rattle.vs_scope.proofs.PutShapes.{put_none, put_kept, put_some, open_declared}
 use Rattle.vs_scope.proofs.names.Names.put_shape.Goals as goal

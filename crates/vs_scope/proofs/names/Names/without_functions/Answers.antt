@@ -1,9 +1,7 @@
-use Rattle.std.proofs.Common.{◌≡◌, ℕ, ◌≤◌, min, arith, None, true, false, if◌then◌else◌, refl, sym, ap, ◌∙◌}
+use Rattle.std.proofs.Common.{◌≡◌, ℕ, ◌≤◌, min, arith, None, if◌then◌else◌, refl, sym, ap, ◌∙◌}
 use Rattle.vs_maps.specs.Maps.{pair, with_value}
 use Rattle.vs_maps.specs.MapViews.{pairs}
-use Rattle.vs_scope.specs.declared.names.Declared.{Declared}
 use Rattle.vs_scope.specs.declared.names.Declared.TheVariants as states
-use Rattle.vs_scope.specs.Again.{is_function}
 use Rattle.vs_scope.proofs.FunctionsAgain.{found_there, part_first, value_there}
 use Rattle.vs_scope.proofs.names.Names.without_functions.Goals as goal
 use Rattle.vs_scope.proofs.names.Names.without_functions.Goals.{in-Some+in_ok-put, then-is_function, else-is_function, in_default}

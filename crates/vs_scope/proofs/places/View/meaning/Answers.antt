@@ -4,7 +4,7 @@ use Rattle.vs_const.specs.declared.rules.Rule.{Rule}
 use Rattle.vs_elaborated.specs.Environments.{OfSignal, OfGenvar, declared_meaning, turn_meaning}
 use Rattle.vs_scope.specs.declared.names.Declared.TheVariants as states
 use Rattle.vs_scope.specs.Frames.{view_env}
-use Rattle.vs_scope.specs.Views.{declared, evaluated, signal_meaning, unknown_signal}
+use Rattle.vs_scope.specs.Views.{evaluated, signal_meaning, unknown_signal}
 use Rattle.vs_scope.proofs.Meant.{stands_at, means_as}
 use Rattle.vs_scope.proofs.places.View.meaning.Goals as goal
 
