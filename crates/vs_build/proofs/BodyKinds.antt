@@ -164,13 +164,13 @@ assignment_step a rs bs v len n x y blocking at g view h e o f k =
 
 pub assignment_adds : {U F : Type 0} (r : Result U F) (a b : Arena) (rs after rest bs bodies brest : List ℕ) (v : Growing) (x y : ℕ) (blocking : Bool) (at : ℕ) (s : Draft) (t u : E.Expression) (m : ℕ)
     → IsBodyStep a rs bs rest (x ∷ y ∷ []) brest [] (S.Assign x y blocking) at → IsBodyAdded r a b rs after rest bs bodies brest (S.Assign x y blocking) at
-    → (let w : Growing = record { arena = a; roots = rs; bodies = bs } in w) ≡ v → Adds s (draft v) (t ∷ u ∷ []) [] m → OnOk r (AddsStatement s (draft_of b after bodies) (T.Assignment at (target_tree t) u blocking) (1 + m))
+    → (let w : Growing = record { arena = a; roots = rs; bodies = bs } in w) ≡ v → Adds s (draft v) (t ∷ u ∷ []) [] m → OnOk r (AddsStatement s (draft_of b after bodies) (T.Assignment at (target_tree t) u blocking 0) (1 + m))
 assignment_adds r a b rs after rest bs bodies brest v x y blocking at s t u m p d view h =
     let l = are_last a rs bs rest (x ∷ y ∷ []) brest [] s (t ∷ u ∷ []) [] m p.roots p.bodies (adds_in a rs bs v s (t ∷ u ∷ []) [] m view h) refl refl in
     let first : tree_at (arena_trees a) x ≡ t = first_is (tree_at (arena_trees a) x) t (tree_at (arena_trees a) y ∷ []) (u ∷ []) l.expressions in
     let second : tree_at (arena_trees a) y ≡ u = first_is (tree_at (arena_trees a) y) u [] [] (rest_is (tree_at (arena_trees a) x) t (tree_at (arena_trees a) y ∷ []) (u ∷ []) l.expressions) in
-    body_adds r a b rs after rest (x ∷ y ∷ []) bs bodies brest [] (S.Assign x y blocking) at s (T.Assignment at (target_tree t) u blocking) m p d l.before
-    (ap (λ z. T.Assignment at (target_tree z) (tree_at (arena_trees a) y) blocking) first ∙ ap (λ z. T.Assignment at (target_tree t) z blocking) second) l.few l.low
+    body_adds r a b rs after rest (x ∷ y ∷ []) bs bodies brest [] (S.Assign x y blocking) at s (T.Assignment at (target_tree t) u blocking 0) m p d l.before
+    (ap (λ z. T.Assignment at (target_tree z) (tree_at (arena_trees a) y) blocking 0) first ∙ ap (λ z. T.Assignment at (target_tree t) z blocking 0) second) l.few l.low
 
 -- ---- conditionals
 

@@ -255,14 +255,14 @@ assignment_ends s r v find t u m n w h g le less = record {
 
 pub assignment_arm : {U F : Type 0} (r : Result U F) (s q v new : Draft) (around : Within) (find : Find) (t : tree.Target) (e : tree.Expr) (blocking : Bool) (at : ℕ) → at ≡ target_place t → IsWritable (home s) find true t
     → AddsExpression s q (target_expression t find true) (1 + target_depth t) → AddsExpression q v (typed e find false).expression (1 + expr_depth e)
-    → ((w : Draft) (x y : E.Expression) (m : ℕ) → Adds w v (x ∷ y ∷ []) [] m → OnOk r (AddsStatement w new (T.Assignment at (target_tree x) y blocking) (1 + m)))
+    → ((w : Draft) (x y : E.Expression) (m : ℕ) → Adds w v (x ∷ y ∷ []) [] m → OnOk r (AddsStatement w new (T.Assignment at (target_tree x) y blocking 0) (1 + m)))
     → OnOk r (AddsStatement s new (typed_statement (tree.Assignment t e blocking) around find).statement (1 + statement_depth (tree.Assignment t e blocking)))
 assignment_arm r s q v new around find t e blocking at place w h g f =
     let u = (typed e find false).expression in
     let m = 1 + max (target_depth t) (expr_depth e) in
     let made = f s (target_expression t find true) u m (assigned_parts s q v (target_expression t find true) u (1 + target_depth t) (1 + expr_depth e) m h g (omega arith) (omega arith)) in
-    subst (λ n. OnOk r (AddsStatement s new (T.Assignment n (typed_target t find true).target u blocking) (1 + m))) place
-    (subst (λ x. OnOk r (AddsStatement s new (T.Assignment at x u blocking) (1 + m))) (target_tree_is (home s) find t w) made)
+    subst (λ n. OnOk r (AddsStatement s new (T.Assignment n (typed_target t find true).target u blocking 0) (1 + m))) place
+    (subst (λ x. OnOk r (AddsStatement s new (T.Assignment at x u blocking 0) (1 + m))) (target_tree_is (home s) find t w) made)
 
 -- ---- labels
 

@@ -10,6 +10,7 @@ use Rattle.vs_design.specs.TreeLaws.{BodyReads}
 use Rattle.vs_flat.specs.Arena.{Arena}
 use Rattle.vs_flat.specs.Arena as A
 use Rattle.vs_flat.specs.DesignOf.{design_of}
+use Rattle.vs_flat.specs.Prompt.{NoDelays}
 use Rattle.vs_clock.specs.declared.resets.Reset.{Reset}
 use Rattle.vs_clock.specs.Resets.{branch_of, plain_branch, plain_reset}
 use Rattle.vs_clock.specs.Resets as C
@@ -35,6 +36,7 @@ use Rattle.vs_compile.proofs.Lists.{and_true, at_process}
 use Rattle.vs_design.specs.Within.{StatementIsWithin, names_within, statement_within}
 use Rattle.vs_design.specs.Elaborated.{are_formed_events, is_formed_process, is_formed_statement}
 use Rattle.vs_design.specs.Sizes.{process_weight, statement_weight}
+use Rattle.vs_design.specs.Delays.{has_delays}
 use Rattle.std.proofs.lemmas.List.Sums.{sum_by-cons}
 use Rattle.vs_compile.proofs.Lowering.{stores_left, writes_in}
 
@@ -119,14 +121,15 @@ pub resets : StatementIsWithin → BodyReads → AscendingIsOnce → FewAreApart
 resets law reads once few sources a clocks at p x e r i =
     can_reset law reads once few sources (design_of a) clocks at p x e (plain_reset a r) (plain_branch a r) (falls r.edge) i.is i.branch (edge_falls r.edge) refl refl
 
-ready : (d : Design) (x : Process) (low : Bool) (r : N.Reset) (taken : Statement) (count first : ℕ) (calls : List Call) → CanReset d x low r taken → count ≡ bit_count d → 4 + count ≤ first
+ready : (d : Design) (x : Process) (low : Bool) (r : N.Reset) (taken : Statement) (count first : ℕ) (calls : List Call) → CanReset d x low r taken → has_delays taken ≡ false → count ≡ bit_count d → 4 + count ≤ first
     → first + Rattle.vs_program.specs.Lowered.process_stores x < 2 ^ 32 → length_of calls + Rattle.vs_program.specs.Lowered.process_stores x ≤ 2 ^ 32 → IsResetReady count (record { calls = calls; next = first }) low r.input taken
-ready d x low r taken count first calls can counted temps slots few = record {
+ready d x low r taken count first calls can prompt counted temps slots few = record {
   temps = temps;
   there = omega (arith, can.there, counted);
   inside = λ b m. let under = can.inside b m in omega (arith, under, counted);
   names = subst (λ (n : ℕ). statement_within n taken ≡ true) (sym counted) can.names;
   fit = can.fixed.fits;
+  prompt = prompt;
   light = can.light;
   slots = omega (arith, slots, can.room.stores);
   few = omega (arith, few, can.room.stores);
@@ -141,21 +144,22 @@ ready_as n code calls next low asked input taken same at is h = subst (λ (b : B
   inside = h.inside;
   names = h.names;
   fit = h.fit;
+  prompt = h.prompt;
   light = h.light;
   slots = omega (arith, h.slots, at);
   few = let long = ap length_of same in omega (arith, h.few, long);
 })
 
-pub ready_by : StatementIsWithin → BodyReads → AscendingIsOnce → FewAreApart → SourcesOfDesign → RegistersInOrder → (k : Known) → IsAcceptedAt (design_of k.arena) k.clocks
+pub ready_by : NoDelays → StatementIsWithin → BodyReads → AscendingIsOnce → FewAreApart → SourcesOfDesign → RegistersInOrder → (k : Known) → IsAcceptedAt (design_of k.arena) k.clocks
     → (count : ℕ) (shadows : List ℕ) (first : ℕ) → IsTable (design_of k.arena) count shadows first → (p : ℕ) (x : Process) → slice_get (design_of k.arena).processes p ≡ Some x
     → (r : Reset) → C.IsResetOf k.arena k.clocks x r → (calls : List Call) → length_of calls + may_store (design_of k.arena) p ≤ 2 ^ 32
     → (a : Arena) → a ≡ k.arena → count ≡ A.bit_count a.signals → IsResetReady (A.bit_count a.signals) (record { calls = calls; next = first }) (falls r.edge) r.input (plain_branch a r)
-ready_by law reads once few sources ordered k at count shadows first table p x e r i calls left a same counted =
+ready_by prompt law reads once few sources ordered k at count shadows first table p x e r i calls left a same counted =
     let d = design_of k.arena in
     let can = resets law reads once few sources k.arena k.clocks at p x e r i in
     subst (λ n. IsResetReady n (record { calls = calls; next = first }) (falls r.edge) r.input (plain_branch a r)) counted
     (subst (λ (z : Arena). IsResetReady count (record { calls = calls; next = first }) (falls r.edge) r.input (plain_branch z r)) (sym same)
-    (ready d x (falls r.edge) (plain_reset k.arena r) (plain_branch k.arena r) count first calls can table.count_is table.layout.layout.layout.temps_above
+    (ready d x (falls r.edge) (plain_reset k.arena r) (plain_branch k.arena r) count first calls can (prompt k.arena r.branch) table.count_is table.layout.layout.layout.temps_above
     (temps_fit few ordered d k.clocks at count shadows first table p x e) (stores_left d p x (length_of calls) e left)))
 
 -- ---- what is then added

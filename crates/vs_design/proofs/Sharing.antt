@@ -67,8 +67,8 @@ many_writers d l b =
 mutual
   blocking_written : (st : Statement) (b : ℕ) → contains (blocking_bits st) b ≡ true → contains (statement_bits st) b ≡ true
   blocking_written Empty b h = cc
-  blocking_written (Assignment place target e true) b h = h
-  blocking_written (Assignment place target e false) b h = cc
+  blocking_written (Assignment place target e true delay) b h = h
+  blocking_written (Assignment place target e false delay) b h = cc
   blocking_written (Then first rest) b h =
       split (blocking_bits first) (blocking_bits rest) b h
       (λ k. contains-left (statement_bits first) (statement_bits rest) b (blocking_written first b k))

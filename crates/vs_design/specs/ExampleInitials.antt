@@ -66,7 +66,7 @@ swapped = with_initials (design_of (clk_signal ∷ q1 ∷ t2 ∷ []) (on_posedge
 
 -- `initial m[1] = 2'd2;` of the memory of words of two bits
 abbrev pub stored : Design
-stored = with_initials store (initial_at 90 0 (Assignment 98 (WordOf m8 (dec 2 1)) (dec 2 2) true) ∷ [])
+stored = with_initials store (initial_at 90 0 (Assignment 98 (WordOf m8 (dec 2 1)) (dec 2 2) true 0) ∷ [])
 
 -- initial processes between others
 abbrev pub between : Design

@@ -6,12 +6,13 @@ use Rattle.vs_net.specs.Network.{State, Write, Update, write_all, flatten}
 use Rattle.vs_design.specs.Designs.{Process, is_clocked, Initial, Design}
 use Rattle.vs_design.specs.Footprints.{contains, statement_bits, writes_of, net_bits, without}
 use Rattle.vs_design.specs.Races.{at_once_bits, nonblocking_bits}
+use Rattle.vs_design.specs.Delays.{has_delays}
 use Rattle.vs_design.specs.Resets.{is_fixed, branch_writes, branch_updates}
 use Rattle.vs_design.specs.Rules.{written_bits}
 
--- the rule InitialForm: the statement names a signal that isn't a target, or calls a function, or a target of it has an index that isn't constant
+-- the rule InitialForm: the statement names a signal that isn't a target, or calls a function, or a target of it has an index that isn't constant, or a `<=` of it has a delay
 abbrev pub has_other_start : Initial → Bool
-has_other_start i = not (is_fixed i.statement)
+has_other_start i = not (is_fixed i.statement) || has_delays i.statement
 
 -- what it writes at once, and what it gives by updates; it reads nothing
 abbrev pub initial_writes : Initial → List Write

@@ -204,8 +204,8 @@ both_sides xs ys vs ws b f g h =
 mutual
   pub later_written : (s : Statement) (b : ℕ) → contains (nonblocking_bits s) b ≡ true → contains (statement_bits s) b ≡ true
   later_written Empty b h = h
-  later_written (Assignment place target e true) b h = cc
-  later_written (Assignment place target e false) b h = h
+  later_written (Assignment place target e true delay) b h = cc
+  later_written (Assignment place target e false delay) b h = h
   later_written (Then first rest) b h = both_sides (nonblocking_bits first) (nonblocking_bits rest) (statement_bits first) (statement_bits rest) b (later_written first b) (later_written rest b) h
   later_written (If c taken other) b h = both_sides (nonblocking_bits taken) (nonblocking_bits other) (statement_bits taken) (statement_bits other) b (later_written taken b) (later_written other b) h
   later_written (Case kind subject arms) b h = later_in_arms arms b h

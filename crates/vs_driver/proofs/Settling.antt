@@ -22,8 +22,8 @@ one_there (x ∷ xs) (suc k) h = one_there xs k (omega (arith, h))
 mutual
   pub blocking_written : (s : Statement) (b : ℕ) → contains (blocking_bits s) b ≡ true → contains (statement_bits s) b ≡ true
   blocking_written Empty b h = h
-  blocking_written (Assignment place target e true) b h = h
-  blocking_written (Assignment place target e false) b h = cc
+  blocking_written (Assignment place target e true delay) b h = h
+  blocking_written (Assignment place target e false delay) b h = cc
   blocking_written (Then first rest) b h = both_sides (blocking_bits first) (blocking_bits rest) (statement_bits first) (statement_bits rest) b (blocking_written first b) (blocking_written rest b) h
   blocking_written (If c taken other) b h = both_sides (blocking_bits taken) (blocking_bits other) (statement_bits taken) (statement_bits other) b (blocking_written taken b) (blocking_written other b) h
   blocking_written (Case kind subject arms) b h = blocking_in_arms arms b h

@@ -60,7 +60,7 @@ m5 = record { name = codes "m"; scope = 0; number = 5; net = false; input = fals
 abbrev pub memory_design : Design
 memory_design =
     design_of (clk_signal ∷ w1 ∷ a2 ∷ d3 ∷ q4 ∷ m5 ∷ [])
-    (on_posedge 40 clk_signal (If (At 48 (Name w1)) (Assignment 50 (WordOf m5 (At 52 (Name a2))) (At 55 (Name d3)) false) Empty) ∷ Continuous 57 Written 58 (Whole q4) (At 60 (Word m5 (At 62 (Name a2)))) ∷ [])
+    (on_posedge 40 clk_signal (If (At 48 (Name w1)) (Assignment 50 (WordOf m5 (At 52 (Name a2))) (At 55 (Name d3)) false 0) Empty) ∷ Continuous 57 Written 58 (Whole q4) (At 60 (Word m5 (At 62 (Name a2)))) ∷ [])
 
 -- the addresses of each signal
 abbrev pub addresses_of : Design → List (Option Range)
@@ -306,7 +306,7 @@ abbrev pub max_header : Header
 max_header = record { place = 31; inputs = u0 ∷ v1 ∷ []; result = max2; own = [] }
 
 abbrev pub max_statement : Statement
-max_statement = If (At 58 (Binary Greater (At 58 (Name u0)) (At 60 (Name v1)))) (Assignment 62 (Whole max2) (At 64 (Name u0)) true) (Assignment 67 (Whole max2) (At 69 (Name v1)) true)
+max_statement = If (At 58 (Binary Greater (At 58 (Name u0)) (At 60 (Name v1)))) (Assignment 62 (Whole max2) (At 64 (Name u0)) true 0) (Assignment 67 (Whole max2) (At 69 (Name v1)) true 0)
 
 -- its design
 abbrev pub max_design : Design

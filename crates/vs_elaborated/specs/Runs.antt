@@ -41,7 +41,7 @@ run_turns (suc left) run head find (Some bits) state =
 abbrev mutual
   pub runs : (bound : ℕ) → tree.Statement → (declared : ℕ → Meaning) → Find → State → Effect
   runs bound (tree.Empty place) declared find state = no_effect
-  runs bound (tree.Assignment target e blocking) declared find state = effect_of blocking (assignment_writes (typed_target target find true).target (typed e find false).expression state)
+  runs bound (tree.Assignment target e blocking) declared find state = effect_of blocking 0 (assignment_writes (typed_target target find true).target (typed e find false).expression state)
   runs bound (tree.If place c taken other) declared find state =
       if is_one (truth (own_value (typed c find false).expression state)) then runs bound taken declared find state else run_fallback bound other declared find state
   runs bound (tree.Case place kind subject arms other) declared find state =

@@ -98,7 +98,7 @@ assignment body target find e blocking =
     let place = target_place target in
     let t = typed_target target find true in
     record {
-      statement = Assignment place t.target e.expression blocking;
+      statement = Assignment place t.target e.expression blocking 0;
       size = 1;
       copies = 0;
       faults = delayed_faults body place blocking ++ (word_faults body.clocked target find ++ (t.faults ++ e.faults));

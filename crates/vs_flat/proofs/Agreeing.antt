@@ -165,7 +165,7 @@ statement_agrees nodes statements f g s t place (S.Assign target e blocking) ff 
     let b = (statement_parts nodes statements (S.Assign target e blocking) h).0 in
     let l = ff target (first_below nodes target (e ∷ []) b) in
     let r = ff e (first_below nodes e [] (rest_below nodes target (e ∷ []) b)) in
-    ap (λ x. T.Assignment place (target_tree x) (f e) blocking) l ∙ ap (λ x. T.Assignment place (target_tree (g target)) x blocking) r
+    ap (λ x. T.Assignment place (target_tree x) (f e) blocking 0) l ∙ ap (λ x. T.Assignment place (target_tree (g target)) x blocking 0) r
 statement_agrees nodes statements f g s t place (S.If c taken other) ff ss h =
     let b = statement_parts nodes statements (S.If c taken other) h in
     let condition : f c ≡ g c = ff c (first_below nodes c [] b.0) in

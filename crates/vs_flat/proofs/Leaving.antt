@@ -153,7 +153,7 @@ module _ (d : D.Design) (ps : List D.Process) (is : List D.Initial) (fs : List T
   mutual
     statement_formed : (s : T.Statement) → is_formed_statement other s ≡ is_formed_statement d s
     statement_formed T.Empty = refl
-    statement_formed (T.Assignment place target e blocking) = ap₂ (λ (b c : Bool). b && c) (target_formed is_variable target) (expression_formed e)
+    statement_formed (T.Assignment place target e blocking delay) = ap₂ (λ (b c : Bool). b && c) (target_formed is_variable target) (expression_formed e)
     statement_formed (T.Then first rest) = ap₂ (λ (b c : Bool). b && c) (statement_formed first) (statement_formed rest)
     statement_formed (T.If c taken otherwise) = ap₂ (λ (b c : Bool). b && c) (ap₂ (λ (b c : Bool). b && c) (expression_formed c) (statement_formed taken)) (statement_formed otherwise)
     statement_formed (T.Case kind subject arms) = ap₂ (λ (b c : Bool). b && c) (expression_formed subject) (arms_formed arms)

@@ -9,3 +9,4 @@ pub mod TextOrder
 pub mod Different
 pub mod BitCounts
 pub mod Leaving
+pub mod Prompt

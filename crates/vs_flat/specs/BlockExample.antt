@@ -75,12 +75,12 @@ block_design = record {
   processes =
       D.Always 58 false (record { signal = plain_clk; edge = D.Posedge } ∷ [])
       (T.If (bit_of_a 84 0)
-      (T.Assignment 90 (T.Whole register_q) (E.At 95 (E.Repeat 2 (E.Join (bit_of_a 98 1) (E.At 104 (E.Literal (bits_of 1 0) false true))))) false)
+      (T.Assignment 90 (T.Whole register_q) (E.At 95 (E.Repeat 2 (E.Join (bit_of_a 98 1) (E.At 104 (E.Literal (bits_of 1 0) false true))))) false 0)
       (T.Case T.Exact (E.At 129 (E.Select (E.OfSignal vector_a) two_bits (plain_index 131 2)))
       (T.Arm (E.items_of (E.At 140 (E.Literal (bits_of 2 1) false true) ∷ []))
-      (T.Assignment 146 (T.PartOf register_q (one_bit four_bits) (plain_index 148 1)) (E.At 154 (E.Unary E.BitNot (bit_of_a 155 2))) false)
+      (T.Assignment 146 (T.PartOf register_q (one_bit four_bits) (plain_index 148 1)) (E.At 154 (E.Unary E.BitNot (bit_of_a 155 2))) false 0)
       (T.Default T.Empty))))
       ∷ [];
-  initials = record { place = 183; behind = 1; statement = T.Assignment 191 (T.Whole register_q) (plain_index 195 1) true } ∷ [];
+  initials = record { place = 183; behind = 1; statement = T.Assignment 191 (T.Whole register_q) (plain_index 195 1) true 0 } ∷ [];
   functions = [];
 }

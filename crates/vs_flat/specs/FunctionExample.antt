@@ -43,8 +43,8 @@ plain_max = record {
   header = record { place = 69; inputs = plain_vector (codes "u") 0 false true 0 ∷ plain_vector (codes "v") 1 false true 4 ∷ []; result = plain_vector (codes "max") 2 false false 8; own = [] };
   statement =
       T.If (E.At 123 (E.Binary E.Greater (E.At 123 (E.Name (plain_vector (codes "u") 0 false true 0))) (E.At 127 (E.Name (plain_vector (codes "v") 1 false true 4)))))
-      (T.Assignment 130 (T.Whole (plain_vector (codes "max") 2 false false 8)) (E.At 136 (E.Name (plain_vector (codes "u") 0 false true 0))) true)
-      (T.Assignment 144 (T.Whole (plain_vector (codes "max") 2 false false 8)) (E.At 150 (E.Name (plain_vector (codes "v") 1 false true 4))) true);
+      (T.Assignment 130 (T.Whole (plain_vector (codes "max") 2 false false 8)) (E.At 136 (E.Name (plain_vector (codes "u") 0 false true 0))) true 0)
+      (T.Assignment 144 (T.Whole (plain_vector (codes "max") 2 false false 8)) (E.At 150 (E.Name (plain_vector (codes "v") 1 false true 4))) true 0);
 }
 
 abbrev pub function_design : D.Design

@@ -12,5 +12,6 @@ pub mod Example
 pub mod BlockExample
 pub mod FunctionExample
 pub mod WordExample
+pub mod Prompt
 pub mod Rows
 pub mod Laws

@@ -51,7 +51,7 @@ plain_result = plain_two_bits (codes "next") 1 false false 2 None
 abbrev pub plain_next : T.Function
 plain_next = record {
   header = record { place = 84; inputs = plain_n ∷ []; result = plain_result; own = [] };
-  statement = T.Assignment 123 (T.Whole plain_result) (E.At 130 (E.Unary E.BitNot (E.At 131 (E.Name plain_n)))) true;
+  statement = T.Assignment 123 (T.Whole plain_result) (E.At 130 (E.Unary E.BitNot (E.At 131 (E.Name plain_n)))) true 0;
 }
 
 abbrev pub plain_call : ℕ → E.Expression → E.Expression
@@ -77,7 +77,7 @@ word_design = record {
   scopes = record { name = codes "top"; parent = None; instance = true } ∷ [];
   signals = word_clk ∷ plain_a ∷ plain_d ∷ plain_q ∷ plain_m ∷ [];
   processes =
-      D.Always 146 false (record { signal = word_clk; edge = D.Posedge } ∷ []) (T.Assignment 166 (T.WordOf plain_m (E.At 168 (E.Name plain_a))) (plain_call 174 (E.At 179 (E.Name plain_d))) false)
+      D.Always 146 false (record { signal = word_clk; edge = D.Posedge } ∷ []) (T.Assignment 166 (T.WordOf plain_m (E.At 168 (E.Name plain_a))) (plain_call 174 (E.At 179 (E.Name plain_d))) false 0)
       ∷ D.Continuous 183 D.Written 190 (T.Whole plain_q) (plain_call 194 (E.At 199 (E.Word plain_m (E.At 201 (E.Name plain_a)))))
       ∷ [];
   initials = [];

@@ -1,6 +1,7 @@
 //! What holds of every flat design.
 
 ghost use Rattle.vs_flat.specs.Laws.{NodeNames, NodeCalls, CallsEarlier, CallsBefore, BodiesThere, BodyNames, StatementNames, EachLocal, HeaderLocals, FunctionResults, LocalBits, ProcessNames, InitialNames, CountsStay, InputsStay, EachSignal, EachTree, EachStatement, EachProcess, EachInitial, EachFunction, NamesStay, TreesKept, ScopeAdded, SignalAdded, ProcessAdded, InitialAdded, NodeAdded, StatementAdded, FunctionAdded, BodyAdded, LeftIsDesign, LeftIsLawful, LawfulIsDesign, LawfulIsWithinLimits, EachIsFormed, EachStatementIsFormed, AssignTargets, StatementTargets, DifferentIsOnce, ExamplesAreDesigns, ExamplesAreLawful};
+ghost use Rattle.vs_flat.specs.Prompt.{NoDelays};
 ghost use Rattle.vs_flat.specs.TextOrder.{ProcessesInText, InitialsInText};
 ghost use Rattle.vs_flat.specs.Rows.{CopyRows, TargetRows, NameRows, ChainRows};
 
@@ -21,7 +22,7 @@ pub fn calls_law()
     ensures names { BodyNames }
 {}
 
-/// Each signal, expression, statement, process and initial process of the plain design is made of what it names, and there are as many of each kind.
+/// Each signal, expression, statement, process and initial process of the plain design is made of what it names, and there are as many of each kind. No update of it has a delay.
 pub fn trees_law()
     ensures signals { EachSignal }
     ensures expressions { EachTree }
@@ -33,6 +34,7 @@ pub fn trees_law()
     ensures headers { HeaderLocals }
     ensures counts { CountsStay }
     ensures inputs { InputsStay }
+    ensures delays { NoDelays }
 {}
 
 /// Adding to a flat design keeps what its plain design has.

@@ -13,6 +13,7 @@ use Rattle.vs_design.specs.Elaborated.{IsLawfulDesign, is_formed_process, is_for
 use Rattle.vs_design.specs.Networks.{process_of, block_process}
 use Rattle.vs_design.specs.Within.{names_within, target_within, statement_within, FormedIsWithin, TargetIsWithin, StatementIsWithin}
 use Rattle.vs_design.proofs.Parts.{all_at}
+use Rattle.vs_design.specs.DelayLaws.{PromptInOrder}
 use Rattle.vs_flat.specs.declared.processes.Event.{Event}
 use Rattle.vs_flat.specs.declared.processes.Process.{Process}
 use Rattle.vs_flat.specs.declared.processes.Port.{Port}
@@ -25,6 +26,7 @@ use Rattle.vs_flat.specs.Targets.{place_of, target_of}
 use Rattle.vs_flat.specs.Trees.{no_signal, signal_at, target_tree}
 use Rattle.vs_flat.specs.DesignOf.{kind_of, event_of, arena_signals, design_of}
 use Rattle.vs_flat.specs.Laws.{EachProcess, LawfulIsDesign}
+use Rattle.vs_flat.specs.Prompt.{NoDelays}
 use Rattle.vs_sets.specs.Nodes.{tree_of}
 use Rattle.vs_shape.specs.Walked as W
 use Rattle.vs_reads.specs.Named.{AssignIsFit, BlockIsFit, IsFitKind}
@@ -108,7 +110,7 @@ module _ (trees : EachProcess) (lawful : LawfulIsDesign) (a : Arena) (L : IsLawf
   both_made clocks true x events st s = refl
   both_made clocks false x events st s = refl
 
-  both_updates : (clocks : List ℕ) (c : Bool) (x : D.Process) (events : List D.Event) (st : T.Statement) (s : State) → N.updates (block_process d clocks c x events st) s ≡ (B.body st s).updates
+  both_updates : (clocks : List ℕ) (c : Bool) (x : D.Process) (events : List D.Event) (st : T.Statement) (s : State) → N.updates (block_process d clocks c x events st) s ≡ B.updates_in (B.body st s)
   both_updates clocks true x events st s = refl
   both_updates clocks false x events st s = refl
 
@@ -118,8 +120,8 @@ module _ (trees : EachProcess) (lawful : LawfulIsDesign) (a : Arena) (L : IsLawf
       let y = D.Always q.at star es (statement_of a st) in
       sym (both_made clocks (D.is_clocked y) y es (statement_of a st) s) ∙ ap (λ (y : D.Process). N.made (process_of d clocks y) s) (block_x x star events st is h)
 
-  pub block_updates : (clocks : List ℕ) (x : D.Process) (s : State) (star : Bool) (events : List Event) (st : ℕ) → q.kind ≡ K.Block star events st → slice_get d.processes p ≡ Some x → (B.body (statement_of a st) s).updates ≡ N.updates (process_of d clocks x) s
-  block_updates clocks x s star events st is h =
+  pub block_updates : PromptInOrder → NoDelays → (clocks : List ℕ) (x : D.Process) (s : State) (star : Bool) (events : List Event) (st : ℕ) → q.kind ≡ K.Block star events st → slice_get d.processes p ≡ Some x → N.undelayed (B.body (statement_of a st) s).updates ≡ N.updates (process_of d clocks x) s
+  block_updates order prompt clocks x s star events st is h =
       let es = map (event_of (signal_at (arena_signals a))) events in
       let y = D.Always q.at star es (statement_of a st) in
-      sym (both_updates clocks (D.is_clocked y) y es (statement_of a st) s) ∙ ap (λ (y : D.Process). N.updates (process_of d clocks y) s) (block_x x star events st is h)
+      sym (order (statement_of a st) s (prompt a st)) ∙ sym (both_updates clocks (D.is_clocked y) y es (statement_of a st) s) ∙ ap (λ (y : D.Process). N.updates (process_of d clocks y) s) (block_x x star events st is h)

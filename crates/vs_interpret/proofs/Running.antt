@@ -59,7 +59,7 @@ state_end tree ps k state all done so_far = ap (λ xs. write_all state (body (se
 -- ---- single statements
 
 -- a nonblocking assignment writes nothing at once
-pub waits : (blocking : Bool) (s : State) (ws : List Write) → blocking ≡ false → s ≡ write_all s (effect_of blocking ws).writes
+pub waits : (blocking : Bool) (s : State) (ws : List Write) → blocking ≡ false → s ≡ write_all s (effect_of blocking 0 ws).writes
 unfolding write_all
 waits true s ws h = cc
 waits false s ws h = refl

@@ -12,7 +12,7 @@ ghost use Rattle.vs_writes.specs.Held.{state_of};
 
 use crate::public::{assignment_writes, run};
 use std::alloc::{AllocError, Global};
-use vs_design::within_law;
+use vs_design::{delay_law, within_law};
 use vs_flat::{Kind, lawful_law, trees_law};
 use vs_four::Bit4;
 use vs_reads::{fit_initial, fit_process};
@@ -54,12 +54,13 @@ pub fn run_block(
     requires fits { list_all fits_process (design_of shapes.now).processes ≡ true }
     requires values { D.bit_count (design_of shapes.now) ≤ length values.old }
     ensures effect { IfOk result (λ f. (clocks : List ℕ) (x : D.Process) → slice_get (design_of shapes.now).processes p ≡ Some x → D.is_assign x ≡ false
-        → (f.writes ≡ N.made (process_of (design_of shapes.now) clocks x) (state_of values.old)) × (f.updates ≡ N.updates (process_of (design_of shapes.now) clocks x) (state_of values.old))) }
+        → (f.writes ≡ N.made (process_of (design_of shapes.now) clocks x) (state_of values.old)) × (N.undelayed f.updates ≡ N.updates (process_of (design_of shapes.now) clocks x) (state_of values.old))) }
     ensures state { (clocks : List ℕ) (x : D.Process) → slice_get (design_of shapes.now).processes p ≡ Some x → D.is_assign x ≡ false → OnOk result (state_of values.new ≡ N.write_all (state_of values.old) (N.made (process_of (design_of shapes.now) clocks x) (state_of values.old))) }
 {
     lawful_law();
     trees_law();
     within_law();
+    delay_law();
     let _ = shapes.flat();
     match &fit_process(shapes, p).kind {
         Kind::Assign { .. } => Ok(Effect::new(alloc)),

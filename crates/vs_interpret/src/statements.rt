@@ -93,8 +93,8 @@ impl Runner<'_> {
         requires fit { is_fit (tree_of self.now.shapes.now e) ≡ true }
         requires target_within { target_within (length values.old) (target_tree (tree_of self.now.shapes.now target)) ≡ true }
         requires within { names_within (length values.old) (tree_of self.now.shapes.now e) ≡ true }
-        ensures effect { OnOk result (done.new ≡ B.both_effects done.old (B.effect_of blocking (B.assignment_writes (target_tree (tree_of self.now.shapes.now target)) (tree_of self.now.shapes.now e) (state_of values.old)))) }
-        ensures state { OnOk result (state_of values.new ≡ write_all (state_of values.old) (B.effect_of blocking (B.assignment_writes (target_tree (tree_of self.now.shapes.now target)) (tree_of self.now.shapes.now e) (state_of values.old))).writes) }
+        ensures effect { OnOk result (done.new ≡ B.both_effects done.old (B.effect_of blocking 0 (B.assignment_writes (target_tree (tree_of self.now.shapes.now target)) (tree_of self.now.shapes.now e) (state_of values.old)))) }
+        ensures state { OnOk result (state_of values.new ≡ write_all (state_of values.old) (B.effect_of blocking 0 (B.assignment_writes (target_tree (tree_of self.now.shapes.now target)) (tree_of self.now.shapes.now e) (state_of values.old))).writes) }
     {
         write_law();
         let update = self.assignment_writes(target, e, values)?;

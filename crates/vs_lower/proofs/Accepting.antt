@@ -36,6 +36,7 @@ use Rattle.vs_lower.proofs.Apart.{left_among, right_among, unmixed_apart}
 use Rattle.vs_values.proofs.Unary.{not_true}
 use Rattle.vs_values.proofs.Values.{both_true}
 use Rattle.vs_design.specs.Within.{FormedIsWithin, TargetIsWithin, StatementIsWithin, names_within, target_within, statement_within}
+use Rattle.vs_design.specs.Delays.{has_delays}
 use Rattle.std.proofs.lemmas.List.Sums.{sum_by-cons}
 
 -- ---- what holds of each process
@@ -254,12 +255,12 @@ process_light : (d : Design) (p : ℕ) (x : Process) → size d ≤ 16777216 →
 process_light d p x small at = let l = in_sum process_weight d.processes p x at in omega (arith, l, small)
 
 pub clocked_is_ready : (d : Design) → BitsOfDesign → StatementIsWithin → size d ≤ 16777216 → list_all fits_process d.processes ≡ true → IsLawfulDesign d → (count : ℕ) → bit_count d ≡ count
-    → (code : Coding) (p place : ℕ) (star : Bool) (events : List Event) (st : Statement) → slice_get d.processes p ≡ Some (Always place star events st)
+    → (code : Coding) (p place : ℕ) (star : Bool) (events : List Event) (st : Statement) → slice_get d.processes p ≡ Some (Always place star events st) → has_delays st ≡ false
     → home count ≤ code.next
     → ((x : Process) → slice_get d.processes p ≡ Some x → code.next + process_stores x < 2 ^ 32)
     → ((x : Process) → slice_get d.processes p ≡ Some x → length_of code.calls + process_stores x ≤ 2 ^ 32)
     → IsClockedReady count code st
-clocked_is_ready d law within small fit lawful count counted code p place star events st at temps slots few =
+clocked_is_ready d law within small fit lawful count counted code p place star events st at prompt temps slots few =
     let x = Always place star events st in
     let stores = stores_are place star events st in
     let room = slots x at in
@@ -270,6 +271,7 @@ clocked_is_ready d law within small fit lawful count counted code p place star e
       inside = λ b h. let q = writes_inside law d lawful p x at b h in omega (arith, q, counted);
       names = subst (λ (n : ℕ). statement_within n st ≡ true) counted (within d lawful.bits_numbered st formed.1);
       fit = at_process fits_process d.processes p x fit at;
+      prompt = prompt;
       light = omega (arith, process_light d p x small at);
       slots = omega (arith, room, stores);
       few = omega (arith, most, stores);
@@ -277,14 +279,14 @@ clocked_is_ready d law within small fit lawful count counted code p place star e
 
 -- a combinational block has no updates
 pub block_is_ready : (d : Design) → BitsOfDesign → StatementIsWithin → size d ≤ 16777216 → list_all fits_process d.processes ≡ true → IsLawfulDesign d → (count : ℕ) → bit_count d ≡ count → list_all (λ x. is_empty (mixed_assigns x)) d.processes ≡ true
-    → (code : Coding) (p place : ℕ) (star : Bool) (events : List Event) (st : Statement) → slice_get d.processes p ≡ Some (Always place star events st) → is_clocked (Always place star events st) ≡ false
+    → (code : Coding) (p place : ℕ) (star : Bool) (events : List Event) (st : Statement) → slice_get d.processes p ≡ Some (Always place star events st) → has_delays st ≡ false → is_clocked (Always place star events st) ≡ false
     → home count ≤ code.next
     → ((x : Process) → slice_get d.processes p ≡ Some x → code.next + process_stores x < 2 ^ 32)
     → ((x : Process) → slice_get d.processes p ≡ Some x → length_of code.calls + process_stores x ≤ 2 ^ 32)
     → IsBlockReady count code st
-block_is_ready d law within small fit lawful count counted unmixed code p place star events st at comb temps slots few =
+block_is_ready d law within small fit lawful count counted unmixed code p place star events st at prompt comb temps slots few =
     let x = Always place star events st in
-    let r = clocked_is_ready d law within small fit lawful count counted code p place star events st at temps slots few in
+    let r = clocked_is_ready d law within small fit lawful count counted code p place star events st at prompt temps slots few in
     let none : mixed_assigns x ≡ [] = none_of (mixed_assigns x) (at_process (λ y. is_empty (mixed_assigns y)) d.processes p x unmixed at) in
     record {
       temps = r.temps;

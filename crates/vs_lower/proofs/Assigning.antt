@@ -79,7 +79,7 @@ pub done_assignment_now : (now later : List ℕ) (m : ℕ) (target : Target) (e 
     → AreValues now m c (tv ∷ tis) n most (λ state. assigned_value e (target_width target) state ∷ index_values target state)
     → All (IsNew m) tv
     → IsWritten now n target tis tv more d env p
-    → IsDone now later [] (λ state. []) m (λ state. effect_of true (assignment_writes target e state)) (target_bits target) [] (most + more) (c ++ d) env later p
+    → IsDone now later [] (λ state. []) m (λ state. effect_of true 0 (assignment_writes target e state)) (target_bits target) [] (most + more) (c ++ d) env later p
 unfolding N.write_all N.flatten
 done_assignment_now now later m target e c tv tis n most d env p more en el a new w = record {
   added = added_more m c n most d p more a.added w.added;
@@ -109,7 +109,7 @@ pub done_assignment_later : (now later : List ℕ) (m : ℕ) (target : Target) (
     → AreValues now m c (tv ∷ tis) n most (λ state. assigned_value e (target_width target) state ∷ index_values target state)
     → All (λ slot. IsNew m slot ⊎ ((b : ℕ) × (b < length now) × (slot ≡ slice_index now b))) tv
     → IsWritten later n target tis tv more d env p
-    → IsDone now later [] (λ state. []) m (λ state. effect_of false (assignment_writes target e state)) [] (target_bits target) (most + more) (c ++ d) now env p
+    → IsDone now later [] (λ state. []) m (λ state. effect_of false 0 (assignment_writes target e state)) [] (target_bits target) (most + more) (c ++ d) now env p
 unfolding N.write_all N.flatten
 done_assignment_later now later m target e c tv tis n most d env p more en el a new w = record {
   added = added_more m c n most d p more a.added w.added;

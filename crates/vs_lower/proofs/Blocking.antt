@@ -113,7 +113,7 @@ adds_combinational l place star events c0 c1 c2 st now1 later1 bits first comb r
 -- ---- a clocked block
 
 pub clocked_next : (count : ℕ) (code : Coding) (st : Statement) → IsClockedReady count code st → IsNextReady count code st
-clocked_next count code st r = record { temps = r.temps; inside = r.inside; names = r.names; fit = r.fit; light = r.light; slots = omega (arith, r.slots); few = omega (arith, r.few) }
+clocked_next count code st r = record { temps = r.temps; inside = r.inside; names = r.names; fit = r.fit; prompt = r.prompt; light = r.light; slots = omega (arith, r.slots); few = omega (arith, r.few) }
 
 -- what the lowering of its statement needs where it writes no bit by both
 pub next_ready : (count : ℕ) (code : Coding) (st : Statement) → IsNextReady count code st → AreApart (blocking_bits st) (nonblocking_bits st) → IsStatementReady count (homes count) (homes count) code st

@@ -48,6 +48,7 @@ use Rattle.vs_values.proofs.Lists.{range_below, range_from}
 use Rattle.vs_lower.proofs.Placing.{by_test}
 use Rattle.vs_values.proofs.Readying.{two_added}
 use Rattle.vs_design.specs.Within.{StatementIsWithin}
+use Rattle.vs_design.specs.Delays.{has_delays}
 
 -- ---- lists
 
@@ -414,13 +415,13 @@ asleep_combinational d place star events st h =
     of false v w k = refl
 
 pub sleeper_ready : (d : Design) → BitsOfDesign → StatementIsWithin → size d ≤ 16777216 → SleepersWrite → list_all fits_process d.processes ≡ true → IsLawfulDesign d → (count : ℕ) → bit_count d ≡ count → list_all (λ x. is_empty (mixed_assigns x)) d.processes ≡ true
-    → (code : Coding) (p place : ℕ) (star : Bool) (events : List Event) (st : Statement) (waits : List ℕ) (mask : ℕ) → slice_get d.processes p ≡ Some (Always place star events st)
+    → (code : Coding) (p place : ℕ) (star : Bool) (events : List Event) (st : Statement) (waits : List ℕ) (mask : ℕ) → slice_get d.processes p ≡ Some (Always place star events st) → has_delays st ≡ false
     → ((x : Process) → slice_get d.processes p ≡ Some x → is_sleeping d x ≡ true)
     → IsMask count code.next mask → AreBits count waits
     → ((x : Process) → slice_get d.processes p ≡ Some x → code.next + process_stores x < 2 ^ 32)
     → ((x : Process) → slice_get d.processes p ≡ Some x → length_of code.calls + (process_stores x + (length waits + 1 + distinct (writes_of x))) ≤ 2 ^ 32)
     → IsSleeperReady count code waits mask st
-sleeper_ready d law within light writes fit lawful count counted unmixed code p place star events st waits mask at sleeps is bits slots few =
+sleeper_ready d law within light writes fit lawful count counted unmixed code p place star events st waits mask at prompt sleeps is bits slots few =
     let x = Always place star events st in
     let asleep = sleeps x at in
     let stores = stores_are place star events st in
@@ -429,7 +430,7 @@ sleeper_ready d law within light writes fit lawful count counted unmixed code p 
     let above = is.above in
     let below = is.below in
     record {
-      block = block_is_ready d law within light fit lawful count counted unmixed code p place star events st at (asleep_combinational d place star events st asleep) (omega (arith, above, below)) slots (λ y h. let q = few y h in omega (arith, q));
+      block = block_is_ready d law within light fit lawful count counted unmixed code p place star events st at prompt (asleep_combinational d place star events st asleep) (omega (arith, above, below)) slots (λ y h. let q = few y h in omega (arith, q));
       mask_is = is;
       waits_are = bits;
       bit = one.0;

@@ -190,7 +190,7 @@ source_is now bits m slot (inr (inr h)) = by_test (nat_lt h.0 (length now)) (λ 
 pub assigned_later : (a : Arena) (bits : ℕ) (now ahead ahead_after : List ℕ) (code one two : Coding) (t : Target) (e : Expression) (leaves : List Leaf) (tis : List (List ℕ)) (tv : List ℕ) → map (leaf_target a) leaves ≡ leaves_of t
     → IsEnv now code.next → IsEnv ahead code.next → All (IsSource now code.next (read_bits e)) tv → AddsOperands now code one t e (operands_weight t e) tis tv
     → AddsWrites ahead ahead_after one two (joined_target (map (leaf_target a) leaves)) tis tv (sum_by write_weight (map (leaf_target a) leaves))
-    → AddsRun now ahead code two (λ state. effect_of false (assignment_writes t e state)) [] (target_bits t) (assign_most true t e) now ahead_after
+    → AddsRun now ahead code two (λ state. effect_of false 0 (assignment_writes t e state)) [] (target_bits t) (assign_most true t e) now ahead_after
 assigned_later a bits now ahead ahead_after code one two t e leaves tis tv are en el sources o w0 =
     let w = subst (λ (ts : List Target). AddsWrites ahead ahead_after one two (joined_target ts) tis tv (sum_by write_weight ts)) are w0 in
     let ww = written_whole ahead one.next t tis tv (sum_by write_weight (leaves_of t)) w.calls ahead_after two.next w.written in
@@ -200,7 +200,7 @@ assigned_later a bits now ahead ahead_after code one two t e leaves tis tv are e
     record {
       calls = o.calls ++ w.calls;
       is = two_added code.calls o.calls w.calls one.calls two.calls o.is w.is;
-      done = subst (λ (n : ℕ). IsDone now ahead [] (λ state. []) code.next (λ state. effect_of false (assignment_writes t e state)) [] (target_bits t) n (o.calls ++ w.calls) now ahead_after two.next) total d;
+      done = subst (λ (n : ℕ). IsDone now ahead [] (λ state. []) code.next (λ state. effect_of false 0 (assignment_writes t e state)) [] (target_bits t) n (o.calls ++ w.calls) now ahead_after two.next) total d;
     }
 
 -- which slots the bits have after an update: their own, a constant's, a new one, or that of a bit that the right side reads
@@ -295,7 +295,7 @@ owned_operands now code one two t e most w tis tv to ie hw f slots few o (inr h)
 pub assigned_now : (a : Arena) (bits : ℕ) (now ahead now_after : List ℕ) (code one two : Coding) (t : Target) (e : Expression) (leaves : List Leaf) (tis : List (List ℕ)) (tv : List ℕ) → map (leaf_target a) leaves ≡ leaves_of t
     → IsEnv now code.next → IsEnv ahead code.next → AreOwned now code one t e (operands_weight t e + target_width t) tis tv
     → AddsWrites now now_after one two (joined_target (map (leaf_target a) leaves)) tis tv (sum_by write_weight (map (leaf_target a) leaves))
-    → AddsRun now ahead code two (λ state. effect_of true (assignment_writes t e state)) (target_bits t) [] (assign_most false t e) now_after ahead
+    → AddsRun now ahead code two (λ state. effect_of true 0 (assignment_writes t e state)) (target_bits t) [] (assign_most false t e) now_after ahead
 assigned_now a bits now ahead now_after code one two t e leaves tis tv are en el own w0 =
     let o = own.operands in
     let w = subst (λ (ts : List Target). AddsWrites now now_after one two (joined_target ts) tis tv (sum_by write_weight ts)) are w0 in
@@ -305,5 +305,5 @@ assigned_now a bits now ahead now_after code one two t e leaves tis tv are en el
     record {
       calls = o.calls ++ w.calls;
       is = two_added code.calls o.calls w.calls one.calls two.calls o.is w.is;
-      done = subst (λ (n : ℕ). IsDone now ahead [] (λ state. []) code.next (λ state. effect_of true (assignment_writes t e state)) (target_bits t) [] n (o.calls ++ w.calls) now_after ahead two.next) total d;
+      done = subst (λ (n : ℕ). IsDone now ahead [] (λ state. []) code.next (λ state. effect_of true 0 (assignment_writes t e state)) (target_bits t) [] n (o.calls ++ w.calls) now_after ahead two.next) total d;
     }

@@ -53,16 +53,16 @@ use Rattle.vs_lower.proofs.Unlessing.{Meets, if_meets, left, then_meets, unless_
 two_lists : (x y : BitList) (xs ys : List BitList) → (x ∷ xs) ≡ (y ∷ ys) → (x ≡ y) × (xs ≡ ys)
 two_lists x y xs ys h = (cc, cc)
 
-pub assign_weight : (place : ℕ) (t : Target) (e : Expression) (blocking : Bool) → operands_weight t e + unless_weight t ≡ statement_weight (Assignment place t e blocking)
+pub assign_weight : (place : ℕ) (t : Target) (e : Expression) (blocking : Bool) → operands_weight t e + unless_weight t ≡ statement_weight (Assignment place t e blocking 0)
 assign_weight place t e blocking = omega (arith, leaf_weights t)
 
-pub assign_room : (bits place : ℕ) (now : List ℕ) (bar : ℕ) (code : Coding) (t : Target) (e : Expression) (blocking : Bool) → IsUnlessReady bits now bar code (Assignment place t e blocking) → HasRoom now code (operands_weight t e)
+pub assign_room : (bits place : ℕ) (now : List ℕ) (bar : ℕ) (code : Coding) (t : Target) (e : Expression) (blocking : Bool) → IsUnlessReady bits now bar code (Assignment place t e blocking 0) → HasRoom now code (operands_weight t e)
 assign_room bits place now bar code t e blocking r =
     let w = assign_weight place t e blocking in
     record { is_env = r.now_env; light = omega (arith, r.light, w); slots = omega (arith, r.slots, w); few = omega (arith, r.few, w) }
 
 -- what the write needs once its operands are there
-pub assign_write : (bits place : ℕ) (now : List ℕ) (bar : ℕ) (code one : Coding) (t : Target) (e : Expression) (blocking : Bool) (tis : List (List ℕ)) (tv : List ℕ) → IsUnlessReady bits now bar code (Assignment place t e blocking)
+pub assign_write : (bits place : ℕ) (now : List ℕ) (bar : ℕ) (code one : Coding) (t : Target) (e : Expression) (blocking : Bool) (tis : List (List ℕ)) (tv : List ℕ) → IsUnlessReady bits now bar code (Assignment place t e blocking 0)
     → AddsOperands now code one t e (operands_weight t e) tis tv → IsUnlessWriteReady now one t tis tv bar
 assign_write bits place now bar code one t e blocking tis tv r o =
     let w = assign_weight place t e blocking in
@@ -86,9 +86,9 @@ sources_taken : (now bits : List ℕ) (m : ℕ) (tv : List ℕ) → All (IsSourc
 sources_taken now bits m tv h = All-weaker (IsSource now m bits) (IsTakenFrom now m) (λ slot k. source_is now bits m slot k) tv h
 
 -- by `=`: it writes at once
-pub assigned_at_once : (a : Arena) (bits place : ℕ) (now : List ℕ) (bar : ℕ) (now1 : List ℕ) (code one two : Coding) (us : List Update) (t : Target) (e : Expression) (tis : List (List ℕ)) (tv : List ℕ) → IsUnlessReady bits now bar code (Assignment place t e true)
+pub assigned_at_once : (a : Arena) (bits place : ℕ) (now : List ℕ) (bar : ℕ) (now1 : List ℕ) (code one two : Coding) (us : List Update) (t : Target) (e : Expression) (tis : List (List ℕ)) (tv : List ℕ) → IsUnlessReady bits now bar code (Assignment place t e true 0)
     → All (IsSource now code.next (read_bits e)) tv → AddsOperands now code one t e (operands_weight t e) tis tv → AddsUnlessWrite now now1 one two t tis tv bar
-    → AddsUnlessStatement a now bar code two us us (Assignment place t e true) now1
+    → AddsUnlessStatement a now bar code two us us (Assignment place t e true 0) now1
 unfolding N.write_all N.flatten
 assigned_at_once a bits place now bar now1 code one two us t e tis tv r sources o w =
     let x = o.values.added in
@@ -100,7 +100,7 @@ assigned_at_once a bits place now bar now1 code one two us t e tis tv r sources 
       more = [];
       added = sym (append-nil us);
       done = record {
-        added = added_within code.next (o.calls ++ w.calls) two.next (operands_weight t e + unless_weight t) (statement_weight (Assignment place t e true)) (omega (arith, weighs))
+        added = added_within code.next (o.calls ++ w.calls) two.next (operands_weight t e + unless_weight t) (statement_weight (Assignment place t e true 0)) (omega (arith, weighs))
             (added_more code.next o.calls one.next (operands_weight t e) w.calls two.next (unless_weight t) x d.added);
         now_env = d.is_env;
         now_length = d.same_length;
@@ -116,9 +116,9 @@ assigned_at_once a bits place now bar now1 code one two us t e tis tv r sources 
             let are = two_lists (map mid tv) (assigned_value e (target_width t) state) (vectors mid tis) (index_values t state) (o.values.values before mid state h parts.1) in
             let held = d.values mid after state state (holds_after now o.calls code.next before mid state r.now_env x.fresh parts.1 h) are.1 parts.2 in
             let barred = bar_stays o.calls code.next before mid bar x.fresh parts.1 r.bar_below in
-            let writes : N.write_all state (target_writes t (map mid tv) state) ≡ N.write_all state (body (Assignment place t e true) state).writes =
+            let writes : N.write_all state (target_writes t (map mid tv) state) ≡ N.write_all state (body (Assignment place t e true 0) state).writes =
             ap (λ (v : BitList). N.write_all state (target_writes t v state)) are.0 ∙ sym (write_all_last (target_writes t (assigned_value e (target_width t) state) state) state) in
-            subst (λ (q : Bool). Holds now1 after (if q then state else N.write_all state (body (Assignment place t e true) state).writes)) barred
+            subst (λ (q : Bool). Holds now1 after (if q then state else N.write_all state (body (Assignment place t e true 0) state).writes)) barred
             (subst (λ (s : N.State). Holds now1 after (if is_barred bar mid then state else s)) writes held);
         updates = λ before after state h called. none (is_barred bar before);
       };
@@ -135,10 +135,10 @@ assigned_at_once a bits place now bar now1 code one two us t e tis tv r sources 
     come b l (inr (inr (inr k))) = inl (inr (omega (arith, k, o.values.added.grown)))
 
 -- by `<=`: it waits
-pub assigned_later : (a : Arena) (bits place : ℕ) (now : List ℕ) (bar : ℕ) (code one : Coding) (before_us after_us : List Update) (u : Update) (t : Target) (e : Expression) (tis : List (List ℕ)) (tv : List ℕ) → IsUnlessReady bits now bar code (Assignment place t e false)
+pub assigned_later : (a : Arena) (bits place : ℕ) (now : List ℕ) (bar : ℕ) (code one : Coding) (before_us after_us : List Update) (u : Update) (t : Target) (e : Expression) (tis : List (List ℕ)) (tv : List ℕ) → IsUnlessReady bits now bar code (Assignment place t e false 0)
     → All (IsSource now code.next (read_bits e)) tv → AddsOperands now code one t e (operands_weight t e) tis tv
     → after_us ≡ before_us ++ u ∷ [] → note_of a u ≡ record { target = t; at = tis; value = tv; bar = bar }
-    → AddsUnlessStatement a now bar code one before_us after_us (Assignment place t e false) now
+    → AddsUnlessStatement a now bar code one before_us after_us (Assignment place t e false 0) now
 unfolding N.write_all N.flatten
 assigned_later a bits place now bar code one before_us after_us u t e tis tv r sources o pushed is =
     let x = o.values.added in
@@ -150,8 +150,8 @@ assigned_later a bits place now bar code one before_us after_us u t e tis tv r s
       is = o.is;
       more = u ∷ [];
       added = pushed;
-      done = subst (λ (y : Note). IsUnlessDone now bar code.next (λ slots. body (Assignment place t e false)) (target_bits t) (statement_weight (Assignment place t e false)) o.calls now (y ∷ []) one.next) (sym is) (record {
-        added = added_within code.next o.calls one.next (operands_weight t e) (statement_weight (Assignment place t e false)) (omega (arith, weighs)) x;
+      done = subst (λ (y : Note). IsUnlessDone now bar code.next (λ slots. body (Assignment place t e false 0)) (target_bits t) (statement_weight (Assignment place t e false 0)) o.calls now (y ∷ []) one.next) (sym is) (record {
+        added = added_within code.next o.calls one.next (operands_weight t e) (statement_weight (Assignment place t e false 0)) (omega (arith, weighs)) x;
         now_env = env_more now code.next one.next x.grown r.now_env;
         now_length = refl;
         kept = λ b h. refl;
@@ -171,7 +171,7 @@ assigned_later a bits place now bar code one before_us after_us u t e tis tv r s
         values = λ before after state h called. subst (λ (s : N.State). Holds now after s) (sym (same (is_barred bar before) state)) (holds_after now o.calls code.next before after state r.now_env x.fresh called h);
         updates = λ before after state h called.
             let are = two_lists (map after tv) (assigned_value e (target_width t) state) (vectors after tis) (index_values t state) (o.values.values before after state h called) in
-            let ws = body (Assignment place t e false) state in (
+            let ws = body (Assignment place t e false 0) state in (
               updated (is_barred bar before) ws,
               [],
               sym (append-nil (updated (is_barred bar before) ws)),
@@ -188,11 +188,11 @@ assigned_later a bits place now bar code one before_us after_us u t e tis tv r s
       });
     }
   where
-    same : (q : Bool) (s : N.State) → left q s (effect_of false (assignment_writes t e s)) ≡ s
+    same : (q : Bool) (s : N.State) → left q s (effect_of false 0 (assignment_writes t e s)) ≡ s
     same true s = refl
     same false s = refl
 
-    acts : (q : Bool) (base s : N.State) → N.write_all base (updated q (effect_of false (assignment_writes t e s))) ≡ (if q then base else N.write_all base (target_writes t (assigned_value e (target_width t) s) s))
+    acts : (q : Bool) (base s : N.State) → N.write_all base (updated q (effect_of false 0 (assignment_writes t e s))) ≡ (if q then base else N.write_all base (target_writes t (assigned_value e (target_width t) s) s))
     acts true base s = refl
     acts false base s = ap (N.write_all base) (append-nil (assignment_writes t e s)) ∙ write_all_last (target_writes t (assigned_value e (target_width t) s) s) base
 

@@ -1,3 +1,4 @@
+pub mod InText
 pub mod Done
 pub mod Copies
 pub mod Joined

@@ -9,6 +9,7 @@ use Rattle.vs_design.specs.Races.{blocking_bits, nonblocking_bits}
 use Rattle.vs_design.specs.Sizes.{assignment_weight, distinct, statement_weight}
 use Rattle.vs_design.specs.Statements.{Statement, Target}
 use Rattle.vs_design.specs.Within.{names_within, statement_within, target_within}
+use Rattle.vs_design.specs.Delays.{has_delays}
 use Rattle.vs_flat.specs.declared.processes.Kind.{Kind}
 use Rattle.vs_flat.specs.declared.processes.Kind.TheVariants as K
 use Rattle.vs_flat.specs.Arena.{Arena}
@@ -59,6 +60,7 @@ pub record IsClockedReady (count : ℕ) (code : Coding) (st : Statement) : Type 
   pub inside : AreInside count (statement_bits st)
   pub names : statement_within count st ≡ true
   pub fit : fits_statement st ≡ true
+  pub prompt : has_delays st ≡ false
   pub light : statement_weight st ≤ 16777216
   pub slots : code.next + (statement_weight st + distinct (statement_bits st)) < 2 ^ 32
   pub few : length_of code.calls + (statement_weight st + distinct (statement_bits st)) ≤ 2 ^ 32

@@ -1,7 +1,7 @@
 -- What the lowering of an asynchronous reset needs and gives (IEEE 1364-2005, 9.9.2).
 use Rattle.std.specs.Prelude.{◌≡◌, ℕ, ◌+◌, ◌<◌, ◌≤◌, ◌^◌, Bool, true, false, List, [], ◌++◌, Option, None, if◌then◌else◌}
 use Rattle.vs_net.specs.Network as N
-use Rattle.vs_design.specs.Bodies.{body}
+use Rattle.vs_design.specs.Bodies.{body, updates_in}
 use Rattle.vs_design.specs.Designs.{Process}
 use Rattle.vs_design.specs.Expressions.{Expression, LogicalNot, Name, Signal, Unary}
 use Rattle.vs_design.specs.Fits.{fits_statement}
@@ -9,6 +9,7 @@ use Rattle.vs_design.specs.Footprints.{statement_bits}
 use Rattle.vs_design.specs.Sizes.{distinct, process_weight, statement_weight}
 use Rattle.vs_design.specs.Statements.{Statement, Empty, If}
 use Rattle.vs_design.specs.Within.{statement_within}
+use Rattle.vs_design.specs.Delays.{has_delays}
 use Rattle.vs_program.specs.Lowered.{IsLoweredReset, Layout, home, process_stores}
 use Rattle.vs_code.specs.Calls.{Call, length_of}
 use Rattle.vs_values.specs.Coded.{Coding}
@@ -34,6 +35,7 @@ pub record IsResetReady (count : ℕ) (code : Coding) (falls : Bool) (input : �
   pub inside : AreInside count (statement_bits st)
   pub names : statement_within count st ≡ true
   pub fit : fits_statement st ≡ true
+  pub prompt : has_delays st ≡ false
   pub light : statement_weight (reset_statement falls input st) ≤ 16777216
   pub slots : code.next + (statement_weight (reset_statement falls input st) + distinct (statement_bits st)) < 2 ^ 32
   pub few : length_of code.calls + (statement_weight (reset_statement falls input st) + distinct (statement_bits st)) ≤ 2 ^ 32
@@ -43,7 +45,7 @@ pub record IsResetOf (r : N.Reset) (falls : Bool) (input : ℕ) (st : Statement)
   pub input_is : r.input ≡ input
   pub edge_is : r.edge ≡ (if falls then N.Negedge else N.Posedge)
   pub writes_are : (s : N.State) → (body st s).writes ≡ r.writes
-  pub updates_are : (s : N.State) → (body st s).updates ≡ r.updates
+  pub updates_are : (s : N.State) → updates_in (body st s) ≡ r.updates
 
 -- its block weighs no less
 pub record HasResetRoom (p : Process) (falls : Bool) (input : ℕ) (st : Statement) : Type 0 where

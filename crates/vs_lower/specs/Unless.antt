@@ -20,6 +20,7 @@ use Rattle.vs_values.specs.Added.{AreAdded, IsEnv, Holds, IsNew, vectors}
 use Rattle.vs_values.specs.Coded.{Coding, with_call}
 use Rattle.vs_values.specs.Constants.{AreConstant}
 use Rattle.vs_values.specs.Templates.{Templated, node_bound}
+use Rattle.vs_lower.specs.InText.{in_text}
 use Rattle.vs_lower.specs.Done.{index_values}
 use Rattle.vs_lower.specs.Leaves.{IsInside, leaf_target, leaves_of}
 use Rattle.vs_lower.specs.Parts.{IsPartReady, part_target}
@@ -159,7 +160,7 @@ pub record IsUnlessDone (now : List ℕ) (bar mark : ℕ) (run : State → N.Sta
   pub values : (before after : State) (state : N.State) → Holds now before state → AreCalled calls before after
       → Holds now_after after (if is_barred bar before then state else N.write_all state (run before state).writes)
   pub updates : (before after : State) (state : N.State) → Holds now before state → AreCalled calls before after
-      → AreNotedAs notes after (if is_barred bar before then [] else N.flatten (run before state).updates)
+      → AreNotedAs notes after (if is_barred bar before then [] else in_text (run before state))
 
 -- what is added for it, behind these updates
 pub record AddsUnless (a : Arena) (now : List ℕ) (bar : ℕ) (old new : Coding) (before after : List Update) (run : State → N.State → N.Effect) (written : List ℕ) (most : ℕ) (now_after : List ℕ) : Type 0 where

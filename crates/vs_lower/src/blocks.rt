@@ -16,7 +16,7 @@ use crate::reach::reach;
 use crate::statements::{settle, statement, written_bits};
 use crate::unless::{is_doubled, next_unless};
 use std::alloc::{AllocError, Global};
-use vs_design::write_law;
+use vs_design::{delay_law, write_law};
 use vs_values::{Code, Environment, Templates};
 
 /// Adds the calls of a combinational block with this statement, in a design of `count` bits: its bits have their values at home once it is done.
@@ -57,6 +57,7 @@ pub(crate) fn next_values(
     ensures { IfOk result (AddsNext (bit_count templates.now.arena.signals) code.old code.new (body_of templates.now.arena s)) }
 {
     write_law();
+    delay_law();
     reach(templates);
     let doubled = is_doubled(alloc, templates, s)?;
     if doubled {

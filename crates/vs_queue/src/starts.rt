@@ -2,6 +2,7 @@
 
 ghost use Rattle.std.specs.Prelude.{◌≡◌, ◌<◌, ◌≤◌, ◌+◌, ℕ, drop, filter, length, map, slice_get, true, if◌then◌else◌, Some, IfOk, OnOk};
 ghost use Rattle.std.specs.List.{All, flat_map, list_all, list_any};
+ghost use Rattle.vs_net.specs.Network as N;
 ghost use Rattle.vs_design.specs.Designs as D;
 ghost use Rattle.vs_design.specs.Fits.{fits_initial};
 ghost use Rattle.vs_design.specs.Footprints.{contains, statement_bits};
@@ -252,9 +253,10 @@ impl Machine<'_> {
         requires machine { IsMachine self.now.typed.now self.now.clocks.now self.now.wiring.now self.now.keeper }
         requires there { k < length (design_of self.now.typed.now).initials }
         requires values { D.bit_count (design_of self.now.typed.now) ≤ length values.old }
-        ensures { IfOk result (λ f. (i : D.Initial) → slice_get (design_of self.now.typed.now).initials k ≡ Some i → (f.writes ≡ initial_writes i) × (f.updates ≡ initial_updates i)) }
+        ensures { IfOk result (λ f. (i : D.Initial) → slice_get (design_of self.now.typed.now).initials k ≡ Some i → (f.writes ≡ initial_writes i) × (N.undelayed f.updates ≡ initial_updates i)) }
     {
         trees_law();
+        vs_design::delay_law();
         let _flat = self.typed.flat();
         run_initial(self.alloc, self.typed.shapes(), values, k)
     }

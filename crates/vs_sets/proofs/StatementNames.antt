@@ -91,7 +91,7 @@ statement_targets law a s x lawful h = let f = found_statement a s x h in target
 
 pub fit_statement : (s : T.Statement) → fits_statement s ≡ true → FitStatement s
 fit_statement T.Empty h = tt
-fit_statement (T.Assignment place target e blocking) h = (and_left _ _ h, and_right (fits_target target) _ h)
+fit_statement (T.Assignment place target e blocking delay) h = (and_left _ _ h, and_right (fits_target target) _ h)
 fit_statement (T.Then first rest) h = (and_left _ _ h, and_right (fits_statement first) _ h)
 fit_statement (T.If c taken other) h = (left3 (is_fit c) (fits_statement taken) (fits_statement other) h, middle3 (is_fit c) (fits_statement taken) (fits_statement other) h, and_right (is_fit c && fits_statement taken) (fits_statement other) h)
 fit_statement (T.Case kind subject arms) h = (and_left _ _ h, and_right (is_fit subject) _ h)

@@ -20,7 +20,7 @@ use Rattle.vs_shape.specs.Gathered.{walked_expression, walked_target, walked_ite
 use Rattle.vs_shape.proofs.Names.{and_both}
 use Rattle.vs_shape.proofs.Gathering.{signals_bits-append}
 
-pub walked_assignment : (w : Walk) (place : ℕ) (t : T.Target) (e : E.Expression) (b : Bool) → walked_statement w (T.Assignment place t e b) ≡ walked_target w b t ++ walked_expression w e
+pub walked_assignment : (w : Walk) (place : ℕ) (t : T.Target) (e : E.Expression) (b : Bool) → walked_statement w (T.Assignment place t e b 0) ≡ walked_target w b t ++ walked_expression w e
 walked_assignment W.Writes place t e b = sym (append-nil (target_bits t))
 walked_assignment W.Blocking place t e b = sym (append-nil (walked_target W.Blocking b t))
 walked_assignment W.Nonblocking place t e b = sym (append-nil (walked_target W.Nonblocking b t))

@@ -90,7 +90,7 @@ impl Update {
     }
 }
 
-/// What a run of a statement does: its blocking writes, and its nonblocking updates, each in the order of the statements (IEEE 1364-2005, 9.2.1 and 9.2.2).
+/// What a run of a statement does: its blocking writes, and its nonblocking updates, each in the order of the statements (IEEE 1364-2005, 9.2.1 and 9.2.2). No update has a delay.
 #[derive(Drop)]
 pub struct Effect {
     writes: Vec<Write>,
@@ -102,7 +102,7 @@ impl Model for Effect {
 
     ghost Value = { N.Effect };
 
-    ghost view = { λ e. record { writes = e.writes.items; updates = e.updates.items } };
+    ghost view = { λ e. record { writes = e.writes.items; updates = N.at_once e.updates.items } };
 }
 
 impl Effect {
@@ -125,7 +125,7 @@ impl Effect {
 
     /// The nonblocking updates in their order.
     pub fn updates(&self) -> &[Update]
-        ensures { result.now ≡ self.now.updates }
+        ensures { result.now ≡ N.undelayed self.now.updates }
     {
         self.updates.as_slice()
     }
@@ -133,21 +133,21 @@ impl Effect {
     /// The blocking writes and the nonblocking updates, each in their order, taken out.
     pub fn into_parts(self) -> (Vec<Write>, Vec<Update>)
         ensures writes { result.0.items ≡ self.writes }
-        ensures updates { result.1.items ≡ self.updates }
+        ensures updates { result.1.items ≡ N.undelayed self.updates }
     {
         (self.writes, self.updates)
     }
 
     /// With the blocking writes of one assignment more.
     pub fn add_writes(&mut self, writes: &[Write]) -> Result<(), AllocError>
-        ensures { OnOk result (self.new ≡ both_effects self.old (effect_of true writes.now)) }
+        ensures { OnOk result (self.new ≡ both_effects self.old (effect_of true 0 writes.now)) }
     {
         push_all(&mut self.writes, writes)
     }
 
     /// With one nonblocking update more.
     pub fn add_update(&mut self, update: Update) -> Result<(), AllocError>
-        ensures { OnOk result (self.new ≡ both_effects self.old (effect_of false update)) }
+        ensures { OnOk result (self.new ≡ both_effects self.old (effect_of false 0 update)) }
     {
         self.updates.push(update)?;
         Ok(())

@@ -4,7 +4,7 @@ use Rattle.std.specs.Prelude.{not, ◌||◌, ◌&&◌, slice_index, if◌then◌
 use mathlib.Core.Bool.{beq}
 use Rattle.std.proofs.lemmas.List.{drop_more}
 use Rattle.vs_four.specs.Logic.{BitList}
-use Rattle.vs_net.specs.Network.{State, Write, Update, Effect, write_all, flatten}
+use Rattle.vs_net.specs.Network.{State, Write, Update, Effect, write_all, flatten, Delayed, undelayed}
 use Rattle.vs_design.specs.Expressions.{Signal, OfSignal, OfConstant, Expression, Literal, Name, Select, Word, WordPart, Unary, Binary, Choice, Join, Repeat, At, Call, Items, NoItem, Item, items_of, is_constant}
 use Rattle.vs_design.specs.Statements.{Target, Whole, PartOf, WordOf, WordPartOf, Both, CaseKind, Statement, Empty, Assignment, Then, If, Case, Arms, Arm, Default}
 use Rattle.vs_design.specs.Bodies.{assignment_writes, body, arms_body, is_taken}
@@ -14,6 +14,8 @@ use Rattle.vs_design.specs.Fits.{is_fit, fit_items, fits_target, fits_statement,
 use Rattle.vs_design.specs.Footprints.{contains, read_bits, target_reads, items_reads, statement_reads, arms_reads, read_signals, target_signals, items_signals, statement_signals, arms_signals}
 use Rattle.vs_design.specs.Resets.{has_none, are_constant, arms_constant, is_fixed, branch_writes, branch_updates}
 use Rattle.vs_design.specs.TreeLaws.{BodyReads}
+use Rattle.vs_design.specs.Delays.{has_delays}
+use Rattle.vs_design.specs.DelayLaws.{PromptInOrder}
 use Rattle.vs_flat.specs.declared.statements.Arm as F
 use Rattle.vs_flat.specs.Arena.{Arena}
 use Rattle.vs_flat.specs.Trees as R
@@ -110,9 +112,9 @@ pub record FixedAssign (target : Target) (e : Expression) : Type 0 where
   pub fits : fits_target target ≡ true
   pub fit : is_fit e ≡ true
 
-pub fixed_assign : (place : ℕ) (target : Target) (e : Expression) (blocking : Bool) → IsFixed (Assignment place target e blocking) → FixedAssign target e
+pub fixed_assign : (place : ℕ) (target : Target) (e : Expression) (blocking : Bool) → IsFixed (Assignment place target e blocking 0) → FixedAssign target e
 fixed_assign place target e blocking h =
-    let parts = parts_of (Assignment place target e blocking) h.fixed in
+    let parts = parts_of (Assignment place target e blocking 0) h.fixed in
     record {
       selects = parts.selects;
       constant = constant_by e (not_right (target_calls target) (calls e) parts.no_calls) (none_right (target_signals target) (read_signals e) parts.signals);
@@ -261,7 +263,7 @@ target_read (Both high low) h = both_nil (target_reads high) (target_reads low) 
 mutual
   statement_read : (s : Statement) → has_none (statement_signals s) ≡ true → statement_reads s ≡ []
   statement_read Empty h = refl
-  statement_read (Assignment place target e blocking) h = both_nil (target_reads target) (read_bits e) (target_read target (none_left (target_signals target) (read_signals e) h)) (expression_reads e (none_right (target_signals target) (read_signals e) h))
+  statement_read (Assignment place target e blocking delay) h = both_nil (target_reads target) (read_bits e) (target_read target (none_left (target_signals target) (read_signals e) h)) (expression_reads e (none_right (target_signals target) (read_signals e) h))
   statement_read (Then first rest) h =
       both_nil (statement_reads first) (statement_reads rest) (statement_read first (none_left (statement_signals first) (statement_signals rest) h)) (statement_read rest (none_right (statement_signals first) (statement_signals rest) h))
   statement_read (If c taken other) h =
@@ -298,19 +300,23 @@ append_nothing : (ws : List Write) → ws ++ [] ≡ ws
 append_nothing [] = refl
 append_nothing (w ∷ ws) = ap (λ xs. w ∷ xs) (append_nothing ws)
 
-pub given_assigned : (p : Bool) (place : ℕ) (target : Target) (e : Expression) (blocking : Bool) (s : State) → beq blocking p ≡ true → given p (Assignment place target e blocking) s ≡ write_all s (assignment_writes target e unknown)
+pub given_assigned : (p : Bool) (place : ℕ) (target : Target) (e : Expression) (blocking : Bool) (s : State) → beq blocking p ≡ true → given p (Assignment place target e blocking 0) s ≡ write_all s (assignment_writes target e unknown)
 unfolding flatten
 given_assigned true place target e true s h = refl
 given_assigned true place target e false s h = absurd (let z : ⊥ = cc in z)
 given_assigned false place target e true s h = absurd (let z : ⊥ = cc in z)
 given_assigned false place target e false s h = ap (write_all s) (append_nothing (assignment_writes target e unknown))
 
-pub given_other : (p : Bool) (place : ℕ) (target : Target) (e : Expression) (blocking : Bool) (s : State) → beq blocking p ≡ false → given p (Assignment place target e blocking) s ≡ s
+pub given_other : (p : Bool) (place : ℕ) (target : Target) (e : Expression) (blocking : Bool) (s : State) → beq blocking p ≡ false → given p (Assignment place target e blocking 0) s ≡ s
 unfolding write_all flatten
 given_other true place target e true s h = absurd (let z : ⊥ = cc in z)
 given_other true place target e false s h = refl
 given_other false place target e true s h = refl
 given_other false place target e false s h = absurd (let z : ⊥ = cc in z)
+
+undelayed_both : (ds es : List Delayed) → undelayed (ds ++ es) ≡ undelayed ds ++ undelayed es
+undelayed_both [] es = refl
+undelayed_both (d ∷ ds) es = ap (λ (us : List Update). d.update ∷ us) (undelayed_both ds es)
 
 flat_both : (us vs : List Update) → flatten (us ++ vs) ≡ flatten us ++ flatten vs
 unfolding flatten
@@ -328,9 +334,9 @@ given_then law first rest none true s =
     ∙ write_all-append done.writes (body rest unknown).writes s
 given_then law first rest none false s =
     let done = body first unknown in
-    ap (λ (f : Effect). write_all s (flatten (done.updates ++ f.updates))) (same_anywhere law rest none (write_all unknown done.writes) unknown)
-    ∙ ap (write_all s) (flat_both done.updates (body rest unknown).updates)
-    ∙ write_all-append (flatten done.updates) (flatten (body rest unknown).updates) s
+    ap (λ (f : Effect). write_all s (flatten (undelayed (done.updates ++ f.updates)))) (same_anywhere law rest none (write_all unknown done.writes) unknown)
+    ∙ ap (write_all s) (ap flatten (undelayed_both done.updates (body rest unknown).updates) ∙ flat_both (undelayed done.updates) (undelayed (body rest unknown).updates))
+    ∙ write_all-append (flatten (undelayed done.updates)) (flatten (undelayed (body rest unknown).updates)) s
 
 pub given_arms : (a : Arena) (p : Bool) (kind : CaseKind) (w : ℕ) (g : Bool) (v : BitList) (other : Option ℕ) (arms : List F.Arm) (s : State)
     → write_all s (part_of p (arms_body (arms_of a other arms) kind w g v unknown)) ≡ given p (R.branch (statement_of a) (taken_arm (tree_of a) kind w g v other arms)) s
@@ -343,10 +349,10 @@ given_arms a p kind w g v other (arm ∷ arms) s = go (is_taken kind w g v (item
     go true k = refl
     go false k = k
 
--- first what is written at once, and then the updates
-pub given_both : (st : Statement) (s : State) → given false st (given true st s) ≡ write_all s (flatten (branch_effects st))
+-- first what is written at once, and then the updates, none of which has a delay
+pub given_both : PromptInOrder → (st : Statement) (s : State) → has_delays st ≡ false → given false st (given true st s) ≡ write_all s (flatten (branch_effects st))
 unfolding flatten
-given_both st s = sym (write_all-append (branch_writes st) (flatten (branch_updates st)) s)
+given_both order st s prompt = ap (λ (us : List Update). write_all (write_all s (branch_writes st)) (flatten us)) (sym (order st unknown prompt)) ∙ sym (write_all-append (branch_writes st) (flatten (branch_updates st)) s)
 
 -- ---- sequences
 

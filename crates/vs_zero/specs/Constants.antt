@@ -2,7 +2,7 @@
 use Rattle.std.specs.Prelude.{◌≡◌, ◌<◌, ℕ, Bool, true, false, ◌&&◌, List, [], ◌∷◌, length, map, if◌then◌else◌, Option, Some, slice_index}
 use Rattle.vs_four.specs.Logic.{BitList}
 use Rattle.vs_design.specs.Expressions.{Expression, items_of}
-use Rattle.vs_net.specs.Network.{State, Write, Update, Effect, flatten, write_all}
+use Rattle.vs_net.specs.Network.{State, Write, Update, Effect, undelayed, flatten, write_all}
 use Rattle.vs_design.specs.Footprints.{contains, statement_bits, target_bits}
 use Rattle.vs_design.specs.Statements.{CaseKind, Target, Statement, Arms, Arm, Default}
 use Rattle.vs_design.specs.Bodies.{body, is_taken}
@@ -35,7 +35,7 @@ pub record IsFixed (s : Statement) : Type 0 where
 -- what an effect writes at once, or by its updates
 abbrev pub part_of : (at_once : Bool) → Effect → List Write
 part_of true effect = effect.writes
-part_of false effect = flatten effect.updates
+part_of false effect = flatten (undelayed effect.updates)
 
 -- the state after what the statement writes so
 abbrev pub given : (at_once : Bool) → Statement → State → State

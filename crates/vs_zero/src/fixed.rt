@@ -9,8 +9,8 @@ ghost use Rattle.vs_zero.specs.States.{state_of};
 
 use crate::cases::taken_branch;
 use crate::constants::assign;
-use vs_design::reads_law;
-use vs_flat::Statement;
+use vs_design::{delay_law, reads_law};
+use vs_flat::{Statement, trees_law};
 use vs_four::{Bit4, truth};
 use vs_sets::{case_context, own_context, statement_node};
 use vs_shape::Shapes;
@@ -91,6 +91,8 @@ pub(crate) fn run(shapes: &Shapes, branch: u32, state: &mut [Bit4])
     requires fixed { IsFixed (statement_of shapes.now branch) }
     ensures { state_of state.new ≡ write_all (state_of state.old) (flatten (branch_effects (statement_of shapes.now branch))) }
 {
+    delay_law();
+    trees_law();
     run_part(shapes, branch, true, state);
     run_part(shapes, branch, false, state);
 }

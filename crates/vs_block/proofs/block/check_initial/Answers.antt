@@ -3,6 +3,7 @@ use Rattle.std.specs.Prelude.{slice_get}
 use Rattle.std.proofs.lemmas.Bool.{ltb-true}
 use Rattle.vs_design.specs.Designs.{Initial}
 use Rattle.vs_design.specs.Refusals as R
+use Rattle.vs_design.specs.Delays.{has_delays}
 use Rattle.vs_design.specs.Resets.{is_fixed}
 use Rattle.vs_flat.specs.Arena.{Arena}
 use Rattle.vs_flat.specs.DesignOf.{design_of}
@@ -24,7 +25,7 @@ returns-then-is_fixed-clause-kept c i h =
     let at = subst (λ (y : Arena). slice_get y.initials c.args.k ≡ Some c.initial-initial.result) c.flat.ensures.same c.initial-initial.ensures in
     let same = initial_is c.trees_law.ensures.initials a c.args.k c.initial-initial.result i at h in
     let fixed = sym (c.is_fixed.ensures ∙ ap (λ (y : Arena). is_fixed (body_of y c.initial-initial.result.statement)) c.shapes.ensures) ∙ c.if-is_fixed.true in
-    initial_kept (design_of a) c.args.k i (ap (λ (x : Initial). is_fixed x.statement) (sym same) ∙ fixed)
+    initial_kept (design_of a) c.args.k i (ap (λ (x : Initial). is_fixed x.statement) (sym same) ∙ fixed) (ap (λ (x : Initial). has_delays x.statement) (sym same) ∙ c.trees_law.ensures.delays a c.initial-initial.result.statement)
 
 pub returns-clause-refused : goal.returns-clause-refused
 returns-clause-refused c i h =

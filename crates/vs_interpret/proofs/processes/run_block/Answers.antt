@@ -1,5 +1,5 @@
 use Rattle.std.proofs.Common.{ap, ◌∙◌, length, subst}
-use Rattle.vs_net.specs.Network.{Effect, write_all}
+use Rattle.vs_net.specs.Network.{Effect, undelayed, write_all}
 use Rattle.vs_design.specs.Bodies.{body, both_effects}
 use Rattle.vs_design.specs.Designs.{bit_count}
 use Rattle.vs_flat.specs.DesignOf.{design_of}
@@ -38,6 +38,6 @@ returns-in_ok-run-in-Block c =
     let made = block_made c.trees_law.ensures.processes c.lawful_law.ensures.design a (subst IsLawful c.flat.ensures.same c.flat.ensures.lawful) c.args.p c.fit_process.result.now c.fit_process.ensures.is in
     let updated = block_updates c.trees_law.ensures.processes c.lawful_law.ensures.design a (subst IsLawful c.flat.ensures.same c.flat.ensures.lawful) c.args.p c.fit_process.result.now c.fit_process.ensures.is in
     record {
-      effect = λ clocks x at is. (ap (λ (e : Effect). e.writes) did ∙ made clocks x s c.in-Block.star c.in-Block.events c.in-Block.statement c.in-Block.is at, ap (λ (e : Effect). e.updates) did ∙ updated clocks x s c.in-Block.star c.in-Block.events c.in-Block.statement c.in-Block.is at);
+      effect = λ clocks x at is. (ap (λ (e : Effect). e.writes) did ∙ made clocks x s c.in-Block.star c.in-Block.events c.in-Block.statement c.in-Block.is at, ap (λ (e : Effect). undelayed e.updates) did ∙ updated c.delay_law.ensures.order c.trees_law.ensures.delays clocks x s c.in-Block.star c.in-Block.events c.in-Block.statement c.in-Block.is at);
       state = λ clocks x at is. c.in_ok-run-in-Block.ensures.state ∙ ap (write_all s) (made clocks x s c.in-Block.star c.in-Block.events c.in-Block.statement c.in-Block.is at);
     }

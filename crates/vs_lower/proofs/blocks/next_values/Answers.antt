@@ -50,4 +50,4 @@ returns c =
     let now1 = c.statement.new.env.values in
     let later1 = c.statement.new.env.ahead in
     let d = from_homes n c.args.count c.at_home.result c.at_home-2.result (λ (x y : List ℕ). AddsStatement x y c0 c1 st now1 later1) c.requires.count c.at_home.ensures c.at_home-2.ensures c.in_ok-statement.ensures in
-    adds_settled c.write_law.ensures.body n c0 c1 st now1 later1 c.settle.new.env.ahead c.requires.ready.fit (c.in_ok-doubled.ensures c.if-doubled.false) c.requires.ready.inside d c.in_ok-settle.ensures
+    adds_settled c.write_law.ensures.body n c0 c1 st now1 later1 c.settle.new.env.ahead c.requires.ready.fit (c.in_ok-doubled.ensures c.if-doubled.false) c.requires.ready.inside (λ s. c.delay_law.ensures.order st s c.requires.ready.prompt) d c.in_ok-settle.ensures

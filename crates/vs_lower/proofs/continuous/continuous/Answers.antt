@@ -30,13 +30,13 @@ assign-requires-clause-ready c =
 
 -- what the copies need, in the words of the steps
 goes_home : (n count : ℕ) (values ahead bits slice now1 ahead1 : List ℕ) (c0 c1 : Coding) (t : Target) (e : Expression) → count ≡ n → values ≡ homes count → ahead ≡ homes count → IsContinuousReady n c0 t e
-    → AddsRun values ahead c0 c1 (λ state. effect_of (not true) (assignment_writes t e state)) [] (target_bits t) (assign_most true t e) now1 ahead1
+    → AddsRun values ahead c0 c1 (λ state. effect_of (not true) 0 (assignment_writes t e state)) [] (target_bits t) (assign_most true t e) now1 ahead1
     → ((b : ℕ) → b < length ahead → (slice_index ahead1 b ≡ slice_index ahead b) ⊎ IsSource values c0.next (read_bits e) (slice_index ahead1 b))
     → IsStrictlyIncreasing bits → ((b : ℕ) → contains bits b ≡ contains (target_bits t) b) → slice ≡ bits → CanGoHome count slice ahead1 c1
 goes_home n count values ahead bits slice now1 ahead1 c0 c1 t e k a b r d s rising same is =
     subst (λ (xs : List ℕ). CanGoHome count xs ahead1 c1) (sym is) (subst (λ (m : ℕ). CanGoHome m bits ahead1 c1) (sym k)
     (can_go_home n c0 c1 t e now1 ahead1 bits r
-    (from_homes n count values ahead (λ (x y : List ℕ). AddsRun x y c0 c1 (λ state. effect_of (not true) (assignment_writes t e state)) [] (target_bits t) (assign_most true t e) now1 ahead1) k a b d)
+    (from_homes n count values ahead (λ (x y : List ℕ). AddsRun x y c0 c1 (λ state. effect_of (not true) 0 (assignment_writes t e state)) [] (target_bits t) (assign_most true t e) now1 ahead1) k a b d)
     (from_homes n count values ahead (λ (x y : List ℕ). (b : ℕ) → b < length y → (slice_index ahead1 b ≡ slice_index y b) ⊎ IsSource x c0.next (read_bits e) (slice_index ahead1 b)) k a b s)
     rising same))
 
@@ -81,7 +81,7 @@ returns c l place target_place port hb hf =
     let calls = subst (λ (m : ℕ). All IsCall (home_copies m bits ahead1)) all (subst (λ (xs : List ℕ). All IsCall (home_copies c.args.count xs ahead1)) c.as_slice.ensures.value home.calls) in
     let copied : home_copies c.args.count c.as_slice.result.now ahead1 ≡ home_copies l.bits bits ahead1 =
     ap (λ (xs : List ℕ). home_copies c.args.count xs ahead1) c.as_slice.ensures.value ∙ ap (λ (m : ℕ). home_copies m bits ahead1) all in
-    let update = from_homes n c.args.count c.at_home.result c.at_home-2.result (λ (x y : List ℕ). AddsRun x y c0 c1 (λ state. effect_of (not true) (assignment_writes t e state)) [] (target_bits t) (assign_most true t e) now1 ahead1)
+    let update = from_homes n c.args.count c.at_home.result c.at_home-2.result (λ (x y : List ℕ). AddsRun x y c0 c1 (λ state. effect_of (not true) 0 (assignment_writes t e state)) [] (target_bits t) (assign_most true t e) now1 ahead1)
     c.requires.count c.at_home.ensures c.at_home-2.ensures c.in_ok-assign.ensures.adds in
     adds_continuous l place target_place port c0 c1 c.copy_home.new.code t e now1 ahead1 bits hf (subst (λ (m : ℕ). IsContinuousReady m c0 t e) (sym hb) c.requires.ready)
     (subst (λ (m : ℕ). AddsUpdate m c0 c1 t e now1 ahead1) (sym hb) update) c.in_ok-bits.ensures.rising c.in_ok-bits.ensures.same calls

@@ -46,7 +46,7 @@ clocked-requires-clause-ready c =
     let lawful = c.lawful_law.ensures.design a c.flat-flat.ensures.lawful in
     let edge = edges_are signal c.in-Block.events ∙ ap (list_any (λ (e : F.Event). D.is_edge e.edge)) (sym c.as_slice.ensures) ∙ sym c.has_edge.ensures ∙ c.if-has_edge.true in
     clocked_is_ready d c.footprint_law.ensures.bits c.within_law.ensures.statements (c.fits_law.ensures.small d c.flat-flat.ensures.fits) (c.fits_law.ensures.fits d lawful c.flat-flat.ensures.fits) lawful (bit_count a.signals) (c.trees_law.ensures.counts a).bits
-    c.args.code.now c.args.p is.0 c.in-Block.star (map (event_of signal) c.in-Block.events) (body_of a c.in-Block.statement) at c.requires.temps c.requires.slots c.requires.few
+    c.args.code.now c.args.p is.0 c.in-Block.star (map (event_of signal) c.in-Block.events) (body_of a c.in-Block.statement) at (c.trees_law.ensures.delays a c.in-Block.statement) c.requires.temps c.requires.slots c.requires.few
 
 pub clocked-requires-clause-layout : goal.clocked-requires-clause-layout
 clocked-requires-clause-layout c =
@@ -69,7 +69,7 @@ combinational-requires-clause-ready c =
     let lawful = c.lawful_law.ensures.design a c.flat-flat.ensures.lawful in
     let edge = edges_are signal c.in-Block.events ∙ ap (list_any (λ (e : F.Event). D.is_edge e.edge)) (sym c.as_slice.ensures) ∙ sym c.has_edge.ensures ∙ c.if-has_edge.false in
     block_is_ready d c.footprint_law.ensures.bits c.within_law.ensures.statements (c.fits_law.ensures.small d c.flat-flat.ensures.fits) (c.fits_law.ensures.fits d lawful c.flat-flat.ensures.fits) lawful (bit_count a.signals) (c.trees_law.ensures.counts a).bits c.requires.unmixed
-    c.args.code.now c.args.p is.0 c.in-Block.star (map (event_of signal) c.in-Block.events) (body_of a c.in-Block.statement) at edge c.requires.temps c.requires.slots c.requires.few
+    c.args.code.now c.args.p is.0 c.in-Block.star (map (event_of signal) c.in-Block.events) (body_of a c.in-Block.statement) at (c.trees_law.ensures.delays a c.in-Block.statement) edge c.requires.temps c.requires.slots c.requires.few
 
 pub returns-then-has_edge : goal.returns-then-has_edge
 returns-then-has_edge c =

@@ -30,7 +30,7 @@ asleep-requires-clause-ready c =
     let at = is.1 ∙ ap (λ k. Some (kind_of signal (tree_at (arena_trees a)) (body_of a) is.0 k)) c.in-Block.is in
     let lawful = c.lawful_law.ensures.design a c.flat-flat.ensures.lawful in
     sleeper_ready d c.footprint_law.ensures.bits c.within_law.ensures.statements (c.fits_law.ensures.small d c.flat-flat.ensures.fits) c.sleeper_law.ensures.some (c.fits_law.ensures.fits d lawful c.flat-flat.ensures.fits) lawful (bit_count a.signals) (c.trees_law.ensures.counts a).bits c.requires.unmixed
-    c.args.code.now c.args.p is.0 c.in-Block.star (map (event_of signal) c.in-Block.events) (body_of a c.in-Block.statement) c.args.waits.now c.args.mask at c.requires.sleeps c.requires.mask c.requires.waits c.requires.slots c.requires.few
+    c.args.code.now c.args.p is.0 c.in-Block.star (map (event_of signal) c.in-Block.events) (body_of a c.in-Block.statement) c.args.waits.now c.args.mask at (c.trees_law.ensures.delays a c.in-Block.statement) c.requires.sleeps c.requires.mask c.requires.waits c.requires.slots c.requires.few
 
 pub returns-in-Assign : goal.returns-in-Assign
 returns-in-Assign c = λ l x has.

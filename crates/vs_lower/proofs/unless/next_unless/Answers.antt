@@ -73,4 +73,4 @@ returns c =
     let env = c.unless.new.env in
     let d = first_adds a c.args.count c.at_home-env.result c.new-updates.result.items us c.args.code.now code st env c.at_home-env.ensures c.new-updates.ensures.items c.in_ok-unless.ensures.adds in
     let m = subst (λ (xs : List Update). AddsMade env c.make_updates.new.env code c.make_updates.new.code (map (note_of a) xs)) c.as_slice.ensures.value c.in_ok-make_updates.ensures in
-    ends_next a c.args.count c.args.code.now code us st env c.requires.ready d c.make_updates.new.code c.make_updates.new.env m
+    ends_next a c.args.count c.args.code.now code us st env c.requires.ready d (λ s. c.delay_law.ensures.order st s c.requires.ready.prompt) c.make_updates.new.code c.make_updates.new.env m

@@ -6,4 +6,4 @@ use Rattle.vs_zero.proofs.Fixing.{given_both}
 use Rattle.vs_zero.proofs.fixed.run.Goals as goal
 
 pub returns : goal.returns
-returns c = let st = statement_of c.args.shapes.now c.args.branch in c.run_part-2.ensures ∙ ap (given false st) c.run_part.ensures ∙ given_both st (state_of c.args.state.now)
+returns c = let st = statement_of c.args.shapes.now c.args.branch in c.run_part-2.ensures ∙ ap (given false st) c.run_part.ensures ∙ given_both c.delay_law.ensures.order st (state_of c.args.state.now) (c.trees_law.ensures.delays c.args.shapes.now c.args.branch)

@@ -36,7 +36,7 @@ lower_branch-requires-clause-ready c =
     let left = subst (λ (z : Known). length_of c.args.program.now + may_store (design_of z.arena) c.args.process ≤ 2 ^ 32) known c.requires.few in
     let counted = c.self.invariant.count_is ∙ (c.trees_law.ensures.counts k.arena).bits ∙ ap (λ (z : Arena). A.bit_count z.signals) (sym c.templates-templates.ensures.same) in
     let x = there (design_of k.arena).processes c.args.process low in
-    ready_by c.within_law.ensures.statements c.reads_law.ensures.body c.list_law.ensures.ascending c.list_law.ensures.few c.sources_law.ensures c.program_law.ensures.registers k c.templates-templates.ensures.accepted
+    ready_by c.trees_law.ensures.delays c.within_law.ensures.statements c.reads_law.ensures.body c.list_law.ensures.ascending c.list_law.ensures.few c.sources_law.ensures c.program_law.ensures.registers k c.templates-templates.ensures.accepted
     c.self.inside.count c.self.inside.shadows.items c.self.inside.first_temp c.self.invariant c.args.process x.0 x.1 c.in-Some.reset (c.in-Some.ensures x.0 x.1) c.args.program.now left c.templates-templates.result.now.arena c.templates-templates.ensures.same counted
 
 pub returns-in-Some : goal.returns-in-Some

@@ -1,6 +1,6 @@
 use Rattle.std.proofs.Common.{◌≡◌, ◌<◌, ◌≤◌, ℕ, List, false, true, length, get_or, sym, ap, ap₂, ◌∙◌, subst, arith, []}
 use Rattle.std.specs.List.{list_all}
-use Rattle.vs_net.specs.Network.{write_all}
+use Rattle.vs_net.specs.Network.{write_all, undelayed}
 use Rattle.vs_design.specs.Designs.{bit_count}
 use Rattle.vs_design.specs.Fits.{fits_process}
 use Rattle.vs_flat.specs.Arena.{Arena}
@@ -46,7 +46,7 @@ run-requires-clause-inside c =
     let e = c.args.events.now in
     let b = c.requires.machine.accepted in
     let x = runs (design_of a) k.bits e c.requires.running.sound c.args.p c.requires.possible.0 c.requires.there c.requires.possible.1 in
-    let told = told_effect a c.shapes.result.now c.shapes.ensures (state_of c.args.shadow.now) (state_of e.values) c.requires.shadow c.args.p c.in_ok-done.done.writes c.in_ok-done.done.updates c.in_ok-done.ensures.effect k.bits x in
+    let told = told_effect a c.shapes.result.now c.shapes.ensures (state_of c.args.shadow.now) (state_of e.values) c.requires.shadow c.args.p c.in_ok-done.done.writes (undelayed c.in_ok-done.done.updates) c.in_ok-done.ensures.effect k.bits x in
     let is = c.as_slice.ensures.value ∙ c.into_parts-writes.ensures.writes ∙ told.0 in
     inside_values (design_of a) k b e c.requires.running c.as_slice.result.now (subst (AreInside (value_count (design_of a) k.bits)) (sym is) (made_in (design_of a) k b c.footprint_law.ensures.bits c.lawful_law.ensures.lawful c.args.p (state_of e.values)))
 
@@ -63,7 +63,7 @@ returns-clause-events c =
     let k = c.args.self.now.clocks.now in
     let e = c.args.events.now in
     let x = runs (design_of a) k.bits e c.requires.running.sound c.args.p c.requires.possible.0 c.requires.there c.requires.possible.1 in
-    let told = told_effect a c.shapes.result.now c.shapes.ensures (state_of c.args.shadow.now) (state_of e.values) c.requires.shadow c.args.p c.in_ok-done.done.writes c.in_ok-done.done.updates c.in_ok-done.ensures.effect k.bits x in
+    let told = told_effect a c.shapes.result.now c.shapes.ensures (state_of c.args.shadow.now) (state_of e.values) c.requires.shadow c.args.p c.in_ok-done.done.writes (undelayed c.in_ok-done.done.updates) c.in_ok-done.ensures.effect k.bits x in
     on_ok c.run.result c.run.ensures (λ h. h ∙ ap₂ (λ ws us. after_run e c.args.self.now.wiring.now c.args.p ws us) (c.as_slice.ensures.value ∙ c.into_parts-writes.ensures.writes ∙ told.0) (c.into_parts-writes.ensures.updates ∙ told.1))
 
 pub returns-clause-shadow : goal.returns-clause-shadow
@@ -73,7 +73,7 @@ returns-clause-shadow c =
     let e = c.args.events.now in
     let b = c.requires.machine.accepted in
     let x = runs (design_of a) k.bits e c.requires.running.sound c.args.p c.requires.possible.0 c.requires.there c.requires.possible.1 in
-    let told = told_effect a c.shapes.result.now c.shapes.ensures (state_of c.args.shadow.now) (state_of e.values) c.requires.shadow c.args.p c.in_ok-done.done.writes c.in_ok-done.done.updates c.in_ok-done.ensures.effect k.bits x in
+    let told = told_effect a c.shapes.result.now c.shapes.ensures (state_of c.args.shadow.now) (state_of e.values) c.requires.shadow c.args.p c.in_ok-done.done.writes (undelayed c.in_ok-done.done.updates) c.in_ok-done.ensures.effect k.bits x in
     let is = c.as_slice.ensures.value ∙ c.into_parts-writes.ensures.writes ∙ told.0 in
     let inside = inside_values (design_of a) k b e c.requires.running c.as_slice.result.now (subst (AreInside (value_count (design_of a) k.bits)) (sym is) (made_in (design_of a) k b c.footprint_law.ensures.bits c.lawful_law.ensures.lawful c.args.p (state_of e.values))) in
     let next = told_state a c.shapes.result.now c.shapes.ensures (state_of c.args.shadow.now) (state_of e.values) c.requires.shadow c.args.p (state_of c.run_block.new.values) c.in_ok-done.ensures.state k.bits x in
