@@ -25,7 +25,7 @@ REFUSALS = {
        "60 TwoDrivers bit first second at,61 NoClock,62 ClockRead process at,63 NotTheClock process at,64 Cycle processes at,65 TimeZero process at,"
        "66 ResetForm process at,67 Race process bit at",
     4: "70 BadHeader lane,71 BadVector lane line,72 FirstUnknown lane,73 NoVector lane,74 TooManyVectors lane,75 StimulusTooLong lane,"
-       "76 LineTooLong lane line,77 UnknownReset lane line"}
+       "76 LineTooLong lane line,77 UnknownReset lane line,78 UnknownSelect lane line"}
 FORMS = {" ".join(form.split()[:2]): (status, form.split()[2:]) for status, forms in REFUSALS.items() for form in forms.split(",")}
 
 
@@ -192,7 +192,7 @@ def fault(words, design, stimuli, files, after, told):
         return "no such lane: %s" % line
     number = int(line.split()[1])
     rounds = 0
-    if number in (71, 76, 77):
+    if number in (71, 76, 77, 78):
         text = files[stimuli[int(fields["lane"])]]
         if not 1 <= int(fields["line"]) <= text.count(b"\n") + 1:
             return "no such line: %s" % line

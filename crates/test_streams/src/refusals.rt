@@ -97,7 +97,7 @@ const LANE_LINES: [(LaneName, u32, &str); 6] = [
 ];
 
 /// Refusals of a line of a lane, and their lines.
-const LINE_LINES: [(LineName, u32, u64, &str); 3] = [
+const LINE_LINES: [(LineName, u32, u64, &str); 4] = [
     (BadVector, 0, 4, "refused 71 BadVector lane=0 line=4\n"),
     (
         LineTooLong,
@@ -110,6 +110,12 @@ const LINE_LINES: [(LineName, u32, u64, &str); 3] = [
         63,
         3,
         "refused 77 UnknownReset lane=63 line=3\n",
+    ),
+    (
+        UnknownSelect,
+        64,
+        5,
+        "refused 78 UnknownSelect lane=64 line=5\n",
     ),
 ];
 

@@ -18,6 +18,7 @@ pub struct Accepted {
     clocks: Clocks,
     order: Order,
     outputs: Vec<Text>,
+    selects: Vec<u32>,
 }
 
 impl Model for Accepted {
@@ -25,11 +26,11 @@ impl Model for Accepted {
 
     ghost Value = { Acceptance };
 
-    ghost view = { λ a. record { flat = a.typed; size = a.size; footprints = a.footprints; clocks = a.clocks; order = a.order; outputs = a.outputs.items } };
+    ghost view = { λ a. record { flat = a.typed; size = a.size; footprints = a.footprints; clocks = a.clocks; order = a.order; outputs = a.outputs.items; selects = a.selects.items } };
 }
 
 impl Accepted {
-    /// A design with the size that is told of it, its footprints, its clocks, an order of its processes, and the names of its top's outputs.
+    /// A design with the size that is told of it, its footprints, its clocks, an order of its processes, the names of its top's outputs, and the first bits of its select inputs.
     pub(crate) fn of(
         typed: Typed,
         size: u64,
@@ -37,8 +38,9 @@ impl Accepted {
         clocks: Clocks,
         order: Order,
         outputs: Vec<Text>,
+        selects: Vec<u32>,
     ) -> Accepted
-        ensures { result ≡ record { flat = typed; size = size; footprints = footprints; clocks = clocks; order = order; outputs = outputs.items } }
+        ensures { result ≡ record { flat = typed; size = size; footprints = footprints; clocks = clocks; order = order; outputs = outputs.items; selects = selects.items } }
     {
         Accepted {
             typed,
@@ -47,6 +49,7 @@ impl Accepted {
             clocks,
             order,
             outputs,
+            selects,
         }
     }
 
@@ -90,5 +93,12 @@ impl Accepted {
         ensures { result.now ≡ self.now.outputs }
     {
         self.outputs.as_slice()
+    }
+
+    /// The first bits of the select inputs, of which each vector has to be known, in the order of their declarations.
+    pub fn selects(&self) -> &[u32]
+        ensures { result.now ≡ self.now.selects }
+    {
+        self.selects.as_slice()
     }
 }

@@ -7,6 +7,7 @@ ghost use Rattle.vs_design.specs.Dead.{without_dead};
 ghost use Rattle.vs_design.specs.Sizes as sizes;
 ghost use Rattle.vs_flat.specs.DesignOf.{design_of};
 ghost use Rattle.vs_flat.specs.Lawful.{IsLawful};
+ghost use Rattle.vs_full.specs.Found.{AreAllNoted};
 ghost use Rattle.vs_reads.specs.Footprint.{footprints_of};
 ghost use Rattle.vs_accept.specs.Refused.{byte_of};
 ghost use Rattle.vs_accept.specs.Accepted.{told_size};
@@ -22,6 +23,7 @@ use vs_block::block_forms;
 use vs_clock::dead_blocks;
 use vs_design::accepted_law;
 use vs_flat::Flat;
+use vs_full::Cases;
 use vs_race::races;
 use vs_reads::{Footprints, footprints};
 use vs_typed::{Typed, fits_law, type_design};
@@ -35,23 +37,25 @@ fn prints_of(alloc: Global, typed: &Typed) -> Result<Footprints, AllocError>
     footprints(alloc, typed.shapes())
 }
 
-/// The rules on blocks, and then that of single drivers.
+/// The rules on blocks, and then that of single drivers. What is found of the cases on the way is told.
 fn check_writers(
     alloc: Global,
     places: &Places<'_>,
     typed: &Typed,
     footprints: &Footprints,
-) -> Result<(), AcceptError>
+) -> Result<Cases, AcceptError>
     requires { footprints.now ≡ footprints_of (design_of typed.now) }
+    ensures cases { IfOk result (AreAllNoted typed.now) }
     ensures kept { OnOk result (KeepsDrivers (design_of typed.now)) }
     ensures refused { (clocks : List (List ℕ)) → IfErr result (IsFirstVerdict (byte_of places.now.text.now places.now.tokens.now) (design_of typed.now) clocks) }
 {
     let _flat = typed.flat();
-    if let Err(error) = block_forms(alloc, typed, footprints) {
-        return Err(places.block_error(typed, error));
-    }
+    let cases = match block_forms(alloc, typed, footprints) {
+        Ok(cases) => cases,
+        Err(error) => return Err(places.block_error(typed, error)),
+    };
     match vs_driver::check(alloc, typed, footprints) {
-        Ok(()) => Ok(()),
+        Ok(()) => Ok(cases),
         Err(error) => Err(places.driver_error(typed, error)),
     }
 }
@@ -62,11 +66,13 @@ fn judge_clocked(
     places: &Places<'_>,
     typed: Typed,
     footprints: Footprints,
+    cases: Cases,
     size: u64,
     outputs: Vec<Text>,
     clocks: &[&[u8]],
 ) -> Result<Accepted, AcceptError>
     requires footprints { footprints ≡ footprints_of (design_of typed) }
+    requires cases { AreAllNoted typed cases }
     requires kept { KeepsDrivers (design_of typed) }
     ensures same { IfOk result (λ a. a.flat ≡ typed) }
     ensures size { IfOk result (λ a. a.size ≡ size) }
@@ -76,6 +82,7 @@ fn judge_clocked(
     ensures refused { IfErr result (IsVerdict (byte_of places.now.text.now places.now.tokens.now) (design_of typed) (map (λ c. c.now) clocks.now)) }
 {
     accepted_law();
+    fits_law();
     let _flat = typed.flat();
     let found = match vs_clock::check(alloc, &typed, &footprints, clocks) {
         Ok(found) => found,
@@ -88,10 +95,11 @@ fn judge_clocked(
     if let Err(error) = races(alloc, &typed, &footprints, &order) {
         return Err(places.race_error(&typed, error));
     }
-    match vs_zero::check(alloc, &typed, &footprints, &found, &order) {
-        Ok(()) => Ok(Accepted::of(typed, size, footprints, found, order, outputs)),
-        Err(error) => Err(places.zero_error(&typed, error)),
+    if let Err(error) = vs_zero::check(alloc, &typed, &footprints, &cases, &found, &order) {
+        return Err(places.zero_error(&typed, error));
     }
+    let selects = cases.select_firsts(alloc, typed.shapes())?;
+    Ok(Accepted::of(typed, size, footprints, found, order, outputs, selects))
 }
 
 /// All rules, in their order, of what is left of a design without its dead blocks. Its size is told, or this one, if that is greater.
@@ -116,9 +124,11 @@ fn judge_left(
         Err(error) => return Err(places.width_error(error)),
     };
     let footprints = prints_of(alloc, &typed)?;
-    check_writers(alloc, places, &typed, &footprints)?;
+    let cases = check_writers(alloc, places, &typed, &footprints)?;
     let told = size.max(typed.size());
-    judge_clocked(alloc, places, typed, footprints, told, outputs, clocks)
+    judge_clocked(
+        alloc, places, typed, footprints, cases, told, outputs, clocks,
+    )
 }
 
 /// The rules on clocks and all that follow, of a design that keeps those before them: what is left of it without its dead blocks is asked.
@@ -127,10 +137,12 @@ fn judge_written(
     places: &Places<'_>,
     typed: Typed,
     footprints: Footprints,
+    cases: Cases,
     outputs: Vec<Text>,
     clocks: &[&[u8]],
 ) -> Result<Accepted, AcceptError>
     requires footprints { footprints ≡ footprints_of (design_of typed) }
+    requires cases { AreAllNoted typed cases }
     requires kept { KeepsDrivers (design_of typed) }
     ensures left { IfOk result (λ a. design_of a.flat ≡ without_dead (design_of typed)) }
     ensures size { IfOk result (λ a. a.size ≡ told_size (design_of typed)) }
@@ -142,7 +154,9 @@ fn judge_written(
     let size = typed.size();
     let dead = dead_blocks(alloc, typed.flat(), &footprints)?;
     if !has_mark(dead.as_slice()) {
-        return judge_clocked(alloc, places, typed, footprints, size, outputs, clocks);
+        return judge_clocked(
+            alloc, places, typed, footprints, cases, size, outputs, clocks,
+        );
     }
     let left = left_out(alloc, typed.into_flat(), dead.as_slice())?;
     judge_left(alloc, places, left, size, outputs, clocks)
@@ -172,6 +186,6 @@ pub(crate) fn judge(
         Err(error) => return Err(places.width_error(error)),
     };
     let footprints = prints_of(alloc, &typed)?;
-    check_writers(alloc, places, &typed, &footprints)?;
-    judge_written(alloc, places, typed, footprints, outputs, clocks)
+    let cases = check_writers(alloc, places, &typed, &footprints)?;
+    judge_written(alloc, places, typed, footprints, cases, outputs, clocks)
 }

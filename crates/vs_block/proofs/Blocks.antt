@@ -9,11 +9,13 @@ use Rattle.vs_design.specs.Expressions.{Signal}
 use Rattle.vs_design.specs.Designs as D
 use Rattle.vs_design.specs.Designs.{Always, Design, OfInitial, in_text_order, is_clocked, is_combinational}
 use Rattle.vs_design.specs.Statements as T
+use Rattle.vs_design.specs.Elaborated.{are_formed_events, is_formed_process, is_formed_statement}
 use Rattle.vs_design.specs.Fits.{fits_process}
 use Rattle.vs_design.specs.Footprints.{contains, without, all_reads, reads_of, writes_of, waits_of, wait_signals, signals_bits, statement_bits}
 use Rattle.vs_design.specs.Latches.{assigned_after, early_reads, latch_bits}
 use Rattle.vs_design.specs.Resets.{is_fixed}
 use Rattle.vs_design.specs.Rules.{mixed_in, mixed_assigns, missing_bits, latches, function_latches}
+use Rattle.vs_design.specs.Selects.{meant}
 use Rattle.vs_design.specs.Refusals.{least, otherwise, first_in, where_true, signal_of, block_refusal_of, block_refusal_at, block_refusal, width_refusal}
 use Rattle.vs_design.specs.Refusals as R
 use Rattle.vs_flat.specs.declared.processes.Event.{Event}
@@ -101,24 +103,24 @@ module _ (d : Design) (p place : ℕ) (star : Bool) (events : List D.Event) (st 
   pub mixed_refused : (at : ℕ) → least (mixed_assigns (Always place star events st)) ≡ Some at → block_refusal_of d p (Always place star events st) ≡ Some (R.MixedAssign at)
   mixed_refused at h =
       let x = Always place star events st in
-      ap (λ o. otherwise (option_map R.MixedAssign o) (otherwise (option_map (λ b. R.Sensitivity p (signal_of d.signals b) place) (least (missing_bits x))) (option_map (λ b. R.Latch p b place) (least (latches x))))) h
+      ap (λ o. otherwise (option_map R.MixedAssign o) (otherwise (option_map (λ b. R.Sensitivity p (signal_of d.signals b) place) (least (missing_bits x))) (option_map (λ b. R.Latch p b place) (least (latches d x))))) h
 
-  pub none_mixed : least (mixed_assigns (Always place star events st)) ≡ None → (m l : Option ℕ) → least (missing_bits (Always place star events st)) ≡ m → least (latches (Always place star events st)) ≡ l
+  pub none_mixed : least (mixed_assigns (Always place star events st)) ≡ None → (m l : Option ℕ) → least (missing_bits (Always place star events st)) ≡ m → least (latches d (Always place star events st)) ≡ l
       → block_refusal_of d p (Always place star events st) ≡ otherwise (option_map (λ b. R.Sensitivity p (signal_of d.signals b) place) m) (option_map (λ b. R.Latch p b place) l)
   none_mixed h m l f g =
       let x = Always place star events st in
-      ap (λ o. otherwise (option_map R.MixedAssign o) (otherwise (option_map (λ b. R.Sensitivity p (signal_of d.signals b) place) (least (missing_bits x))) (option_map (λ b. R.Latch p b place) (least (latches x))))) h
-      ∙ ap (λ o. otherwise (option_map (λ b. R.Sensitivity p (signal_of d.signals b) place) o) (option_map (λ b. R.Latch p b place) (least (latches x)))) f
+      ap (λ o. otherwise (option_map R.MixedAssign o) (otherwise (option_map (λ b. R.Sensitivity p (signal_of d.signals b) place) (least (missing_bits x))) (option_map (λ b. R.Latch p b place) (least (latches d x))))) h
+      ∙ ap (λ o. otherwise (option_map (λ b. R.Sensitivity p (signal_of d.signals b) place) o) (option_map (λ b. R.Latch p b place) (least (latches d x)))) f
       ∙ ap (λ o. otherwise (option_map (λ b. R.Sensitivity p (signal_of d.signals b) place) m) (option_map (λ b. R.Latch p b place) o)) g
 
   pub clocked_kept : is_clocked (Always place star events st) ≡ true → block_refusal_of d p (Always place star events st) ≡ None
-  clocked_kept e = none_mixed (ap (λ (t : Bool). least (if t then [] else mixed_in false st)) e) None None (ap (λ (t : Bool). least (if not t then without (reads_of x) (signals_bits (wait_signals x)) else [])) e) (ap (λ (t : Bool). least (if not t then latch_bits st else [])) e)
+  clocked_kept e = none_mixed (ap (λ (t : Bool). least (if t then [] else mixed_in false st)) e) None None (ap (λ (t : Bool). least (if not t then without (reads_of x) (signals_bits (wait_signals x)) else [])) e) (ap (λ (t : Bool). least (if not t then latch_bits (meant d st) else [])) e)
     where
       x : D.Process
       x = Always place star events st
 
-  pub latches_are : is_clocked (Always place star events st) ≡ false → latches (Always place star events st) ≡ latch_bits st
-  latches_are e = ap (λ (t : Bool). if not t then latch_bits st else []) e
+  pub latches_are : is_clocked (Always place star events st) ≡ false → latches d (Always place star events st) ≡ latch_bits (meant d st)
+  latches_are e = ap (λ (t : Bool). if not t then latch_bits (meant d st) else []) e
 
   pub combinational_is : is_clocked (Always place star events st) ≡ false → is_combinational (Always place star events st) ≡ true
   combinational_is e = ap not e
@@ -166,6 +168,8 @@ block_at each names fits a lawful narrow p r star events slice statement at is s
       is = x;
       there = ltb-true statement (length a.statements) (and_both (nat_lt statement (length a.statements)) true (and_both (all_below (length a.signals) (map (λ (e : Event). e.signal) events) && true) (nat_lt statement (length a.statements) && true) below).1).0;
       fits = all_at fits_process (design_of a).processes p _ (fits (design_of a) lawful.design narrow) x;
+      formed = (and_both (are_formed_events (design_of a) star (map (event_of (signal_at (arena_signals a))) events)) (is_formed_statement (design_of a) (body_of a statement)) (all_at (is_formed_process (design_of a)) (design_of a).processes p _ lawful.design.formed x)).1;
+      found = (r, at, is);
     })
 
 -- ---- the first in the text

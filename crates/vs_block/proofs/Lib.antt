@@ -8,3 +8,5 @@ pub mod Least
 pub mod Signals
 pub mod Blocks
 pub mod Latching
+pub mod Defaults
+pub mod Looking

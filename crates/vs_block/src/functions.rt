@@ -16,6 +16,7 @@ use crate::latches::first_latch;
 use crate::mixed::with_place;
 use std::alloc::{AllocError, Global};
 use vs_flat::{calls_law, lawful_law, trees_law};
+use vs_sets::Defaults;
 use vs_shape::{Shapes, Walk, ascend};
 use vs_typed::Typed;
 
@@ -39,7 +40,12 @@ fn keeps(alloc: Global, shapes: &Shapes, s: u32) -> Result<bool, AllocError>
     ensures { IfOk result (λ r. r ≡ has_some (latch_bits (body_of shapes.now s))) }
 {
     let own = written(alloc, shapes, s)?;
-    let latch = first_latch(alloc, shapes, s, own.as_slice())?;
+    let none: [Option<u32>; 0] = [];
+    let written = Defaults {
+        complete: false,
+        others: &none,
+    };
+    let latch = first_latch(alloc, shapes, &written, s, own.as_slice())?;
     Ok(latch.is_some())
 }
 

@@ -2,7 +2,7 @@
 //!
 //! `own` are the bits that the block writes, and `assigned` and `early` have a flag for each of them: whether it is assigned where the walk stands, and whether some path has read it before it was.
 
-ghost use Rattle.std.specs.Prelude.{◌≡◌, ◌<◌, ◌≤◌, ◌++◌, length, map, true, false, IfOk, OnOk};
+ghost use Rattle.std.specs.Prelude.{◌≡◌, ◌<◌, ◌≤◌, ◌++◌, ℕ, length, map, true, false, Some, slice_get, slice_index, if◌then◌else◌, IfOk, OnOk};
 ghost use Rattle.std.specs.List.Sorted.{IsStrictlyIncreasing};
 ghost use Rattle.vs_design.specs.Fits.{fits_statement};
 ghost use Rattle.vs_design.specs.Expressions.{items_of};
@@ -15,12 +15,18 @@ ghost use Rattle.vs_shape.specs.Walked.{IsTarget};
 ghost use Rattle.vs_block.specs.Flags.{AreNoted, AreFlagged, AreFresh};
 ghost use Rattle.vs_block.specs.Parts.{IsValue, IsBranch, AreValues, AreParts, IsArm, AreArms};
 ghost use Rattle.vs_block.specs.Walked.{IsWalked, IsArmWalked};
+ghost use Rattle.vs_flat.specs.declared.statements.Arm as A;
+ghost use Rattle.vs_flat.specs.Arena.{statement_at};
+ghost use Rattle.vs_flat.specs.declared.statements.Statement.TheVariants.{Case};
+ghost use Rattle.vs_sets.specs.Completing.{AreDefaults, HasDefaults, done, other_of};
 
 use crate::flags::{flagged, note_reads, set_flags, shared_bits};
 use crate::nodes::statement_of;
 use crate::targets::push_assigned;
 use std::alloc::{AllocError, Global};
+use vs_base::CaseKind;
 use vs_flat::{Arm, Statement};
+use vs_sets::Defaults;
 use vs_shape::Shapes;
 
 /// Notes what these expressions read.
@@ -111,11 +117,31 @@ fn newly_assigned(
     flagged(alloc, own, assigned, bits.as_slice(), false)
 }
 
+/// The default of case s, which as it stands has this one.
+fn default_of(
+    shapes: &Shapes,
+    defaults: &Defaults<'_>,
+    s: u32,
+    kind: CaseKind,
+    of: u32,
+    arms: &[Arm],
+    other: Option<u32>,
+) -> Option<u32>
+    requires is { statement_at shapes.now s ≡ Some (Case kind of arms.now other) }
+    requires defaults { AreDefaults shapes.now defaults.now.complete defaults.now.others.now s }
+    ensures is { result ≡ (if defaults.now.complete then other_of shapes.now kind of arms.now other else other) }
+    ensures branch { AreArms shapes.now s arms.now → IsBranch shapes.now s other → IsBranch shapes.now s result }
+    ensures defaults { HasDefaults shapes.now defaults.now.complete defaults.now.others.now result }
+{
+    defaults.default_of(s, other)
+}
+
 /// The bits that a statement assigns on every path and that weren't assigned before. It notes those that some path reads before it assigns them. `assigned` is as before, but where memory is wanting.
 #[cycle(walking)]
 pub(crate) fn walk(
     alloc: Global,
     shapes: &Shapes,
+    defaults: &Defaults<'_>,
     s: u32,
     own: &[u32],
     assigned: &mut [bool],
@@ -126,8 +152,9 @@ pub(crate) fn walk(
     requires early { length early.old ≡ length own.now }
     requires there { s < length shapes.now.statements }
     requires fits { fits_statement (body_of shapes.now s) ≡ true }
+    requires defaults { AreDefaults shapes.now defaults.now.complete defaults.now.others.now s }
     ensures same { OnOk result (assigned.new ≡ assigned.old) }
-    ensures walked { IfOk result (λ v. IsWalked own.now (assigned_after (body_of shapes.now s)) (early_reads (body_of shapes.now s)) assigned.old early.old early.new v.items) }
+    ensures walked { IfOk result (λ v. IsWalked own.now (assigned_after (done defaults.now.complete shapes.now s)) (early_reads (done defaults.now.complete shapes.now s)) assigned.old early.old early.new v.items) }
 {
     let (statement, _) = statement_of(shapes, s);
     match statement {
@@ -138,30 +165,41 @@ pub(crate) fn walk(
         }
         Statement::If { c, yes, no } => {
             note_value(alloc, shapes, *c, own, assigned, early)?;
-            let taken = walk(alloc, shapes, *yes, own, assigned, early)?;
-            let other = walk_branch(alloc, shapes, s, *no, own, assigned, early)?;
+            let taken = walk(alloc, shapes, defaults, *yes, own, assigned, early)?;
+            let other = walk_branch(alloc, shapes, defaults, s, *no, own, assigned, early)?;
             shared_bits(alloc, own, assigned, taken.as_slice(), other.as_slice())
         }
         Statement::Case {
+            kind,
             of,
             arms,
             other,
-            ..
         } => {
             note_value(alloc, shapes, *of, own, assigned, early)?;
+            let default = default_of(shapes, defaults, s, *kind, *of, arms.as_slice(), *other);
             walk_arms(
                 alloc,
                 shapes,
+                defaults,
                 s,
                 arms.as_slice(),
-                *other,
+                default,
                 own,
                 assigned,
                 early,
             )
         }
         Statement::Seq { parts } => {
-            walk_parts(alloc, shapes, s, parts.as_slice(), own, assigned, early)
+            walk_parts(
+                alloc,
+                shapes,
+                defaults,
+                s,
+                parts.as_slice(),
+                own,
+                assigned,
+                early,
+            )
         }
     }
 }
@@ -171,6 +209,7 @@ pub(crate) fn walk(
 fn walk_branch(
     alloc: Global,
     shapes: &Shapes,
+    defaults: &Defaults<'_>,
     s: u32,
     part: Option<u32>,
     own: &[u32],
@@ -182,12 +221,13 @@ fn walk_branch(
     requires early { length early.old ≡ length own.now }
     requires there { s ≤ length shapes.now.statements }
     requires part { IsBranch shapes.now s part }
+    requires defaults { HasDefaults shapes.now defaults.now.complete defaults.now.others.now part }
     ensures same { OnOk result (assigned.new ≡ assigned.old) }
-    ensures walked { IfOk result (λ v. IsWalked own.now (assigned_after (branch (body_of shapes.now) part)) (early_reads (branch (body_of shapes.now) part)) assigned.old early.old early.new v.items) }
+    ensures walked { IfOk result (λ v. IsWalked own.now (assigned_after (branch (done defaults.now.complete shapes.now) part)) (early_reads (branch (done defaults.now.complete shapes.now) part)) assigned.old early.old early.new v.items) }
 {
     match part {
         None => Ok(Vec::new(alloc)),
-        Some(n) => walk(alloc, shapes, n, own, assigned, early),
+        Some(n) => walk(alloc, shapes, defaults, n, own, assigned, early),
     }
 }
 
@@ -196,6 +236,7 @@ fn walk_branch(
 fn walk_arm(
     alloc: Global,
     shapes: &Shapes,
+    defaults: &Defaults<'_>,
     s: u32,
     arm: &Arm,
     paths: &[u32],
@@ -208,12 +249,13 @@ fn walk_arm(
     requires early { length early.old ≡ length own.now }
     requires there { s ≤ length shapes.now.statements }
     requires arm { IsArm shapes.now s arm.now }
+    requires defaults { AreDefaults shapes.now defaults.now.complete defaults.now.others.now arm.now.statement }
     requires fresh { AreFresh own.now assigned.old paths.now }
     ensures same { OnOk result (assigned.new ≡ assigned.old) }
-    ensures walked { IfOk result (λ v. IsArmWalked own.now (items_reads (items_of (map (tree_of shapes.now) arm.now.items))) (body_of shapes.now arm.now.statement) assigned.old early.old early.new paths.now v.items) }
+    ensures walked { IfOk result (λ v. IsArmWalked own.now (items_reads (items_of (map (tree_of shapes.now) arm.now.items))) (done defaults.now.complete shapes.now arm.now.statement) assigned.old early.old early.new paths.now v.items) }
 {
     note_values(alloc, shapes, arm.items.as_slice(), own, assigned, early)?;
-    let found = walk(alloc, shapes, arm.statement, own, assigned, early)?;
+    let found = walk(alloc, shapes, defaults, arm.statement, own, assigned, early)?;
     shared_bits(alloc, own, assigned, paths, found.as_slice())
 }
 
@@ -222,6 +264,7 @@ fn walk_arm(
 fn walk_arms(
     alloc: Global,
     shapes: &Shapes,
+    defaults: &Defaults<'_>,
     s: u32,
     arms: &[Arm],
     other: Option<u32>,
@@ -235,15 +278,18 @@ fn walk_arms(
     requires there { s ≤ length shapes.now.statements }
     requires arms { AreArms shapes.now s arms.now }
     requires other { IsBranch shapes.now s other }
+    requires defaults { (k : ℕ) (arm : A.Arm) → slice_get arms.now k ≡ Some arm → AreDefaults shapes.now defaults.now.complete defaults.now.others.now arm.statement }
+    requires other_defaults { HasDefaults shapes.now defaults.now.complete defaults.now.others.now other }
     ensures same { OnOk result (assigned.new ≡ assigned.old) }
-    ensures walked { let tree = arms_tree (tree_of shapes.now) (body_of shapes.now) other arms.now in
+    ensures walked { let tree = arms_tree (tree_of shapes.now) (done defaults.now.complete shapes.now) other arms.now in
         IfOk result (λ v. IsWalked own.now (assigned_in_arms tree) (early_in_arms tree) assigned.old early.old early.new v.items) }
 {
-    let mut found = walk_branch(alloc, shapes, s, other, own, assigned, early)?;
+    let mut found = walk_branch(alloc, shapes, defaults, s, other, own, assigned, early)?;
     for arm in arms {
         found = walk_arm(
             alloc,
             shapes,
+            defaults,
             s,
             arm,
             found.as_slice(),
@@ -260,6 +306,7 @@ fn walk_arms(
 fn walk_parts(
     alloc: Global,
     shapes: &Shapes,
+    defaults: &Defaults<'_>,
     s: u32,
     parts: &[u32],
     own: &[u32],
@@ -271,13 +318,14 @@ fn walk_parts(
     requires early { length early.old ≡ length own.now }
     requires there { s ≤ length shapes.now.statements }
     requires parts { AreParts shapes.now s parts.now }
+    requires defaults { (k : ℕ) → k < length parts.now → AreDefaults shapes.now defaults.now.complete defaults.now.others.now (slice_index parts.now k) }
     ensures same { OnOk result (assigned.new ≡ assigned.old) }
-    ensures walked { let body = sequence (map (body_of shapes.now) parts.now) in
+    ensures walked { let body = sequence (map (done defaults.now.complete shapes.now) parts.now) in
         IfOk result (λ v. IsWalked own.now (assigned_after body) (early_reads body) assigned.old early.old early.new v.items) }
 {
     let mut found = Vec::new(alloc);
     for part in parts {
-        let mut more = walk(alloc, shapes, *part, own, assigned, early)?;
+        let mut more = walk(alloc, shapes, defaults, *part, own, assigned, early)?;
         set_flags(own, assigned, more.as_slice(), true);
         found.append(&mut more)?;
     }

@@ -15,3 +15,7 @@ pub mod Looped
 pub mod Gathered
 pub mod Heads
 pub mod AssignmentParts
+pub mod PassedLayers
+pub mod Mentioned
+pub mod MentionSteps
+pub mod MentionedParts

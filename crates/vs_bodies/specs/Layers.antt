@@ -1,13 +1,17 @@
 -- What names mean within the loops and the named blocks around a statement.
 use Rattle.std.specs.Prelude.{◌≡◌, ℕ, List, Option, Some, None}
 use Rattle.vs_ast.specs.Views as view
-use Rattle.vs_const.specs.Meanings.{Meaning, Find, turning}
+use Rattle.vs_const.specs.Meanings.{FunctionMeaning, Meaning, AFunction, Find, turning}
 use Rattle.vs_elaborated.specs.Statements as statements
 use Rattle.vs_maps.specs.Maps.{value_at}
 use Rattle.vs_maps.specs.MapViews.{pairs}
 use Rattle.vs_maps.specs.declared.maps.NameMap.{NameMap}
 use Rattle.vs_bodies.specs.declared.layers.Local.{Local}
 use Rattle.vs_bodies.specs.declared.layers.Layers.{Layers, End, Turn', Block'}
+
+-- a meaning that is none of a function
+abbrev pub IsNoFunction : Meaning → Type 0
+IsNoFunction m = (f : FunctionMeaning) → m ≡ AFunction f → ⊥
 
 abbrev pub meaning_or : (declared : ℕ → Meaning) → Option Local → Meaning → Meaning
 meaning_or declared None m = m

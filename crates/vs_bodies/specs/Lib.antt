@@ -6,3 +6,4 @@ pub mod Turns
 pub mod Walks
 pub mod Bodies
 pub mod Said
+pub mod Mentions

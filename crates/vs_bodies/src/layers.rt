@@ -1,13 +1,14 @@
 //! What names mean within loops and named blocks (IEEE 1364-2005, 9.6 and 9.8.2).
 
-ghost use Rattle.std.specs.Prelude.{◌≡◌, ℕ, List};
+ghost use Rattle.std.specs.Prelude.{◌≡◌, ℕ, List, slice_get};
 ghost use Rattle.vs_design.specs.Clocks.{same_name};
-ghost use Rattle.vs_const.specs.Meanings.{Means, Meaning, Find, turn_value, turning};
+ghost use Rattle.vs_const.specs.declared.rules.Rule.TheVariants.{LoopVariable};
+ghost use Rattle.vs_const.specs.Meanings.{AFunction, Barred, FunctionMeaning, IsShapeIn, Means, Meaning, Find, turn_value, turning};
 ghost use Rattle.vs_elaborated.specs.Statements as spec;
-ghost use Rattle.vs_bodies.specs.Layers.{within, AreLocals};
+ghost use Rattle.vs_bodies.specs.Layers.{within, AreLocals, IsNoFunction};
 
 use vs_ast::Name;
-use vs_const::{Constant, Env, Named};
+use vs_const::{Constant, Env, Named, Rule, SignalShape};
 use vs_four::{Bits, Range};
 use vs_maps::NameMap;
 
@@ -18,7 +19,42 @@ pub trait Surroundings: Env {
 
     /// What a variable or an integer of a named block means that is declared at this place.
     fn declared(&self, place: u32) -> Named
-        ensures { Means result (declared self.now place) };
+        ensures means { Means result (declared self.now place) }
+        ensures plain { IsNoFunction (declared self.now place) };
+}
+
+/// What is around a block of which no variable of a named block is taken: what such a block declares is an integer of loops.
+#[derive(Clone, Copy)]
+pub struct Alone<'e, E> {
+    pub env: &'e E,
+}
+
+impl<E: Env> Env for Alone<'_, E> {
+    ghost names = { λ a. E.names a.env.now };
+
+    fn find(&self, name: &[u8]) -> Named {
+        self.env.find(name)
+    }
+
+    fn passed(&self, name: &[u8], number: u32) -> Option<SignalShape> {
+        self.env.passed(name, number)
+    }
+}
+
+/// An integer of loops, outside of them.
+fn barred_integer() -> Named
+    ensures means { Means result (Barred LoopVariable) }
+    ensures plain { IsNoFunction (Barred LoopVariable) }
+{
+    Named::Barred(Rule::LoopVariable)
+}
+
+impl<E: Env> Surroundings for Alone<'_, E> {
+    ghost declared = { λ a place. Barred LoopVariable };
+
+    fn declared(&self, _place: u32) -> Named {
+        barred_integer()
+    }
 }
 
 /// A variable or an integer of a named block, by the place of its declaration.
@@ -112,6 +148,35 @@ fn find_within<S: Surroundings>(around: &S, layers: &Layers<'_, '_>, name: &[u8]
     }
 }
 
+/// A signal that a call of the function of this name passes, within these loops and blocks.
+fn passed_within<S: Surroundings>(
+    around: &S,
+    layers: &Layers<'_, '_>,
+    name: &[u8],
+    number: u32,
+) -> Option<SignalShape>
+    ensures { (f : FunctionMeaning) → within (S.declared around.now) layers.now (S.names around.now) name.now ≡ AFunction f → IsShapeIn result (slice_get f.passed number) }
+{
+    match layers {
+        Layers::End => around.passed(name, number),
+        Layers::Turn { outer, integer, .. } => {
+            if is_same_name(integer.text.as_slice(), name) {
+                None
+            } else {
+                passed_within(around, outer, name, number)
+            }
+        }
+        Layers::Block { outer, locals } => match locals.get(name).copied() {
+            None => passed_within(around, outer, name, number),
+            Some(local) => {
+                // it is no function
+                around.declared(local.place);
+                None
+            }
+        },
+    }
+}
+
 impl<S: Surroundings> Env for Inner<'_, '_, S> {
     ghost use Rattle.vs_bodies.specs.Layers.{within};
 
@@ -119,5 +184,9 @@ impl<S: Surroundings> Env for Inner<'_, '_, S> {
 
     fn find(&self, name: &[u8]) -> Named {
         find_within(self.around, self.layers, name)
+    }
+
+    fn passed(&self, name: &[u8], number: u32) -> Option<SignalShape> {
+        passed_within(self.around, self.layers, name, number)
     }
 }

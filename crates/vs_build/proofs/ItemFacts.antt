@@ -12,12 +12,12 @@ use Rattle.vs_const.specs.Meanings.{Find}
 use Rattle.vs_const.specs.Sound.{AreSound}
 use Rattle.vs_const.specs.CallDepths.{calls_in}
 use Rattle.vs_const.proofs.Formed.{both_nil}
-use Rattle.vs_elaborated.specs.Environments.{Env, inside_function, named}
+use Rattle.vs_elaborated.specs.Environments.{Env, named}
 use Rattle.vs_elaborated.specs.Numbers.{IsNumbered, AreNumbered}
 use Rattle.vs_elaborated.specs.Pieces.{Own, Initially, all_said}
 use Rattle.vs_elaborated.specs.Statements.{TypedStatement, repeated_locals, typed_statement, unrolled_within, typed_control}
 use Rattle.vs_elaborated.specs.Heads.{shared_heads}
-use Rattle.vs_elaborated.specs.Functions.{declared_locals, LocalSignal, function_locals, all_locals, header_of, meaning_or, function_names, function_body, size_faults}
+use Rattle.vs_elaborated.specs.Functions.{declared_locals, LocalSignal, locals_in, all_locals, header_of, meaning_or, function_names, function_body, size_faults}
 use Rattle.vs_elaborated.specs.Functions.{signal_at as local_at}
 use Rattle.vs_elaborated.specs.Surveys.{assign_said, declarator_said, body_with, block_body, scoped_signals, scoped_statement, block_statement, block_heads, initial_body, initial_statement, initial_heads}
 use Rattle.vs_build.specs.Drafts.{Draft, home_in, home}
@@ -186,12 +186,12 @@ initials_fine d env limits loops b x sound numbered le h =
 
 pub functions_fine : FunctionsAreFine
 functions_fine d number most scope env f x sees numbered le h =
-    let l = function_locals scope (inside_function env []) f in
+    let l = locals_in scope env f in
     let header = header_of f l in
     let names = function_names scope env f in
     let s = unrolled_within most f.statement (function_body l) names in
     let ranges = flat_map (λ (v : LocalSignal). v.faults) (all_locals l) in
-    let sizes = size_faults f.place header (suc (calls_in s.statement)) in
+    let sizes = size_faults f.place l header (suc (calls_in s.statement)) in
     let clean = (both_nil s.faults sizes (both_nil ranges (s.faults ++ sizes) (both_nil (repeated_locals [] (declared_locals f)) (ranges ++ (s.faults ++ sizes)) h).1).1).0 in
     let is : s ≡ typed_statement f.statement (function_body l) names = unrolled_is most f.statement (function_body l) names clean in
     let inner = home_in d (Some header) in

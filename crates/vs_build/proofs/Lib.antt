@@ -29,3 +29,4 @@ pub mod Blocking
 pub mod LoopFacts
 pub mod Awaiting
 pub mod ItemFacts
+pub mod PassedSignals

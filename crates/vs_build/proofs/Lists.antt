@@ -1,5 +1,5 @@
 -- The parts of a concatenation, one after the other.
-use Rattle.std.proofs.Common.{rules, ◌≡◌, ℕ, zero, suc, ◌+◌, ◌*◌, ◌<◌, ◌≤◌, Bool, true, false, not, ◌&&◌, List, [], ◌∷◌, ◌++◌, length, get_or, map, max, take, Option, Some, None, slice_get, Vec, Box, Global, Result, OnOk, refl, sym, ap, ◌∙◌, subst, arith, append_assoc}
+use Rattle.std.proofs.Common.{rules, length-append, ◌≡◌, ℕ, zero, suc, ◌+◌, ◌*◌, ◌<◌, ◌≤◌, Bool, true, false, not, ◌&&◌, List, [], ◌∷◌, ◌++◌, length, get_or, map, max, take, Option, Some, None, slice_get, Vec, Box, Global, Result, OnOk, refl, sym, ap, ◌∙◌, subst, arith, append_assoc}
 use Rattle.std.proofs.Math.Seq.{take-suc, take-length}
 use Rattle.std.proofs.lemmas.List.{map-append, length-map}
 use denote.Param.Weighed.{most, at_most}
@@ -20,17 +20,17 @@ use Rattle.vs_ast.proofs.Rows.{expr_rows}
 use Rattle.vs_const.specs.declared.faults.Fault.{Fault}
 use Rattle.vs_const.specs.declared.rules.Rule.TheVariants.{FunctionRule}
 use Rattle.vs_const.specs.Faults.{fault_if}
-use Rattle.vs_const.specs.Meanings.{FunctionMeaning, Meaning, AValue, Undefined, ASignal, AMemory, AFunction, Incomplete, Another, Barred, Unknown, Find, steady, IsFair, IsFairMeaning}
+use Rattle.vs_const.specs.Meanings.{SignalMeaning, FunctionMeaning, Meaning, AValue, Undefined, ASignal, AMemory, AFunction, Incomplete, Another, Barred, Unknown, Find, steady, IsFair, IsFairMeaning}
 use Rattle.vs_const.specs.Typed.{Typed, begins_at, natural, copies_typed}
-use Rattle.vs_const.specs.Expressions.{constant, unsized_faults, typed, typed_parts, TypedItems, call_if, applied, typed_arguments, replicated, replication_typed}
-use Rattle.vs_const.specs.Sound.{IsSound, AreSound, IsFine}
+use Rattle.vs_const.specs.Expressions.{constant, unsized_faults, typed, typed_parts, TypedItems, passed_items, with_passed, call_if, applied, typed_arguments, replicated, replication_typed}
+use Rattle.vs_const.specs.Sound.{AreSoundSignals, IsSound, AreSound, IsFine}
 use Rattle.vs_const.proofs.Formed.{both_nil, split, typed_fine, natural_fine}
 use Rattle.vs_const.proofs.Rows.{part_shaped}
 use Rattle.vs_const.proofs.Steady.{sound_needed, steady_sound}
 use Rattle.vs_flat.specs.Trees.{joined}
 use Rattle.vs_elaborated.specs.Numbers.{IsNumbered, AreNumbered}
-use Rattle.vs_build.specs.Drafts.{Root, Draft, home_in, home, and_root, most_levels, EndsWith, AddsExpression, AddsParts}
-use Rattle.vs_build.specs.Buildable.{IsBuildable, AreArguments, AreBuildable, IsWithin, part_expressions}
+use Rattle.vs_build.specs.Drafts.{Root, Draft, home_in, home, and_root, and_roots, most_levels, EndsWith, AddsExpression, AddsParts}
+use Rattle.vs_build.specs.Buildable.{IsBuildable, AreArguments, AreBuildable, ArePassable, IsWithin, part_expressions, passed_expressions}
 use Rattle.vs_build.proofs.Arms.{begins_twice, noted_clean}
 use Rattle.vs_build.proofs.Copies.{nil_end}
 
@@ -67,7 +67,7 @@ each_part d find needed es i x b k e = record {
 pub part_levels : (es : List Expr) (i : ℕ) (x : Expr) → i < length es → x ≡ get_or es i x → expr_depth (expr x) ≤ exprs_depth (exprs es)
 part_levels es i x k e = omega (arith, depth_at es i x k, ap (λ y. expr_depth (expr y)) e)
 
-pub part_falls : (es : List Expr) (i : ℕ) (x : Expr) (t : ℕ) → i < length es → x ≡ get_or es i x → 3 * most the_size es + 2 ≡ t → 3 * the_size x + 1 < t
+pub part_falls : (es : List Expr) (i : ℕ) (x : Expr) (t : ℕ) → i < length es → x ≡ get_or es i x → 4 * most the_size es + 2 ≡ t → 4 * the_size x + 1 < t
 part_falls es i x t h k m =
     let b : the_size x ≤ most the_size es = subst (λ z. the_size z ≤ most the_size es) (sym k) (at_most the_size es i x h) in
     omega (arith, b, m)
@@ -99,6 +99,15 @@ parts_more s q v ts t m k h a le =
       few = omega (arith, levels-append h.roots (new ∷ []), h.few, a.few, le);
       is = a.is ∙ ap (λ z. and_root z new) h.is ∙ ap (λ xs. record s { expressions = xs }) (append_assoc s.expressions h.roots (new ∷ []));
     }
+
+-- others behind them
+pub parts_both : (s q v : Draft) (ts us : List Expression) (m : ℕ) → AddsParts s q ts (1 + m) → AddsParts q v us 1 → AddsParts s v (ts ++ us) (1 + m)
+parts_both s q v ts us m h k = record {
+  roots = h.roots ++ k.roots;
+  are = map-append (λ (r : Root). r.tree) h.roots k.roots ∙ ap (λ xs. xs ++ map (λ (r : Root). r.tree) k.roots) h.are ∙ ap (λ xs. ts ++ xs) k.are;
+  few = omega (arith, levels-append h.roots k.roots, h.few, k.few);
+  is = k.is ∙ ap (λ z. and_roots z k.roots) h.is ∙ ap (λ xs. record s { expressions = xs }) (append_assoc s.expressions h.roots k.roots);
+}
 
 pub parts_are : (s v : Draft) (ts us : List Expression) (m : ℕ) → ts ≡ us → AddsParts s v ts m → AddsParts s v us m
 parts_are s v ts us m e h = subst (λ xs. AddsParts s v xs m) e h
@@ -165,14 +174,24 @@ arguments_are find needed (e ∷ es) = ap (E.Item (typed (expr e) find needed).e
 pub apply_view : (name : Name) (list : Vec Expr Global) → expr (Apply name list) ≡ tree.Apply (name_tree name) (exprs list.items)
 apply_view name list = search (rules, expr_rows, the_lemmas)
 
+-- behind them come the signals that it passes
+pub whole_call : (find : Find) (needed : Bool) (place : ℕ) (ss : List SignalMeaning) (es : List Expr) → E.items_of (part_expressions find needed es ++ passed_expressions place ss) ≡ (with_passed place ss (typed_arguments (exprs es) find needed)).items
+whole_call find needed place ss [] = passed_are ss
+  where
+    passed_are : (ss : List SignalMeaning) → E.items_of (passed_expressions place ss) ≡ passed_items place ss
+    passed_are [] = refl
+    passed_are (s ∷ ss) = ap (E.Item (E.At place (E.Name s.signal))) (passed_are ss)
+whole_call find needed place ss (e ∷ es) = ap (E.Item (typed (expr e) find needed).expression) (whole_call find needed place ss es)
+
 -- what a call without a fault calls, and its arguments
 pub record IsCall (d : Design) (find : Find) (needed : Bool) (name : tree.Name) (arguments : tree.Exprs) : Type 0 where
   pub constant_no : needed ≡ false
   pub function : FunctionMeaning
   pub means : find name.bytes ≡ AFunction function
   pub parts : AreArguments d find needed arguments
-  pub many : are_as_many (typed_arguments arguments find needed).items function.header.inputs ≡ true
-  pub expression : (typed (tree.Apply name arguments) find needed).expression ≡ begins_at name.place (E.Call function.header function.statement (typed_arguments arguments find needed).items)
+  pub passable : AreSoundSignals d function.passed
+  pub many : are_as_many (with_passed name.place function.passed (typed_arguments arguments find needed)).items function.header.inputs ≡ true
+  pub expression : (typed (tree.Apply name arguments) find needed).expression ≡ begins_at name.place (E.Call function.header function.statement (with_passed name.place function.passed (typed_arguments arguments find needed)).items)
 
 both_true : (a b c : Bool) → (a && (b && c)) ≡ true → (b ≡ true) × (c ≡ true)
 both_true true true true h = (refl, refl)
@@ -207,20 +226,22 @@ call_is d find needed name arguments b = by needed (find name.bytes) refl refl (
     by : (n : Bool) (m : Meaning) → needed ≡ n → find name.bytes ≡ m → (applied n name.place m t).good ≡ true → (applied n name.place m t).faults ≡ [] → IsCall d find needed name arguments
     by true (AFunction f) e i g c = cc
     by false (AFunction f) e i g c =
-        let fits = are_as_many t.items f.header.inputs in
+        let whole = with_passed name.place f.passed t in
+        let fits = are_as_many whole.items f.header.inputs in
         let fs = fault_if (f.known && not fits) FunctionRule name.place ++ t.faults in
-        let good = call_good (f.known && (fits && t.good)) f t fs g in
+        let good = call_good (f.known && (fits && t.good)) f whole fs g in
         let k = both_true f.known fits t.good good in
-        let none = both_nil (fault_if (f.known && not fits) FunctionRule name.place) t.faults (sym (call_faults (f.known && (fits && t.good)) f t fs) ∙ c) in
+        let none = both_nil (fault_if (f.known && not fits) FunctionRule name.place) t.faults (sym (call_faults (f.known && (fits && t.good)) f whole fs) ∙ c) in
         record {
           constant_no = e;
           function = f;
           means = i;
           parts = record { shaped = some_exprs arguments b.shaped.1; sound = b.sound; numbered = b.numbered; clean = none.1; shallow = omega (arith, b.shallow) };
+          passable = (subst (λ n. IsSound d n (AFunction f)) e (subst (IsSound d needed) i (b.sound name.bytes))).2;
           many = k.0;
           expression =
               ap (λ x. begins_at name.place (applied x name.place (find name.bytes) t).expression) e ∙ ap (λ x. begins_at name.place (applied false name.place x t).expression) i
-              ∙ ap (λ x. begins_at name.place (call_if x f t fs).expression) good;
+              ∙ ap (λ x. begins_at name.place (call_if x f whole fs).expression) good;
         }
     by n (AValue v r turns) e i g c = cc
     by n (Undefined r) e i g c = cc
@@ -231,6 +252,16 @@ call_is d find needed name arguments b = by needed (find name.bytes) refl refl (
     by n (Barred rule) e i g c = cc
     by n Unknown e i g c = cc
 
+same_function : (f g : FunctionMeaning) → AFunction f ≡ AFunction g → f ≡ g
+same_function f g e = cc
+
+pub passable_there : (d : Design) (m : Meaning) (f : FunctionMeaning) → m ≡ AFunction f → AreSoundSignals d f.passed → ArePassable d m
+passable_there d m f e h g i = subst (λ (x : FunctionMeaning). AreSoundSignals d x.passed) (same_function f g (sym e ∙ i)) h
+
+-- also behind the arguments
+pub passable_behind : (s v : Draft) (ts : List Expression) (n : ℕ) (m : Meaning) → AddsParts s v ts n → ArePassable (home s) m → ArePassable (home v) m
+passable_behind s v ts n m h p = subst (λ z. ArePassable (home z) m) (sym h.is) p
+
 -- as many arguments as inputs
 pub counted : (ts : List Expression) (inputs : List E.Signal) → are_as_many (E.items_of ts) inputs ≡ true → length inputs ≡ length ts
 counted [] [] h = refl
@@ -238,9 +269,15 @@ counted [] (i ∷ is) h = cc
 counted (t ∷ ts) [] h = cc
 counted (t ∷ ts) (i ∷ is) h = ap suc (counted ts is h)
 
-pub call_many : (d : Design) (find : Find) (needed : Bool) (name : tree.Name) (es : List Expr) (k : IsCall d find needed name (exprs es)) → length k.function.header.inputs ≡ length es
+-- so many it holds
+pub held_count : (find : Find) (needed : Bool) (place : ℕ) (ss : List SignalMeaning) (es : List Expr) → length (part_expressions find needed es ++ passed_expressions place ss) ≡ length es + length ss
+held_count find needed place ss es =
+    length-append (part_expressions find needed es) (passed_expressions place ss) ∙ ap (λ (n : ℕ). n + length (passed_expressions place ss)) (part_count find needed es) ∙ ap (λ (n : ℕ). length es + n) (length-map ss (λ (s : SignalMeaning). E.At place (E.Name s.signal)))
+
+pub call_many : (d : Design) (find : Find) (needed : Bool) (name : tree.Name) (es : List Expr) (k : IsCall d find needed name (exprs es)) → length k.function.header.inputs ≡ length es + length k.function.passed
 call_many d find needed name es k =
-    counted (part_expressions find needed es) k.function.header.inputs (ap (λ items. are_as_many items k.function.header.inputs) (arguments_are find needed es) ∙ k.many) ∙ part_count find needed es
+    counted (part_expressions find needed es ++ passed_expressions name.place k.function.passed) k.function.header.inputs
+    (ap (λ items. are_as_many items k.function.header.inputs) (whole_call find needed name.place k.function.passed es) ∙ k.many) ∙ held_count find needed name.place k.function.passed es
 
 -- what is called is a function of the design, by its number
 functions_there : (d : Design) (o : Option Header) → (home_in d o).functions ≡ d.functions
@@ -253,19 +290,20 @@ function_at s v ts m find name f number h n e i =
     let there = subst (IsNumbered (home s)) e (n name.bytes) in
     ap (λ (d : Draft). slice_get d.design.functions number) h.is ∙ ap (slice_get s.design.functions) i ∙ ap (λ (fs : List Function). slice_get fs f.number) (sym (functions_there s.design s.function)) ∙ there
 
--- a call of arguments that were built
-pub call_arm : {U F : Type 0} (r : Result U F) (s v new : Draft) (find : Find) (needed : Bool) (at n : ℕ) (name : tree.Name) (f : FunctionMeaning) (es xs : List Expr) → xs ≡ es → n ≡ length es
-    → (typed (tree.Apply name (exprs es)) find needed).expression ≡ begins_at name.place (E.Call f.header f.statement (typed_arguments (exprs es) find needed).items)
-    → AddsParts s v (part_expressions find needed xs) (1 + exprs_depth (exprs xs))
+-- a call of arguments that were built, with what it passes
+pub call_arm : {U F : Type 0} (r : Result U F) (s v new : Draft) (find : Find) (needed : Bool) (at n : ℕ) (name : tree.Name) (f : FunctionMeaning) (es xs : List Expr) → xs ≡ es → n ≡ length xs + length f.passed
+    → (typed (tree.Apply name (exprs es)) find needed).expression ≡ begins_at name.place (E.Call f.header f.statement (with_passed name.place f.passed (typed_arguments (exprs es) find needed)).items)
+    → AddsParts s v (part_expressions find needed xs ++ passed_expressions name.place f.passed) (1 + exprs_depth (exprs xs))
     → ((q : Draft) (ts : List Expression) (m : ℕ) → AddsParts q v ts m → length ts ≡ n → OnOk r (AddsExpression q new (E.At at (E.Call f.header f.statement (E.items_of ts))) (1 + m)))
     → OnOk r (AddsExpression s new (begins_at at (typed (tree.Apply name (exprs es)) find needed).expression) (1 + (1 + exprs_depth (exprs es))))
 call_arm r s v new find needed at n name f es xs e count is h g =
-    let made = g s (part_expressions find needed xs) (1 + exprs_depth (exprs xs)) h (part_count find needed xs ∙ ap length e ∙ sym count) in
-    let same : OnOk r (AddsExpression s new (E.At at (E.Call f.header f.statement (E.items_of (part_expressions find needed es)))) (1 + (1 + exprs_depth (exprs es)))) =
-    subst (λ ys. OnOk r (AddsExpression s new (E.At at (E.Call f.header f.statement (E.items_of (part_expressions find needed ys)))) (1 + (1 + exprs_depth (exprs ys))))) e made
+    let made = g s (part_expressions find needed xs ++ passed_expressions name.place f.passed) (1 + exprs_depth (exprs xs)) h (held_count find needed name.place f.passed xs ∙ sym count) in
+    let whole = with_passed name.place f.passed (typed_arguments (exprs es) find needed) in
+    let same : OnOk r (AddsExpression s new (E.At at (E.Call f.header f.statement (E.items_of (part_expressions find needed es ++ passed_expressions name.place f.passed)))) (1 + (1 + exprs_depth (exprs es)))) =
+    subst (λ ys. OnOk r (AddsExpression s new (E.At at (E.Call f.header f.statement (E.items_of (part_expressions find needed ys ++ passed_expressions name.place f.passed)))) (1 + (1 + exprs_depth (exprs ys))))) e made
     in
     subst (λ t. OnOk r (AddsExpression s new t (1 + (1 + exprs_depth (exprs es)))))
-    (ap (λ items. E.At at (E.Call f.header f.statement items)) (arguments_are find needed es) ∙ sym (begins_twice at name.place (E.Call f.header f.statement (typed_arguments (exprs es) find needed).items)) ∙ sym (ap (begins_at at) is)) same
+    (ap (λ items. E.At at (E.Call f.header f.statement items)) (whole_call find needed name.place f.passed es) ∙ sym (begins_twice at name.place (E.Call f.header f.statement whole.items)) ∙ sym (ap (begins_at at) is)) same
 
 -- ---- replications
 

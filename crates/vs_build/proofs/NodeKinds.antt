@@ -1,5 +1,5 @@
 -- The step for each kind of node.
-use Rattle.std.proofs.Common.{◌≡◌, ℕ, zero, suc, ◌+◌, ◌-◌, ◌<◌, ◌≤◌, Bool, true, false, not, ◌&&◌, ◌==◌, nat_lt, List, [], ◌∷◌, ◌++◌, length, get_or, take, max, slice_get, Option, Some, None, Result, OnOk, refl, sym, ap, ◌∙◌, subst, arith}
+use Rattle.std.proofs.Common.{◌≡◌, ℕ, zero, suc, ◌+◌, ◌-◌, ◌<◌, ◌≤◌, Bool, true, false, not, ◌&&◌, ◌||◌, ◌==◌, nat_lt, List, [], ◌∷◌, ◌++◌, length, get_or, take, max, slice_get, Option, Some, None, Result, OnOk, refl, sym, ap, ◌∙◌, subst, arith}
 use Rattle.std.specs.Prelude.{is_some}
 use Rattle.std.specs.List.{list_all}
 use Rattle.std.proofs.lemmas.Bool.{lt-ltb, ltb-true}
@@ -338,7 +338,7 @@ local_plain : (d : Design) (h : E.Header) (m : E.Signal) (ss : List E.Signal) (n
 local_plain d h m [] n l t = cc
 local_plain d h m (s ∷ ss) zero l t =
     let k = and_both (is_local d h s) (list_all (is_local d h) ss) l in
-    ap is_memory (same_signals m s t) ∙ last ((s.scope == h.result.scope) && nat_lt s.scope (length d.scopes) && is_lawful_range s.range && not s.net) (is_memory s) k.0
+    ap is_memory (same_signals m s t) ∙ last ((s.scope == h.result.scope) && nat_lt s.scope (length d.scopes) && is_lawful_range s.range && (not s.net || s.input)) (is_memory s) k.0
   where
     last : (p q : Bool) → (p && not q) ≡ true → q ≡ false
     last true false e = refl

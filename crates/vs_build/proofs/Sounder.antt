@@ -1,16 +1,23 @@
 -- What names mean over a design they mean over one that has its scopes, signals and functions too.
-use Rattle.std.proofs.Common.{◌≡◌, Bool, true, false, List, Option, Some, None, refl, ap, ◌∙◌, arith}
+use Rattle.std.proofs.Common.{◌≡◌, Bool, true, false, List, [], ◌∷◌, Option, Some, None, refl, ap, ◌∙◌, arith}
 use Rattle.std.specs.Prelude.{slice_get}
 use Rattle.vs_design.specs.Expressions.{Signal, Header}
 use Rattle.vs_design.specs.Statements.{Function}
 use Rattle.vs_design.specs.Designs.{Process, Design}
 use Rattle.vs_design.specs.Elaborated.{inside}
-use Rattle.vs_const.specs.Meanings.{Meaning, AValue, Undefined, ASignal, AMemory, AFunction, Incomplete, Another, Barred, Unknown, Find}
+use Rattle.vs_const.specs.Meanings.{SignalMeaning, Meaning, AValue, Undefined, ASignal, AMemory, AFunction, Incomplete, Another, Barred, Unknown, Find}
 use Rattle.vs_const.specs.Selects.{array_net}
-use Rattle.vs_const.specs.Sound.{HasAllWords, IsSound, AreSound}
+use Rattle.vs_const.specs.Sound.{HasAllWords, IsSoundSignal, AreSoundSignals, IsSound, AreSound}
 use Rattle.vs_elaborated.specs.Numbers.{IsNumbered, AreNumbered}
 use Rattle.vs_build.specs.Drafts.{home_in}
 use Rattle.vs_build.proofs.Wider.{IsWider, plain_wider, words_wider, header_wider, inside_wider, statement_wider}
+
+pub signal_wider : (c d : Design) → IsWider c d → (s : SignalMeaning) → IsSoundSignal c false s → IsSoundSignal d false s
+signal_wider c d w s h = (plain_wider c d w s.signal h.0, h.1, h.2, h.3)
+
+pub signals_wider : (c d : Design) → IsWider c d → (ss : List SignalMeaning) → AreSoundSignals c ss → AreSoundSignals d ss
+signals_wider c d w [] h = tt
+signals_wider c d w (s ∷ ss) h = (signal_wider c d w s h.0, signals_wider c d w ss h.1)
 
 all_words_wider : (c d : Design) (array : Bool) → IsWider c d → (s : Signal) → HasAllWords array c s → HasAllWords array d s
 all_words_wider c d false w s h = words_wider c d w s h
@@ -20,12 +27,12 @@ pub sound_wider : (c d : Design) (needed : Bool) → IsWider c d → (m : Meanin
 sound_wider c d needed w (AValue v r turns) h = h
 sound_wider c d needed w (Undefined r) h = h
 sound_wider c d true w (ASignal s) h = h
-sound_wider c d false w (ASignal s) h = (plain_wider c d w s.signal h.0, h.1, h.2)
+sound_wider c d false w (ASignal s) h = signal_wider c d w s h
 sound_wider c d true w (AMemory s) h = h
 sound_wider c d false w (AMemory s) h = (all_words_wider c d s.signal.net w s.signal h.0, h.1, h.2)
 sound_wider c d true w (AFunction f) h = h
 sound_wider c d false w (AFunction f) h =
-    (h.0, record { header = header_wider c d w f.header h.1.header; blocking = h.1.blocking; statement = statement_wider (inside c f.header) (inside d f.header) (inside_wider c d w f.header) f.statement h.1.statement })
+    (h.0, record { header = header_wider c d w f.header h.1.header; blocking = h.1.blocking; statement = statement_wider (inside c f.header) (inside d f.header) (inside_wider c d w f.header) f.statement h.1.statement }, signals_wider c d w f.passed h.2)
 sound_wider c d needed w Incomplete h = h
 sound_wider c d needed w Another h = h
 sound_wider c d needed w (Barred rule) h = h

@@ -1,5 +1,5 @@
 -- What is formed over a design is formed over one that has its scopes and signals too.
-use Rattle.std.proofs.Common.{◌≡◌, ◌≤◌, ℕ, zero, suc, Bool, true, false, not, ◌&&◌, ◌==◌, List, [], ◌∷◌, ◌++◌, length, nat_lt, refl, ap, ◌∙◌, arith}
+use Rattle.std.proofs.Common.{◌≡◌, ◌≤◌, ℕ, zero, suc, Bool, true, false, not, ◌&&◌, ◌||◌, ◌==◌, List, [], ◌∷◌, ◌++◌, length, nat_lt, refl, ap, ◌∙◌, arith}
 use Rattle.std.specs.Prelude.{slice_get, Some}
 use Rattle.std.specs.List.{list_all}
 use Rattle.std.proofs.lemmas.Bool.{ltb-true, lt-ltb}
@@ -45,8 +45,8 @@ select_wider c d w (OfConstant bits) p h = h
 
 local_wider : (c d : Design) → IsWider c d → (h : Header) (s : Signal) → is_local c h s ≡ true → is_local d h s ≡ true
 local_wider c d w h s k =
-    both_wider ((s.scope == h.result.scope) && nat_lt s.scope (length c.scopes) && is_lawful_range s.range && not s.net) (not (is_memory s)) ((s.scope == h.result.scope) && nat_lt s.scope (length d.scopes) && is_lawful_range s.range && not s.net) (not (is_memory s))
-    (both_wider ((s.scope == h.result.scope) && nat_lt s.scope (length c.scopes) && is_lawful_range s.range) (not s.net) ((s.scope == h.result.scope) && nat_lt s.scope (length d.scopes) && is_lawful_range s.range) (not s.net)
+    both_wider ((s.scope == h.result.scope) && nat_lt s.scope (length c.scopes) && is_lawful_range s.range && (not s.net || s.input)) (not (is_memory s)) ((s.scope == h.result.scope) && nat_lt s.scope (length d.scopes) && is_lawful_range s.range && (not s.net || s.input)) (not (is_memory s))
+    (both_wider ((s.scope == h.result.scope) && nat_lt s.scope (length c.scopes) && is_lawful_range s.range) (not s.net || s.input) ((s.scope == h.result.scope) && nat_lt s.scope (length d.scopes) && is_lawful_range s.range) (not s.net || s.input)
     (both_wider ((s.scope == h.result.scope) && nat_lt s.scope (length c.scopes)) (is_lawful_range s.range) ((s.scope == h.result.scope) && nat_lt s.scope (length d.scopes)) (is_lawful_range s.range)
     (both_wider (s.scope == h.result.scope) (nat_lt s.scope (length c.scopes)) (s.scope == h.result.scope) (nat_lt s.scope (length d.scopes)) (λ i. i) below) (λ i. i)) (λ i. i)) (λ i. i) k
   where

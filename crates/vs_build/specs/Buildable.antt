@@ -4,7 +4,7 @@ use Rattle.vs_four.specs.declared.Range.{Range}
 use Rattle.vs_four.specs.Selects.{range_length}
 use Rattle.vs_ast.specs.declared.expressions.Expr.{Expr}
 use Rattle.vs_ast.specs.Views.{expr}
-use Rattle.vs_design.specs.Expressions.{Expression, addresses}
+use Rattle.vs_design.specs.Expressions.{Expression, Name, At, addresses}
 use Rattle.vs_design.specs.Designs.{Design}
 use Rattle.vs_design.specs.Elaborated.{is_formed}
 use Rattle.vs_grammar.specs.Trees as tree
@@ -12,7 +12,7 @@ use Rattle.vs_grammar.specs.Trees.{expr_place}
 use Rattle.vs_grammar.specs.Shapes.{IsExpr, AreExprs, IsSelect, is_part, AreParts}
 use Rattle.vs_grammar.specs.Depths.{expr_depth, exprs_depth, select_depth}
 use Rattle.vs_const.specs.Meanings.{FunctionMeaning, SignalMeaning, Meaning, AMemory, AFunction, Find, steady, IsFair}
-use Rattle.vs_const.specs.Sound.{IsSound, AreSound}
+use Rattle.vs_const.specs.Sound.{AreSoundSignals, IsSound, AreSound}
 use Rattle.vs_const.specs.Typed.{Typed, natural}
 use Rattle.vs_const.specs.Selects.{name_typed, Base, base_of, slice_taken, first_needed, first_names, select_typed, bit_typed, word_range, is_array, addressed, further_typed}
 use Rattle.vs_const.specs.Expressions.{constant, typed, taken_by, typed_parts, typed_arguments}
@@ -78,6 +78,14 @@ pub record AreArguments (d : Design) (find : Find) (needed : Bool) (es : tree.Ex
 pub record IsCallable (m : Meaning) : Type 0 where
   pub function : FunctionMeaning
   pub is : m ≡ AFunction function
+
+-- the signals that a call of it passes are those of the design
+abbrev pub ArePassable : Design → Meaning → Type 0
+ArePassable d m = (f : FunctionMeaning) → m ≡ AFunction f → AreSoundSignals d f.passed
+
+-- what they stand for in a call at this place
+abbrev pub passed_expressions : (place : ℕ) → List SignalMeaning → List Expression
+passed_expressions place ss = map (λ (s : SignalMeaning). At place (Name s.signal)) ss
 
 -- a needed number within its bounds
 pub record IsWithin (low high : ℕ) (find : Find) (e : tree.Expr) : Type 0 where

@@ -10,9 +10,9 @@ use Rattle.vs_const.specs.Sound.{IsSound, AreSound}
 use Rattle.vs_elaborated.specs.Numbers.{AreNumbered}
 use Rattle.vs_elaborated.specs.Sound.{SeesSound}
 use Rattle.vs_elaborated.specs.Limits.{Limits}
-use Rattle.vs_elaborated.specs.Environments.{Env, inside_function, named}
+use Rattle.vs_elaborated.specs.Environments.{Env, named}
 use Rattle.vs_elaborated.specs.Statements.{typed_control, typed_statement}
-use Rattle.vs_elaborated.specs.Functions.{function_locals, header_of, function_names, function_body, said_function, meaning_or, signal_at}
+use Rattle.vs_elaborated.specs.Functions.{locals_in, header_of, function_names, function_body, said_function, meaning_or, signal_at}
 use Rattle.vs_elaborated.specs.Pieces.{ScopedBlock, Own, Initially, all_said}
 use Rattle.vs_elaborated.specs.Surveys.{Loops, Totals, assign_said, declarator_said, plain_block_said, scoped_signals, scoped_statement, initial_body, initial_said}
 use Rattle.vs_elaborated.specs.Elaborated.{scoped_design}
@@ -78,8 +78,8 @@ InitialsAreFine = (d : Design) (env : Env) (limits : Limits) (loops : Loops) (b 
 
 -- what a function says: in it its statement can be built, which is that of its meaning
 pub record IsFineFunction (d : Design) (number most scope : ℕ) (env : Env) (f : tree.Function) : Type 0 where
-  pub executable : IsExecutable (home_in d (Some (header_of f (function_locals scope (inside_function env []) f)))) (function_body (function_locals scope (inside_function env []) f)) (function_names scope env f) f.statement
-  pub statement : (said_function number most scope env f).meaning.statement ≡ (typed_statement f.statement (function_body (function_locals scope (inside_function env []) f)) (function_names scope env f)).statement
+  pub executable : IsExecutable (home_in d (Some (header_of f (locals_in scope env f)))) (function_body (locals_in scope env f)) (function_names scope env f) f.statement
+  pub statement : (said_function number most scope env f).meaning.statement ≡ (typed_statement f.statement (function_body (locals_in scope env f)) (function_names scope env f)).statement
 
 -- of a function without a fault (10.4)
 abbrev pub FunctionsAreFine : Type 0

@@ -3,8 +3,6 @@
 ghost use Rattle.std.specs.Prelude.{◌≡◌, ◌<◌, ◌^◌, None, [], length, map, IfOk, OnOk};
 ghost use Rattle.vs_ast.specs.Views as view;
 ghost use Rattle.vs_elaborated.specs.Statements.{event_faults, typed_events};
-ghost use Rattle.vs_const.specs.Meanings.{Barred};
-ghost use Rattle.vs_const.specs.declared.rules.Rule.TheVariants.{LoopVariable};
 ghost use Rattle.vs_elaborated.specs.Surveys.{initial_body};
 ghost use Rattle.vs_build.specs.Drafts.{and_initial, and_process, home};
 ghost use Rattle.vs_build.specs.Growth.{draft};
@@ -15,31 +13,9 @@ use crate::statements::statement;
 use std::alloc::{AllocError, Global};
 use vs_ast as ast;
 use vs_ast::{AlwaysBlock, EventControl, InitialBlock};
-use vs_bodies::{BodyKind, Inner, Layers, Surroundings, is_clocked};
-use vs_const::{Env, Named, Rule};
+use vs_bodies::{Alone, BodyKind, Inner, Layers, Surroundings, is_clocked};
+use vs_const::{Env, Named};
 use vs_flat::Event;
-
-/// What is around a block: no variable of a named block in it is taken.
-#[derive(Clone, Copy)]
-struct Alone<'e, E> {
-    env: &'e E,
-}
-
-impl<E: Env> Env for Alone<'_, E> {
-    ghost names = { λ a. E.names a.env.now };
-
-    fn find(&self, name: &[u8]) -> Named {
-        self.env.find(name)
-    }
-}
-
-impl<E: Env> Surroundings for Alone<'_, E> {
-    ghost declared = { λ a place. Barred LoopVariable };
-
-    fn declared(&self, _place: u32) -> Named {
-        Named::Barred(Rule::LoopVariable)
-    }
-}
 
 /// An event that breaks no rule (IEEE 1364-2005, 9.7.2).
 fn event<E: Env>(e: &ast::Event, env: &E) -> Event

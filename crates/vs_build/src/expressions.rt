@@ -1,20 +1,21 @@
 //! Expressions of the text (IEEE 1364-2005, clause 5).
 
-ghost use Rattle.std.specs.Prelude.{◌≡◌, ◌≤◌, ◌+◌, ℕ, Bool, true, max, min, length, map, Some, IfOk, OnOk};
+ghost use Rattle.std.specs.Prelude.{◌≡◌, ◌≤◌, ◌+◌, ◌++◌, ℕ, Bool, true, max, min, length, map, Some, IfOk, OnOk};
 ghost use Rattle.vs_four.specs.declared.Range.{Range};
 ghost use Rattle.vs_grammar.specs.Trees.{expr_place};
 ghost use Rattle.vs_grammar.specs.Depths.{expr_depth, exprs_depth, select_depth};
 ghost use Rattle.vs_ast.specs.Views as view;
+ghost use Rattle.vs_const.specs.Meanings.{AFunction, FunctionMeaning};
 ghost use Rattle.vs_const.specs.Typed.{begins_at};
 ghost use Rattle.vs_const.specs.Expressions.{typed, taken_by};
 ghost use Rattle.vs_build.specs.Drafts.{home, AddsExpression, AddsParts};
 ghost use Rattle.vs_build.specs.Growth.{draft};
-ghost use Rattle.vs_build.specs.Buildable.{IsBuildable, IsSelectable, IsTakable, AreArguments, AreBuildable, part_expressions, selected_by};
+ghost use Rattle.vs_build.specs.Buildable.{IsBuildable, IsCallable, IsSelectable, IsTakable, AreArguments, AreBuildable, ArePassable, part_expressions, passed_expressions, selected_by};
 
 use crate::builder::Builder;
 use crate::names::{
     bounds_of, called, constant_bits, index_needed, lesser, memory, name_alone, number_within,
-    range_length, source, words,
+    passed, passed_count, range_length, source, words,
 };
 use crate::steady::Steady;
 use std::alloc::{AllocError, Global};
@@ -61,8 +62,8 @@ pub(crate) fn expression<E: Env>(
             name,
             arguments: list,
         } => {
-            arguments(builder, alloc, list, env, needed)?;
-            builder.call(alloc, called(name, env), list.len(), at)
+            let count = call_parts(builder, alloc, name, list, env, needed)?;
+            builder.call(alloc, called(name, env), count, at)
         }
         Expr::Unary { op, operand: a, .. } => {
             operand(builder, alloc, a, env, needed)?;
@@ -148,6 +149,31 @@ fn arguments<E: Env>(
         operand(builder, alloc, argument, env, needed)?;
     }
     Ok(())
+}
+
+/// Builds what a call of this name holds, its arguments and behind them the signals that the function reads (IEEE 1364-2005, 10.4.4), one after the other,
+/// and answers how many these are.
+#[cycle(expressions)]
+fn call_parts<E: Env>(
+    builder: &mut Builder,
+    alloc: Global,
+    name: &Name,
+    list: &[Expr],
+    env: &E,
+    needed: bool,
+) -> Result<usize, AllocError>
+    requires arguments { AreArguments (home (draft builder.old)) (E.names env.now) needed (view.exprs list.now) }
+    requires callable { IsCallable (E.names env.now name.now.text) }
+    requires passable { ArePassable (home (draft builder.old)) (E.names env.now name.now.text) }
+    ensures parts { (f : FunctionMeaning) → E.names env.now name.now.text ≡ AFunction f
+        → OnOk result (AddsParts (draft builder.old) (draft builder.new) (part_expressions (E.names env.now) needed list.now ++ passed_expressions name.now.place f.passed) (1 + exprs_depth (view.exprs list.now))) }
+    ensures count { (f : FunctionMeaning) → E.names env.now name.now.text ≡ AFunction f → IfOk result (λ n. n ≡ length list.now + length f.passed) }
+{
+    arguments(builder, alloc, list, env, needed)?;
+    passed(builder, name, env)?;
+    let reads = passed_count(name, env);
+    let count = list.len().checked_add(reads as usize).ok_or(AllocError)?;
+    Ok(count)
 }
 
 /// Builds a name, with what is selected of it: `name[i]` is a word of a memory (IEEE 1364-2005, 4.9.3), a bit of anything else, and a further select is one

@@ -1,6 +1,6 @@
 //! Names and numbers of the text.
 
-ghost use Rattle.std.specs.Prelude.{◌≡◌, ◌≤◌, ◌+◌, ◌-◌, ◌||◌, ℕ, Bool, true, Some, IfOk, OnOk, min};
+ghost use Rattle.std.specs.Prelude.{◌≡◌, ◌≤◌, ◌+◌, ◌-◌, ◌||◌, ℕ, Bool, true, Some, IfOk, OnOk, length, min};
 ghost use Rattle.vs_four.specs.Selects as four;
 ghost use Rattle.vs_grammar.specs.Trees.{expr_place};
 ghost use Rattle.vs_ast.specs.Views as view;
@@ -9,9 +9,9 @@ ghost use Rattle.vs_const.specs.Typed.{begins_at, natural};
 ghost use Rattle.vs_const.specs.Selects.{name_typed, base_of, is_array};
 ghost use Rattle.vs_design.specs.Values.{constant_value};
 ghost use Rattle.vs_const.specs.Expressions.{constant};
-ghost use Rattle.vs_build.specs.Drafts.{home, AddsExpression};
+ghost use Rattle.vs_build.specs.Drafts.{home, AddsExpression, AddsParts};
 ghost use Rattle.vs_build.specs.Growth.{draft};
-ghost use Rattle.vs_build.specs.Buildable.{memory_of, IsNameable, HasBits, HasWords, IsWordAddressable, AddsSource, IsCallable, IsWithin, AreBounds, IsRangeOf, IsConstant};
+ghost use Rattle.vs_build.specs.Buildable.{memory_of, IsNameable, HasBits, HasWords, IsWordAddressable, AddsSource, ArePassable, IsCallable, passed_expressions, IsWithin, AreBounds, IsRangeOf, IsConstant};
 
 use crate::builder::Builder;
 use std::alloc::{AllocError, Global};
@@ -112,6 +112,33 @@ pub(crate) fn called<E: Env>(name: &Name, env: &E) -> u32
         Named::Function(f) => f.number,
         _ => unreachable!(),
     }
+}
+
+/// How many signals a call of this name passes: those of its module that the function reads (IEEE 1364-2005, 10.4.4).
+pub(crate) fn passed_count<E: Env>(name: &Name, env: &E) -> u32
+    requires { IsCallable (E.names env.now name.now.text) }
+    ensures { (f : FunctionMeaning) → E.names env.now name.now.text ≡ AFunction f → result ≡ length f.passed }
+{
+    match env.find(name.text.as_slice()) {
+        Named::Function(f) => f.passed,
+        _ => unreachable!(),
+    }
+}
+
+/// Builds the signals that a call of this name passes behind its arguments, one after the other.
+pub(crate) fn passed<E: Env>(builder: &mut Builder, name: &Name, env: &E) -> Result<(), AllocError>
+    requires callable { IsCallable (E.names env.now name.now.text) }
+    requires passable { ArePassable (home (draft builder.old)) (E.names env.now name.now.text) }
+    ensures { (f : FunctionMeaning) → E.names env.now name.now.text ≡ AFunction f → OnOk result (AddsParts (draft builder.old) (draft builder.new) (passed_expressions name.now.place f.passed) 1) }
+{
+    let count = passed_count(name, env);
+    for n in 0..count {
+        match env.passed(name.text.as_slice(), n) {
+            Some(s) => builder.name(s.number, name.place)?,
+            None => unreachable!(),
+        }
+    }
+    Ok(())
 }
 
 /// Builds what bits are selected of, and answers its declared range.

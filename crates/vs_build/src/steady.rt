@@ -2,7 +2,7 @@
 
 ghost use Rattle.vs_const.specs.Meanings.{Means, Meaning, steady, steady_meaning};
 
-use vs_const::{Env, Named, Rule};
+use vs_const::{Env, Named, Rule, SignalShape};
 
 /// The names of an environment, where no integer of a loop may stand.
 #[derive(Clone, Copy)]
@@ -25,5 +25,9 @@ impl<E: Env> Env for Steady<'_, E> {
 
     fn find(&self, name: &[u8]) -> Named {
         kept(self.env.find(name))
+    }
+
+    fn passed(&self, name: &[u8], number: u32) -> Option<SignalShape> {
+        self.env.passed(name, number)
     }
 }

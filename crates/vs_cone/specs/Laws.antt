@@ -5,7 +5,7 @@ use Rattle.vs_net.specs.Network.{State, write_all, Network, kind, writes}
 use Rattle.vs_net.specs.Queue.{Slot}
 use Rattle.vs_net.specs.Solution.{given, IsSlotEnd}
 use Rattle.vs_net.specs.Settle.{settle, IsFed}
-use Rattle.vs_net.specs.Lawful.{Settles}
+use Rattle.vs_net.specs.Lawful.{Settles, IsSure}
 use Rattle.vs_design.specs.Designs.{Design}
 use Rattle.vs_design.specs.Footprints.{contains}
 use Rattle.vs_design.specs.Clocks.{clock_bits, clock_nets}
@@ -14,10 +14,10 @@ use Rattle.vs_design.specs.Networks.{network_of}
 use Rattle.vs_design.specs.Accepted.{IsAcceptedDesign}
 use Rattle.vs_cone.specs.Cones.{cone, but_ports}
 
--- so it is at the end of every slot: each assign's target has the value of its right side, and each combinational block's bits have what its statement gives, or x where it sleeps on from some values before
+-- so it is at the end of every slot: each assign's target has the value of its right side, and the bits of each combinational block whose selectors are known have what its statement gives, or x where it sleeps on from some values before
 pub record IsSettled (n : Network) (s : State) : Type 0 where
   pub from : State
-  pub each : (p : ℕ) → Settles (kind (n.process p)) → write_all s (given n from p s) ≡ s
+  pub each : (p : ℕ) → Settles (kind (n.process p)) → IsSure n p s → write_all s (given n from p s) ≡ s
 
 -- all clock nets have this value
 pub record HaveClock (d : Design) (clocks : List ℕ) (v : Bit4) (s : State) : Type 0 where

@@ -26,7 +26,6 @@ pub fn first_law()
 pub fn later_law()
     ensures { LaterSlots }
 {
-    pass_law();
     lawful_law();
     clock_law();
 }
@@ -45,7 +44,6 @@ pub fn fall_law()
 pub fn rise_law()
     ensures { LaterRise }
 {
-    pass_law();
     lawful_law();
     clock_law();
 }

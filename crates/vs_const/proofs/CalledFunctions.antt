@@ -1,5 +1,5 @@
 -- Names that are called, and their arguments.
-use Rattle.std.proofs.Common.{◌≡◌, ℕ, suc, Bool, true, false, List, [], ◌∷◌, None, length, ◌==◌, refl, sym, ap, ◌∙◌, subst, eqb-true, eq-eqb, ne_eqb, arith}
+use Rattle.std.proofs.Common.{◌≡◌, ◌+◌, ℕ, suc, max, Bool, true, false, List, [], ◌∷◌, None, length, ◌==◌, refl, sym, ap, ◌∙◌, subst, eqb-true, eq-eqb, ne_eqb, arith}
 use Rattle.std.proofs.lemmas.Bool.{both_ways}
 use Rattle.vs_design.proofs.Lists.{by_test}
 use Rattle.vs_design.specs.Expressions.{Signal, Items, NoItem, Item}
@@ -14,7 +14,8 @@ use Rattle.vs_const.specs.Faults.{fault, NotConstant}
 use Rattle.vs_const.specs.Meanings.{SignalMeaning, FunctionMeaning, Meaning, AValue, Undefined, ASignal, AMemory, AFunction, Incomplete, Another, Barred, Unknown, Means}
 use Rattle.vs_const.specs.Typed.{broken}
 use Rattle.vs_const.specs.Selects.{wrong_rule}
-use Rattle.vs_const.specs.Expressions.{TypedItems, call_rule, called, applied}
+use Rattle.vs_const.specs.CallDepths.{call_depth, items_depth}
+use Rattle.vs_const.specs.Expressions.{TypedItems, joined_items, passed_items, call_rule, called, applied}
 use Rattle.vs_const.specs.Checks.{item_count, ChecksArguments}
 use Rattle.vs_const.specs.Found.{Finds}
 
@@ -29,6 +30,34 @@ as_many (Item e es) (input ∷ inputs) = as_many es inputs ∙ same_test (item_c
     same_test p q = by_test (p == q)
         (λ e. e ∙ sym (eq-eqb (suc p) (suc q) (ap suc (eqb-true p q e))))
         (λ e. e ∙ sym (ne_eqb (suc p) (suc q) (λ h. both_ways (p == q) e (eq-eqb p q (omega (arith, h))))))
+
+-- ---- what a call passes behind its arguments
+
+joined_count : (items others : Items) → item_count (joined_items items others) ≡ item_count items + item_count others
+joined_count NoItem others = omega arith
+joined_count (Item e es) others = let h = joined_count es others in omega (arith, h)
+
+passed_count : (place : ℕ) (ss : List SignalMeaning) → item_count (passed_items place ss) ≡ length ss
+passed_count place [] = refl
+passed_count place (s ∷ ss) = ap suc (passed_count place ss)
+
+-- as many arguments as inputs are declared
+pub as_declared : (place : ℕ) (ss : List SignalMeaning) (items : Items) (inputs : List Signal) (declared passed : ℕ) → declared + passed ≡ length inputs → passed ≡ length ss
+    → are_as_many (joined_items items (passed_items place ss)) inputs ≡ (item_count items == declared)
+as_declared place ss items inputs declared passed all more =
+    as_many (joined_items items (passed_items place ss)) inputs
+    ∙ by_test (item_count (joined_items items (passed_items place ss)) == length inputs)
+    (λ e. e ∙ sym (eq-eqb (item_count items) declared (let h = eqb-true (item_count (joined_items items (passed_items place ss))) (length inputs) e in omega (arith, h, count, all, more))))
+    (λ e. e ∙ sym (ne_eqb (item_count items) declared (λ h. both_ways (item_count (joined_items items (passed_items place ss)) == length inputs) e (eq-eqb (item_count (joined_items items (passed_items place ss))) (length inputs) (omega (arith, h, count, all, more))))))
+  where
+    count : item_count (joined_items items (passed_items place ss)) ≡ item_count items + length ss
+    count = joined_count items (passed_items place ss) ∙ ap (λ (n : ℕ). item_count items + n) (passed_count place ss)
+
+-- calls nest no deeper for it
+pub passed_depth : (place : ℕ) (ss : List SignalMeaning) (items : Items) → items_depth (joined_items items (passed_items place ss)) ≡ items_depth items
+passed_depth place [] NoItem = refl
+passed_depth place (s ∷ ss) NoItem = let h = passed_depth place ss NoItem in omega (arith, h)
+passed_depth place ss (Item e es) = ap (max (call_depth e)) (passed_depth place ss es)
 
 -- ---- what the look-up of a name that isn't a function says
 

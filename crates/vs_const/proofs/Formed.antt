@@ -5,7 +5,7 @@ use Rattle.vs_four.specs.declared.Range.{Range}
 use Rattle.vs_four.specs.Logic.{BitList, all_known}
 use Rattle.vs_four.specs.Numbers.{integer, clog2}
 use Rattle.vs_four.specs.Selects.{Part, range_length, is_descending}
-use Rattle.vs_design.specs.Expressions.{addresses, OfSignal, OfConstant, Expression, Literal, Name, Select, Word, WordPart, Unary, Binary, Choice, Join, Repeat, At, Call, UnaryOp, Signed, Unsigned, BinaryOp, Way, InContext, Own, Compared, Shifted, Raised, way, binary_length, width, sign, is_constant}
+use Rattle.vs_design.specs.Expressions.{addresses, OfSignal, OfConstant, Expression, Items, NoItem, Item, Literal, Name, Select, Word, WordPart, Unary, Binary, Choice, Join, Repeat, At, Call, UnaryOp, Signed, Unsigned, BinaryOp, Way, InContext, Own, Compared, Shifted, Raised, way, binary_length, width, sign, is_constant}
 use Rattle.vs_design.specs.Values.{constant_value}
 use Rattle.vs_design.specs.Designs.{Design}
 use Rattle.vs_design.specs.Fits.{fits_64}
@@ -17,10 +17,10 @@ use Rattle.vs_grammar.specs.Shapes.{IsExpr, AreParts, AreExprs, IsSelect, IsLite
 use Rattle.vs_const.specs.declared.faults.Fault.{Fault}
 use Rattle.vs_const.specs.Faults.{Rule, fault, fault_if, names_signal, BadRange, UnknownConstant, UnknownName, WrongKind, FunctionRule}
 use Rattle.vs_const.specs.Meanings.{SignalMeaning, FunctionMeaning, Meaning, AValue, Undefined, ASignal, AMemory, AFunction, Incomplete, Another, Barred, Unknown, Find, ConstantValue, IsFairValue, steady}
-use Rattle.vs_const.specs.Sound.{HasAllWords, IsSoundMemory, IsFormedFunction, IsSoundFunction, IsSound, AreSound, IsFine}
+use Rattle.vs_const.specs.Sound.{AreSoundSignals, HasAllWords, IsSoundMemory, IsFormedFunction, IsSoundFunction, IsSound, AreSound, IsFine}
 use Rattle.vs_const.specs.Typed.{Typed, begins_at, is_over, noted, known_number, number_known, number_if, number_of, natural_if, natural_within, natural, both_lengths, length_map, unary_op_length, unary_typed, binary_way_length, binary_typed, choice_typed, join_typed, copies_typed, fine}
 use Rattle.vs_const.specs.Selects.{range_if, range_of, bounds, known_signal, name_typed, Base, is_scalar, signal_base, base_of, Taken, taken, if_width, moving, is_against, lesser_bound, along, between, slice_taken, first_needed, first_names, select_if, select_typed, wrong_rule, is_array, array_net, Addressed, in_array, addressed_in, addressed, word_if, word_typed, bit_typed, word_range, word_part_if, word_part_typed, further_typed}
-use Rattle.vs_const.specs.Expressions.{unsized_faults, is_clean, part_typed, replicated, replication_typed, clog2_of, clog2_typed, call_typed, argument_needed, TypedItems, and_argument, call_if, called, applied, typed, selected, taken_by, typed_parts, typed_arguments}
+use Rattle.vs_const.specs.Expressions.{unsized_faults, is_clean, part_typed, replicated, replication_typed, clog2_of, clog2_typed, call_typed, argument_needed, TypedItems, joined_items, passed_items, with_passed, and_argument, call_if, called, applied, typed, selected, taken_by, typed_parts, typed_arguments}
 use Rattle.vs_const.proofs.Steady.{sound_needed, steady_sound, first_sound}
 
 pub array_sound : (d : Design) (array needed : Bool) (find : Find) → AreSound d needed find → AreSound d (array || needed) find
@@ -723,14 +723,26 @@ call_fits d f t fs true e g k a = record {
     five true false c d e h k l m n = cc
     five false b c d e h k l m n = cc
 
+-- what it passes are signals of the design
+passed_formed : (d : Design) (place : ℕ) (ss : List SignalMeaning) → AreSoundSignals d ss → are_formed d (passed_items place ss) ≡ true
+passed_formed d place [] h = refl
+passed_formed d place (s ∷ ss) h = both (is_plain d s.signal) (are_formed d (passed_items place ss)) h.0.0 (passed_formed d place ss h.1)
+
+joined_formed : (d : Design) (items others : Items) → are_formed d items ≡ true → are_formed d others ≡ true → are_formed d (joined_items items others) ≡ true
+joined_formed d NoItem others h k = k
+joined_formed d (Item e es) others h k =
+    let g = split (is_formed d e) (are_formed d es) h in
+    both (is_formed d e) (are_formed d (joined_items es others)) g.0 (joined_formed d es others g.1 k)
+
 called_fine : (d : Design) (f : FunctionMeaning) (place : ℕ) (t : TypedItems) → IsSoundFunction d false f → (t.faults ≡ [] → AreFine d t) → (called f place t).faults ≡ [] → IsFine d false (called f place t)
 called_fine d f place t s fine_if h =
-    let fits = are_as_many t.items f.header.inputs in
+    let whole = with_passed place f.passed t in
+    let fits = are_as_many whole.items f.header.inputs in
     let fs = fault_if (f.known && not fits) FunctionRule place ++ t.faults in
-    let n = both_nil (fault_if (f.known && not fits) FunctionRule place) t.faults (sym (call_faults (f.known && (fits && t.good)) f t fs) ∙ h) in
+    let n = both_nil (fault_if (f.known && not fits) FunctionRule place) t.faults (sym (call_faults (f.known && (fits && t.good)) f whole fs) ∙ h) in
     let k = as_many f.known fits s.0 (no_fault (f.known && not fits) FunctionRule place n.0) in
     let a = fine_if n.1 in
-    call_fits d f t fs (f.known && (fits && t.good)) (both f.known (fits && t.good) s.0 (both fits t.good k a.good)) s.1 k a.formed
+    call_fits d f whole fs (f.known && (fits && t.good)) (both f.known (fits && t.good) s.0 (both fits t.good k a.good)) s.1 k (joined_formed d t.items (passed_items place f.passed) a.formed (passed_formed d place f.passed s.2))
 
 applied_fine : (d : Design) (needed : Bool) (place : ℕ) (m : Meaning) (t : TypedItems) → IsSound d needed m → (t.faults ≡ [] → AreFine d t) → (applied needed place m t).faults ≡ [] → IsFine d needed (applied needed place m t)
 applied_fine d true place (AFunction f) t s fine_if h = cc

@@ -36,10 +36,10 @@ pub row_parts : {m : _} (k : Row_of-Expr m) → AreParts (expr_row k) → ArePar
 row_parts k x = subst (λ r. AreParts r) (expr_rows k) x
 
 -- from the i-th part on
-from_part : (es : List Expr) (i : ℕ) (e : Expr) → i < length es → e ≡ get_or es i e → exprs (drop i es) ≡ tree.AndExpr (expr e) (exprs (drop (suc i) es))
+pub from_part : (es : List Expr) (i : ℕ) (e : Expr) → i < length es → e ≡ get_or es i e → exprs (drop i es) ≡ tree.AndExpr (expr e) (exprs (drop (suc i) es))
 from_part es i e h k = ap exprs (drop-cons es i e h) ∙ ap (λ z. tree.AndExpr (expr z) (exprs (drop (suc i) es))) (sym k)
 
-none_left : (es : List Expr) (i : ℕ) → length es ≤ i → drop i es ≡ []
+pub none_left : (es : List Expr) (i : ℕ) → length es ≤ i → drop i es ≡ []
 none_left [] zero h = refl
 none_left [] (suc i) h = refl
 none_left (a ∷ es) zero h = absurd (omega arith)

@@ -4,13 +4,14 @@ use Rattle.vs_four.specs.declared.Bit4.TheVariants.{X}
 use Rattle.vs_four.specs.declared.Range.{Range}
 use Rattle.vs_four.specs.Logic.{BitList}
 use Rattle.vs_four.specs.Numbers.{bits_of}
-use Rattle.vs_design.specs.Expressions.{Signal, Header}
+use Rattle.vs_design.specs.Expressions.{Signal, Header, Literal, Name, At, Call, Item, NoItem}
 use Rattle.vs_design.specs.Statements.{Empty}
 use Rattle.vs_grammar.specs.Trees as tree
 use Rattle.vs_grammar.specs.Trees.{Expr, NoExpr, AndExpr, Whole, BitAt, Slice, OfWord, Between, Upward, Clog2}
 use Rattle.vs_const.specs.declared.faults.Fault.{Fault}
-use Rattle.vs_const.specs.Meanings.{ConstantValue, Meaning, AValue, Undefined, ASignal, AMemory, AFunction, Incomplete, Another, Barred, Unknown, Find, InModule, turn_value}
+use Rattle.vs_const.specs.Meanings.{ConstantValue, SignalMeaning, Meaning, AValue, Undefined, ASignal, AMemory, AFunction, Incomplete, Another, Barred, Unknown, Find, InModule, turn_value}
 use Rattle.vs_const.specs.Expressions.{typed}
+use Rattle.vs_const.specs.Mentions.{mentions, unheard_faults}
 use Rattle.vs_const.specs.Constants.{constant_answer, number_answer}
 use Rattle.vs_const.specs.Faults.{Rule, BadRange, NotConstant, UnknownConstant, UnknownName, WrongKind, LoopVariable, FunctionRule, Recursion, least}
 
@@ -34,17 +35,29 @@ local number = record { name = []; scope = 0; number = number; net = false; inpu
 abbrev pub header : Header
 header = record { place = 0; inputs = local 0 ∷ []; result = local 1; own = [] }
 
+-- and one that reads a signal too, of four bits, which its last input passes
+abbrev pub passing : Signal
+passing = record (local 1) { net = true; input = true }
+
+abbrev pub reading : Header
+reading = record { place = 0; inputs = local 0 ∷ passing ∷ []; result = local 2; own = [] }
+
+-- what `v` means
+abbrev pub vector_meaning : SignalMeaning
+vector_meaning = record { signal = vector; input = false; role = InModule; known = true }
+
 -- `v` is a signal of four bits, `m` a memory, `p` a parameter of value `4'd9`, `d` one whose value another fault leaves undefined, `g` a generate block, `i` an integer of value 2 within
--- its loop, `f` a function, `r` the function around, `o` an integer outside its loops
+-- its loop, `f` a function, `w` one that reads `v`, `r` the function around, `o` an integer outside its loops
 abbrev pub letter : ℕ → Meaning
 letter c =
-    if c == 118 then ASignal (record { signal = vector; input = false; role = InModule; known = true })
+    if c == 118 then ASignal vector_meaning
     else if c == 109 then AMemory (record { signal = memory; input = false; role = InModule; known = true })
     else if c == 112 then AValue (record { bits = bits_of 4 9; signed = false }) (to_zero 3) false
     else if c == 100 then Undefined (Some (to_zero 3))
     else if c == 103 then Another
     else if c == 105 then turn_value (bits_of 32 2)
-    else if c == 102 then AFunction (record { number = 0; header = header; statement = Empty; known = true })
+    else if c == 102 then AFunction (record { number = 0; header = header; statement = Empty; passed = []; known = true })
+    else if c == 119 then AFunction (record { number = 1; header = reading; statement = Empty; passed = vector_meaning ∷ []; known = true })
     else if c == 114 then Incomplete
     else if c == 111 then Barred LoopVariable
     else Unknown
@@ -180,6 +193,17 @@ pub record ConstantsComputed : Type 0 where
   pub unknown_argument : least (typed (call_1 0 102 (u 2)) names false).faults ≡ Some (record { rule = UnknownName; place = 2 })
   pub called_around : least (typed (call_1 0 114 (v 2)) names false).faults ≡ Some (record { rule = Recursion; place = 0 })
   pub called_signal : least (typed (call_1 0 118 (p 2)) names false).faults ≡ Some (record { rule = WrongKind; place = 0 })
+  -- `w(p)` passes v behind p; `w(p, v)` has an argument too many
+  pub called_reading : least (typed (call_1 0 119 (p 2)) names false).faults ≡ None
+  pub passed_behind : (typed (call_1 0 119 (p 2)) names false).expression ≡ At 0 (Call reading Empty (Item (At 2 (Literal (bits_of 4 9) false true)) (Item (At 0 (Name vector)) NoItem)))
+  pub passed_argument : least (typed (call_2 0 119 (p 2) (v 4)) names false).faults ≡ Some (record { rule = FunctionRule; place = 0 })
+  -- `w(p)` alone: who calls it isn't woken by v; with `v[0]` it is, and by `f(v)` or `w(v)` not
+  pub unheard : least (unheard_faults 7 (mentions (call_1 0 119 (p 2)) names false)) ≡ Some (record { rule = FunctionRule; place = 7 })
+  pub heard : least (unheard_faults 7 (mentions (tree.Binary tree.Add (call_1 0 119 (p 2)) (tree.Named (a_name 5 118) (BitAt 6 (plain 7 0)))) names false)) ≡ None
+  pub unheard_argument : least (unheard_faults 7 (mentions (tree.Binary tree.Add (call_1 0 119 (p 2)) (call_1 5 102 (v 7))) names false)) ≡ Some (record { rule = FunctionRule; place = 7 })
+  pub unheard_itself : least (unheard_faults 7 (mentions (call_1 0 119 (v 2)) names false)) ≡ Some (record { rule = FunctionRule; place = 7 })
+  -- a call of a function that reads none
+  pub reads_none : least (unheard_faults 7 (mentions (call_1 0 102 (p 2)) names false)) ≡ None
   pub barred_name : least (typed (tree.Named (a_name 0 111) Whole) names false).faults ≡ Some (record { rule = LoopVariable; place = 0 })
   -- ---- bits of a number are unknown
 

@@ -1,14 +1,14 @@
 -- Expressions of the text as expressions of a design, with their faults (IEEE 1364-2005, clauses 5 and 10.4.3).
 use Rattle.std.specs.Prelude.{ℕ, Bool, true, false, not, ◌&&◌, ◌||◌, List, [], ◌∷◌, ◌++◌, Option, Some, None, if◌then◌else◌}
 use Rattle.vs_four.specs.Numbers.{bits_of, clog2}
-use Rattle.vs_design.specs.Expressions.{signal_length, Literal, Call, Items, NoItem, Item, Signed, Unsigned}
+use Rattle.vs_design.specs.Expressions.{signal_length, Literal, Name, At, Call, Items, NoItem, Item, Signed, Unsigned}
 use Rattle.vs_design.specs.Elaborated.{are_as_many}
 use Rattle.vs_design.specs.Values.{constant_value}
 use Rattle.vs_grammar.specs.Trees as tree
 use Rattle.vs_grammar.specs.Trees.{expr_place}
 use Rattle.vs_const.specs.declared.faults.Fault.{Fault}
 use Rattle.vs_const.specs.Faults.{Rule, fault, fault_if, UnknownConstant, WrongKind, NotConstant, FunctionRule, Recursion}
-use Rattle.vs_const.specs.Meanings.{FunctionMeaning, Meaning, ASignal, AFunction, Incomplete, Find, steady, is_result}
+use Rattle.vs_const.specs.Meanings.{SignalMeaning, FunctionMeaning, Meaning, ASignal, AFunction, Incomplete, Find, steady, is_result}
 use Rattle.vs_const.specs.Typed.{Typed, broken, fine, noted, Numbered, number_of, natural, unary_typed, binary_typed, choice_typed, join_typed, copies_typed}
 use Rattle.vs_four.specs.declared.Range.{Range}
 use Rattle.vs_const.specs.Selects.{base_of, name_typed, Taken, not_taken, taken, slice_taken, first_needed, first_names, select_typed, bit_typed, rule_where, wrong_rule, word_range, is_array, further_typed}
@@ -90,11 +90,26 @@ abbrev pub call_if : (good : Bool) → FunctionMeaning → TypedItems → List F
 call_if true f arguments faults = fine (Call f.header f.statement arguments.items) faults
 call_if false f arguments faults = broken (if f.known then Some (signal_length f.header.result) else None) faults
 
--- it has as many arguments as the function has inputs
+-- one after the other
+abbrev pub joined_items : Items → Items → Items
+joined_items NoItem others = others
+joined_items (Item e es) others = Item e (joined_items es others)
+
+-- these signals, in a call at this place
+abbrev pub passed_items : (place : ℕ) → List SignalMeaning → Items
+passed_items place [] = NoItem
+passed_items place (s ∷ ss) = Item (At place (Name s.signal)) (passed_items place ss)
+
+-- behind its arguments a call passes the signals that the function reads
+abbrev pub with_passed : (place : ℕ) → List SignalMeaning → TypedItems → TypedItems
+with_passed place passed arguments = record arguments { items = joined_items arguments.items (passed_items place passed) }
+
+-- it has as many arguments as the function declares inputs
 abbrev pub called : FunctionMeaning → (place : ℕ) → TypedItems → Typed
 called f place arguments =
-    let fits = are_as_many arguments.items f.header.inputs in
-    call_if (f.known && (fits && arguments.good)) f arguments (fault_if (f.known && not fits) FunctionRule place ++ arguments.faults)
+    let whole = with_passed place f.passed arguments in
+    let fits = are_as_many whole.items f.header.inputs in
+    call_if (f.known && (fits && arguments.good)) f whole (fault_if (f.known && not fits) FunctionRule place ++ arguments.faults)
 
 -- a call is no constant
 abbrev pub function_applied : (needed : Bool) → FunctionMeaning → (place : ℕ) → TypedItems → Typed

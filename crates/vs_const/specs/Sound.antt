@@ -1,5 +1,5 @@
 -- What an expression without a fault stands for.
-use Rattle.std.specs.Prelude.{◌≡◌, ◌≤◌, ℕ, Bool, true, false, List, [], Some}
+use Rattle.std.specs.Prelude.{◌≡◌, ◌≤◌, ℕ, Bool, true, false, List, [], ◌∷◌, Some}
 use Rattle.vs_design.specs.Expressions.{Signal, addresses, width, is_constant}
 use Rattle.vs_design.specs.Designs.{Design}
 use Rattle.vs_design.specs.Elaborated.{is_plain, has_words, is_lawful_range, is_formed, is_formed_header, is_formed_statement, is_nil, inside}
@@ -11,10 +11,10 @@ use Rattle.vs_const.specs.Typed.{Typed}
 use Rattle.vs_const.specs.Selects.{array_net}
 use Rattle.vs_const.specs.Expressions.{typed}
 
--- what a name means where no fault was met: a value with its range, a known signal, memory or function of the design (in a constant any of them is a fault), or nothing that an expression can name
+-- what a name means where no fault was met: a value with its range, a known signal with a lawful range, a known memory or function of the design (in a constant any of them is a fault), or nothing that an expression can name
 abbrev pub IsSoundSignal : Design → Bool → SignalMeaning → Type 0
 IsSoundSignal d true s = Unit {0}
-IsSoundSignal d false s = (is_plain d s.signal ≡ true) × (s.known ≡ true) × (s.signal.input ≡ true → s.input ≡ true)
+IsSoundSignal d false s = (is_plain d s.signal ≡ true) × (s.known ≡ true) × (s.signal.input ≡ true → s.input ≡ true) × (is_lawful_range s.signal.range ≡ true)
 
 -- a memory has its words in the design, and an array of nets each of its nets
 abbrev pub HasAllWords : (array : Bool) → Design → Signal → Type 0
@@ -32,10 +32,15 @@ pub record IsFormedFunction (d : Design) (f : FunctionMeaning) : Type 0 where
   pub blocking : is_nil (mixed_in false f.statement) ≡ true
   pub statement : is_formed_statement (inside d f.header) f.statement ≡ true
 
+-- what it passes are signals of the design
+abbrev pub AreSoundSignals : Design → List SignalMeaning → Type 0
+AreSoundSignals d [] = Unit {0}
+AreSoundSignals d (s ∷ ss) = IsSoundSignal d false s × AreSoundSignals d ss
+
 -- a function that is complete, likewise
 abbrev pub IsSoundFunction : Design → Bool → FunctionMeaning → Type 0
 IsSoundFunction d true f = Unit {0}
-IsSoundFunction d false f = (f.known ≡ true) × IsFormedFunction d f
+IsSoundFunction d false f = (f.known ≡ true) × IsFormedFunction d f × AreSoundSignals d f.passed
 
 -- of a name
 abbrev pub IsSound : Design → Bool → Meaning → Type 0

@@ -83,7 +83,7 @@ pub(crate) fn find_misnamed(rule: Rule, place: u32) -> Found
 }
 
 /// What a call says of a function.
-#[tactic(auto, using(crate::proofs::Least::flaws_append, crate::proofs::CalledFunctions::as_many))]
+#[tactic(auto, using(crate::proofs::Least::flaws_append, crate::proofs::CalledFunctions::as_declared, crate::proofs::CalledFunctions::passed_depth))]
 fn called(f: FunctionShape, place: u32, arguments: Arguments) -> Checked
     ensures { (m : FunctionMeaning) (t : expr.TypedItems) → Means (Named.Function f) (AFunction m) → ChecksArguments arguments t → Checks result (expr.called m place t) }
 {

@@ -10,6 +10,7 @@ mod faults;
 mod forms;
 mod found;
 mod laws;
+mod mentions;
 mod names;
 mod needs;
 mod operators;
@@ -29,6 +30,7 @@ pub use faults::{
 pub use forms::{Form, own, shape, value};
 pub use found::{Checked, Found};
 pub use laws::{constant_examples, sound_law};
+pub use mentions::{Mention, Way, push_mentions, push_select_mentions};
 pub use names::{Constant, Env, FunctionShape, Named, Role, SignalShape};
 pub use ranges::{Bounds, Natural, Numbered, within};
 pub use rules::Rule;

@@ -17,7 +17,8 @@ use Rattle.vs_design.specs.Sets.{Set4, has}
 use Rattle.vs_design.specs.Lifted.{Family, assigned_sets}
 use Rattle.vs_design.specs.LiftedBodies.{put_each, write_sets, assign_sets}
 use Rattle.vs_design.specs.Sleepers.{is_sleeping}
-use Rattle.vs_design.specs.TimeZero.{Families, before_run, block_sets, settle_early, settle_late, settle, settle_some, families_along}
+use Rattle.vs_design.specs.Selects.{is_lenient_block}
+use Rattle.vs_design.specs.TimeZero.{Families, before_run, block_sets, settle_early, settle_late, settle, meant_process, settle_some, families_along}
 use Rattle.vs_design.specs.Fits.{fits_target, fits_statement, is_fit}
 use Rattle.vs_design.specs.Elaborated.{has_constant_selects}
 use Rattle.vs_design.specs.Accepted.{is_empty}
@@ -31,6 +32,7 @@ use Rattle.vs_design.proofs.Blocks.{early_in, no_latch_at, block_writes}
 use Rattle.vs_design.proofs.Drivers.{one_process}
 use Rattle.vs_design.proofs.Order.{Turn, turn_of, all_at_end}
 use Rattle.vs_design.proofs.WordParts.{part_constant, part_variable}
+use Rattle.vs_design.proofs.Meant.{meant_writes}
 
 same_option : {A : Type 0} (x y : A) → Some x ≡ Some y → x ≡ y
 same_option x y e = cc
@@ -38,7 +40,7 @@ same_option x y e = cc
 neither : (xs ys : List ℕ) (b : ℕ) → contains (xs ++ ys) b ≡ false → (contains xs b ≡ false) × (contains ys b ≡ false)
 neither xs ys b h = or_neither (contains xs b) (contains ys b) (sym (contains-append xs ys b) ∙ h)
 
-each_other : (ps : List (Option ℕ)) (ss : List Set4) (sets : Family) (b : ℕ) → contains (somes ps) b ≡ false → put_each ps ss sets b ≡ sets b
+pub each_other : (ps : List (Option ℕ)) (ss : List Set4) (sets : Family) (b : ℕ) → contains (somes ps) b ≡ false → put_each ps ss sets b ≡ sets b
 each_other [] ss sets b h = refl
 each_other (p ∷ ps) [] sets b h = refl
 each_other (None ∷ ps) (s ∷ ss) sets b h = each_other ps ss sets b h
@@ -64,9 +66,9 @@ write_other (Both high low) ss sets b h =
     let k = neither (target_bits high) (target_bits low) b h in
     write_other low (take (target_width low) ss) (write_sets high (drop (target_width low) ss) sets) b k.1 ∙ write_other high (drop (target_width low) ss) sets b k.0
 
-early_other : (asleep : Bool) (x : Process) (sets : Family) (b : ℕ) → contains (writes_of x) b ≡ false → settle_early asleep x sets b ≡ sets b
-early_other asleep (Continuous place port target_place target e) sets b h = write_other target (assigned_sets e (target_width target) sets) sets b h
-early_other asleep (Always place star events st) sets b h = rw h refl
+early_other : (asleep lenient : Bool) (x : Process) (sets : Family) (b : ℕ) → contains (writes_of x) b ≡ false → settle_early asleep lenient x sets b ≡ sets b
+early_other asleep lenient (Continuous place port target_place target e) sets b h = write_other target (assigned_sets e (target_width target) sets) sets b h
+early_other asleep lenient (Always place star events st) sets b h = rw h refl
 
 late_other : (asleep : Bool) (x : Process) (sets : Family) (b : ℕ) → contains (writes_of x) b ≡ false → settle_late asleep x sets b ≡ sets b
 late_other asleep (Continuous place port target_place target e) sets b h = write_other target (assigned_sets e (target_width target) sets) sets b h
@@ -80,7 +82,11 @@ SameAt f g b = (f.early b ≡ g.early b) × (f.late b ≡ g.late b)
 abbrev pub AllIn' : Design → List ℕ → ℕ → Type 0
 AllIn' d placed b = (r : ℕ) (x : Process) → slice_get d.processes r ≡ Some x → is_clocked x ≡ false → contains (writes_of x) b ≡ true → contains placed r ≡ true
 
-along_turn : (d : Design) (p : ℕ) (order : List ℕ) (f : Families) (x : Process) → slice_get d.processes p ≡ Some x → families_along d (p ∷ order) f ≡ families_along d order (settle (is_sleeping d x) x f)
+-- the families after a process's turn
+abbrev pub turned : Design → Process → Families → Families
+turned d x f = settle (is_sleeping d x) (is_lenient_block x) (meant_process d x) f
+
+along_turn : (d : Design) (p : ℕ) (order : List ℕ) (f : Families) (x : Process) → slice_get d.processes p ≡ Some x → families_along d (p ∷ order) f ≡ families_along d order (turned d x f)
 along_turn d p order f x e = ap {B = Families} (λ o. families_along d order (settle_some d o f)) e
 
 more_placed : (d : Design) (placed : List ℕ) (p b : ℕ) → AllIn' d placed b → AllIn' d (p ∷ placed) b
@@ -92,15 +98,17 @@ kept d [] placed f b h a = (refl, refl)
 kept d (p ∷ order) placed f b h a =
     let t = turn_of d placed p order h in
     let none : contains (writes_of t.process) b ≡ false = by_test (contains (writes_of t.process) b) (λ e. absurd (either_way (contains placed p) (a p t.process t.is t.settles e) t.fresh)) (λ e. e) in
-    let r = kept d order (p ∷ placed) (settle (is_sleeping d t.process) t.process f) b t.rest (more_placed d placed p b a) in
-    let q = along_turn d p order f t.process t.is in
-    (ap {B = Set4} (λ (g : Families). g.early b) q ∙ r.0 ∙ early_other (is_sleeping d t.process) t.process f.early b none, ap {B = Set4} (λ (g : Families). g.late b) q ∙ r.1 ∙ late_other (is_sleeping d t.process) t.process f.late b none)
+    let r = kept d order (p ∷ placed) (turned d t.process f) b t.rest (more_placed d placed p b a) in
+    let q = along_turn d p order f t.process t.is in (
+      ap {B = Set4} (λ (g : Families). g.early b) q ∙ r.0 ∙ early_other (is_sleeping d t.process) (is_lenient_block t.process) (meant_process d t.process) f.early b (meant_writes d t.process b ∙ none),
+      ap {B = Set4} (λ (g : Families). g.late b) q ∙ r.1 ∙ late_other (is_sleeping d t.process) (meant_process d t.process) f.late b (meant_writes d t.process b ∙ none),
+    )
 
 -- the families when a process's turn comes
 pub record Found (d : Design) (final : Families) (x : Process) : Type 0 where
   pub then_ : Families
   pub same : (b : ℕ) → contains (needs x) b ≡ true → SameAt final then_ b
-  pub own : (b : ℕ) → contains (writes_of x) b ≡ true → SameAt final (settle (is_sleeping d x) x then_) b
+  pub own : (b : ℕ) → contains (writes_of x) b ≡ true → SameAt final (turned d x then_) b
 
 pub found : (d : Design) (order placed : List ℕ) (f : Families) (p : ℕ) (x : Process) → is_empty (shared_bits d) ≡ true → is_order_after placed d order ≡ true → slice_get d.processes p ≡ Some x → is_clocked x ≡ false → contains placed p ≡ false → Found d (families_along d order f) x
 found d [] placed f p x s h e c n = absurd (either_way (contains placed p) (all_at_end d placed p x h e c) n)
@@ -109,7 +117,7 @@ found d (q ∷ order) placed f p x s h e c n =
     by_test (p == q)
     (λ k. here t (same_option t.process x (sym t.is ∙ subst (λ m. slice_get d.processes m ≡ Some x) (eqb-true p q k) e)) (eqb-true p q k))
     (λ k.
-    let r = found d order (q ∷ placed) (settle (is_sleeping d t.process) t.process f) p x s t.rest e c (ap (λ z. z || contains placed p) k ∙ n) in
+    let r = found d order (q ∷ placed) (turned d t.process f) p x s t.rest e c (ap (λ z. z || contains placed p) k ∙ n) in
     subst (λ g. Found d g x) (sym (along_turn d q order f t.process t.is)) r)
   where
     here : (t : Turn d placed q order) → t.process ≡ x → p ≡ q → Found d (families_along d (q ∷ order) f) x
@@ -118,7 +126,7 @@ found d (q ∷ order) placed f p x s h e c n =
       same = λ b z. kept d (q ∷ order) placed f b h (λ r y i j w. t.ready r y b i j w (subst (λ v. contains (needs v) b ≡ true) (sym k) z));
       own = λ b w.
           let i : slice_get d.processes q ≡ Some x = t.is ∙ ap Some k in
-          let u = kept d order (q ∷ placed) (settle (is_sleeping d x) x f) b t.rest (λ r y v g z. Rattle.vs_design.proofs.Lists.or_left (r == q) (contains placed r) (Rattle.std.proofs.Common.eq-eqb r q (one_process d q r x y b s i v w z))) in
+          let u = kept d order (q ∷ placed) (turned d x f) b t.rest (λ r y v g z. Rattle.vs_design.proofs.Lists.or_left (r == q) (contains placed r) (Rattle.std.proofs.Common.eq-eqb r q (one_process d q r x y b s i v w z))) in
           let a = along_turn d q order f x i in
           (ap {B = Set4} (λ (g : Families). g.early b) a ∙ u.0, ap {B = Set4} (λ (g : Families). g.late b) a ∙ u.1);
     }

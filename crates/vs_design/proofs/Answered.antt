@@ -291,20 +291,20 @@ block_refusal_is d l r h = both r (otherwise_some (option_map FunctionLatch (lea
     none_mapped f None h = refl
     none_mapped f (Some x) h = cc
 
-    none : (x : AnyProcess) → formed_any d x ≡ true → block_refusal_at d x ≡ None → breaks_block x ≡ false
+    none : (x : AnyProcess) → formed_any d x ≡ true → block_refusal_at d x ≡ None → breaks_block d x ≡ false
     none (OfProcess p x) f e =
         let q = block_clear d p x e in
-        or_false _ _ (or_false _ _ (none_of (mixed_assigns x) (empty_is (mixed_assigns x) q.0)) (none_of (missing_bits x) (empty_is (missing_bits x) q.1))) (none_of (latches x) (empty_is (latches x) q.2))
+        or_false _ _ (or_false _ _ (none_of (mixed_assigns x) (empty_is (mixed_assigns x) q.0)) (none_of (missing_bits x) (empty_is (missing_bits x) q.1))) (none_of (latches d x) (empty_is (latches d x) q.2))
     none (OfInitial k i) f e = true_where (has_other_start i) (InitialForm k i.place) e
 
-    some : (x : AnyProcess) (a : BlockRefusal) → block_refusal_at d x ≡ Some a → breaks_block x ≡ true
-    some (OfProcess p x) a e = by_test (breaks_block (OfProcess p x)) (λ t. t) (λ t. absurd (apart (clear t) e))
+    some : (x : AnyProcess) (a : BlockRefusal) → block_refusal_at d x ≡ Some a → breaks_block d x ≡ true
+    some (OfProcess p x) a e = by_test (breaks_block d (OfProcess p x)) (λ t. t) (λ t. absurd (apart (clear t) e))
       where
-        clear : breaks_block (OfProcess p x) ≡ false → block_refusal_of d p x ≡ None
+        clear : breaks_block d (OfProcess p x) ≡ false → block_refusal_of d p x ≡ None
         clear t =
-            let q = or_neither (is_some_of (mixed_assigns x) || is_some_of (missing_bits x)) (is_some_of (latches x)) t in
+            let q = or_neither (is_some_of (mixed_assigns x) || is_some_of (missing_bits x)) (is_some_of (latches d x)) t in
             let w = or_neither (is_some_of (mixed_assigns x)) (is_some_of (missing_bits x)) q.0 in
-            rw (empty_of (mixed_assigns x) w.0, empty_of (missing_bits x) w.1, empty_of (latches x) q.1) refl
+            rw (empty_of (mixed_assigns x) w.0, empty_of (missing_bits x) w.1, empty_of (latches d x) q.1) refl
 
         apart : block_refusal_of d p x ≡ None → block_refusal_of d p x ≡ Some a → ⊥
         apart e f = cc
@@ -314,19 +314,19 @@ block_refusal_is d l r h = both r (otherwise_some (option_map FunctionLatch (lea
     three : (p : ℕ) (x : Process) (r : BlockRefusal) → block_refusal_of d p x ≡ Some r
         → ((m : ℕ) × (least (mixed_assigns x) ≡ Some m) × (MixedAssign m ≡ r))
         ⊎ (((m : ℕ) × (mixed_assigns x ≡ []) × (least (missing_bits x) ≡ Some m) × (Sensitivity p (signal_of d.signals m) (process_place x) ≡ r))
-        ⊎ ((m : ℕ) × (mixed_assigns x ≡ []) × (missing_bits x ≡ []) × (least (latches x) ≡ Some m) × (Latch p m (process_place x) ≡ r)))
+        ⊎ ((m : ℕ) × (mixed_assigns x ≡ []) × (missing_bits x ≡ []) × (least (latches d x) ≡ Some m) × (Latch p m (process_place x) ≡ r)))
     three p x r e = first (otherwise_some (option_map MixedAssign (least (mixed_assigns x))) (otherwise sensitive latched) r e)
       where
         sensitive : Option BlockRefusal
         sensitive = option_map (λ b. Sensitivity p (signal_of d.signals b) (process_place x)) (least (missing_bits x))
 
         latched : Option BlockRefusal
-        latched = option_map (λ b. Latch p b (process_place x)) (least (latches x))
+        latched = option_map (λ b. Latch p b (process_place x)) (least (latches d x))
 
         Three : Type 0
         Three = ((m : ℕ) × (least (mixed_assigns x) ≡ Some m) × (MixedAssign m ≡ r))
             ⊎ (((m : ℕ) × (mixed_assigns x ≡ []) × (least (missing_bits x) ≡ Some m) × (Sensitivity p (signal_of d.signals m) (process_place x) ≡ r))
-            ⊎ ((m : ℕ) × (mixed_assigns x ≡ []) × (missing_bits x ≡ []) × (least (latches x) ≡ Some m) × (Latch p m (process_place x) ≡ r)))
+            ⊎ ((m : ℕ) × (mixed_assigns x ≡ []) × (missing_bits x ≡ []) × (least (latches d x) ≡ Some m) × (Latch p m (process_place x) ≡ r)))
 
         mapped_none : {A B : Type 0} (f : A → B) (o : Option A) → option_map f o ≡ None → o ≡ None
         mapped_none f None h = refl
@@ -335,7 +335,7 @@ block_refusal_is d l r h = both r (otherwise_some (option_map FunctionLatch (lea
         second : option_map MixedAssign (least (mixed_assigns x)) ≡ None → (sensitive ≡ Some r) ⊎ ((sensitive ≡ None) × (latched ≡ Some r)) → Three
         second e (inl f) = let m = mapped_some (λ b. Sensitivity p (signal_of d.signals b) (process_place x)) (least (missing_bits x)) r f in inr (inl (m.0, no_least (mixed_assigns x) (mapped_none MixedAssign (least (mixed_assigns x)) e), m.1, m.2))
         second e (inr f) =
-            let m = mapped_some (λ b. Latch p b (process_place x)) (least (latches x)) r f.1 in
+            let m = mapped_some (λ b. Latch p b (process_place x)) (least (latches d x)) r f.1 in
             inr (inr (m.0, no_least (mixed_assigns x) (mapped_none MixedAssign (least (mixed_assigns x)) e), no_least (missing_bits x) (mapped_none (λ b. Sensitivity p (signal_of d.signals b) (process_place x)) (least (missing_bits x)) f.0), m.1, m.2))
 
         first : (option_map MixedAssign (least (mixed_assigns x)) ≡ Some r) ⊎ ((option_map MixedAssign (least (mixed_assigns x)) ≡ None) × (otherwise sensitive latched ≡ Some r)) → Three
@@ -354,20 +354,20 @@ block_refusal_is d l r h = both r (otherwise_some (option_map FunctionLatch (lea
     same_form : (k a j b : ℕ) → InitialForm k a ≡ InitialForm j b → (k ≡ j) × (a ≡ b)
     same_form k a j b e = (cc, cc)
 
-    go : (r : BlockRefusal) → function_latches d.functions ≡ [] → FirstFound d (block_refusal_at d) breaks_block r → IsBlockRefusal d r
+    go : (r : BlockRefusal) → function_latches d.functions ≡ [] → FirstFound d (block_refusal_at d) (breaks_block d) r → IsBlockRefusal d r
     go r unlatched f = by_sort_of f.what f.first f.found f.formed
       where
-        by_form : (k : ℕ) (i : Initial) → IsFirstIn d breaks_block (OfInitial k i) → (r : BlockRefusal) → InitialForm k i.place ≡ r → IsBlockRefusal d r
+        by_form : (k : ℕ) (i : Initial) → IsFirstIn d (breaks_block d) (OfInitial k i) → (r : BlockRefusal) → InitialForm k i.place ≡ r → IsBlockRefusal d r
         by_form k i first (FunctionLatch at) e = cc
-        by_form k i first (InitialForm j at) e = let q = same_form k i.place j at e in (unlatched, i, subst (λ n. IsFirstIn d breaks_block (OfInitial n i)) q.0 first, sym q.1)
+        by_form k i first (InitialForm j at) e = let q = same_form k i.place j at e in (unlatched, i, subst (λ n. IsFirstIn d (breaks_block d) (OfInitial n i)) q.0 first, sym q.1)
         by_form k i first (MixedAssign at) e = cc
         by_form k i first (Sensitivity p s at) e = cc
         by_form k i first (Latch p b at) e = cc
 
-        cases : (r : BlockRefusal) (p : ℕ) (x : Process) → IsFirstIn d breaks_block (OfProcess p x) → is_formed_process d x ≡ true
+        cases : (r : BlockRefusal) (p : ℕ) (x : Process) → IsFirstIn d (breaks_block d) (OfProcess p x) → is_formed_process d x ≡ true
             → ((m : ℕ) × (least (mixed_assigns x) ≡ Some m) × (MixedAssign m ≡ r))
             ⊎ (((m : ℕ) × (mixed_assigns x ≡ []) × (least (missing_bits x) ≡ Some m) × (Sensitivity p (signal_of d.signals m) (process_place x) ≡ r))
-            ⊎ ((m : ℕ) × (mixed_assigns x ≡ []) × (missing_bits x ≡ []) × (least (latches x) ≡ Some m) × (Latch p m (process_place x) ≡ r)))
+            ⊎ ((m : ℕ) × (mixed_assigns x ≡ []) × (missing_bits x ≡ []) × (least (latches d x) ≡ Some m) × (Latch p m (process_place x) ≡ r)))
             → IsBlockRefusal d r
         cases (InitialForm k at) n x first formed (inl m) = cc
         cases (InitialForm k at) n x first formed (inr (inl m)) = cc
@@ -384,7 +384,7 @@ block_refusal_is d l r h = both r (otherwise_some (option_map FunctionLatch (lea
             let i = least_is (missing_bits x) m.0 m.2 in
             let w = signal_found 0 0 d.signals m.0 l.numbered (process_bits d x m.0 formed (missing_read x m.0 i.there)) in
             let at_signal : slice_get d.signals s ≡ Some w.1 = subst (λ n. slice_get d.signals n ≡ Some w.1) (let z = w.4 in let y = q.1 in omega (arith, z, y)) w.2 in
-            (unlatched, x, subst (λ n. IsFirstIn d breaks_block (OfProcess n x)) q.0 first, sym q.2, m.1, (m.0, i, (w.1, at_signal, w.3)), λ j t b e c g. bits_in_order 0 d.signals s j w.1 t m.0 b l.bits_numbered at_signal e w.3 c (i.least b g))
+            (unlatched, x, subst (λ n. IsFirstIn d (breaks_block d) (OfProcess n x)) q.0 first, sym q.2, m.1, (m.0, i, (w.1, at_signal, w.3)), λ j t b e c g. bits_in_order 0 d.signals s j w.1 t m.0 b l.bits_numbered at_signal e w.3 c (i.least b g))
           where
             missing_read : (x : Process) (b : ℕ) → contains (missing_bits x) b ≡ true → contains (all_reads x ++ (writes_of x ++ waits_of x)) b ≡ true
             missing_read x b h = contains-left (all_reads x) (writes_of x ++ waits_of x) b (is_read (is_combinational x) h)
@@ -400,15 +400,15 @@ block_refusal_is d l r h = both r (otherwise_some (option_map FunctionLatch (lea
         cases (Latch p b at) n x first formed (inr (inl m)) = cc
         cases (Latch p b at) n x first formed (inr (inr m)) =
             let q = same_latch n m.0 (process_place x) p b at m.4 in
-            (unlatched, x, subst (λ n. IsFirstIn d breaks_block (OfProcess n x)) q.0 first, sym q.2, m.1, m.2, subst (IsLeastOf (latches x)) q.1 (least_is (latches x) m.0 m.3))
+            (unlatched, x, subst (λ n. IsFirstIn d (breaks_block d) (OfProcess n x)) q.0 first, sym q.2, m.1, m.2, subst (IsLeastOf (latches d x)) q.1 (least_is (latches d x) m.0 m.3))
 
-        by_sort_of : (what : AnyProcess) → IsFirstIn d breaks_block what → block_refusal_at d what ≡ Some r → formed_any d what ≡ true → IsBlockRefusal d r
+        by_sort_of : (what : AnyProcess) → IsFirstIn d (breaks_block d) what → block_refusal_at d what ≡ Some r → formed_any d what ≡ true → IsBlockRefusal d r
         by_sort_of (OfProcess p x) first found formed = cases r p x first formed (three p x r found)
         by_sort_of (OfInitial k i) first found formed = by_form k i first r (where_some (has_other_start i) (InitialForm k i.place) r found).1
 
     both : (r : BlockRefusal) → (option_map FunctionLatch (least (function_latches d.functions)) ≡ Some r) ⊎ ((option_map FunctionLatch (least (function_latches d.functions)) ≡ None) × (first_in (block_refusal_at d) (in_text_order d) ≡ Some r)) → IsBlockRefusal d r
     both r (inl e) = let m = mapped_some FunctionLatch (least (function_latches d.functions)) r e in subst (IsBlockRefusal d) m.2 (least_is (function_latches d.functions) m.0 m.1)
-    both r (inr e) = go r (no_least (function_latches d.functions) (none_mapped FunctionLatch (least (function_latches d.functions)) e.0)) (first_in_text d l (block_refusal_at d) breaks_block r none some e.1)
+    both r (inr e) = go r (no_least (function_latches d.functions) (none_mapped FunctionLatch (least (function_latches d.functions)) e.0)) (first_in_text d l (block_refusal_at d) (breaks_block d) r none some e.1)
 
 -- ---- the clocks, and time zero
 

@@ -162,16 +162,16 @@ small_judged d h = (judged (awake_size d) (sum_by (sleeper_weight d) d.processes
 
 -- ---- blocks
 
-pub block_clear : (d : Design) (p : ℕ) (x : Process) → block_refusal_of d p x ≡ None → (is_empty (mixed_assigns x) ≡ true) × (is_empty (missing_bits x) ≡ true) × (is_empty (latches x) ≡ true)
+pub block_clear : (d : Design) (p : ℕ) (x : Process) → block_refusal_of d p x ≡ None → (is_empty (mixed_assigns x) ≡ true) × (is_empty (missing_bits x) ≡ true) × (is_empty (latches d x) ≡ true)
 block_clear d p x h =
-    let a = otherwise_none (option_map MixedAssign (least (mixed_assigns x))) (otherwise (option_map (λ b. Sensitivity p (signal_of d.signals b) (process_place x)) (least (missing_bits x))) (option_map (λ b. Latch p b (process_place x)) (least (latches x)))) h in
-    let b = otherwise_none (option_map (λ b. Sensitivity p (signal_of d.signals b) (process_place x)) (least (missing_bits x))) (option_map (λ b. Latch p b (process_place x)) (least (latches x))) a.1 in
-    (least_mapped MixedAssign (mixed_assigns x) a.0, least_mapped (λ b. Sensitivity p (signal_of d.signals b) (process_place x)) (missing_bits x) b.0, least_mapped (λ b. Latch p b (process_place x)) (latches x) b.1)
+    let a = otherwise_none (option_map MixedAssign (least (mixed_assigns x))) (otherwise (option_map (λ b. Sensitivity p (signal_of d.signals b) (process_place x)) (least (missing_bits x))) (option_map (λ b. Latch p b (process_place x)) (least (latches d x)))) h in
+    let b = otherwise_none (option_map (λ b. Sensitivity p (signal_of d.signals b) (process_place x)) (least (missing_bits x))) (option_map (λ b. Latch p b (process_place x)) (least (latches d x))) a.1 in
+    (least_mapped MixedAssign (mixed_assigns x) a.0, least_mapped (λ b. Sensitivity p (signal_of d.signals b) (process_place x)) (missing_bits x) b.0, least_mapped (λ b. Latch p b (process_place x)) (latches d x) b.1)
 
-clear_block : (d : Design) (p : ℕ) (x : Process) → is_empty (mixed_assigns x) ≡ true → is_empty (missing_bits x) ≡ true → is_empty (latches x) ≡ true → block_refusal_of d p x ≡ None
+clear_block : (d : Design) (p : ℕ) (x : Process) → is_empty (mixed_assigns x) ≡ true → is_empty (missing_bits x) ≡ true → is_empty (latches d x) ≡ true → block_refusal_of d p x ≡ None
 clear_block d p x h k l =
     none_otherwise _ _ (mapped_least MixedAssign (mixed_assigns x) h)
-    (none_otherwise _ _ (mapped_least (λ b. Sensitivity p (signal_of d.signals b) (process_place x)) (missing_bits x) k) (mapped_least (λ b. Latch p b (process_place x)) (latches x) l))
+    (none_otherwise _ _ (mapped_least (λ b. Sensitivity p (signal_of d.signals b) (process_place x)) (missing_bits x) k) (mapped_least (λ b. Latch p b (process_place x)) (latches d x) l))
 
 three : (a b c : Process → Bool) (ps : List Process) → list_all a ps ≡ true → list_all b ps ≡ true → list_all c ps ≡ true → list_all (λ x. a x && b x && c x) ps ≡ true
 three a b c [] h k l = refl
@@ -182,8 +182,8 @@ three a b c (x ∷ ps) h k l =
     and_true _ _ (and_true _ _ (and_true _ _ p.0 q.0) r.0) (three a b c ps p.1 q.1 r.1)
 
 -- what breaks no rule on blocks
-abbrev is_clean : Process → Bool
-is_clean x = is_empty (mixed_assigns x) && is_empty (missing_bits x) && is_empty (latches x)
+abbrev is_clean : Design → Process → Bool
+is_clean d x = is_empty (mixed_assigns x) && is_empty (missing_bits x) && is_empty (latches d x)
 
 abbrev is_clean_start : Initial → Bool
 is_clean_start i = not (has_other_start i)
@@ -191,13 +191,13 @@ is_clean_start i = not (has_other_start i)
 start_clear : (k : ℕ) (i : Initial) → where_true (has_other_start i) (InitialForm k i.place) ≡ None → is_clean_start i ≡ true
 start_clear k i h = ap not (true_where (has_other_start i) (InitialForm k i.place) h)
 
-any_clean : (d : Design) (x : AnyProcess) → block_refusal_at d x ≡ None → by_sort is_clean is_clean_start x ≡ true
+any_clean : (d : Design) (x : AnyProcess) → block_refusal_at d x ≡ None → by_sort (is_clean d) is_clean_start x ≡ true
 any_clean d (OfProcess p x) h = let q = block_clear d p x h in and_true _ _ (and_true _ _ q.0 q.1) q.2
 any_clean d (OfInitial k i) h = start_clear k i h
 
-clean_any : (d : Design) (x : AnyProcess) → by_sort is_clean is_clean_start x ≡ true → block_refusal_at d x ≡ None
+clean_any : (d : Design) (x : AnyProcess) → by_sort (is_clean d) is_clean_start x ≡ true → block_refusal_at d x ≡ None
 clean_any d (OfProcess p x) f =
-    let g = and_both (is_empty (mixed_assigns x) && is_empty (missing_bits x)) (is_empty (latches x)) f in
+    let g = and_both (is_empty (mixed_assigns x) && is_empty (missing_bits x)) (is_empty (latches d x)) f in
     let m = and_both (is_empty (mixed_assigns x)) (is_empty (missing_bits x)) g.0 in clear_block d p x m.0 m.1 g.1
 clean_any d (OfInitial k i) f = where_false (has_other_start i) (InitialForm k i.place) (not_true (has_other_start i) f)
   where
@@ -217,30 +217,30 @@ any_not test (x ∷ xs) h = let p = and_both (not (test x)) (list_all (λ x. not
     not_true true h = cc
     not_true false h = refl
 
-blocks_clear : (d : Design) → IsLawfulDesign d → list_all (λ x. is_empty (mixed_assigns x)) d.processes ≡ true → list_all (λ x. is_empty (missing_bits x)) d.processes ≡ true → list_all (λ x. is_empty (latches x)) d.processes ≡ true
+blocks_clear : (d : Design) → IsLawfulDesign d → list_all (λ x. is_empty (mixed_assigns x)) d.processes ≡ true → list_all (λ x. is_empty (missing_bits x)) d.processes ≡ true → list_all (λ x. is_empty (latches d x)) d.processes ≡ true
     → list_any has_other_start d.initials ≡ false → first_in (block_refusal_at d) (in_text_order d) ≡ None
-blocks_clear d lawful h k l n = none_found_in (block_refusal_at d) (by_sort is_clean is_clean_start) (in_text_order d) (clean_any d)
-    (pass_in_text d lawful is_clean is_clean_start (three (λ x. is_empty (mixed_assigns x)) (λ x. is_empty (missing_bits x)) (λ x. is_empty (latches x)) d.processes h k l) (not_any has_other_start d.initials n))
+blocks_clear d lawful h k l n = none_found_in (block_refusal_at d) (by_sort (is_clean d) is_clean_start) (in_text_order d) (clean_any d)
+    (pass_in_text d lawful (is_clean d) is_clean_start (three (λ x. is_empty (mixed_assigns x)) (λ x. is_empty (missing_bits x)) (λ x. is_empty (latches d x)) d.processes h k l) (not_any has_other_start d.initials n))
 
 -- and back
 record CleanBlocks (d : Design) : Type 0 where
   pub unmixed : list_all (λ x. is_empty (mixed_assigns x)) d.processes ≡ true
   pub sensitive : list_all (λ x. is_empty (missing_bits x)) d.processes ≡ true
-  pub no_latch : list_all (λ x. is_empty (latches x)) d.processes ≡ true
+  pub no_latch : list_all (λ x. is_empty (latches d x)) d.processes ≡ true
   pub initial_form : list_any has_other_start d.initials ≡ false
 
 clear_blocks : (d : Design) → IsLawfulDesign d → first_in (block_refusal_at d) (in_text_order d) ≡ None → CleanBlocks d
 clear_blocks d lawful h =
-    let all = found_in_none (block_refusal_at d) (formed_any d) (by_sort is_clean is_clean_start) (in_text_order d) (λ x f e. any_clean d x e) (formed_in_text d lawful) h in
-    let ps = processes_pass d lawful is_clean is_clean_start all in
+    let all = found_in_none (block_refusal_at d) (formed_any d) (by_sort (is_clean d) is_clean_start) (in_text_order d) (λ x f e. any_clean d x e) (formed_in_text d lawful) h in
+    let ps = processes_pass d lawful (is_clean d) is_clean_start all in
     let parts = three_parts d.processes ps in
-    record { unmixed = parts.0; sensitive = parts.1; no_latch = parts.2; initial_form = any_not has_other_start d.initials (initials_pass d lawful is_clean is_clean_start all) }
+    record { unmixed = parts.0; sensitive = parts.1; no_latch = parts.2; initial_form = any_not has_other_start d.initials (initials_pass d lawful (is_clean d) is_clean_start all) }
   where
-    three_parts : (ps : List Process) → list_all is_clean ps ≡ true → (list_all (λ x. is_empty (mixed_assigns x)) ps ≡ true) × (list_all (λ x. is_empty (missing_bits x)) ps ≡ true) × (list_all (λ x. is_empty (latches x)) ps ≡ true)
+    three_parts : (ps : List Process) → list_all (is_clean d) ps ≡ true → (list_all (λ x. is_empty (mixed_assigns x)) ps ≡ true) × (list_all (λ x. is_empty (missing_bits x)) ps ≡ true) × (list_all (λ x. is_empty (latches d x)) ps ≡ true)
     three_parts [] h = (refl, refl, refl)
     three_parts (x ∷ ps) h =
-        let p = and_both (is_clean x) (list_all is_clean ps) h in
-        let g = and_both (is_empty (mixed_assigns x) && is_empty (missing_bits x)) (is_empty (latches x)) p.0 in
+        let p = and_both (is_clean d x) (list_all (is_clean d) ps) h in
+        let g = and_both (is_empty (mixed_assigns x) && is_empty (missing_bits x)) (is_empty (latches d x)) p.0 in
         let m = and_both (is_empty (mixed_assigns x)) (is_empty (missing_bits x)) g.0 in
         let r = three_parts ps p.1 in
         (and_true _ _ m.0 r.0, and_true _ _ m.1 r.1, and_true _ _ g.1 r.2)

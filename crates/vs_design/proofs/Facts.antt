@@ -7,6 +7,7 @@ use Rattle.vs_design.specs.Designs.{Event, Port, Process, Continuous, Always, is
 use Rattle.vs_design.specs.Footprints.{contains, target_bits, statement_bits, statement_reads, reads_of, waits_of, wait_signals, signals_bits, without, net_bits, variable_bits, is_net}
 use Rattle.vs_design.specs.Latches.{latch_bits}
 use Rattle.vs_design.specs.Rules.{mixed_in, mixed_assigns, missing_bits, latches}
+use Rattle.vs_design.specs.Selects.{meant}
 use Rattle.vs_design.specs.Accepted.{IsAcceptedDesign, is_empty}
 use Rattle.vs_design.specs.Fits.{fits_process, fits_target, fits_statement, is_fit}
 use Rattle.vs_design.specs.Elaborated.{has_constant_selects, is_formed, is_formed_target, is_formed_statement, are_formed_events, is_formed_port, is_formed_process}
@@ -16,6 +17,7 @@ use Rattle.vs_design.proofs.Blocks.{contains_without}
 use Rattle.vs_design.proofs.Drivers.{empty_is}
 use Rattle.vs_design.proofs.Parts.{all_at}
 use Rattle.vs_design.proofs.Formed.{target_kind, statement_kind}
+use Rattle.vs_design.proofs.Meant.{meant_unmixed, meant_needs}
 
 pub record AssignFacts (d : Design) (target : Target) (e : Expression) : Type 0 where
   pub constant : has_constant_selects target ≡ true
@@ -40,19 +42,24 @@ block_facts d names a p place star events st h = record {
   fit = all_at fits_process d.processes p (Always place star events st) a.fit h;
 }
 
-pub record CombFacts (x : Process) (st : Statement) : Type 0 where
+pub record CombFacts (d : Design) (x : Process) (st : Statement) : Type 0 where
   pub unmixed : mixed_in false st ≡ []
-  pub no_latch : latch_bits st ≡ []
+  -- of the statement that the rules take it to have
+  pub meant_unmixed : mixed_in false (meant d st) ≡ []
+  pub no_latch : latch_bits (meant d st) ≡ []
   -- what it reads and doesn't write it waits on
   pub waits : (b : ℕ) → contains (without (statement_reads st) (statement_bits st)) b ≡ true → contains (waits_of x) b ≡ true
+  pub meant_waits : (b : ℕ) → contains (without (statement_reads (meant d st)) (statement_bits (meant d st))) b ≡ true → contains (waits_of x) b ≡ true
   pub needed : (b : ℕ) → contains (without (statement_reads st) (statement_bits st)) b ≡ true → contains (reads_of x) b ≡ true
   pub apart : (b : ℕ) → contains (statement_bits st) b ≡ true → contains (waits_of x) b ≡ false
 
-pub comb_facts_by : (place : ℕ) (star : Bool) (events : List Event) (st : Statement) → is_clocked (Always place star events st) ≡ false → mixed_assigns (Always place star events st) ≡ [] → latches (Always place star events st) ≡ [] → missing_bits (Always place star events st) ≡ [] → CombFacts (Always place star events st) st
-comb_facts_by place star events st k none_mixed no_latches none_missing = record {
-  unmixed = subst (λ (c : Bool). (if c then [] else mixed_in false st) ≡ []) k none_mixed;
-  no_latch = subst (λ (c : Bool). (if not c then latch_bits st else []) ≡ []) k no_latches;
-  waits = λ b q. subst (λ (c : Bool). contains (if not c then without (signals_bits (wait_signals x)) (statement_bits st) else []) b ≡ true) (sym k) (contains_without (signals_bits (wait_signals x)) (statement_bits st) b (waited b q) (unwritten b q));
+pub comb_facts_by : (d : Design) (place : ℕ) (star : Bool) (events : List Event) (st : Statement) → is_clocked (Always place star events st) ≡ false → mixed_assigns (Always place star events st) ≡ [] → latches d (Always place star events st) ≡ [] → missing_bits (Always place star events st) ≡ [] → CombFacts d (Always place star events st) st
+comb_facts_by d place star events st k none_mixed no_latches none_missing = record {
+  unmixed = clean;
+  meant_unmixed = meant_unmixed d st clean;
+  no_latch = subst (λ (c : Bool). (if not c then latch_bits (meant d st) else []) ≡ []) k no_latches;
+  waits = wait;
+  meant_waits = λ b q. wait b (meant_needs d st b q);
   needed = λ b q. subst (λ (c : Bool). contains (if not c then without (statement_reads st) (statement_bits st) else statement_reads st) b ≡ true) (sym k) q;
   apart = λ b q. subst (λ (c : Bool). contains (if not c then without (signals_bits (wait_signals x)) (statement_bits st) else []) b ≡ false) (sym k) (gone (signals_bits (wait_signals x)) (statement_bits st) b q);
 }
@@ -88,8 +95,14 @@ comb_facts_by place star events st k none_mixed no_latches none_missing = record
         let m : without (without (statement_reads st) (statement_bits st)) (signals_bits (wait_signals x)) ≡ [] = subst (λ (c : Bool). without (if not c then without (statement_reads st) (statement_bits st) else statement_reads st) (signals_bits (wait_signals x)) ≡ []) k missing in
         absurd (either_way (contains (without (without (statement_reads st) (statement_bits st)) (signals_bits (wait_signals x))) b) (contains_without (without (statement_reads st) (statement_bits st)) (signals_bits (wait_signals x)) b q e) (ap (λ ys. contains ys b) m)))
 
-pub comb_facts : (d : Design) (names : List (List ℕ)) → IsAcceptedDesign d names → (p place : ℕ) (star : Bool) (events : List Event) (st : Statement) → slice_get d.processes p ≡ Some (Always place star events st) → is_clocked (Always place star events st) ≡ false → CombFacts (Always place star events st) st
-comb_facts d names a p place star events st h k = comb_facts_by place star events st k
+    clean : mixed_in false st ≡ []
+    clean = subst (λ (c : Bool). (if c then [] else mixed_in false st) ≡ []) k none_mixed
+
+    wait : (b : ℕ) → contains (without (statement_reads st) (statement_bits st)) b ≡ true → contains (waits_of x) b ≡ true
+    wait b q = subst (λ (c : Bool). contains (if not c then without (signals_bits (wait_signals x)) (statement_bits st) else []) b ≡ true) (sym k) (contains_without (signals_bits (wait_signals x)) (statement_bits st) b (waited b q) (unwritten b q))
+
+pub comb_facts : (d : Design) (names : List (List ℕ)) → IsAcceptedDesign d names → (p place : ℕ) (star : Bool) (events : List Event) (st : Statement) → slice_get d.processes p ≡ Some (Always place star events st) → is_clocked (Always place star events st) ≡ false → CombFacts d (Always place star events st) st
+comb_facts d names a p place star events st h k = comb_facts_by d place star events st k
     (empty_is (mixed_assigns (Always place star events st)) (all_at (λ p. is_empty (mixed_assigns p)) d.processes p (Always place star events st) a.unmixed h))
-    (empty_is (latches (Always place star events st)) (all_at (λ p. is_empty (latches p)) d.processes p (Always place star events st) a.no_latch h))
+    (empty_is (latches d (Always place star events st)) (all_at (λ p. is_empty (latches d p)) d.processes p (Always place star events st) a.no_latch h))
     (empty_is (missing_bits (Always place star events st)) (all_at (λ p. is_empty (missing_bits p)) d.processes p (Always place star events st) a.sensitive h))

@@ -1,9 +1,9 @@
 -- An accepted design's network is lawful.
-use Rattle.std.proofs.Common.{◌≡◌, ℕ, true, false, List, [], ◌∷◌, sym, ◌∙◌, subst, ◌⊎◌, inl, inr}
+use Rattle.std.proofs.Common.{◌≡◌, ℕ, true, List, [], ◌∷◌, sym, ◌∙◌, subst, ◌⊎◌, inl, inr}
 use Rattle.vs_net.specs.Network.{State, flatten, branch}
 use Rattle.vs_net.specs.Queue.{Slot, Fall, Rise, start, slots_of, ends}
 use Rattle.vs_net.specs.Solution.{beginning, IsSolution}
-use Rattle.vs_net.specs.Laws.{AreKnownSelects}
+use Rattle.vs_net.specs.Laws as N
 use Rattle.vs_net.specs.Lawful.{IsLawful, IsQuietBlock, IsWokenBlock}
 use Rattle.vs_net.proofs.Basics.{write_all_at}
 use mathlib.Core.Path.{fun_ext}
@@ -23,11 +23,13 @@ use Rattle.vs_design.specs.Clocks.{clock_nets}
 use Rattle.vs_design.specs.Sets.{has}
 use Rattle.vs_design.specs.TimeZero.{families}
 use Rattle.vs_design.specs.Networks.{network_in, network_of, all_processes}
-use Rattle.vs_design.specs.Laws.{SleepersOfDesign, AcceptedIsLawful, EveryOrderOfDesign, BeginningIs, OneSolutionOfDesign, LevelRunOfDesign, OnePassOfDesign}
+use Rattle.vs_design.specs.Laws.{AreKnownSelects, SleepersOfDesign, AcceptedIsLawful, EveryOrderOfDesign, BeginningIs, OneSolutionOfDesign, LevelRunOfDesign, OnePassOfDesign}
 use Rattle.vs_design.proofs.Lists.{or_left}
 use Rattle.vs_design.proofs.Parts.{beyond_count}
-use Rattle.vs_design.proofs.Order.{is_ordered}
-use Rattle.vs_design.proofs.LawfulParts.{exact, local, apart, comb_updates, clocked_own, one_writer, idle_x, idle_xz}
+use Rattle.vs_design.proofs.Order.{is_ordered, is_once}
+use Rattle.vs_design.proofs.LawfulParts.{own, apart, comb_updates, clocked_own, one_writer, idle_x, idle_xz}
+use Rattle.vs_design.proofs.Surely.{exact, local}
+use Rattle.vs_design.proofs.SelectLaws.{selects, select_driven, select_made, selector_is, late_known, early_any, select_input}
 use Rattle.vs_design.proofs.Starts.{same_order}
 use Rattle.vs_design.proofs.Begun.{begun, initial_own, initial_clocked, initial_apart}
 use Rattle.vs_design.proofs.ClockNets.{first_clock_in, clock_process}
@@ -57,12 +59,13 @@ lawful d names a order o = record {
   initial_own = λ p b h. initial_own d names a order p b h;
   initial_clocked = λ p k. initial_clocked ((network_of d (clock_bits a.clocks)).process p) order k;
   initial_apart = λ p b s h. initial_apart d names a order o p b s h;
-  selects = λ b. false;
-  select_driven = λ b h. cc;
-  select_made = λ p b s t h k w known. cc;
-  own = λ p b s h w. sym (exact d names a (clock_bits a.clocks) p b s h) ∙ w;
-  exact = λ p b s h known w. exact d names a (clock_bits a.clocks) p b s h ∙ w;
-  local = λ p s t h k. local d names a (clock_bits a.clocks) p s t h k;
+  selects = selects d names a;
+  select_driven = λ b h. select_driven d names a b h;
+  select_made = λ p b s t h k w known. select_made d names a p b s t h k w known;
+  selector_is = λ p b h. selector_is d names a p b h;
+  own = λ p b s h w. own d names a (clock_bits a.clocks) p b s h w;
+  exact = λ p b s h sure w. exact d names a (clock_bits a.clocks) p b s h sure ∙ w;
+  local = λ p s t h sure k. local d names a (clock_bits a.clocks) p s t h sure k;
   apart = λ p b h. apart d names a (clock_bits a.clocks) p b h;
   comb_updates = λ p s h. comb_updates d names a (clock_bits a.clocks) p s h;
   clocked_own = λ p b s h k. clocked_own d names a (clock_bits a.clocks) p b s h k;
@@ -93,6 +96,8 @@ lawful d names a order o = record {
     early_idle = λ b h. subst (λ v. has ((families d (clock_bits a.clocks) (level_order d)).early b) v ≡ true) (sym (begun d names a order o b).0) (early_idle d names a b h);
     early_comb = λ p b h k. early_comb d names a p b h k;
     early_made = λ p h n s k. early_made d names a p h n s k;
+    early_any = λ p b c v h w. early_any d names a p b c v h w;
+    late_known = λ p c v h k. late_known d names a p c v h (late_of_listened d names a p c v (selector_is d names a p c h).2 k);
     late_idle = λ b h. or_left _ _ (subst (λ v. has ((families d (clock_bits a.clocks) (level_order d)).late b) v ≡ true) (sym (begun d names a order o b).1) (late_idle d names a b h));
     late_reset = λ p b r h w. or_left _ _ (subst (λ v. has ((families d (clock_bits a.clocks) (level_order d)).late b) v ≡ true) (sym (write_all_at (flatten (branch r)) (beginning (network_in d (clock_bits a.clocks) order)) (start_value d) b (begun d names a order o b).1)) (late_reset d names a p b r h w));
     late_asleep = λ p b x h w. or_left _ _ (late_asleep d names a p b x h w);
@@ -123,21 +128,21 @@ every_order_of d names a order o first v vs f k r choices c =
 pub lawful_of : (d : Design) (names : List (List ℕ)) (a : IsAcceptedDesign d names) → IsLawful (network_of d (clock_bits a.clocks))
 lawful_of d names a = lawful d names a d.initials (same_order d.initials)
 
--- no net is a select net
-none_select : (d : Design) (names : List (List ℕ)) (a : IsAcceptedDesign d names) (before : State) (slots : List Slot) → AreKnownSelects (network_of d (clock_bits a.clocks)) (lawful_of d names a) before slots
+-- the select nets that are inputs are the select inputs
+known_selects : (d : Design) (names : List (List ℕ)) (a : IsAcceptedDesign d names) (before : State) (slots : List Slot) → AreKnownSelects d (clock_bits a.clocks) before slots → N.AreKnownSelects (network_of d (clock_bits a.clocks)) (lawful_of d names a) before slots
 unfolding lawful lawful_of
-none_select d names a before [] = tt
-none_select d names a before (Fall v ∷ slots) = ((λ p b k w h. cc), none_select d names a v slots)
-none_select d names a before (Rise ∷ slots) = ((λ p b k w h. cc), none_select d names a before slots)
+known_selects d names a before [] h = tt
+known_selects d names a before (Fall v ∷ slots) h = ((λ p b k w s. h.0 b (select_input d names a p b k w s)), known_selects d names a v slots h.1)
+known_selects d names a before (Rise ∷ slots) h = ((λ p b k w s. h.0 b (select_input d names a p b k w s)), known_selects d names a before slots h.1)
 
 pub one_solution_of : OneSolutionOfDesign
-one_solution_of d names a before slots xs ys = one_solution (network_of d (clock_bits a.clocks)) (lawful_of d names a) before slots xs ys (none_select d names a before slots)
+one_solution_of d names a before slots xs ys known = one_solution (network_of d (clock_bits a.clocks)) (lawful_of d names a) before slots xs ys (known_selects d names a before slots known)
 
 pub level_run_of : LevelRunOfDesign
 level_run_of d names a order h = level_run_is_one (network_of d (clock_bits a.clocks)) (lawful_of d names a) order (is_ordered d (clock_bits a.clocks) d.initials order [] (λ p. ⊥) h (λ p h. cc))
 
 pub one_pass_of : OnePassOfDesign
-one_pass_of d names a order h = one_pass_settles (network_of d (clock_bits a.clocks)) (lawful_of d names a) order (is_ordered d (clock_bits a.clocks) d.initials order [] (λ p. ⊥) h (λ p h. cc))
+one_pass_of d names a order h = one_pass_settles (network_of d (clock_bits a.clocks)) (lawful_of d names a) order (is_ordered d (clock_bits a.clocks) d.initials order [] (λ p. ⊥) h (λ p h. cc)) (is_once d order [] (λ p. ⊥) h (λ p k. absurd k))
 
 pub sleepers_of : SleepersOfDesign
 sleepers_of d names a order o = sleepers_wake (network_in d (clock_bits a.clocks) order) (lawful d names a order o)

@@ -1,11 +1,11 @@
 -- An accepted design's processes write their own bits alone, by what they listen to.
 use Rattle.vs_net.proofs.Beginning.{written_or}
 use Rattle.vs_net.proofs.Basics.{flat_cons}
-use Rattle.std.proofs.Common.{◌≡◌, ◌≢◌, ℕ, zero, suc, ◌+◌, ◌*◌, ◌≤◌, Bool, true, false, List, [], ◌++◌, ◌&&◌, ◌==◌, eqb-true, eq-eqb, not, inl, inr, refl, sym, ap, ◌∙◌, subst, length, Option, Some, None, arith, ◌∷◌, ◌⊎◌, ◌<◌, cond, nat_lt}
+use Rattle.std.proofs.Common.{◌≡◌, ◌≢◌, ℕ, zero, suc, ◌+◌, ◌*◌, ◌≤◌, Bool, true, false, List, [], ◌++◌, ◌&&◌, ◌==◌, eqb-true, eq-eqb, not, inl, inr, refl, sym, ◌∙◌, subst, length, Option, Some, None, arith, ◌∷◌, ◌⊎◌, ◌<◌, cond, nat_lt}
 use Rattle.std.specs.Prelude.{slice_get}
 use Rattle.std.specs.List.{list_any, list_all, filter}
 use Rattle.vs_four.specs.declared.Bit4.TheVariants.{X}
-use Rattle.vs_net.specs.Network.{State, Write, Effect, is_written, flatten, AnAssign, AComb, AClocked, kind, writes, listens, made, updates, effects, Update}
+use Rattle.vs_net.specs.Network.{State, Write, is_written, flatten, AnAssign, AComb, AClocked, kind, writes, listens, made, updates, effects, Update}
 use Rattle.vs_net.specs.Lawful.{Settles, IsUnknown}
 use Rattle.vs_four.specs.declared.Range.{Range}
 use Rattle.vs_four.specs.Selects.{is_descending, range_length}
@@ -24,8 +24,6 @@ use Rattle.vs_design.specs.Accepted.{IsAcceptedDesign}
 use Rattle.vs_design.proofs.Lists.{by_test, and_both, or_left, contains-left, contains_filter}
 use Rattle.vs_design.proofs.Writes.{either_way, assignment_within, assignment_assigns}
 use Rattle.vs_design.proofs.BodyExact.{body_within, body_updates}
-use Rattle.vs_design.proofs.BodyLocal.{assignment_local}
-use Rattle.vs_design.proofs.Blocks.{block_writes, block_reads}
 use Rattle.vs_design.proofs.Drivers.{one_process, written_some}
 use Rattle.vs_design.proofs.Formed.{statement_kind}
 use Rattle.vs_design.proofs.Signals.{split, kinds_apart, member_bits, one_signal, filter_high}
@@ -56,22 +54,11 @@ assign_exact t e s b c f =
     none false p q = p ∙ sym q
 
 module _ (d : Design) (names : List (List ℕ)) (a : IsAcceptedDesign d names) (c : List ℕ) where
-  pub exact : (p b : ℕ) (s : State) → Settles (kind ((network_of d c).process p)) → is_written (made ((network_of d c).process p) s) b ≡ writes ((network_of d c).process p) b
-  exact p b s = by_kind d c (λ p x. Settles (kind x) → is_written (made x s) b ≡ writes x b) (record {
-    assigns = λ p place port target_place target e h k. let f = assign_facts d names a p place port target_place target e h in assign_exact target e s b f.constant f.fit_target;
-    combs = λ p place star events st h k z. let f = comb_facts d names a p place star events st h k in let g = block_facts d names a p place star events st h in block_writes st g.fit f.unmixed f.no_latch s b;
-    clocked = λ p place star events st h k z. absurd z;
-    inputs = λ p i r l e f z. absurd z;
-    clock = λ p i r l e f z. absurd z;
-    spare = λ p i m l f named past z. absurd z;
-    keeper = λ p l m bs e z. absurd z;
-    none = λ p z. absurd z;
-  }) p
-
-  pub local : (p : ℕ) (s t : State) → Settles (kind ((network_of d c).process p)) → ((b : ℕ) → listens ((network_of d c).process p) b ≡ true → s b ≡ t b) → made ((network_of d c).process p) s ≡ made ((network_of d c).process p) t
-  local p s t = by_kind d c (λ p x. Settles (kind x) → ((b : ℕ) → listens x b ≡ true → s b ≡ t b) → made x s ≡ made x t) (record {
-    assigns = λ p place port target_place target e h k z. assignment_local target e s t z;
-    combs = λ p place star events st h k y z. let f = comb_facts d names a p place star events st h k in ap {B = List Write} (λ (x : Effect). x.writes) (block_reads st f.unmixed f.no_latch s t (λ b q. z b (f.waits b q)));
+  -- an assign or a combinational block writes its own bits alone
+  pub own : (p b : ℕ) (s : State) → Settles (kind ((network_of d c).process p)) → is_written (made ((network_of d c).process p) s) b ≡ true → writes ((network_of d c).process p) b ≡ true
+  own p b s = by_kind d c (λ p x. Settles (kind x) → is_written (made x s) b ≡ true → writes x b ≡ true) (record {
+    assigns = λ p place port target_place target e h k w. assignment_within target e s b (assign_facts d names a p place port target_place target e h).fit_target w;
+    combs = λ p place star events st h k z w. body_within st s (block_facts d names a p place star events st h).fit b (inl w);
     clocked = λ p place star events st h k z. absurd z;
     inputs = λ p i r l e f z. absurd z;
     clock = λ p i r l e f z. absurd z;
@@ -231,7 +218,7 @@ module _ (d : Design) (names : List (List ℕ)) (a : IsAcceptedDesign d names) (
   process_below p b (Continuous place port target_place target e) h w = kind_below is_net b ((assign_facts d names a p place port target_place target e h).nets b w)
   process_below p b (Always place star events st) h w = kind_below is_variable b ((block_facts d names a p place star events st h).variables b w)
 
-  process_not_input : (p b : ℕ) (x : Process) → slice_get d.processes p ≡ Some x → contains (writes_of x) b ≡ true → contains (input_bits d) b ≡ true → ⊥
+  pub process_not_input : (p b : ℕ) (x : Process) → slice_get d.processes p ≡ Some x → contains (writes_of x) b ≡ true → contains (input_bits d) b ≡ true → ⊥
   process_not_input p b (Continuous place port target_place target e) h w = nets_not_inputs b ((assign_facts d names a p place port target_place target e h).nets b w)
   process_not_input p b (Always place star events st) h w = variables_not_inputs b ((block_facts d names a p place star events st h).variables b w)
 

@@ -63,7 +63,7 @@ length_either false xs ys n h k = k
 pub length_places : (p : Part) (g : Bool) (index : BitList) → length (places p g index) ≡ p.width
 length_places p g index = ap length (places_are p g index) ∙ length_either (all_known index) (places_from (range_length p.range) (first_place p (integer g index)) p.width) (replicate p.width None) p.width (length_places_from (range_length p.range) p.width (first_place p (integer g index))) (length-replicate p.width None)
 
-length_source : (state : State) (source : Source) (part : Part) (g : Bool) (index : BitList) → length (select part g (source_value state source) index) ≡ part.width
+pub length_source : (state : State) (source : Source) (part : Part) (g : Bool) (index : BitList) → length (select part g (source_value state source) index) ≡ part.width
 length_source state source part g index = length-map (places part g index) (at_place X (source_value state source)) ∙ length_places part g index
 
 pub length_signal : (state : State) (signal : Signal) → length (read state (bits_of_signal signal)) ≡ signal_length signal

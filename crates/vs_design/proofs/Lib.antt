@@ -26,8 +26,14 @@ pub mod Along
 pub mod Formed
 pub mod FormedWithin
 pub mod Starts
+pub mod Covering
+pub mod Fullness
+pub mod Completed
+pub mod Meant
 pub mod Facts
 pub mod LawfulParts
+pub mod SelectNets
+pub mod Surely
 pub mod RaceLaws
 pub mod Begun
 pub mod ClockNets
@@ -35,7 +41,9 @@ pub mod ClockLaws
 pub mod TimeBits
 pub mod ResetLaws
 pub mod SleepLaws
+pub mod PortSets
 pub mod TimeLaws
+pub mod SelectLaws
 pub mod Lawful
 pub mod WidthExact
 pub mod TextOrder
@@ -66,6 +74,7 @@ pub mod EachClock
 pub mod ExampleLaws
 pub mod ExampleBlocking
 pub mod ExampleInitials
+pub mod ExampleSelects
 pub mod ExampleMemoryLaws
 pub mod ExampleWordPartLaws
 pub mod ExampleTogether

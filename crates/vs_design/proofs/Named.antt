@@ -62,7 +62,7 @@ source_named d (OfSignal signal) part index b f h = contains-left (bits_of_signa
 source_named d (OfConstant bits) part index b f h = h
 
 mutual
-  read_named : (d : Design) (e : Expression) (b : ℕ) → is_formed d e ≡ true → contains (read_bits e) b ≡ true → contains (signals_bits (read_signals e)) b ≡ true
+  pub read_named : (d : Design) (e : Expression) (b : ℕ) → is_formed d e ≡ true → contains (read_bits e) b ≡ true → contains (signals_bits (read_signals e)) b ≡ true
   read_named d (Literal bits signed sized) b f h = h
   read_named d (Name signal) b f h = contains-left (bits_of_signal signal) [] b h
   read_named d (Select source part index) b f h =
@@ -153,7 +153,7 @@ source_all d (OfSignal signal) part f =
 source_all d (OfConstant bits) part f = refl
 
 mutual
-  read_all : (d : Design) (e : Expression) → is_formed d e ≡ true → list_all (is_signal d) (read_signals e) ≡ true
+  pub read_all : (d : Design) (e : Expression) → is_formed d e ≡ true → list_all (is_signal d) (read_signals e) ≡ true
   read_all d (Literal bits signed sized) f = refl
   read_all d (Name signal) f = one_all d signal (plain_signal d signal f)
   read_all d (Select source part index) f =

@@ -1,10 +1,10 @@
 -- What a level order gives.
-use Rattle.std.proofs.Common.{◌≡◌, ℕ, zero, suc, ◌+◌, Bool, true, false, List, [], ◌∷◌, ◌||◌, ◌&&◌, not, ◌⊎◌, inl, inr, refl, sym, ap, ◌∙◌, subst, arith, ◌==◌, eqb-true, Some}
+use Rattle.std.proofs.Common.{◌≡◌, ℕ, zero, suc, ◌+◌, Bool, true, false, List, [], ◌∷◌, ◌||◌, ◌&&◌, not, ◌⊎◌, inl, inr, refl, sym, ap, ◌∙◌, subst, arith, ◌==◌, eqb-true, eq-eqb, Some}
 use Rattle.std.specs.Prelude.{slice_get}
 use Rattle.std.specs.List.{list_any}
 use Rattle.vs_net.specs.Network.{Network, AnAssign, AComb, kind, writes, listens}
 use Rattle.vs_net.specs.Network as N
-use Rattle.vs_net.specs.Lawful.{Settles, IsOrdered}
+use Rattle.vs_net.specs.Lawful.{Settles, IsOrdered, IsOnce}
 use Rattle.vs_design.specs.Designs.{Process, Continuous, Always, is_clocked, Initial, Design}
 use Rattle.vs_design.specs.Footprints.{contains, writes_of, reads_of, waits_of}
 use Rattle.vs_design.specs.Levels.{needs, feeds, is_ready, has_all, at_number, is_order_after}
@@ -147,3 +147,10 @@ is_ordered d c is (p ∷ order) placed P h f =
           keeper = λ p l m bs e g. absurd (either_way false g refl);
           none = λ p l. absurd (either_way false l refl);
         }) p l
+
+-- each process stands once in a level order
+pub is_once : (d : Design) (order placed : List ℕ) (P : ℕ → Type 0) → is_order_after placed d order ≡ true → ((p : ℕ) → P p → contains placed p ≡ true) → IsOnce P order
+is_once d [] placed P h f = tt
+is_once d (p ∷ order) placed P h f =
+    let t = turn_of d placed p order h in
+    ((λ q. either_way (contains placed p) (f p q) t.fresh), is_once d order (p ∷ placed) (λ r. P r ⊎ (r ≡ p)) t.rest (λ r q. elim q [ inl k ↦ or_right (r == p) (contains placed r) (f r k) | inr e ↦ or_left (r == p) (contains placed r) (eq-eqb r p e) ]))

@@ -27,7 +27,10 @@ use Rattle.vs_design.proofs.Lists.{by_test, and_both, contains-left, contains-ri
 use Rattle.vs_design.proofs.Writes.{either_way, written_last, assignment_within}
 use Rattle.vs_design.proofs.Parts.{all_at, by_kind, process_there}
 use Rattle.vs_design.proofs.Signals.{member_bits}
-use Rattle.vs_design.proofs.LawfulParts.{first_bit, variables_not_nets, variables_not_inputs, kind_below, exact}
+use Rattle.vs_design.proofs.LawfulParts.{first_bit, variables_not_nets, variables_not_inputs, kind_below}
+use Rattle.vs_design.proofs.Surely.{selector_facts, exact}
+use Rattle.vs_design.proofs.SelectNets.{rooted_apart}
+use Rattle.vs_design.specs.Selects.{selectors_at}
 use Rattle.vs_design.proofs.Facts.{assign_facts, block_facts}
 use Rattle.vs_design.proofs.TimeBits.{all_of_bits, some_is}
 
@@ -201,7 +204,7 @@ module _ (d : Design) (names : List (List ℕ)) (a : IsAcceptedDesign d names) w
       go true h = cc
       go false h = refl
 
-  still_variable : (b : ℕ) → is_still d b ≡ true → contains (variable_bits d) b ≡ true
+  pub still_variable : (b : ℕ) → is_still d b ≡ true → contains (variable_bits d) b ≡ true
   still_variable b h = (and_both (contains (variable_bits d) b) (not (contains (comb_bits d.processes) b)) (and_both (contains (variable_bits d) b && not (contains (comb_bits d.processes) b)) (is_once d.processes b) (still_but b h).0).0).0
 
   still_comb : (b : ℕ) → is_still d b ≡ true → contains (comb_bits d.processes) b ≡ false
@@ -258,7 +261,7 @@ module _ (d : Design) (names : List (List ℕ)) (a : IsAcceptedDesign d names) w
     comb = ap {B = Kind} kind process;
     on_is = λ b. ap {B = Bool} (λ (y : Sleeper). contains y.on b) f.is ∙ sym (ap {B = Bool} (λ y. listens y b) process);
     bits_is = λ b. ap {B = Bool} (λ (y : Sleeper). contains y.bits b) f.is ∙ sym (ap {B = Bool} (λ y. writes y b) process);
-    exact = λ b s w. exact d names a (clock_bits a.clocks) p b s (subst Settles (sym (ap {B = Kind} kind process)) tt) ∙ w;
+    exact = λ b s w. exact d names a (clock_bits a.clocks) p b s (subst Settles (sym (ap {B = Kind} kind process)) tt) (λ c q. absurd (no_selector c q)) ∙ w;
     unset = λ b r l. unset d names a order o b r (still_unset b (still b l));
     idle = λ b w. still_idle b (still b w);
     register = λ b r w v. still_register b r (still b w) v;
@@ -270,6 +273,12 @@ module _ (d : Design) (names : List (List ℕ)) (a : IsAcceptedDesign d names) w
 
       process : net_work.process p ≡ N.Comb (contains (waits_of (Always f.place f.star f.events f.statement))) (contains (statement_bits f.statement)) (body f.statement)
       process = process_is p x f
+
+      -- it waits on variables alone, so it has no selector
+      no_selector : (b : ℕ) → contains (selectors_at d p) b ≡ true → ⊥
+      no_selector b q =
+          let k = selector_facts d names a p f.place f.star f.events f.statement f.at f.settles b q in
+          rooted_apart d a.lawful k.bit.signal k.bit.root b k.bit.there k.bit.rooted k.bit.has_it (still_variable b (f.still b k.waits))
 
       still : (b : ℕ) → listens (net_work.process p) b ≡ true → is_still d b ≡ true
       still b w = f.still b (subst (λ y. listens y b ≡ true) process w)

@@ -7,7 +7,8 @@ use Rattle.vs_net.specs.Network as N
 use Rattle.vs_design.specs.Statements.{Statement, Empty, Assignment, Then, If, Case, Arms, Arm, Default}
 use Rattle.vs_design.specs.Designs.{Process, Continuous, Always, is_clocked, Design, bit_count}
 use Rattle.vs_design.specs.Footprints.{contains, target_bits, statement_bits, statement_reads, waits_of, input_bits, net_bits, variable_bits, is_input, is_net, is_variable}
-use Rattle.vs_design.specs.Latches.{early_reads}
+use Rattle.vs_design.specs.Latches.{early_reads, latch_bits}
+use Rattle.vs_design.specs.Selects.{is_lenient, selector_bits}
 use Rattle.vs_design.specs.Rules.{mixed_in, mixed_in_arms, mixed_assigns, missing_bits, latches}
 use Rattle.vs_design.specs.Levels.{is_level_order}
 use Rattle.vs_design.specs.Sets.{Set4, has, only, is_only_x, is_unknown_set, is_known_set}
@@ -17,7 +18,7 @@ use Rattle.vs_design.specs.Clocks.{own_clocks}
 use Rattle.vs_design.specs.Resets.{reset_of, with_reset, with_resets}
 use Rattle.vs_design.specs.Sleepers.{at_once, arms_at_once, comb_bits, is_once, is_still, stays_x, is_sleeping}
 use Rattle.vs_design.specs.TimeZero.{Families, families, before_run, block_sets, is_quiet, wakes}
-use Rattle.vs_design.specs.Elaborated.{is_formed, is_formed_target, is_formed_port, is_formed_process, has_constant_selects}
+use Rattle.vs_design.specs.Elaborated.{is_formed, is_formed_target, is_formed_statement, are_formed_events, is_formed_port, is_formed_process, has_constant_selects}
 use Rattle.vs_design.specs.Accepted.{is_empty}
 use Rattle.vs_design.specs.Equations.{IsBlock, IsSource, IsOrderly}
 use Rattle.vs_design.specs.TreeLaws.{SameSets}
@@ -31,10 +32,13 @@ use Rattle.vs_design.proofs.SetReadsBody.{body_sets_read}
 use Rattle.vs_design.proofs.Drivers.{empty_is}
 use Rattle.vs_design.proofs.Parts.{all_at}
 use Rattle.vs_design.proofs.Signals.{filter_high, kinds_apart}
-use Rattle.vs_design.proofs.Formed.{target_kind}
+use Rattle.vs_design.proofs.Formed.{target_kind, statement_kind}
 use Rattle.vs_design.proofs.Facts.{CombFacts, comb_facts_by}
 use Rattle.vs_design.proofs.SleepLaws.{comb_listed}
 use Rattle.vs_design.proofs.TimeBits.{all_of_bits}
+use Rattle.vs_design.proofs.Meant.{meant_plain, lenient_selects}
+use Rattle.vs_design.proofs.SelectNets.{rooted_apart, rooted_unwritten, selector_bit}
+use Rattle.vs_design.proofs.Surely.{selector_read}
 use Rattle.vs_design.proofs.Solved.{solved}
 use Rattle.vs_design.proofs.Starts.{first_unset, start_unset}
 
@@ -151,25 +155,44 @@ module _ (d : Design) (o : IsOrderly d) (clocks : List ℕ) (clocks_in : (c : �
     abbrev x : Process
     x = Always i.place i.star i.events st
 
-    facts : CombFacts x st
-    facts = comb_facts_by i.place i.star i.events st i.combinational
+    facts : CombFacts d x st
+    facts = comb_facts_by d i.place i.star i.events st i.combinational
         (empty_is (mixed_assigns x) (all_at (λ p. is_empty (mixed_assigns p)) d.processes p x o.unmixed i.is))
-        (empty_is (latches x) (all_at (λ p. is_empty (latches p)) d.processes p x o.no_latch i.is))
+        (empty_is (latches d x) (all_at (λ p. is_empty (latches d p)) d.processes p x o.no_latch i.is))
         (empty_is (missing_bits x) (all_at (λ p. is_empty (missing_bits p)) d.processes p x sensitive i.is))
+
+    formed : is_formed_statement d st ≡ true
+    formed = (and_both (are_formed_events d i.star i.events) (is_formed_statement d st) (all_at (is_formed_process d) d.processes p x o.lawful.formed i.is)).1
+
+    -- where it waits on such bits alone it has no selector, and so isn't lenient
+    plain : list_all (is_still d) (waits_of x) ≡ true → is_lenient st ≡ false
+    plain k = go (selector_bits d st) refl
+      where
+        go : (bs : List ℕ) → selector_bits d st ≡ bs → is_lenient st ≡ false
+        go [] e = lenient_selects d st facts.no_latch e
+        go (c ∷ bs) e =
+            let there : contains (selector_bits d st) c ≡ true = subst (λ (xs : List ℕ). contains xs c ≡ true) (sym e) (contains_head c bs) in
+            let s = selector_bit d o.lawful st c formed there in
+            let free = rooted_unwritten d o.lawful st s.signal s.root c (λ b w. statement_kind d st b formed w) s.there s.rooted s.has_it in
+            let waits = facts.waits c (contains_without (statement_reads st) (statement_bits st) c (selector_read d st c there) free) in
+            absurd (rooted_apart d o.lawful s.signal s.root c s.there s.rooted s.has_it (still_is c (all_of_bits (is_still d) (waits_of x) c k waits)).variable)
+
+    no_latch : list_all (is_still d) (waits_of x) ≡ true → latch_bits st ≡ []
+    no_latch k = subst (λ (y : Statement). latch_bits y ≡ []) (meant_plain d st (plain k)) facts.no_latch
 
     same_sets : list_all (is_still d) (waits_of x) ≡ true → SameSets (early_reads st []) (λ c. only X) (before_run (statement_bits st) f.early)
     same_sets k c e =
         by_test (contains (statement_bits st) c)
-        (λ w. absurd (either_way (contains (early_reads st []) c) e (no_latch_at st c facts.no_latch w).0))
+        (λ w. absurd (either_way (contains (early_reads st []) c) e (no_latch_at st c (no_latch k) w).0))
         (λ w. rw w (sym (early_is c (still_is c (all_of_bits (is_still d) (waits_of x) c k (facts.waits c (contains_without (statement_reads st) (statement_bits st) c (early_in st [] c e) w)))))))
 
     same_end : list_all (is_still d) (waits_of x) ≡ true → (b : ℕ) → contains (statement_bits st) b ≡ true → lifted_body (at_once st) (λ c. only X) b ≡ block_sets st f.early b
     same_end k b w =
         ap {B = Set4} (λ s. lifted_body s (λ c. only X) b) (once_same st facts.unmixed)
-        ∙ body_sets_read st (λ c. only X) (before_run (statement_bits st) f.early) facts.unmixed (same_sets k) b (inr (no_latch_at st b facts.no_latch w).1)
+        ∙ body_sets_read st (λ c. only X) (before_run (statement_bits st) f.early) facts.unmixed (same_sets k) b (inr (no_latch_at st b (no_latch k) w).1)
 
-    same_quiet : list_all (is_still d) (waits_of x) ≡ true → stays_x st ≡ is_quiet st f.early
-    same_quiet k = go (statement_bits st) (λ b w. w)
+    same_quiet : list_all (is_still d) (waits_of x) ≡ true → stays_x st ≡ (not (is_lenient st) && is_quiet st f.early)
+    same_quiet k = go (statement_bits st) (λ b w. w) ∙ sym (ap (λ c. not c && is_quiet st f.early) (plain k))
       where
         go : (bs : List ℕ) → ((b : ℕ) → contains bs b ≡ true → contains (statement_bits st) b ≡ true) → list_all (λ b. is_only_x (lifted_body (at_once st) (λ c. only X) b)) bs ≡ list_all (λ b. is_only_x (block_sets st f.early b)) bs
         go [] within = refl
@@ -178,11 +201,11 @@ module _ (d : Design) (o : IsOrderly d) (clocks : List ℕ) (clocks_in : (c : �
             ap {B = Bool} (λ (s : Set4). is_only_x s && list_all (λ b. is_only_x (lifted_body (at_once st) (λ c. only X) b)) bs) (same_end k b (within b (contains_head b bs)))
             ∙ ap {B = Bool} (λ t. is_only_x (block_sets st f.early b) && t) rest
 
-    is : is_sleeping d x ≡ (list_all (is_still d) (waits_of x) && not (is_quiet st f.early) && not (wakes f x))
+    is : is_sleeping d x ≡ (list_all (is_still d) (waits_of x) && not (not (is_lenient st) && is_quiet st f.early) && not (wakes f x))
     is =
         by_test (list_all (is_still d) (waits_of x))
-        (λ k. sleeps (is_clocked x) (list_all (is_still d) (waits_of x)) (stays_x st) (is_quiet st f.early) (wakes f x) i.combinational k (same_quiet k) (never_wakes (waits_of x) k))
-        (λ k. awake (is_clocked x) (list_all (is_still d) (waits_of x)) (stays_x st) (is_quiet st f.early) (wakes f x) k)
+        (λ k. sleeps (is_clocked x) (list_all (is_still d) (waits_of x)) (stays_x st) (not (is_lenient st) && is_quiet st f.early) (wakes f x) i.combinational k (same_quiet k) (never_wakes (waits_of x) k))
+        (λ k. awake (is_clocked x) (list_all (is_still d) (waits_of x)) (stays_x st) (not (is_lenient st) && is_quiet st f.early) (wakes f x) k)
       where
         sleeps : (c l s q w : Bool) → c ≡ false → l ≡ true → s ≡ q → w ≡ false → (not c && l && not s) ≡ (l && not q && not w)
         sleeps false true true true false a b m n = refl

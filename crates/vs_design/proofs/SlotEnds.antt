@@ -1,5 +1,5 @@
 -- The equations of a slot on a design are those of its network.
-use Rattle.vs_net.specs.Lawful.{Settles}
+use Rattle.vs_net.specs.Lawful.{Settles, IsKnown}
 use Rattle.std.proofs.Common.{◌≡◌, ℕ, ◌+◌, Bool, true, false, List, [], ◌∷◌, ◌++◌, ◌||◌, ◌==◌, if◌then◌else◌, refl, sym, ap, ◌∙◌, subst, map, length, Some, eqb-true, eq-eqb, None, Option, ◌⊎◌, inl, inr, ◌≤◌, arith}
 use Rattle.std.specs.Prelude.{slice_get}
 use Rattle.vs_four.specs.declared.Bit4.{Bit4}
@@ -17,6 +17,7 @@ use Rattle.vs_design.specs.Footprints.{contains, statement_bits, writes_of, inpu
 use Rattle.vs_design.specs.Clocks.{clock_bit, clock_bits, first_clock}
 use Rattle.vs_design.specs.Resets.{reset_of}
 use Rattle.vs_design.specs.Sleepers.{sleeper_of, sleeper_at}
+use Rattle.vs_design.specs.Selects.{selectors_of, selectors_at}
 use Rattle.vs_design.specs.Initials.{sole_bits}
 use Rattle.vs_design.specs.Networks.{events_in, network_of, process_of, writer_of, block_process}
 use Rattle.vs_design.specs.Accepted.{IsAcceptedDesign}
@@ -104,6 +105,10 @@ module _ (d : Design) (names : List (List ℕ)) (a : IsAcceptedDesign d names) (
   awake_assign : (p place : ℕ) (port : Port) (target_place : ℕ) (target : Target) (e : Expression) → slice_get d.processes p ≡ Some (Continuous place port target_place target e) → sleeper_at d p ≡ None
   awake_assign p place port target_place target e i = ap {B = Option N.Sleeper} (sleeper_of d) i
 
+  -- and has no selectors
+  assign_selectors : (p place : ℕ) (port : Port) (target_place : ℕ) (target : Target) (e : Expression) → slice_get d.processes p ≡ Some (Continuous place port target_place target e) → (b : ℕ) → contains (selectors_at d p) b ≡ true → ⊥
+  assign_selectors p place port target_place target e i b q = either_way (contains [] b) (subst (λ o. contains (selectors_of d o) b ≡ true) i q) refl
+
   nothing_given : (o : Option N.Sleeper) (y : N.Process) → made y s ≡ [] → write_all s (given_by o y) ≡ s
   nothing_given o y e = subst (λ ws. write_all s ws ≡ s) (sym (none (is_asleep o before s) (made y s) e)) (nothing_made s)
     where
@@ -115,8 +120,8 @@ module _ (d : Design) (names : List (List ℕ)) (a : IsAcceptedDesign d names) (
 
   there : IsSlotEnd net_work before slot s → IsSlotValues d (clock_bits a.clocks) before slot s
   there h = record {
-    assign = λ p place port target_place target e i. subst (λ o. write_all s (given_by o (process_of d (clock_bits a.clocks) (Continuous place port target_place target e))) ≡ s) (awake_assign p place port target_place target e i) (subst (λ x. write_all s (given_by (sleeper_at d p) x) ≡ s) (process_at p (Continuous place port target_place target e) i) (h.settled p (subst (λ x. Settles (kind x)) (sym (process_at p (Continuous place port target_place target e) i)) tt)));
-    block = λ p st i. subst (λ x. write_all s (given_by (sleeper_at d p) x) ≡ s) (process_at p (Always i.place i.star i.events st) i.is ∙ block_is i.place i.star i.events st false i.combinational) (h.settled p (subst (λ x. Settles (kind x)) (sym (process_at p (Always i.place i.star i.events st) i.is ∙ block_is i.place i.star i.events st false i.combinational)) tt));
+    assign = λ p place port target_place target e i. subst (λ o. write_all s (given_by o (process_of d (clock_bits a.clocks) (Continuous place port target_place target e))) ≡ s) (awake_assign p place port target_place target e i) (subst (λ x. write_all s (given_by (sleeper_at d p) x) ≡ s) (process_at p (Continuous place port target_place target e) i) (h.settled p (subst (λ x. Settles (kind x)) (sym (process_at p (Continuous place port target_place target e) i)) tt) (λ b q. absurd (assign_selectors p place port target_place target e i b q))));
+    block = λ p st i sure. subst (λ x. write_all s (given_by (sleeper_at d p) x) ≡ s) (process_at p (Always i.place i.star i.events st) i.is ∙ block_is i.place i.star i.events st false i.combinational) (h.settled p (subst (λ x. Settles (kind x)) (sym (process_at p (Always i.place i.star i.events st) i.is ∙ block_is i.place i.star i.events st false i.combinational)) tt) sure);
     register = λ p place star events st i k b w.
         let e = process_at p (Always place star events st) i ∙ block_is place star events st true k in
         registered p (clock_bit (events_in d (clock_bits a.clocks) events)) (reset_of d (clock_bits a.clocks) (Always place star events st)) st e b w;
@@ -168,9 +173,9 @@ module _ (d : Design) (names : List (List ℕ)) (a : IsAcceptedDesign d names) (
 
   back : IsSlotValues d (clock_bits a.clocks) before slot s → IsSlotEnd net_work before slot s
   back h = record {
-    settled = by_kind d (clock_bits a.clocks) (λ p x. Settles (kind x) → write_all s (given_by (sleeper_at d p) x) ≡ s) (record {
-      assigns = λ p place port target_place target e i z. subst (λ o. write_all s (given_by o (process_of d (clock_bits a.clocks) (Continuous place port target_place target e))) ≡ s) (sym (awake_assign p place port target_place target e i)) (h.assign p place port target_place target e i);
-      combs = λ p place star events st i k z. h.block p st (record { place = place; star = star; events = events; is = i; combinational = k });
+    settled = by_kind d (clock_bits a.clocks) (λ p x. Settles (kind x) → ((b : ℕ) → contains (selectors_at d p) b ≡ true → IsKnown (s b)) → write_all s (given_by (sleeper_at d p) x) ≡ s) (record {
+      assigns = λ p place port target_place target e i z sure. subst (λ o. write_all s (given_by o (process_of d (clock_bits a.clocks) (Continuous place port target_place target e))) ≡ s) (sym (awake_assign p place port target_place target e i)) (h.assign p place port target_place target e i);
+      combs = λ p place star events st i k z sure. h.block p st (record { place = place; star = star; events = events; is = i; combinational = k }) sure;
       clocked = λ p place star events st i k z. absurd z;
       inputs = λ p j r l e f z. absurd z;
       clock = λ p j r l e f z. absurd z;

@@ -9,11 +9,12 @@ use Rattle.vs_design.specs.Footprints.{contains, read_bits, target_bits, target_
 use Rattle.vs_design.specs.Latches.{latch_bits}
 use Rattle.vs_design.specs.Rules.{mixed_in, mixed_assigns, latches}
 use Rattle.vs_design.specs.Levels.{needs, is_order_after, is_level_order}
-use Rattle.vs_design.specs.Sets.{Set4, only, union}
+use Rattle.vs_design.specs.Sets.{Set4, only, any_value, union}
 use Rattle.vs_design.specs.Lifted.{Family}
 use Rattle.vs_design.specs.LiftedBodies.{assign_sets}
 use Rattle.vs_design.specs.TimeZero.{Families, families, families_along, early_source, late_source, early_end, late_end, block_sets, is_quiet}
 use Rattle.vs_design.specs.Elaborated.{IsLawfulDesign, has_constant_selects, is_formed, is_formed_target, is_formed_port, is_formed_process}
+use Rattle.vs_design.specs.Selects.{is_lenient, meant, is_lenient_block}
 use Rattle.vs_design.specs.Accepted.{is_empty}
 use Rattle.vs_design.specs.Equations.{IsBlock, sleeps, IsSource, IsOrderly, IsSolved}
 use Rattle.vs_design.specs.TreeLaws.{SameSets}
@@ -25,6 +26,7 @@ use Rattle.vs_design.proofs.Order.{Turn, turn_of, all_at_end}
 use Rattle.vs_design.proofs.Parts.{all_at}
 use Rattle.vs_design.proofs.Along.{SameAt, Found, found, unwritten, constant_assigns}
 use Rattle.vs_design.proofs.SetReadsBody.{assign_same, block_same, quiet_same}
+use Rattle.vs_design.proofs.Meant.{meant_plain, meant_unmixed, meant_bits, meant_needs}
 
 -- ---- what a process's own bits have depends on what it needs
 
@@ -37,15 +39,22 @@ assign_facts d l p place port target_place target e h =
 assign_settled : (target : Target) (e : Expression) (f g : Family) (b : ℕ) → has_constant_selects target ≡ true → SameSets (read_bits e) f g → contains (target_bits target) b ≡ true → assign_sets target e f b ≡ assign_sets target e g b
 assign_settled target e f g b c k w = assign_same target e f g b k (inr (subst (λ xs. contains xs b ≡ true) (sym (constant_assigns target c)) w))
 
-record Clean (st : Statement) : Type 0 where
-  pub unmixed : mixed_in false st ≡ []
-  pub no_latch : latch_bits st ≡ []
+-- of the statement that the rules take a block to have
+record Clean (d : Design) (st : Statement) : Type 0 where
+  pub unmixed : mixed_in false (meant d st) ≡ []
+  pub no_latch : latch_bits (meant d st) ≡ []
 
-block_facts : (d : Design) → IsOrderly d → (p : ℕ) (st : Statement) → IsBlock d p st → Clean st
+block_facts : (d : Design) → IsOrderly d → (p : ℕ) (st : Statement) → IsBlock d p st → Clean d st
 block_facts d o p st i = record {
-  unmixed = subst (λ (c : Bool). (if c then [] else mixed_in false st) ≡ []) i.combinational (empty_is (mixed_assigns (Always i.place i.star i.events st)) (all_at (λ p. is_empty (mixed_assigns p)) d.processes p (Always i.place i.star i.events st) o.unmixed i.is));
-  no_latch = subst (λ (c : Bool). (if not c then latch_bits st else []) ≡ []) i.combinational (empty_is (latches (Always i.place i.star i.events st)) (all_at (λ p. is_empty (latches p)) d.processes p (Always i.place i.star i.events st) o.no_latch i.is));
+  unmixed = meant_unmixed d st (subst (λ (c : Bool). (if c then [] else mixed_in false st) ≡ []) i.combinational (empty_is (mixed_assigns (Always i.place i.star i.events st)) (all_at (λ p. is_empty (mixed_assigns p)) d.processes p (Always i.place i.star i.events st) o.unmixed i.is)));
+  no_latch = subst (λ (c : Bool). (if not c then latch_bits (meant d st) else []) ≡ []) i.combinational (empty_is (latches d (Always i.place i.star i.events st)) (all_at (λ p. is_empty (latches d p)) d.processes p (Always i.place i.star i.events st) o.no_latch i.is));
 }
+
+-- one that isn't lenient is taken as it stands
+plain_facts : (d : Design) → IsOrderly d → (p : ℕ) (st : Statement) → IsBlock d p st → is_lenient st ≡ false → (mixed_in false st ≡ []) × (latch_bits st ≡ [])
+plain_facts d o p st i e =
+    let c = block_facts d o p st i in
+    (subst (λ (x : Statement). mixed_in false x ≡ []) (meant_plain d st e) c.unmixed, subst (λ (x : Statement). latch_bits x ≡ []) (meant_plain d st e) c.no_latch)
 
 -- what a block reads and doesn't write it needs
 block_needs : (d : Design) (p : ℕ) (st : Statement) (i : IsBlock d p st) (b : ℕ) → contains (without (statement_reads st) (statement_bits st)) b ≡ true → contains (needs (Always i.place i.star i.events st)) b ≡ true
@@ -67,22 +76,27 @@ solved d o clocks order h = record {
   block = λ p st i n b w.
       let c = block_facts d o p st i in
       let g = at p st i in
-      (g.own b w).1 ∙ own_late (sleeps d p st i) st g.then_.late b n w ∙ block_same st g.then_.late sets.late b c.unmixed c.no_latch (λ k r. sym (g.same k (block_needs d p st i k r)).1) w;
-  quiet = λ p st i n q b w.
-      let c = block_facts d o p st i in
+      let own = meant_bits d st b ∙ w in
+      (g.own b w).1 ∙ own_late (sleeps d p st i) (meant d st) g.then_.late b n own ∙ block_same (meant d st) g.then_.late sets.late b c.unmixed c.no_latch (λ k r. sym (g.same k (block_needs d p st i k (meant_needs d st k r))).1) own;
+  lenient = λ p st i n e b w.
+      let g = at p st i in
+      (g.own b w).0 ∙ any_early (sleeps d p st i) (is_lenient_block (Always i.place i.star i.events st)) (meant d st) g.then_.early b n (lenient_is p st i ∙ e) (meant_bits d st b ∙ w);
+  quiet = λ p st i n e q b w.
+      let c = plain_facts d o p st i e in
       let g = at p st i in
       let k : SameSets (without (statement_reads st) (statement_bits st)) g.then_.early sets.early = λ k r. sym (g.same k (block_needs d p st i k r)).0 in
-      (g.own b w).0 ∙ own_early (sleeps d p st i) st g.then_.early b n w ∙ quiet_end st g.then_.early (block_sets st g.then_.early b) (quiet_same st g.then_.early sets.early c.unmixed c.no_latch k ∙ q) ∙ block_same st g.then_.early sets.early b c.unmixed c.no_latch k w;
-  stirred = λ p st i n q b w.
-      let c = block_facts d o p st i in
+      (g.own b w).0 ∙ as_plain p st i e g.then_.early b ∙ own_early (sleeps d p st i) (is_lenient_block (Always i.place i.star i.events st)) st g.then_.early b n (lenient_is p st i ∙ e) w ∙ quiet_end st g.then_.early (block_sets st g.then_.early b) (quiet_same st g.then_.early sets.early c.0 c.1 k ∙ q) ∙ block_same st g.then_.early sets.early b c.0 c.1 k w;
+  stirred = λ p st i n e q b w.
+      let c = plain_facts d o p st i e in
       let g = at p st i in
       let k : SameSets (without (statement_reads st) (statement_bits st)) g.then_.early sets.early = λ k r. sym (g.same k (block_needs d p st i k r)).0 in
-      (g.own b w).0 ∙ own_early (sleeps d p st i) st g.then_.early b n w ∙ stirred_end st g.then_.early (block_sets st g.then_.early b) (quiet_same st g.then_.early sets.early c.unmixed c.no_latch k ∙ q) ∙ ap {B = Set4} (union (only X)) (block_same st g.then_.early sets.early b c.unmixed c.no_latch k w);
+      (g.own b w).0 ∙ as_plain p st i e g.then_.early b ∙ own_early (sleeps d p st i) (is_lenient_block (Always i.place i.star i.events st)) st g.then_.early b n (lenient_is p st i ∙ e) w ∙ stirred_end st g.then_.early (block_sets st g.then_.early b) (quiet_same st g.then_.early sets.early c.0 c.1 k ∙ q) ∙ ap {B = Set4} (union (only X)) (block_same st g.then_.early sets.early b c.0 c.1 k w);
   asleep = λ p st i n b w.
       let c = block_facts d o p st i in
+      let own = meant_bits d st b ∙ w in
       let g = at p st i in (
-        (g.own b w).0 ∙ asleep_early (sleeps d p st i) st g.then_.early b n w,
-        (g.own b w).1 ∙ asleep_late (sleeps d p st i) st g.then_.late b n w ∙ ap {B = Set4} (union (only X)) (block_same st g.then_.late sets.late b c.unmixed c.no_latch (λ k r. sym (g.same k (block_needs d p st i k r)).1) w),
+        (g.own b w).0 ∙ asleep_early (sleeps d p st i) (is_lenient_block (Always i.place i.star i.events st)) (meant d st) g.then_.early b n own,
+        (g.own b w).1 ∙ asleep_late (sleeps d p st i) (meant d st) g.then_.late b n own ∙ ap {B = Set4} (union (only X)) (block_same (meant d st) g.then_.late sets.late b c.unmixed c.no_latch (λ k r. sym (g.same k (block_needs d p st i k (meant_needs d st k r))).1) own),
       );
 }
   where
@@ -101,15 +115,27 @@ solved d o clocks order h = record {
     own_late : (asleep : Bool) (st : Statement) (f : Family) (b : ℕ) → asleep ≡ false → contains (statement_bits st) b ≡ true → late_end (contains (statement_bits st) b) asleep (block_sets st f b) (f b) ≡ block_sets st f b
     own_late asleep st f b n w = rw (n, w) refl
 
-    own_early : (asleep : Bool) (st : Statement) (f : Family) (b : ℕ) → asleep ≡ false → contains (statement_bits st) b ≡ true
-        → early_end (contains (statement_bits st) b) asleep (is_quiet st f) (block_sets st f b) (f b) ≡ (if is_quiet st f then block_sets st f b else union (only X) (block_sets st f b))
-    own_early asleep st f b n w = rw (n, w) refl
+    own_early : (asleep lenient : Bool) (st : Statement) (f : Family) (b : ℕ) → asleep ≡ false → lenient ≡ false → contains (statement_bits st) b ≡ true
+        → early_end (contains (statement_bits st) b) asleep lenient (is_quiet st f) (block_sets st f b) (f b) ≡ (if is_quiet st f then block_sets st f b else union (only X) (block_sets st f b))
+    own_early asleep lenient st f b n l w = rw (n, l, w) refl
+
+    any_early : (asleep lenient : Bool) (st : Statement) (f : Family) (b : ℕ) → asleep ≡ false → lenient ≡ true → contains (statement_bits st) b ≡ true → early_end (contains (statement_bits st) b) asleep lenient (is_quiet st f) (block_sets st f b) (f b) ≡ any_value
+    any_early asleep lenient st f b n l w = rw (n, l, w) refl
+
+    -- of a combinational block
+    lenient_is : (p : ℕ) (st : Statement) (i : IsBlock d p st) → is_lenient_block (Always i.place i.star i.events st) ≡ is_lenient st
+    lenient_is p st i = ap (λ c. not c && is_lenient st) i.combinational
+
+    as_plain : (p : ℕ) (st : Statement) (i : IsBlock d p st) → is_lenient st ≡ false → (f : Family) (b : ℕ)
+        → early_end (contains (statement_bits (meant d st)) b) (sleeps d p st i) (is_lenient_block (Always i.place i.star i.events st)) (is_quiet (meant d st) f) (block_sets (meant d st) f b) (f b)
+        ≡ early_end (contains (statement_bits st) b) (sleeps d p st i) (is_lenient_block (Always i.place i.star i.events st)) (is_quiet st f) (block_sets st f b) (f b)
+    as_plain p st i e f b = ap {B = Set4} (λ (x : Statement). early_end (contains (statement_bits x) b) (sleeps d p st i) (is_lenient_block (Always i.place i.star i.events st)) (is_quiet x f) (block_sets x f b) (f b)) (meant_plain d st e)
 
     asleep_late : (asleep : Bool) (st : Statement) (f : Family) (b : ℕ) → asleep ≡ true → contains (statement_bits st) b ≡ true → late_end (contains (statement_bits st) b) asleep (block_sets st f b) (f b) ≡ union (only X) (block_sets st f b)
     asleep_late asleep st f b n w = rw (n, w) refl
 
-    asleep_early : (asleep : Bool) (st : Statement) (f : Family) (b : ℕ) → asleep ≡ true → contains (statement_bits st) b ≡ true → early_end (contains (statement_bits st) b) asleep (is_quiet st f) (block_sets st f b) (f b) ≡ only X
-    asleep_early asleep st f b n w = rw (n, w) refl
+    asleep_early : (asleep lenient : Bool) (st : Statement) (f : Family) (b : ℕ) → asleep ≡ true → contains (statement_bits st) b ≡ true → early_end (contains (statement_bits st) b) asleep lenient (is_quiet st f) (block_sets st f b) (f b) ≡ only X
+    asleep_early asleep lenient st f b n w = rw (n, w) refl
 
     quiet_end : (st : Statement) (f : Family) (s : Set4) → is_quiet st f ≡ true → (if is_quiet st f then s else union (only X) s) ≡ s
     quiet_end st f s q = rw q refl
@@ -174,20 +200,22 @@ module _ (d : Design) (o : IsOrderly d) (clocks : List ℕ) (f g : Families) (i 
       block : IsBlock d p st
       block = record { place = place; star = star; events = events; is = h; combinational = c }
 
-      clean : Clean st
+      clean : Clean d st
       clean = block_facts d o p st block
 
       same : SameSets (without (statement_reads st) (statement_bits st)) f.early g.early
       same m r = (k m (block_needs d p st block m r)).0
 
-      late : block_sets st f.late b ≡ block_sets st g.late b
-      late = block_same st f.late g.late b clean.unmixed clean.no_latch (λ m r. (k m (block_needs d p st block m r)).1) w
+      late : block_sets (meant d st) f.late b ≡ block_sets (meant d st) g.late b
+      late = block_same (meant d st) f.late g.late b clean.unmixed clean.no_latch (λ m r. (k m (block_needs d p st block m (meant_needs d st m r))).1) (meant_bits d st b ∙ w)
 
       early : sleeps d p st block ≡ false → f.early b ≡ g.early b
-      early n =
+      early n = by_test (is_lenient st)
+          (λ e. i.lenient p st block n e b w ∙ sym (j.lenient p st block n e b w))
+          (λ e. let c = plain_facts d o p st block e in
           by_test (is_quiet st f.early)
-          (λ q. i.quiet p st block n q b w ∙ block_same st f.early g.early b clean.unmixed clean.no_latch same w ∙ sym (j.quiet p st block n (sym (quiet_same st f.early g.early clean.unmixed clean.no_latch same) ∙ q) b w))
-          (λ q. i.stirred p st block n q b w ∙ ap {B = Set4} (union (only X)) (block_same st f.early g.early b clean.unmixed clean.no_latch same w) ∙ sym (j.stirred p st block n (sym (quiet_same st f.early g.early clean.unmixed clean.no_latch same) ∙ q) b w))
+          (λ q. i.quiet p st block n e q b w ∙ block_same st f.early g.early b c.0 c.1 same w ∙ sym (j.quiet p st block n e (sym (quiet_same st f.early g.early c.0 c.1 same) ∙ q) b w))
+          (λ q. i.stirred p st block n e q b w ∙ ap {B = Set4} (union (only X)) (block_same st f.early g.early b c.0 c.1 same w) ∙ sym (j.stirred p st block n e (sym (quiet_same st f.early g.early c.0 c.1 same) ∙ q) b w)))
 
   -- the bits that placed processes write are the same
   abbrev Placed_same : List ℕ → Type 0

@@ -9,12 +9,12 @@ use Rattle.vs_net.specs.Network as N
 use Rattle.vs_net.specs.Lawful.{Settles, ReadsIn, WritesIn, IsKnown, IsQuietBlock, IsWokenBlock}
 use Rattle.vs_design.specs.Expressions.{Signal, signal_length}
 use Rattle.vs_design.specs.Values.{count_from, bits_of_signal}
-use Rattle.vs_design.specs.Statements.{Statement}
+use Rattle.vs_design.specs.Statements.{Whole, Statement}
 use Rattle.vs_design.specs.Bodies.{assignment_writes, body}
-use Rattle.vs_design.specs.Designs.{Event, Process, Continuous, Always, is_clocked, Design, top_inputs, bit_count}
+use Rattle.vs_design.specs.Designs.{Event, InputPort, Process, Continuous, Always, is_clocked, Design, top_inputs, bit_count}
 use Rattle.vs_design.specs.Footprints.{contains, read_bits, target_reads, statement_reads, statement_bits, writes_of, reads_of, waits_of, input_bits, is_input}
 use Rattle.vs_design.specs.Levels.{level_order}
-use Rattle.vs_design.specs.Sets.{Set4, has, only, known_set, union, is_only_x, is_unknown_set, is_known_set}
+use Rattle.vs_design.specs.Sets.{Set4, has, only, known_set, any_value, union, is_only_x, is_unknown_set, is_known_set}
 use Rattle.vs_design.specs.Lifted.{Family}
 use Rattle.vs_design.specs.Clocks.{clock_bits, own_clocks}
 use Rattle.vs_design.specs.Resets.{reset_of, with_reset, with_resets}
@@ -23,6 +23,9 @@ use Rattle.vs_net.proofs.Nets.{reset_clocked}
 use Rattle.vs_design.specs.Sleepers.{is_sleeping, sleeper_at}
 use Rattle.vs_design.specs.TimeZero.{Families, families, early_source, late_source, block_sets, early_end, late_end, is_quiet, wakes, is_uncertain}
 use Rattle.vs_design.specs.Initials.{first_value, start_value}
+use Rattle.vs_design.specs.Latches.{latch_bits}
+use Rattle.vs_design.specs.Selects.{is_lenient, meant, is_lenient_block, select_root}
+use Rattle.vs_design.specs.Equations.{IsSource, IsOrderly, IsSolved}
 use Rattle.vs_design.specs.Networks.{network_of, process_of, block_process}
 use Rattle.vs_design.specs.Accepted.{IsAcceptedDesign}
 use Rattle.vs_design.proofs.Lists.{by_test, and_both, or_left, or_right, contains-left, contains-right, contains_filter}
@@ -30,12 +33,18 @@ use Rattle.vs_design.proofs.Writes.{either_way}
 use Rattle.vs_design.proofs.SetBits.{union_left, union_right}
 use Rattle.vs_design.proofs.Signals.{one_signal, member_bits}
 use Rattle.vs_design.proofs.Parts.{by_kind, process_there, writer_there, none_at}
-use Rattle.vs_design.proofs.LawfulParts.{one_writer, first_bit, kind_below}
+use Rattle.vs_design.proofs.LawfulParts.{one_writer, first_bit, kind_below, process_not_input}
 use Rattle.vs_design.proofs.Facts.{assign_facts, block_facts, comb_facts}
 use Rattle.vs_design.proofs.ClockNets.{ClockAt, of_input, of_spare, clocks_at, clock_at, inside, clock_process, one_listed}
 use Rattle.vs_design.proofs.ClockLaws.{clock_is}
 use Rattle.vs_design.proofs.SleepLaws.{awake_at, AsleepFacts, asleep_facts, process_is}
 use Rattle.vs_design.proofs.Named.{bits_of_design}
+use Rattle.vs_design.proofs.Formed.{filtered_bits}
+use Rattle.vs_design.proofs.Meant.{meant_plain, meant_fits, meant_bits}
+use Rattle.vs_design.proofs.SelectNets.{IsAt, by_root}
+use Rattle.vs_design.proofs.Surely.{selector_facts, same_run}
+use Rattle.vs_design.proofs.PortSets.{port_known}
+use Rattle.vs_design.proofs.Solved.{solved}
 use Rattle.vs_design.proofs.Along.{SameAt, Found, found, unwritten, assign_made, block_made}
 use Rattle.vs_design.proofs.TimeBits.{only_x_is, only_x_has, unknown_set, known_set_is, all_of_bits, any_bit, signal_with, some_is}
 
@@ -57,6 +66,10 @@ module _ (d : Design) (names : List (List ℕ)) (a : IsAcceptedDesign d names) w
       go (Continuous place port target_place target e) k w = (w, tt)
       go (Always place star events st) k w = subst (λ c. (writes (block_process d (clock_bits a.clocks) c (Always place star events st) events st) b ≡ true) × Settles (kind (block_process d (clock_bits a.clocks) c (Always place star events st) events st))) (sym k) (w, tt)
 
+  -- a combinational block is lenient where its statement is
+  lenient_is : (place : ℕ) (star : Bool) (events : List Event) (st : Statement) → is_clocked (Always place star events st) ≡ false → is_lenient_block (Always place star events st) ≡ is_lenient st
+  lenient_is place star events st k = ap (λ c. not c && is_lenient st) k
+
   -- a bit that no settling process writes has its first sets
   first_sets : (b : ℕ) → ((p : ℕ) → writes (net_work.process p) b ≡ true → Settles (kind (net_work.process p)) → ⊥) → SameAt sets (record { early = early_source d; late = late_source d (clock_bits a.clocks) }) b
   first_sets b h = unwritten d (level_order d) (record { early = early_source d; late = late_source d (clock_bits a.clocks) }) b a.no_cycle (λ r x e k. by_test (contains (writes_of x) b) (λ w. let q = settling r x b e k w in absurd (h r q.0 q.1)) (λ w. w))
@@ -74,7 +87,7 @@ module _ (d : Design) (names : List (List ℕ)) (a : IsAcceptedDesign d names) w
   pub early_comb : (p b : ℕ) → kind (net_work.process p) ≡ AComb → writes (net_work.process p) b ≡ true → has (sets.early b) X ≡ true
   early_comb p b = by_kind d (clock_bits a.clocks) (λ p x. kind x ≡ AComb → writes x b ≡ true → has (sets.early b) X ≡ true) (record {
     assigns = λ p place port target_place target e h w z. cc;
-    combs = λ p place star events st h k w z. let g = found_at p (Always place star events st) h k in subst (λ s. has s X ≡ true) (sym (g.own b z).0) (end (is_sleeping d (Always place star events st)) st g.then_.early b z);
+    combs = λ p place star events st h k w z. let g = found_at p (Always place star events st) h k in subst (λ s. has s X ≡ true) (sym (g.own b z).0) (end (is_sleeping d (Always place star events st)) (is_lenient_block (Always place star events st)) (meant d st) g.then_.early b (meant_bits d st b ∙ z));
     clocked = λ p place star events st h k w z. cc;
     inputs = λ p i r l e f w z. cc;
     clock = λ p i r l e f w z. cc;
@@ -83,9 +96,10 @@ module _ (d : Design) (names : List (List ℕ)) (a : IsAcceptedDesign d names) w
     none = λ p w z. cc;
   }) p
     where
-      end : (asleep : Bool) (st : Statement) (f : Family) (b : ℕ) → contains (statement_bits st) b ≡ true → has (early_end (contains (statement_bits st) b) asleep (is_quiet st f) (block_sets st f b) (f b)) X ≡ true
-      end true st f b w = rw w refl
-      end false st f b w =
+      end : (asleep lenient : Bool) (st : Statement) (f : Family) (b : ℕ) → contains (statement_bits st) b ≡ true → has (early_end (contains (statement_bits st) b) asleep lenient (is_quiet st f) (block_sets st f b) (f b)) X ≡ true
+      end true lenient st f b w = rw w refl
+      end false true st f b w = rw w refl
+      end false false st f b w =
           by_test (is_quiet st f)
           (λ q. rw (w, q) (only_x_has (block_sets st f b) (all_of_bits (λ b. is_only_x (block_sets st f b)) (statement_bits st) b q w)))
           (λ q. rw (w, q) (union_left (only X) (block_sets st f b) X refl))
@@ -101,9 +115,14 @@ module _ (d : Design) (names : List (List ℕ)) (a : IsAcceptedDesign d names) w
     combs = λ p place star events st h k z n r b w t.
         let g = found_at p (Always place star events st) h k in
         let f = comb_facts d names a p place star events st h k in
-        let in_block : has (block_sets st g.then_.early b) (write_all t (body st s).writes b) ≡ true = block_made st g.then_.early s t b (block_facts d names a p place star events st h).fit f.unmixed f.no_latch
-        (λ c q. subst (λ x. has x (s c) ≡ true) (g.same c (contains-right (reads_of (Always place star events st)) (waits_of (Always place star events st)) c (f.waits c q))).0 (r c (f.waits c q))) w in
-        subst (λ x. has x (write_all t (body st s).writes b) ≡ true) (sym (g.own b w).0) (own (is_sleeping d (Always place star events st)) st g.then_.early b (write_all t (body st s).writes b) (awake_at d p (Always place star events st) h n) w (wider (is_quiet st g.then_.early) (block_sets st g.then_.early b) (write_all t (body st s).writes b) in_block));
+        let own_bit = meant_bits d st b ∙ w in
+        let awake = awake_at d p (Always place star events st) h n in
+        let in_block : has (block_sets (meant d st) g.then_.early b) (write_all t (body (meant d st) s).writes b) ≡ true = block_made (meant d st) g.then_.early s t b (meant_fits d st (block_facts d names a p place star events st h).fit) f.meant_unmixed f.no_latch
+        (λ c q. subst (λ x. has x (s c) ≡ true) (g.same c (contains-right (reads_of (Always place star events st)) (waits_of (Always place star events st)) c (f.meant_waits c q))).0 (r c (f.meant_waits c q))) own_bit in
+        subst (λ x. has x (write_all t (body st s).writes b) ≡ true) (sym (g.own b w).0) (by_test (is_lenient st)
+        (λ e. any_own (is_sleeping d (Always place star events st)) (is_lenient_block (Always place star events st)) (meant d st) g.then_.early b (write_all t (body st s).writes b) awake (lenient_is place star events st k ∙ e) own_bit)
+        (λ e. own (is_sleeping d (Always place star events st)) (is_lenient_block (Always place star events st)) (meant d st) g.then_.early b (write_all t (body st s).writes b) awake (lenient_is place star events st k ∙ e) own_bit
+        (wider (is_quiet (meant d st) g.then_.early) (block_sets (meant d st) g.then_.early b) (write_all t (body st s).writes b) (subst (λ (x : Statement). has (block_sets (meant d st) g.then_.early b) (write_all t (body x s).writes b) ≡ true) (meant_plain d st e) in_block))));
     clocked = λ p place star events st h k z n. absurd z;
     inputs = λ p i r l e f z n. absurd z;
     clock = λ p i r l e f z n. absurd z;
@@ -112,13 +131,42 @@ module _ (d : Design) (names : List (List ℕ)) (a : IsAcceptedDesign d names) w
     none = λ p z n. absurd z;
   }) p z n
     where
-      own : (asleep : Bool) (st : Statement) (f : Family) (b : ℕ) (v : Bit4) → asleep ≡ false → contains (statement_bits st) b ≡ true → has (if is_quiet st f then block_sets st f b else union (only X) (block_sets st f b)) v ≡ true
-          → has (early_end (contains (statement_bits st) b) asleep (is_quiet st f) (block_sets st f b) (f b)) v ≡ true
-      own asleep st f b v n w h = rw (n, w) h
+      own : (asleep lenient : Bool) (st : Statement) (f : Family) (b : ℕ) (v : Bit4) → asleep ≡ false → lenient ≡ false → contains (statement_bits st) b ≡ true → has (if is_quiet st f then block_sets st f b else union (only X) (block_sets st f b)) v ≡ true
+          → has (early_end (contains (statement_bits st) b) asleep lenient (is_quiet st f) (block_sets st f b) (f b)) v ≡ true
+      own asleep lenient st f b v n l w h = rw (n, l, w) h
+
+      any_has : (v : Bit4) → has any_value v ≡ true
+      any_has Zero = refl
+      any_has One = refl
+      any_has X = refl
+      any_has Z = refl
+
+      -- a lenient block's bits have any value
+      any_own : (asleep lenient : Bool) (st : Statement) (f : Family) (b : ℕ) (v : Bit4) → asleep ≡ false → lenient ≡ true → contains (statement_bits st) b ≡ true → has (early_end (contains (statement_bits st) b) asleep lenient (is_quiet st f) (block_sets st f b) (f b)) v ≡ true
+      any_own asleep lenient st f b v n l w = rw (n, l, w) (any_has v)
 
       wider : (q : Bool) (x : Set4) (v : Bit4) → has x v ≡ true → has (if q then x else union (only X) x) v ≡ true
       wider true x v h = h
       wider false x v h = union_right (only X) x v h
+
+  -- late, each select net has 0 or 1
+  pub late_root : (s r : Signal) → IsAt d a.lawful s → select_root d s ≡ Some r → (b : ℕ) → contains (bits_of_signal s) b ≡ true → is_known_set (sets.late b) ≡ true
+  late_root s r h k = by_root d a.lawful (λ s. (b : ℕ) → contains (bits_of_signal s) b ≡ true → is_known_set (sets.late b) ≡ true) r
+      (λ s h i e b m. of_input b (filtered_bits is_input d.signals s.number s b h i m))
+      (λ s u h p q b m. subst (λ (x : Set4). is_known_set x ≡ true) (sym (solution.assign p.number p.place InputPort p.target_place (Whole s) p.e p.is b m).1) (port_known s u p.e sets.late b p.named p.long q m))
+      (length d.processes) s h k
+    where
+      orderly : IsOrderly d
+      orderly = record { lawful = a.lawful; unmixed = a.unmixed; no_latch = a.no_latch; one_driver = a.one_driver }
+
+      solution : IsSolved d (clock_bits a.clocks) sets
+      solution = solved d orderly (clock_bits a.clocks) (level_order d) a.no_cycle
+
+      source : (b : ℕ) → contains (input_bits d) b ≡ true → IsSource d b
+      source b i p x e c = by_test (contains (writes_of x) b) (λ w. absurd (process_not_input d names a (clock_bits a.clocks) p b x e w i)) (λ w. w)
+
+      of_input : (b : ℕ) → contains (input_bits d) b ≡ true → is_known_set (sets.late b) ≡ true
+      of_input b i = subst (λ (x : Set4). is_known_set x ≡ true) (sym (solution.source b (source b i)).1) (by_test (contains (own_clocks d (clock_bits a.clocks)) b) (λ e. rw e refl) (λ e. rw (e, i) refl))
 
   pub late_made : (p : ℕ) → Settles (kind (net_work.process p)) → (s : State) → ReadsIn (λ b. has (sets.late b)) (net_work.process p) s → WritesIn (λ b. has (sets.late b)) (net_work.process p) s
   late_made p z s = by_kind d (clock_bits a.clocks) (λ p x. Settles (kind x) → ReadsIn (λ b. has (sets.late b)) x s → WritesIn (λ b. has (sets.late b)) x s) (record {
@@ -131,9 +179,12 @@ module _ (d : Design) (names : List (List ℕ)) (a : IsAcceptedDesign d names) w
     combs = λ p place star events st h k z r b w t.
         let g = found_at p (Always place star events st) h k in
         let f = comb_facts d names a p place star events st h k in
-        let in_block : has (block_sets st g.then_.late b) (write_all t (body st s).writes b) ≡ true = block_made st g.then_.late s t b (block_facts d names a p place star events st h).fit f.unmixed f.no_latch
-        (λ c q. subst (λ x. has x (s c) ≡ true) (g.same c (contains-right (reads_of (Always place star events st)) (waits_of (Always place star events st)) c (f.waits c q))).1 (r c (f.waits c q))) w in
-        subst (λ x. has x (write_all t (body st s).writes b) ≡ true) (sym (g.own b w).1) (end (is_sleeping d (Always place star events st)) st g.then_.late b (write_all t (body st s).writes b) w in_block);
+        let own_bit = meant_bits d st b ∙ w in
+        let in_block : has (block_sets (meant d st) g.then_.late b) (write_all t (body (meant d st) s).writes b) ≡ true = block_made (meant d st) g.then_.late s t b (meant_fits d st (block_facts d names a p place star events st h).fit) f.meant_unmixed f.no_latch
+        (λ c q. subst (λ x. has x (s c) ≡ true) (g.same c (contains-right (reads_of (Always place star events st)) (waits_of (Always place star events st)) c (f.meant_waits c q))).1 (r c (f.meant_waits c q))) own_bit in
+        let run = same_run d names a p place star events st h k s (λ c q. let x = selector_facts d names a p place star events st h k c q in
+        known_set_is (sets.late c) (s c) (late_root x.bit.signal x.bit.root x.bit.there x.bit.rooted c x.bit.has_it) (r c x.waits)) in
+        subst (λ x. has x (write_all t (body st s).writes b) ≡ true) (sym (g.own b w).1) (end (is_sleeping d (Always place star events st)) (meant d st) g.then_.late b (write_all t (body st s).writes b) own_bit (subst (λ (x : Effect). has (block_sets (meant d st) g.then_.late b) (write_all t x.writes b) ≡ true) run in_block));
     clocked = λ p place star events st h k z. absurd z;
     inputs = λ p i r l e f z. absurd z;
     clock = λ p i r l e f z. absurd z;
@@ -150,7 +201,7 @@ module _ (d : Design) (names : List (List ℕ)) (a : IsAcceptedDesign d names) w
   pub late_asleep : (p b : ℕ) (x : N.Sleeper) → sleeper_at d p ≡ Some x → writes (net_work.process p) b ≡ true → has (sets.late b) X ≡ true
   late_asleep p b x n w =
       let g = found_at p (Always f.place f.star f.events f.statement) f.at f.settles in
-      subst (λ s. has s X ≡ true) (sym (g.own b own).1) (end (is_sleeping d (Always f.place f.star f.events f.statement)) f.statement g.then_.late b f.sleeps own)
+      subst (λ s. has s X ≡ true) (sym (g.own b own).1) (end (is_sleeping d (Always f.place f.star f.events f.statement)) (meant d f.statement) g.then_.late b f.sleeps (meant_bits d f.statement b ∙ own))
     where
       f : AsleepFacts d p x
       f = asleep_facts d p x n
@@ -373,11 +424,12 @@ module _ (d : Design) (names : List (List ℕ)) (a : IsAcceptedDesign d names) w
   quiet_or_woken p = by_kind d (clock_bits a.clocks) (λ p x. kind x ≡ AComb → sleeper_at d p ≡ None → IsQuietBlock (λ b. has (sets.early b)) x ⊎ IsWokenBlock (λ b. has (sets.early b)) (λ b. has (sets.late b)) x) (record {
     assigns = λ p place port target_place target e h w n. cc;
     combs = λ p place star events st h k w n.
-        by_test (is_quiet st sets.early)
-        (λ q. inl (λ s t r b z.
+        by_test (not (is_lenient st) && is_quiet st sets.early)
+        (λ q. let m = and_both (not (is_lenient st)) (is_quiet st sets.early) q in inl (λ s t r b z.
         let f = comb_facts d names a p place star events st h k in
-        only_x_is (block_sets st sets.early b) (write_all t (body st s).writes b) (all_of_bits (λ b. is_only_x (block_sets st sets.early b)) (statement_bits st) b q z)
-        (block_made st sets.early s t b (block_facts d names a p place star events st h).fit f.unmixed f.no_latch (λ c u. r c (f.waits c u)) z)))
+        let plain = meant_plain d st (no_more (is_lenient st) m.0) in
+        only_x_is (block_sets st sets.early b) (write_all t (body st s).writes b) (all_of_bits (λ b. is_only_x (block_sets st sets.early b)) (statement_bits st) b m.1 z)
+        (block_made st sets.early s t b (block_facts d names a p place star events st h).fit f.unmixed (subst (λ (x : Statement). latch_bits x ≡ []) plain f.no_latch) (λ c u. r c (f.waits c u)) z)))
         (λ q. inr (woken p place star events st h k (awake_at d p (Always place star events st) h n) q));
     clocked = λ p place star events st h k w n. cc;
     inputs = λ p i r l e f w n. cc;
@@ -387,11 +439,15 @@ module _ (d : Design) (names : List (List ℕ)) (a : IsAcceptedDesign d names) w
     none = λ p w n. cc;
   }) p
     where
-      woken : (p place : ℕ) (star : Bool) (events : List Event) (st : Statement) → slice_get d.processes p ≡ Some (Always place star events st) → is_clocked (Always place star events st) ≡ false → is_sleeping d (Always place star events st) ≡ false → is_quiet st sets.early ≡ false
+      no_more : (c : Bool) → not c ≡ true → c ≡ false
+      no_more true h = cc
+      no_more false h = refl
+
+      woken : (p place : ℕ) (star : Bool) (events : List Event) (st : Statement) → slice_get d.processes p ≡ Some (Always place star events st) → is_clocked (Always place star events st) ≡ false → is_sleeping d (Always place star events st) ≡ false → (not (is_lenient st) && is_quiet st sets.early) ≡ false
           → IsWokenBlock (λ b. has (sets.early b)) (λ b. has (sets.late b)) (N.Comb (contains (waits_of (Always place star events st))) (contains (statement_bits st)) (body st))
       woken p place star events st h k n q =
-          let s : (not (is_clocked (Always place star events st)) && not (is_sleeping d (Always place star events st)) && not (is_quiet st sets.early) && not (wakes sets (Always place star events st))) ≡ false = none_at (is_uncertain d sets) d.processes p (Always place star events st) a.awake h in
-          let w : wakes sets (Always place star events st) ≡ true = awake (is_clocked (Always place star events st)) (is_sleeping d (Always place star events st)) (is_quiet st sets.early) (wakes sets (Always place star events st)) k n q s in
+          let s : (not (is_clocked (Always place star events st)) && not (is_sleeping d (Always place star events st)) && not (not (is_lenient st) && is_quiet st sets.early) && not (wakes sets (Always place star events st))) ≡ false = none_at (is_uncertain d sets) d.processes p (Always place star events st) a.awake h in
+          let w : wakes sets (Always place star events st) ≡ true = awake (is_clocked (Always place star events st)) (is_sleeping d (Always place star events st)) (not (is_lenient st) && is_quiet st sets.early) (wakes sets (Always place star events st)) k n q s in
           let r = any_bit (λ b. is_unknown_set (sets.early b) && is_known_set (sets.late b)) (waits_of (Always place star events st)) w in
           let z = and_both (is_unknown_set (sets.early r.0)) (is_known_set (sets.late r.0)) r.2 in
           record { bit = r.0; listened = r.1; unknown = λ v. unknown_set (sets.early r.0) v z.0; known = λ v. known_set_is (sets.late r.0) v z.1 }

@@ -138,8 +138,8 @@ locals_fit : (d : Design) (header : Header) (ss rest : List Signal) → list_all
 locals_fit d header [] rest h = refl
 locals_fit d header (s ∷ ss) rest h =
     let p = and_both (is_local d header s) (list_all (is_local d header) (ss ++ rest)) h in
-    let o = and_both ((s.scope == header.result.scope) && nat_lt s.scope (length d.scopes) && is_lawful_range s.range && not s.net) (not (is_memory s)) p.0 in
-    let q = and_both ((s.scope == header.result.scope) && nat_lt s.scope (length d.scopes) && is_lawful_range s.range) (not s.net) o.0 in
+    let o = and_both ((s.scope == header.result.scope) && nat_lt s.scope (length d.scopes) && is_lawful_range s.range && (not s.net || s.input)) (not (is_memory s)) p.0 in
+    let q = and_both ((s.scope == header.result.scope) && nat_lt s.scope (length d.scopes) && is_lawful_range s.range) (not s.net || s.input) o.0 in
     let r = and_both ((s.scope == header.result.scope) && nat_lt s.scope (length d.scopes)) (is_lawful_range s.range) q.0 in
     and_true _ _ (signal_fits s.words s.range o.1 (range_fits s.range r.1)) (locals_fit d header ss rest p.1)
   where

@@ -35,7 +35,7 @@ pub record IsAcceptedDesign (d : Design) (names : List (List ℕ)) : Type 0 wher
   -- Sensitivity
   pub sensitive : list_all (λ p. is_empty (missing_bits p)) d.processes ≡ true
   -- Latch
-  pub no_latch : list_all (λ p. is_empty (latches p)) d.processes ≡ true
+  pub no_latch : list_all (λ p. is_empty (latches d p)) d.processes ≡ true
   -- TwoDrivers
   pub one_driver : is_empty (shared_bits d) ≡ true
   pub no_clash : is_empty (clashed_bits d) ≡ true

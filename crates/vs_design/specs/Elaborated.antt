@@ -114,9 +114,9 @@ has_constant_selects (WordOf signal index) = is_constant index
 has_constant_selects (WordPartOf signal address part index) = is_constant address && is_constant index
 has_constant_selects (Both high low) = has_constant_selects high && has_constant_selects low
 
--- a local signal of a function is of the function's scope, and no net and no memory
+-- a local signal of a function is of the function's scope, no memory, and no net but for an input that passes a signal of the module
 abbrev pub is_local : Design → Header → Signal → Bool
-is_local d h s = (s.scope == h.result.scope) && nat_lt s.scope (length d.scopes) && is_lawful_range s.range && not s.net && not (is_memory s)
+is_local d h s = (s.scope == h.result.scope) && nat_lt s.scope (length d.scopes) && is_lawful_range s.range && (not s.net || s.input) && not (is_memory s)
 
 -- a function has an input (10.4.1), and its local signals have numbers and bits of their own
 abbrev pub is_formed_header : Design → Header → Bool

@@ -6,12 +6,13 @@ use Rattle.vs_design.specs.Expressions.{Expression}
 use Rattle.vs_design.specs.Statements.{Target, Statement}
 use Rattle.vs_design.specs.Designs.{Event, Port, Process, Continuous, Always, is_clocked, Design}
 use Rattle.vs_design.specs.Footprints.{contains, target_bits, statement_bits, writes_of}
-use Rattle.vs_design.specs.Sets.{only, union}
+use Rattle.vs_design.specs.Sets.{only, any_value, union}
 use Rattle.vs_design.specs.LiftedBodies.{assign_sets}
 use Rattle.vs_design.specs.Rules.{mixed_assigns, latches, shared_bits}
 use Rattle.vs_design.specs.Elaborated.{IsLawfulDesign}
 use Rattle.vs_design.specs.Accepted.{is_empty}
 use Rattle.vs_design.specs.Sleepers.{is_sleeping}
+use Rattle.vs_design.specs.Selects.{is_lenient, meant}
 use Rattle.vs_design.specs.TimeZero.{Families, early_source, late_source, block_sets, is_quiet}
 
 -- the design's process p is this combinational block
@@ -34,7 +35,7 @@ IsSource d b = (p : ℕ) (process : Process) → slice_get d.processes p ≡ Som
 pub record IsOrderly (d : Design) : Type 0 where
   pub lawful : IsLawfulDesign d
   pub unmixed : list_all (λ p. is_empty (mixed_assigns p)) d.processes ≡ true
-  pub no_latch : list_all (λ p. is_empty (latches p)) d.processes ≡ true
+  pub no_latch : list_all (λ p. is_empty (latches d p)) d.processes ≡ true
   pub one_driver : is_empty (shared_bits d) ≡ true
 
 pub record IsSolved (d : Design) (clocks : List ℕ) (f : Families) : Type 0 where
@@ -44,9 +45,10 @@ pub record IsSolved (d : Design) (clocks : List ℕ) (f : Families) : Type 0 whe
   pub assign : (p place : ℕ) (port : Port) (target_place : ℕ) (target : Target) (e : Expression) → slice_get d.processes p ≡ Some (Continuous place port target_place target e)
       → (b : ℕ) → contains (target_bits target) b ≡ true → (f.early b ≡ assign_sets target e f.early b) × (f.late b ≡ assign_sets target e f.late b)
   -- a block's bits have late what they have at its end
-  pub block : (p : ℕ) (s : Statement) (i : IsBlock d p s) → sleeps d p s i ≡ false → (b : ℕ) → contains (statement_bits s) b ≡ true → f.late b ≡ block_sets s f.late b
-  -- and early too, with x added unless it is quiet
-  pub quiet : (p : ℕ) (s : Statement) (i : IsBlock d p s) → sleeps d p s i ≡ false → is_quiet s f.early ≡ true → (b : ℕ) → contains (statement_bits s) b ≡ true → f.early b ≡ block_sets s f.early b
-  pub stirred : (p : ℕ) (s : Statement) (i : IsBlock d p s) → sleeps d p s i ≡ false → is_quiet s f.early ≡ false → (b : ℕ) → contains (statement_bits s) b ≡ true → f.early b ≡ union (only X) (block_sets s f.early b)
+  pub block : (p : ℕ) (s : Statement) (i : IsBlock d p s) → sleeps d p s i ≡ false → (b : ℕ) → contains (statement_bits s) b ≡ true → f.late b ≡ block_sets (meant d s) f.late b
+  -- and early too, with x added unless it is quiet; but any value where it is lenient
+  pub lenient : (p : ℕ) (s : Statement) (i : IsBlock d p s) → sleeps d p s i ≡ false → is_lenient s ≡ true → (b : ℕ) → contains (statement_bits s) b ≡ true → f.early b ≡ any_value
+  pub quiet : (p : ℕ) (s : Statement) (i : IsBlock d p s) → sleeps d p s i ≡ false → is_lenient s ≡ false → is_quiet s f.early ≡ true → (b : ℕ) → contains (statement_bits s) b ≡ true → f.early b ≡ block_sets s f.early b
+  pub stirred : (p : ℕ) (s : Statement) (i : IsBlock d p s) → sleeps d p s i ≡ false → is_lenient s ≡ false → is_quiet s f.early ≡ false → (b : ℕ) → contains (statement_bits s) b ≡ true → f.early b ≡ union (only X) (block_sets s f.early b)
   -- a sleeping block's bits are x early, and late x or what they have at its end
-  pub asleep : (p : ℕ) (s : Statement) (i : IsBlock d p s) → sleeps d p s i ≡ true → (b : ℕ) → contains (statement_bits s) b ≡ true → (f.early b ≡ only X) × (f.late b ≡ union (only X) (block_sets s f.late b))
+  pub asleep : (p : ℕ) (s : Statement) (i : IsBlock d p s) → sleeps d p s i ≡ true → (b : ℕ) → contains (statement_bits s) b ≡ true → (f.early b ≡ only X) × (f.late b ≡ union (only X) (block_sets (meant d s) f.late b))

@@ -9,7 +9,8 @@ use Rattle.vs_design.specs.Statements.{Whole, PartOf, Both, CaseKind, Exact, Cas
 use Rattle.vs_design.specs.Bodies.{body}
 use Rattle.vs_design.specs.Footprints.{reads_of, writes_of, waits_of}
 use Rattle.vs_design.specs.Rules.{latches}
-use Rattle.vs_design.specs.ExampleParts.{wire_of, reg_of, range_of, to_zero, lit, dec, sdec, bit, upward, blocking, nonblocking, assign, on_star}
+use Rattle.vs_design.specs.Designs.{Design}
+use Rattle.vs_design.specs.ExampleParts.{design_of, wire_of, reg_of, range_of, to_zero, lit, dec, sdec, bit, upward, blocking, nonblocking, assign, on_star}
 
 abbrev pub all_unknown : State
 all_unknown b = X
@@ -29,6 +30,10 @@ w = wire_of (codes "w") 3 None 6
 
 abbrev pub w_wide : Signal
 w_wide = wire_of (codes "v") 4 (to_zero 3) 7
+
+-- a design without processes, so none of its nets is a select net
+abbrev pub no_process : Design
+no_process = design_of (y ∷ z ∷ q ∷ w ∷ []) []
 
 -- 1 where the item matches, and else 0
 abbrev pub matched : CaseKind → Expression → Expression → Bit4
@@ -72,7 +77,7 @@ pub record BodiesComputed : Type 0 where
   pub reads_constant : reads_of (assign 0 (Whole w) (bit q 3 (dec 2 1))) ≡ 3 ∷ []
   pub reads_variable : reads_of (assign 0 (Whole w) (bit q 3 (Name y))) ≡ 2 ∷ 3 ∷ 4 ∷ 5 ∷ 0 ∷ []
   -- a write by a variable index doesn't assign, and each branch is a path
-  pub latch_variable : latches (on_star 0 (Assignment 0 (PartOf q (one_bit (range_of 3 0)) (Name y)) (Name z) true)) ≡ 2 ∷ 3 ∷ 4 ∷ 5 ∷ []
-  pub latch_branch : latches (on_star 0 (If (Name z) (blocking 0 y (dec 1 1)) Empty)) ≡ 0 ∷ []
-  pub latch_read : latches (on_star 0 (Then (blocking 0 y (Name y)) (blocking 0 y (dec 1 1)))) ≡ 0 ∷ 0 ∷ []
-  pub latch_none : latches (on_star 0 (Then (blocking 0 y (dec 1 0)) (If (Name z) (blocking 0 y (dec 1 1)) Empty))) ≡ []
+  pub latch_variable : latches no_process (on_star 0 (Assignment 0 (PartOf q (one_bit (range_of 3 0)) (Name y)) (Name z) true)) ≡ 2 ∷ 3 ∷ 4 ∷ 5 ∷ []
+  pub latch_branch : latches no_process (on_star 0 (If (Name z) (blocking 0 y (dec 1 1)) Empty)) ≡ 0 ∷ []
+  pub latch_read : latches no_process (on_star 0 (Then (blocking 0 y (Name y)) (blocking 0 y (dec 1 1)))) ≡ 0 ∷ 0 ∷ []
+  pub latch_none : latches no_process (on_star 0 (Then (blocking 0 y (dec 1 0)) (If (Name z) (blocking 0 y (dec 1 1)) Empty))) ≡ []

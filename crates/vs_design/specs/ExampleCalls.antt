@@ -100,6 +100,17 @@ same4 = record { name = codes "same"; scope = 0; number = 1; net = false; input 
 abbrev pub same : Function
 same = function_of 0 (n4_signed ∷ []) same4 [] (blocking 0 same4 (Name n4_signed))
 
+-- ---- `function [3:0] plus(input [3:0] u); plus = u + q; endfunction` reads q of its module: each call passes it
+
+abbrev pub q_passed : Signal
+q_passed = record { name = codes "q"; scope = 0; number = 1; net = true; input = true; range = to_zero 3; signed = false; first = 4; words = None; integer = false }
+
+abbrev pub plus4 : Signal
+plus4 = reg_of (codes "plus") 2 (to_zero 3) 8
+
+abbrev pub plus : Function
+plus = function_of 0 (u4 ∷ q_passed ∷ []) plus4 [] (blocking 0 plus4 (Binary Add (Name u4) (Name q_passed)))
+
 -- ---- refused: `function f(input u); if (u) f = 1'b1; endfunction`, whether or not it is called
 
 abbrev pub u1 : Signal
@@ -167,6 +178,10 @@ pub record CallsComputed : Type 0 where
   pub result_extended : assigned_value (call same (sdec 2 3 ∷ [])) 6 all_unknown ≡ bits_of 6 63
   pub result_in_unsigned : assigned_value (Binary Add (call same (sdec 2 3 ∷ [])) (dec 6 0)) 6 all_unknown ≡ bits_of 6 15
   pub argument_unsigned : own_value (call same (dec 2 3 ∷ [])) all_unknown ≡ bits_of 4 3
+  -- with q in b: the input's 4 bits and the assignment's 4 and 16, and nothing for q, which is read where the call stands
+  pub passed_weighs : weight (call plus (Name a4 ∷ Name b4 ∷ [])) 4 ≡ 24
+  pub passed_reads : read_bits (call plus (Name a4 ∷ Name b4 ∷ [])) ≡ 1 ∷ 2 ∷ 3 ∷ 4 ∷ 5 ∷ 6 ∷ 7 ∷ 8 ∷ []
+  pub passed_value : own_value (call plus (dec 4 9 ∷ dec 4 3 ∷ [])) all_unknown ≡ bits_of 4 12
   -- a result that isn't assigned is x
   pub result_unassigned : own_value (call latching (dec 1 0 ∷ [])) all_unknown ≡ X ∷ []
   -- a call isn't constant, and a reset's branch may have none

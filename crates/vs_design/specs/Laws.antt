@@ -3,8 +3,8 @@ use Rattle.std.specs.Prelude.{◌≡◌, ℕ, true, false, not, ◌&&◌, List, 
 use Rattle.std.specs.List.{list_any, list_all}
 use Rattle.std.specs.List.Sorted.{IsStrictlyIncreasing}
 use Rattle.vs_net.specs.Network.{State, Sleeper}
-use Rattle.vs_net.specs.Lawful.{IsLawful}
-use Rattle.vs_net.specs.Queue.{Slot, Choice, IsFirst, IsCompleted, start, slots_of, ends}
+use Rattle.vs_net.specs.Lawful.{IsLawful, IsKnown}
+use Rattle.vs_net.specs.Queue.{Slot, Fall, Rise, Choice, IsFirst, IsCompleted, start, slots_of, ends}
 use Rattle.vs_net.specs.Solution.{all_x, beginning, IsSolution, IsSlotEnd}
 use Rattle.vs_net.specs.Settle.{settle, IsFed}
 use Rattle.vs_net.specs.Laws.{IsKnownVector, AreKnownResets, has_run, IsAfterSlot}
@@ -13,7 +13,8 @@ use Rattle.vs_net.specs.Bound.{IsWeighed, bound, IsPartOfRun, HasNoNext}
 use Rattle.vs_design.specs.Statements.{Statement}
 use Rattle.vs_design.specs.Designs.{Event, Process, Always, is_clocked, Initial, Design, bit_count}
 use Rattle.vs_design.specs.Initials.{start_value, IsOrderOf}
-use Rattle.vs_design.specs.Footprints.{contains, all_reads, writes_of, waits_of, input_bits, ascending}
+use Rattle.vs_design.specs.Selects.{data_selects}
+use Rattle.vs_design.specs.Footprints.{contains, all_reads, writes_of, waits_of, signals_bits, input_bits, ascending}
 use Rattle.vs_design.specs.Rules.{missing_bits}
 use Rattle.vs_design.specs.Clocks.{port_targets, clock_bits, clock_nets, root_of, reads_clock, has_other_clock}
 use Rattle.vs_design.specs.Networks.{network_in, network_of}
@@ -100,9 +101,19 @@ EveryOrderOfDesign = (d : Design) (names : List (List ℕ)) (a : IsAcceptedDesig
 abbrev pub BeginningIs : Type 0
 BeginningIs = (d : Design) (names : List (List ℕ)) (a : IsAcceptedDesign d names) (b : ℕ) → beginning (network_of d (clock_bits a.clocks)) b ≡ start_value d b
 
--- the equations of an accepted design have no second solution
+-- the values have no x and no z in a data input that is a select input
+abbrev pub HasKnownSelects : Design → (clocks : List ℕ) → State → Type 0
+HasKnownSelects d clocks v = (b : ℕ) → contains (signals_bits (data_selects d clocks)) b ≡ true → IsKnown (v b)
+
+-- and so have all vectors of these slots, and the values before them where the first is a rise
+abbrev pub AreKnownSelects : Design → (clocks : List ℕ) → State → List Slot → Type 0
+AreKnownSelects d clocks before [] = Unit {0}
+AreKnownSelects d clocks before (Fall v ∷ slots) = HasKnownSelects d clocks v × AreKnownSelects d clocks v slots
+AreKnownSelects d clocks before (Rise ∷ slots) = HasKnownSelects d clocks before × AreKnownSelects d clocks before slots
+
+-- the equations of an accepted design have no second solution, where the vectors are known in its select inputs
 abbrev pub OneSolutionOfDesign : Type 0
-OneSolutionOfDesign = (d : Design) (names : List (List ℕ)) (a : IsAcceptedDesign d names) → let n = network_of d (clock_bits a.clocks) in (before : State) (slots : List Slot) (xs ys : List State) → IsSolution n before slots xs → IsSolution n before slots ys → xs ≡ ys
+OneSolutionOfDesign = (d : Design) (names : List (List ℕ)) (a : IsAcceptedDesign d names) → let n = network_of d (clock_bits a.clocks) in (before : State) (slots : List Slot) (xs ys : List State) → AreKnownSelects d (clock_bits a.clocks) before slots → IsSolution n before slots xs → IsSolution n before slots ys → xs ≡ ys
 
 -- in each of its level orders the level run is a completed run, and it ends with the solution
 abbrev pub LevelRunOfDesign : Type 0

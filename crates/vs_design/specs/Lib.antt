@@ -18,6 +18,8 @@ pub mod Sets
 pub mod LiftedParts
 pub mod Lifted
 pub mod LiftedBodies
+pub mod Covers
+pub mod Selects
 pub mod TimeZero
 pub mod Fits
 pub mod Elaborated
@@ -37,6 +39,7 @@ pub mod SlotValues
 pub mod DeadLaws
 pub mod Memories
 pub mod TreeLaws
+pub mod FullLaws
 pub mod Laws
 pub mod RefusalLaws
 pub mod ExampleParts
@@ -53,4 +56,5 @@ pub mod ExampleMemories
 pub mod ExampleWordParts
 pub mod ExampleTogether
 pub mod ExampleInitials
+pub mod ExampleSelects
 pub mod PlaceLaws

@@ -14,6 +14,7 @@ use Rattle.vs_design.specs.Initials.{initial_writes, initial_updates, sole_bits}
 use Rattle.vs_design.specs.Clocks.{Events, events_of, clock_nets, root_of, clock_bit, first_clock}
 use Rattle.vs_design.specs.Resets.{reset_by}
 use Rattle.vs_design.specs.Sleepers.{sleeper_at}
+use Rattle.vs_design.specs.Selects.{selectors_at}
 
 abbrev pub events_in : Design → List ℕ → List Event → Option Events
 events_in d clocks events = events_of (clock_nets d clocks) (root_of d clocks) events
@@ -77,6 +78,7 @@ network_in d clocks order = record {
   initial = λ p. updates_to (kept_bits (at_or_input (all_processes d clocks) p)) (map initial_writes order);
   initial_updates = λ p. updates_to (kept_bits (at_or_input (all_processes d clocks) p)) (flat_map initial_updates order);
   sleeper = sleeper_at d;
+  selectors = selectors_at d;
 }
 
 abbrev pub network_of : Design → List ℕ → Network

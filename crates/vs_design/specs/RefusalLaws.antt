@@ -57,20 +57,20 @@ abbrev pub is_some_of : List ℕ → Bool
 is_some_of [] = false
 is_some_of (n ∷ ns) = true
 
-abbrev pub breaks_block : AnyProcess → Bool
-breaks_block (OfProcess p process) = is_some_of (mixed_assigns process) || is_some_of (missing_bits process) || is_some_of (latches process)
-breaks_block (OfInitial k i) = has_other_start i
+abbrev pub breaks_block : Design → AnyProcess → Bool
+breaks_block d (OfProcess p process) = is_some_of (mixed_assigns process) || is_some_of (missing_bits process) || is_some_of (latches d process)
+breaks_block d (OfInitial k i) = has_other_start i
 
 -- the first function that may latch; where there is none, the first process that breaks a rule on blocks, or initial process that has another form; within a process the first mixed assignment in the text, then the least signal with a missing bit, then the least bit that may latch
 abbrev pub IsBlockRefusal : Design → BlockRefusal → Type 0
 IsBlockRefusal d (FunctionLatch at) = IsLeastOf (function_latches d.functions) at
-IsBlockRefusal d (InitialForm k at) = (function_latches d.functions ≡ []) × (i : Initial) × IsFirstIn d breaks_block (OfInitial k i) × (at ≡ i.place)
-IsBlockRefusal d (MixedAssign at) = (function_latches d.functions ≡ []) × (p : ℕ) × (process : Process) × IsFirstIn d breaks_block (OfProcess p process) × IsLeastOf (mixed_assigns process) at
+IsBlockRefusal d (InitialForm k at) = (function_latches d.functions ≡ []) × (i : Initial) × IsFirstIn d (breaks_block d) (OfInitial k i) × (at ≡ i.place)
+IsBlockRefusal d (MixedAssign at) = (function_latches d.functions ≡ []) × (p : ℕ) × (process : Process) × IsFirstIn d (breaks_block d) (OfProcess p process) × IsLeastOf (mixed_assigns process) at
 IsBlockRefusal d (Sensitivity p signal at) =
-    (function_latches d.functions ≡ []) × (process : Process) × IsFirstIn d breaks_block (OfProcess p process) × (at ≡ process_place process) × (mixed_assigns process ≡ [])
+    (function_latches d.functions ≡ []) × (process : Process) × IsFirstIn d (breaks_block d) (OfProcess p process) × (at ≡ process_place process) × (mixed_assigns process ≡ [])
     × ((b : ℕ) × IsLeastOf (missing_bits process) b × ((s : Signal) × (slice_get d.signals signal ≡ Some s) × (contains (bits_of_signal s) b ≡ true)))
     × ((q : ℕ) (s : Signal) (b : ℕ) → slice_get d.signals q ≡ Some s → contains (bits_of_signal s) b ≡ true → contains (missing_bits process) b ≡ true → signal ≤ q)
-IsBlockRefusal d (Latch p bit at) = (function_latches d.functions ≡ []) × (process : Process) × IsFirstIn d breaks_block (OfProcess p process) × (at ≡ process_place process) × (mixed_assigns process ≡ []) × (missing_bits process ≡ []) × IsLeastOf (latches process) bit
+IsBlockRefusal d (Latch p bit at) = (function_latches d.functions ≡ []) × (process : Process) × IsFirstIn d (breaks_block d) (OfProcess p process) × (at ≡ process_place process) × (mixed_assigns process ≡ []) × (missing_bits process ≡ []) × IsLeastOf (latches d process) bit
 
 abbrev pub BlockRefusalIs : Type 0
 BlockRefusalIs = (d : Design) → IsLawfulDesign d → (r : BlockRefusal) → block_refusal d ≡ Some r → IsBlockRefusal d r

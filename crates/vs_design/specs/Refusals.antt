@@ -229,7 +229,7 @@ signal_of (s ∷ ss) b = if contains (bits_of_signal s) b then s.number else sig
 abbrev pub block_refusal_of : Design → ℕ → Process → Option BlockRefusal
 block_refusal_of d p process =
     otherwise (option_map MixedAssign (least (mixed_assigns process)))
-    (otherwise (option_map (λ b. Sensitivity p (signal_of d.signals b) (process_place process)) (least (missing_bits process))) (option_map (λ b. Latch p b (process_place process)) (least (latches process))))
+    (otherwise (option_map (λ b. Sensitivity p (signal_of d.signals b) (process_place process)) (least (missing_bits process))) (option_map (λ b. Latch p b (process_place process)) (least (latches d process))))
 
 abbrev pub block_refusal_at : Design → AnyProcess → Option BlockRefusal
 block_refusal_at d (OfProcess p process) = block_refusal_of d p process

@@ -5,6 +5,7 @@ use Rattle.vs_design.specs.Designs.{Process, Continuous, Always, is_clocked, is_
 use Rattle.vs_design.specs.Footprints.{contains, target_bits, statement_bits, writes_of, reads_of, wait_signals, signals_bits, without}
 use Rattle.vs_design.specs.Fits.{fits_statement}
 use Rattle.vs_design.specs.Latches.{latch_bits}
+use Rattle.vs_design.specs.Selects.{meant}
 
 -- the places of the blocking assignments in a statement, or of the nonblocking ones
 abbrev mutual
@@ -29,10 +30,10 @@ mixed_assigns (Always place star events statement) =
 abbrev pub missing_bits : Process → List ℕ
 missing_bits p = if is_combinational p then without (reads_of p) (signals_bits (wait_signals p)) else []
 
--- the rule Latch
-abbrev pub latches : Process → List ℕ
-latches (Continuous place port target_place target e) = []
-latches (Always place star events statement) = if is_combinational (Always place star events statement) then latch_bits statement else []
+-- the rule Latch. Where the statement as it stands may leave a bit unassigned, it is asked without the paths that take no arm of a full case
+abbrev pub latches : Design → Process → List ℕ
+latches d (Continuous place port target_place target e) = []
+latches d (Always place star events statement) = if is_combinational (Always place star events statement) then latch_bits (meant d statement) else []
 
 abbrev pub place_where : ℕ → List ℕ → List ℕ
 place_where place [] = []

@@ -53,6 +53,10 @@ is_shift _ = false
 abbrev pub address_weight : Signal → ℕ → ℕ
 address_weight signal m = 2 * (range_length (addresses signal) * (m + word_length signal))
 
+-- the bits of an input count, but for those of a signal of the module that the function reads
+abbrev pub declared_length : Signal → ℕ
+declared_length s = if s.net then 0 else signal_length s
+
 abbrev mutual
   -- what an expression costs in a context of length w, its operands included. A constant expression costs nothing; neither does a select or a shift by a constant, a concatenation, `$signed`, `$unsigned` or unary `+`, beyond their operands. The operands of a replication count once
   pub weight : Expression → ℕ → ℕ
@@ -72,8 +76,8 @@ abbrev mutual
   weight (Join high low) w = weight high (width high) + weight low (width low)
   weight (Repeat count a) w = weight a (width a)
   weight (At place e) w = weight e w
-  -- a call costs its arguments, the bits of the inputs, and its statement
-  weight (Call header statement arguments) w = arguments_weight arguments header.inputs + sum_by signal_length header.inputs + statement_weight statement
+  -- a call costs its arguments, the bits of the inputs that its function declares, and its statement
+  weight (Call header statement arguments) w = arguments_weight arguments header.inputs + sum_by declared_length header.inputs + statement_weight statement
 
   pub arguments_weight : Items → List Signal → ℕ
   arguments_weight NoItem inputs = 0

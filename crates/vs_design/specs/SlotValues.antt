@@ -4,10 +4,11 @@ use Rattle.vs_four.specs.declared.Bit4.{Bit4}
 use Rattle.vs_four.specs.declared.Bit4.TheVariants.{Zero, One}
 use Rattle.vs_net.specs.Network.{State, Write, write_all, flatten}
 use Rattle.vs_net.specs.Queue.{Slot, Fall, Rise}
-use Rattle.vs_net.specs.Solution.{reset_effects, is_asleep, blank, IsSlotEnd}
+use Rattle.vs_net.specs.Solution.{reset_effects, is_asleep, blank, IsKnown, IsSlotEnd}
 use Rattle.vs_net.specs.Network as N
 use Rattle.vs_design.specs.Resets.{reset_of}
 use Rattle.vs_design.specs.Sleepers.{sleeper_at}
+use Rattle.vs_design.specs.Selects.{selectors_at}
 use Rattle.vs_design.specs.Expressions.{Signal, Expression}
 use Rattle.vs_design.specs.Values.{bits_of_signal}
 use Rattle.vs_design.specs.Statements.{Target, Statement}
@@ -41,8 +42,8 @@ block_writes x st before s = if is_asleep x before s then blank (body st s).writ
 pub record IsSlotValues (d : Design) (clocks : List ℕ) (before : State) (slot : Slot) (s : State) : Type 0 where
   -- an assign's target has the value of its right side, in its bits in range
   pub assign : (p place : ℕ) (port : Port) (target_place : ℕ) (target : Target) (e : Expression) → slice_get d.processes p ≡ Some (Continuous place port target_place target e) → write_all s (assignment_writes target e s) ≡ s
-  -- a combinational block's bits have what its statement gives, and x as long as it sleeps
-  pub block : (p : ℕ) (st : Statement) → IsBlock d p st → write_all s (block_writes (sleeper_at d p) st before s) ≡ s
+  -- a combinational block's bits have what its statement gives, and x as long as it sleeps; but nothing is said where a selector of it is unknown
+  pub block : (p : ℕ) (st : Statement) → IsBlock d p st → ((b : ℕ) → contains (selectors_at d p) b ≡ true → IsKnown (s b)) → write_all s (block_writes (sleeper_at d p) st before s) ≡ s
   pub register : (p place : ℕ) (star : Bool) (events : List Event) (st : Statement) → slice_get d.processes p ≡ Some (Always place star events st) → is_clocked (Always place star events st) ≡ true
       → (b : ℕ) → contains (statement_bits st) b ≡ true → s b ≡ register_value (reset_of d clocks (Always place star events st)) st slot before b
   pub clock_inputs : (c : ℕ) → contains clocks c ≡ true → s c ≡ clock_value slot

@@ -9,6 +9,7 @@ use Rattle.vs_design.specs.Initials.{first_value, start_value}
 use Rattle.vs_design.specs.Clocks.{own_clocks}
 use Rattle.vs_design.specs.Resets.{with_resets}
 use Rattle.vs_design.specs.Sleepers.{is_sleeping}
+use Rattle.vs_design.specs.Selects.{is_lenient, meant, is_lenient_block}
 use Rattle.vs_design.specs.Sets.{Set4, only, known_set, any_value, union, is_only_x, is_unknown_set, is_known_set}
 use Rattle.vs_design.specs.Lifted.{Family}
 use Rattle.vs_design.specs.LiftedBodies.{assign_sets, lifted_body}
@@ -38,29 +39,34 @@ block_sets s sets = lifted_body s (before_run (statement_bits s) sets)
 abbrev pub is_quiet : Statement → Family → Bool
 is_quiet s early = list_all (λ b. is_only_x (block_sets s early b)) (statement_bits s)
 
--- the early set of a bit after a block's turn: of its own bits x alone where the block sleeps, else that at its end, with x added unless the block is quiet
-abbrev pub early_end : Bool → Bool → Bool → Set4 → Set4 → Set4
-early_end own asleep quiet end before = if own then (if asleep then only X else (if quiet then end else union (only X) end)) else before
+-- the early set of a bit after a block's turn: of its own bits x alone where the block sleeps, any value where it is lenient, since its selectors are unknown then, else that at its end, with x added unless the block is quiet
+abbrev pub early_end : Bool → Bool → Bool → Bool → Set4 → Set4 → Set4
+early_end own asleep lenient quiet end before = if own then (if asleep then only X else (if lenient then any_value else (if quiet then end else union (only X) end))) else before
 
 -- and its late set: of its own bits that at its end, with x added where the block sleeps
 abbrev pub late_end : Bool → Bool → Set4 → Set4 → Set4
 late_end own asleep end before = if own then (if asleep then union (only X) end else end) else before
 
 -- the families after a process's turn
-abbrev pub settle_early : Bool → Process → Family → Family
-settle_early asleep (Continuous place port target_place target e) sets b = assign_sets target e sets b
-settle_early asleep (Always place star events s) sets b = early_end (contains (statement_bits s) b) asleep (is_quiet s sets) (block_sets s sets b) (sets b)
+abbrev pub settle_early : Bool → Bool → Process → Family → Family
+settle_early asleep lenient (Continuous place port target_place target e) sets b = assign_sets target e sets b
+settle_early asleep lenient (Always place star events s) sets b = early_end (contains (statement_bits s) b) asleep lenient (is_quiet s sets) (block_sets s sets b) (sets b)
 
 abbrev pub settle_late : Bool → Process → Family → Family
 settle_late asleep (Continuous place port target_place target e) sets b = assign_sets target e sets b
 settle_late asleep (Always place star events s) sets b = late_end (contains (statement_bits s) b) asleep (block_sets s sets b) (sets b)
 
-abbrev pub settle : Bool → Process → Families → Families
-settle asleep p f = record { early = settle_early asleep p f.early; late = settle_late asleep p f.late }
+abbrev pub settle : Bool → Bool → Process → Families → Families
+settle asleep lenient p f = record { early = settle_early asleep lenient p f.early; late = settle_late asleep p f.late }
+
+-- the process with the statement that the rules take it to have
+abbrev pub meant_process : Design → Process → Process
+meant_process d (Continuous place port target_place target e) = Continuous place port target_place target e
+meant_process d (Always place star events s) = Always place star events (meant d s)
 
 abbrev pub settle_some : Design → Option Process → Families → Families
 settle_some d None f = f
-settle_some d (Some p) f = settle (is_sleeping d p) p f
+settle_some d (Some p) f = settle (is_sleeping d p) (is_lenient_block p) (meant_process d p) f
 
 abbrev pub families_along : Design → List ℕ → Families → Families
 families_along d [] f = f
@@ -74,9 +80,10 @@ families d clocks order = families_along d order (record { early = early_source 
 abbrev pub wakes : Families → Process → Bool
 wakes f p = list_any (λ b. is_unknown_set (f.early b) && is_known_set (f.late b)) (waits_of p)
 
+-- no lenient block is quiet
 abbrev pub quiet_process : Families → Process → Bool
 quiet_process f (Continuous place port target_place target e) = true
-quiet_process f (Always place star events s) = is_quiet s f.early
+quiet_process f (Always place star events s) = not (is_lenient s) && is_quiet s f.early
 
 -- the rule TimeZero: a combinational block neither sleeps, nor is quiet, nor wakes
 abbrev pub is_uncertain : Design → Families → Process → Bool

@@ -50,7 +50,7 @@ pub data Source : Type 0 where
   OfSignal : (signal : Signal) → Source
   OfConstant : (bits : BitList) → Source
 
--- A function's header (10.4.1): its inputs in order, its result, which has its name, and its own variables. These are its local signals. They have numbers and bits of their own, from 0 on, in this order; `input` says that one is an input of the function. `place` is where it begins in the text
+-- A function's header (10.4.1): its inputs in order, its result, which has its name, and its own variables. These are its local signals. They have numbers and bits of their own, from 0 on, in this order; `input` says that one is an input of the function. Behind the inputs that it declares are those for the signals of its module that its statement reads, which are nets: each call passes the signals themselves, and a function takes no time and writes none of them, so they have those values as long as it runs (10.4.4). `place` is where it begins in the text
 pub record Header : Type 0 where
   pub place : ℕ
   pub inputs : List Signal

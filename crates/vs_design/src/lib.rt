@@ -13,12 +13,14 @@ ghost use Rattle.vs_design.specs.ExampleElaborated.{ElaboratedComputed};
 ghost use Rattle.vs_design.specs.ExampleInitials.{InitialsComputed};
 ghost use Rattle.vs_design.specs.ExampleMemories.{MemoriesComputed};
 ghost use Rattle.vs_design.specs.ExampleRefusals.{RefusalsComputed};
+ghost use Rattle.vs_design.specs.ExampleSelects.{SelectsComputed};
 ghost use Rattle.vs_design.specs.ExampleSets.{SetsComputed};
 ghost use Rattle.vs_design.specs.ExampleSizes.{SizesComputed};
 ghost use Rattle.vs_design.specs.ExampleTogether.{TogetherComputed};
 ghost use Rattle.vs_design.specs.ExampleValues.{ValuesComputed};
 ghost use Rattle.vs_design.specs.ExampleWordParts.{WordPartsComputed};
 ghost use Rattle.vs_design.specs.Laws.{AcceptedExactly, AcceptedIsLawful, AscendingHas, AscendingRises, BeginningIs, BitsOfDesign, BoundOfDesign, ClockNetsAre, EveryOrderOfDesign, LevelOrderIs, LevelRunOfDesign, NetsOfEach, OneFamilies, OnePassOfDesign, OneSolutionOfDesign, OrderOrCycle, RaceByAnyOrder, RunsEndOfDesign, SleepersOfDesign, SleepingIs, SpareClockIs, StarMissesNone, StirredBitsAre};
+ghost use Rattle.vs_design.specs.FullLaws.{CompletedDoesTheSame, CoversAll};
 ghost use Rattle.vs_design.specs.Memories.{WordsAre};
 ghost use Rattle.vs_design.specs.Paths.{LatchBitsAre};
 ghost use Rattle.vs_design.specs.PlaceLaws.{ItemPlacesAgree, StatementFits, StatementPlacesAgree};
@@ -44,6 +46,12 @@ pub fn word_part_law()
 pub fn reads_law()
     ensures value { ValueReads }
     ensures body { BodyReads }
+{}
+
+/// Where the search finds that patterns cover, each list of known bits matches one of them; and where the selectors of its full cases are known, a statement does what the completed one does.
+pub fn full_law()
+    ensures covers { CoversAll }
+    ensures same { CompletedDoesTheSame }
 {}
 
 /// What is written: by an assign exactly its target's bits, by a statement bits of its own, at least those that it assigns on every path; a combinational block leaves no updates, and a statement without blocking assignments writes nothing at once.
@@ -194,7 +202,7 @@ pub fn pass_law()
     ensures { OnePassOfDesign }
 {}
 
-/// The equations of an accepted design have no second solution.
+/// The equations of an accepted design have no second solution, where the vectors are known in its select inputs.
 pub fn unique_law()
     ensures { OneSolutionOfDesign }
 {}
@@ -272,4 +280,9 @@ pub fn together_examples()
 /// Worked designs that are refused, and with what.
 pub fn refusal_examples()
     ensures { RefusalsComputed }
+{}
+
+/// Worked full cases: which items match every value, which blocks are accepted, and the values at the end of each slot.
+pub fn select_examples()
+    ensures { SelectsComputed }
 {}

@@ -9,10 +9,10 @@ use Rattle.vs_flat.specs.declared.functions.Function.{Function}
 use Rattle.vs_flat.specs.DesignOf.{header_of}
 use Rattle.vs_flat.specs.Lawful.{has_locals}
 use Rattle.vs_const.specs.Meanings.{Find, Meaning}
-use Rattle.vs_elaborated.specs.Environments.{Env, inside_function}
+use Rattle.vs_elaborated.specs.Environments.{Env}
 use Rattle.vs_elaborated.specs.Statements.{Body, Local, typed_statement}
 use Rattle.vs_elaborated.specs.Functions as spec
-use Rattle.vs_elaborated.specs.Functions.{declared_locals, function_locals, function_names, function_body}
+use Rattle.vs_elaborated.specs.Functions.{declared_locals, locals_in, function_names, function_body}
 use Rattle.vs_bodies.specs.Bodies.{body_of}
 use Rattle.vs_scope.specs.declared.inside.Inside.{Inside}
 use Rattle.vs_scope.specs.Locals.{AreLocals, inside_declared, inside_names}
@@ -26,9 +26,9 @@ abbrev body_with : (ℕ → Meaning) → Body
 body_with declared = body_of (record { in_function = true; takes_variables = true; clocked = false }) true declared
 
 module _ (s : Draft) (scope : ℕ) (env : Env) (f : tree.Function) (h : Function) (i : Inside) (is : IsHeader h f.place i.locals)
-    (locals : AreLocals i.locals (function_locals scope (inside_function env []) f) (declared_locals f)) (names : inside_names i ≡ function_names scope env f) (can : CanBuild s.design scope env f) where
+    (locals : AreLocals i.locals (locals_in scope env f) (declared_locals f)) (names : inside_names i ≡ function_names scope env f) (can : CanBuild s.design scope env f) where
   abbrev l : spec.Locals
-  l = function_locals scope (inside_function env []) f
+  l = locals_in scope env f
 
   abbrev vs : List Local
   vs = declared_locals f

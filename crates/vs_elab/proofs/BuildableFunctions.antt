@@ -17,10 +17,10 @@ use Rattle.vs_const.specs.Meanings.{FunctionMeaning}
 use Rattle.vs_const.specs.Sound.{IsSoundFunction}
 use Rattle.vs_const.proofs.Formed.{both_nil}
 use Rattle.vs_elaborated.specs.Limits.{the_limits}
-use Rattle.vs_elaborated.specs.Environments.{Declared, Later, OfSignal, OfParameter, OfGenvar, OfInteger, OfFunction, OfScope, Entry, Env, within, inside_function}
+use Rattle.vs_elaborated.specs.Environments.{Declared, Later, OfSignal, OfParameter, OfGenvar, OfInteger, OfFunction, OfScope, Entry, Env, within}
 use Rattle.vs_elaborated.specs.Declarations.{Sort, SignalOf, ParameterOf, FunctionOf, GenvarSort, IntegerSort, InstanceSort, Declaration}
 use Rattle.vs_elaborated.specs.Statements.{repeated_locals, unrolled_within}
-use Rattle.vs_elaborated.specs.Functions.{Counts, SaidFunction, LocalSignal, declared_locals, all_locals, function_locals, function_body, function_names, header_of, most_bits, most_calls, size_faults, and_function, next_function, completed, put_function, said_functions}
+use Rattle.vs_elaborated.specs.Functions.{Counts, SaidFunction, LocalSignal, declared_locals, all_locals, locals_in, function_body, function_names, header_of, most_bits, most_calls, size_faults, and_function, next_function, completed, put_function, said_functions}
 use Rattle.vs_elaborated.specs.Numbers.{IsAtNumber, IsNumberedDeclared, AreNumberedEntries, AreNumberedFrames, FunctionNamesAreNumbered}
 use Rattle.vs_elaborated.specs.Sound.{IsSoundDeclared, AreSoundEntries, AreSoundFrames, FunctionsAreFormed, FunctionsSeeSound}
 use Rattle.vs_build.specs.Items.{FunctionsAreFine}
@@ -154,16 +154,16 @@ module _ (formed : FunctionsAreFormed) (inside : FunctionsSeeSound) (numbers : F
 
     can : CanBuild d scope env f × (function_in scope env f ≡ function_of said)
     can =
-        let l = function_locals scope (inside_function env []) f in
+        let l = locals_in scope env f in
         let s = unrolled_within most f.statement (function_body l) (function_names scope env f) in
         let built = fine d counts.functions most scope env f low.0 (inside d counts.functions most scope env f frames low.0 ready.within_design clean) (numbers d scope env f (ready.numbered, ready.around_numbered)) low.1 clean in
         let ranges = flat_map (λ (v : LocalSignal). v.faults) (all_locals l) in
-        let sizes = size_faults f.place (header_of f l) (suc (calls_in s.statement)) in
+        let sizes = size_faults f.place l (header_of f l) (suc (calls_in s.statement)) in
         let a = both_nil (repeated_locals [] (declared_locals f)) (ranges ++ (s.faults ++ sizes)) clean in
         let b = both_nil ranges (s.faults ++ sizes) a.1 in
         let c = both_nil s.faults sizes b.1 in
-        let over = no_fault (is_nil (header_of f l).inputs || (nat_lt most_calls (suc (calls_in s.statement)) || nat_lt most_bits (sum_by signal_length (local_signals (header_of f l))))) f.place c.1 in
-        let calls = or_false (is_nil (header_of f l).inputs) (nat_lt most_calls (suc (calls_in s.statement)) || nat_lt most_bits (sum_by signal_length (local_signals (header_of f l)))) over in
+        let over = no_fault (is_nil l.inputs || (nat_lt most_calls (suc (calls_in s.statement)) || nat_lt most_bits (sum_by signal_length (local_signals (header_of f l))))) f.place c.1 in
+        let calls = or_false (is_nil l.inputs) (nat_lt most_calls (suc (calls_in s.statement)) || nat_lt most_bits (sum_by signal_length (local_signals (header_of f l)))) over in
         let bits = or_false (nat_lt most_calls (suc (calls_in s.statement))) (nat_lt most_bits (sum_by signal_length (local_signals (header_of f l)))) calls.1 in (
           record { formed = sound.1.header; few = few_bits (sum_by signal_length (local_signals (header_of f l))) bits.1; executable = built.executable },
           ap (λ t. let x : Function = record { header = header_of f l; statement = t } in x) (sym built.statement),

@@ -8,18 +8,18 @@ use Rattle.vs_const.specs.declared.faults.Fault.{Fault}
 use Rattle.vs_const.specs.Faults.{least, better}
 use Rattle.vs_const.proofs.Formed.{both_nil}
 use Rattle.vs_elaborated.specs.Limits.{the_limits}
-use Rattle.vs_elaborated.specs.Environments.{Entry, Env, within}
+use Rattle.vs_elaborated.specs.Environments.{Entry, Env, named, within}
 use Rattle.vs_elaborated.specs.Generate.{Nested, Made}
 use Rattle.vs_elaborated.specs.Pieces.{Task, Piece, Said}
 use Rattle.vs_elaborated.specs.Instances.{Around}
-use Rattle.vs_elaborated.specs.Surveys.{Totals, Survey, contents_said, counts_of, header_said, items_of, items_said, ports_said, processes_over}
+use Rattle.vs_elaborated.specs.Surveys.{Totals, Survey, contents_said, contents_unheard, counts_of, header_said, items_of, items_said, ports_said, processes_over}
 use Rattle.vs_elaborated.specs.Sound.{BlocksAreLower}
 use Rattle.vs_scope.specs.declared.frames.Frame.{Frame}
 use Rattle.vs_scope.specs.declared.made.Nested as blocks
 use Rattle.vs_scope.specs.declared.made.Made as constructs
 use Rattle.vs_scope.specs.Frames.{env_at, envs}
 use Rattle.vs_scope.specs.Made as code
-use Rattle.vs_scope.specs.Surveys.{IsOfParts, declared_in, faults_in, items_faults, loops_in, made_in, said_in, start_at}
+use Rattle.vs_scope.specs.Surveys.{scope_env, IsOfParts, declared_in, faults_in, items_faults, loops_in, made_in, said_in, start_at}
 use Rattle.vs_items.specs.Stated.{AreStated, IsStatedHeader}
 use Rattle.vs_elab.specs.declared.pending.Part.{Part}
 use Rattle.vs_elab.specs.Fine.{AreFineInside, AreFineItems, IsFineHeader, MakesFine, plains_said, scope_plain}
@@ -84,7 +84,7 @@ scope_says source t totals es = contents_said the_limits source (items_around t 
 scope_clean : (source : tree.Source) (t : Task) (totals : Totals) (s : Survey) → IsOfParts source t totals s → least s.faults ≡ None → (scope_says source t totals s.entries).faults ≡ []
 scope_clean source t totals s p h =
     ap (λ (es : List Entry). (scope_says source t totals es).faults) p.entries
-    ∙ first_none (said_in source t totals).faults (processes_over the_limits.processes totals.processes (said_in source t totals).pieces)
+    ∙ first_none (said_in source t totals).faults (processes_over the_limits.processes totals.processes (said_in source t totals).pieces ++ contents_unheard (named (scope_env t totals)) t.contents)
     (none_left (items_faults source t totals) (second_none (least (faults_in t.env t.contents (start_at t totals) (counts_of totals) totals.turns)) (least (items_faults source t totals)) (sym p.fault ∙ h)))
 
 header_clean : (source : tree.Source) (t : Task) (totals : Totals) (s : Survey) → IsOfParts source t totals s → least s.faults ≡ None → (header_said (within t.env s.entries) t.contents).faults ≡ []

@@ -1,10 +1,10 @@
 -- The header of a function, from its local signals (IEEE 1364-2005, 10.4.1).
 use mathlib.Core.Path.{fun_ext}
-use Rattle.std.proofs.Common.{◌≡◌, ◌≤◌, ◌<◌, ◌^◌, ◌+◌, ◌==◌, ℕ, zero, suc, Bool, true, false, ◌&&◌, not, List, [], ◌∷◌, ◌++◌, length, length-append, get_or, take, drop, map, nat_lt, Option, Some, None, refl, sym, ap, ◌∙◌, arith}
+use Rattle.std.proofs.Common.{◌≡◌, ◌≤◌, ◌<◌, ◌^◌, ◌+◌, ◌==◌, ℕ, zero, suc, Bool, true, false, ◌&&◌, not, List, [], ◌∷◌, ◌++◌, length, length-append, get_or, take, drop, map, nat_lt, Option, Some, None, refl, sym, ap, ◌∙◌, append_assoc, arith}
 use Rattle.std.specs.Prelude.{IsTrue, nat_le, slice_index_or, sum_by}
 use Rattle.std.specs.List.{list_all}
 use Rattle.std.proofs.lemmas.Bool.{eqb-true, lt-ltb}
-use Rattle.std.proofs.lemmas.List.{length-map, length-take-le}
+use Rattle.std.proofs.lemmas.List.{append-nil, length-map, length-take-le, take_all}
 use Rattle.std.proofs.lemmas.List.Sums.{sum_by-cons}
 use Rattle.vs_design.specs.Expressions as design
 use Rattle.vs_design.specs.Expressions.{signal_length, local_signals}
@@ -26,9 +26,10 @@ use Rattle.vs_elaborated.specs.Functions as spec
 use Rattle.vs_elaborated.specs.Functions.{all_locals, meaning_or, signal_at}
 use Rattle.vs_scope.specs.declared.inside.Locals.{Locals}
 use Rattle.vs_scope.specs.declared.names.LocalSignal.{LocalSignal}
-use Rattle.vs_scope.specs.Locals.{AreLocals, own_meaning, local_at, local_meaning, placed_local, placed_local_of}
+use Rattle.vs_scope.specs.declared.names.PassedInput.{PassedInput}
+use Rattle.vs_scope.specs.Locals.{AreLocals, own_meaning, local_at, local_meaning, passed_of, placed_local, placed_local_of}
 use Rattle.vs_scope.specs.Signalled.{Placed}
-use Rattle.vs_elab.specs.Functions.{IsHeader, signals_of}
+use Rattle.vs_elab.specs.Functions.{IsHeader, signals_of, inputs_of, all_signals as all_of}
 use Rattle.vs_elab.proofs.Sequences.{one_more}
 
 -- ---- signals, one after the other
@@ -46,27 +47,95 @@ both_true : (a b : Bool) → (a && b) ≡ true → (a ≡ true) × (b ≡ true)
 both_true true b h = (refl, h)
 both_true false b h = cc
 
-numbered_at : (n scope : ℕ) (ss : List LocalSignal) (i : ℕ) (s : LocalSignal) → i < length ss → s ≡ get_or ss i s → are_numbered n scope (signals_of ss) ≡ true → s.number ≡ n + i
-numbered_at n scope [] i s h e k = absurd (let no : ⊥ = omega (arith, h) in no)
-numbered_at n scope (x ∷ xs) zero s h e k =
-    let p = both_true ((x.number == n) && nat_le scope x.scope) (are_numbered (suc n) x.scope (signals_of xs)) k in
-    let q = both_true (x.number == n) (nat_le scope x.scope) p.0 in
-    ap (λ (y : LocalSignal). y.number) e ∙ eqb-true x.number n q.0 ∙ (let z : n ≡ n + 0 = omega arith in z)
-numbered_at n scope (x ∷ xs) (suc i) s h e k =
-    let p = both_true ((x.number == n) && nat_le scope x.scope) (are_numbered (suc n) x.scope (signals_of xs)) k in
-    numbered_at (suc n) x.scope xs i s (omega (arith, h)) e p.1 ∙ (let z : suc n + i ≡ n + suc i = omega arith in z)
+-- those of any kind that have numbers one after the other
+module _ {A : Type 0} (g : A → design.Signal) where
+  numbered_at : (n scope : ℕ) (xs : List A) (i : ℕ) (x : A) → i < length xs → x ≡ get_or xs i x → are_numbered n scope (map g xs) ≡ true → (g x).number ≡ n + i
+  numbered_at n scope [] i x h e k = absurd (let no : ⊥ = omega (arith, h) in no)
+  numbered_at n scope (y ∷ xs) zero x h e k =
+      let p = both_true (((g y).number == n) && nat_le scope (g y).scope) (are_numbered (suc n) (g y).scope (map g xs)) k in
+      let q = both_true ((g y).number == n) (nat_le scope (g y).scope) p.0 in
+      ap (λ (z : A). (g z).number) e ∙ eqb-true (g y).number n q.0 ∙ (let z : n ≡ n + 0 = omega arith in z)
+  numbered_at n scope (y ∷ xs) (suc i) x h e k =
+      let p = both_true (((g y).number == n) && nat_le scope (g y).scope) (are_numbered (suc n) (g y).scope (map g xs)) k in
+      numbered_at (suc n) (g y).scope xs i x (omega (arith, h)) e p.1 ∙ (let z : suc n + i ≡ n + suc i = omega arith in z)
 
--- one more
-pub signal_more : (xs : List LocalSignal) (i : ℕ) (s : LocalSignal) (list new : List Signal) (x : Signal) → i < length xs → s ≡ get_or xs i s → new ≡ list ++ x ∷ [] → signal_of s.number x ≡ (local_meaning s).signal
-    → (are_numbered 0 0 (signals_of xs) ≡ true → signals_from 0 list ≡ signals_of (take i xs)) → are_numbered 0 0 (signals_of xs) ≡ true → signals_from 0 new ≡ signals_of (take (i + 1) xs)
-signal_more xs i s list new x h e pushed is before numbered =
-    let f = λ (y : LocalSignal). (local_meaning y).signal in
-    let done = before numbered in
-    let many : length list ≡ i = sym (from_length 0 list) ∙ ap (λ (ss : List design.Signal). length ss) done ∙ length-map (take i xs) f ∙ length-take-le i xs (omega (arith, h)) in
-    let number : 0 + length list ≡ s.number = omega (arith, many, numbered_at 0 0 xs i s h e numbered) in
-    ap (signals_from 0) pushed ∙ from_behind 0 list x ∙ ap (λ (k : ℕ). signals_from 0 list ++ signal_of k x ∷ []) number
-    ∙ ap (λ (y : design.Signal). signals_from 0 list ++ y ∷ []) is ∙ ap (λ (ss : List design.Signal). ss ++ f s ∷ []) done
-    ∙ sym (one_more f xs i s h e)
+  -- one more, behind the first ones
+  pub signal_more : (first : List Signal) (xs : List A) (i : ℕ) (x : A) (list new : List Signal) (s : Signal) → i < length xs → x ≡ get_or xs i x → new ≡ list ++ s ∷ [] → signal_of (g x).number s ≡ g x
+      → (are_numbered (length first) 0 (map g xs) ≡ true → signals_from 0 list ≡ signals_from 0 first ++ map g (take i xs))
+      → are_numbered (length first) 0 (map g xs) ≡ true → signals_from 0 new ≡ signals_from 0 first ++ map g (take (i + 1) xs)
+  signal_more first xs i x list new s h e pushed is before numbered =
+      let done = before numbered in
+      let front = from_length 0 first in
+      let both = length-append (signals_from 0 first) (map g (take i xs)) in
+      let some = length-map (take i xs) g in
+      let taken = length-take-le i xs (omega (arith, h)) in
+      let whole : length list ≡ length (signals_from 0 first ++ map g (take i xs)) = sym (from_length 0 list) ∙ ap (λ (ss : List design.Signal). length ss) done in
+      let many : length list ≡ length first + i = omega (arith, whole, both, front, some, taken) in
+      let number : 0 + length list ≡ (g x).number = omega (arith, many, numbered_at (length first) 0 xs i x h e numbered) in
+      ap (signals_from 0) pushed ∙ from_behind 0 list s ∙ ap (λ (k : ℕ). signals_from 0 list ++ signal_of k s ∷ []) number
+      ∙ ap (λ (y : design.Signal). signals_from 0 list ++ y ∷ []) is ∙ ap (λ (ss : List design.Signal). ss ++ g x ∷ []) done
+      ∙ append_assoc (signals_from 0 first) (map g (take i xs)) (g x ∷ [])
+      ∙ ap (λ (ss : List design.Signal). signals_from 0 first ++ ss) (sym (one_more g xs i x h e))
+
+  pub signals_done : (first : List Signal) (xs : List A) (i : ℕ) (list : List Signal) → length xs ≤ i
+      → (are_numbered (length first) 0 (map g xs) ≡ true → signals_from 0 list ≡ signals_from 0 first ++ map g (take i xs))
+      → are_numbered (length first) 0 (map g xs) ≡ true → signals_from 0 list ≡ signals_from 0 first ++ map g xs
+  signals_done first xs i list h before numbered = before numbered ∙ ap (λ (ys : List A). signals_from 0 first ++ map g ys) (take_all i xs h)
+
+  pub signals_first : (list : List Signal) (xs : List A) → are_numbered (length list) 0 (map g xs) ≡ true → signals_from 0 list ≡ signals_from 0 list ++ map g (take 0 xs)
+  signals_first list xs numbered = sym (append-nil (signals_from 0 list))
+
+-- ---- some signals, and then others
+
+less_scope : (a b n : ℕ) → a ≤ b → nat_le b n ≡ true → nat_le a n ≡ true
+less_scope a b n h k = grind (arith, h, k)
+
+from_less : (n a b : ℕ) (ss : List design.Signal) → a ≤ b → are_numbered n b ss ≡ true → are_numbered n a ss ≡ true
+from_less n a b [] h k = refl
+from_less n a b (s ∷ ss) h k =
+    let p = both_true ((s.number == n) && nat_le b s.scope) (are_numbered (suc n) s.scope ss) k in
+    let q = both_true (s.number == n) (nat_le b s.scope) p.0 in
+    all_true (s.number == n) (nat_le a s.scope) (are_numbered (suc n) s.scope ss) q.0 (less_scope a b s.scope h q.1) p.1
+  where
+    all_true : (x y z : Bool) → x ≡ true → y ≡ true → z ≡ true → (x && y && z) ≡ true
+    all_true true true true p q r = refl
+    all_true true true false p q r = cc
+    all_true true false z p q r = cc
+    all_true false y z p q r = cc
+
+numbered_parts : (n scope : ℕ) (xs ys : List design.Signal) → are_numbered n scope (xs ++ ys) ≡ true → (are_numbered n scope xs ≡ true) × (are_numbered (n + length xs) 0 ys ≡ true)
+numbered_parts n scope [] ys k = (refl, ap (λ (m : ℕ). are_numbered m 0 ys) (let e : n + 0 ≡ n = omega arith in e) ∙ from_less n 0 scope ys (omega arith) k)
+numbered_parts n scope (x ∷ xs) ys k =
+    let p = both_true ((x.number == n) && nat_le scope x.scope) (are_numbered (suc n) x.scope (xs ++ ys)) k in
+    let rest = numbered_parts (suc n) x.scope xs ys p.1 in (
+      ap (λ (b : Bool). b && are_numbered (suc n) x.scope xs) p.0 ∙ rest.0,
+      ap (λ (m : ℕ). are_numbered m 0 ys) (let e : n + length (x ∷ xs) ≡ suc n + length xs = omega arith in e) ∙ rest.1,
+    )
+
+-- those that are declared as inputs, those that pass signals of the module, and the others
+pub all_pushed : (c : Locals) (front back : List LocalSignal) (passed : List PassedInput) (none first second third : List Signal) → none ≡ [] → front ≡ take c.inputs c.signals.items → passed ≡ c.passed.items → back ≡ drop c.inputs c.signals.items
+    → (are_numbered (length none) 0 (signals_of front) ≡ true → signals_from 0 first ≡ signals_from 0 none ++ signals_of front)
+    → (are_numbered (length first) 0 (inputs_of passed) ≡ true → signals_from 0 second ≡ signals_from 0 first ++ inputs_of passed)
+    → (are_numbered (length second) 0 (signals_of back) ≡ true → signals_from 0 third ≡ signals_from 0 second ++ signals_of back)
+    → are_numbered 0 0 (all_of c) ≡ true → signals_from 0 third ≡ all_of c
+all_pushed c front back passed none first second third nil is_front is_passed is_back one two three numbered =
+    let ss = signals_of (take c.inputs c.signals.items) in
+    let ps = inputs_of c.passed.items in
+    let os = signals_of (drop c.inputs c.signals.items) in
+    let a = numbered_parts 0 0 ss (ps ++ os) numbered in
+    let b = numbered_parts (0 + length ss) 0 ps os a.1 in
+    let none_is : length none ≡ 0 = ap (λ (xs : List Signal). length xs) nil in
+    let first_is : signals_from 0 first ≡ ss =
+    one (ap (λ (n : ℕ). are_numbered n 0 (signals_of front)) none_is ∙ ap (λ (xs : List LocalSignal). are_numbered 0 0 (signals_of xs)) is_front ∙ a.0)
+    ∙ ap (λ (xs : List Signal). signals_from 0 xs ++ signals_of front) nil ∙ ap (λ (xs : List LocalSignal). signals_of xs) is_front in
+    let first_many : length first ≡ 0 + length ss = sym (from_length 0 first) ∙ ap (λ (xs : List design.Signal). length xs) first_is ∙ (let e : length ss ≡ 0 + length ss = omega arith in e) in
+    let second_is : signals_from 0 second ≡ ss ++ ps =
+    two (ap (λ (n : ℕ). are_numbered n 0 (inputs_of passed)) first_many ∙ ap (λ (xs : List PassedInput). are_numbered (0 + length ss) 0 (inputs_of xs)) is_passed ∙ b.0)
+    ∙ ap (λ (xs : List design.Signal). xs ++ inputs_of passed) first_is ∙ ap (λ (xs : List PassedInput). ss ++ inputs_of xs) is_passed in
+    let second_many : length second ≡ 0 + length ss + length ps =
+    sym (from_length 0 second) ∙ ap (λ (xs : List design.Signal). length xs) second_is ∙ (let n = length-append ss ps in let e : length (ss ++ ps) ≡ 0 + length ss + length ps = omega (arith, n) in e) in
+    three (ap (λ (n : ℕ). are_numbered n 0 (signals_of back)) second_many ∙ ap (λ (xs : List LocalSignal). are_numbered (0 + length ss + length ps) 0 (signals_of xs)) is_back ∙ b.1)
+    ∙ ap (λ (xs : List design.Signal). xs ++ signals_of back) second_is ∙ ap (λ (xs : List LocalSignal). (ss ++ ps) ++ signals_of xs) is_back ∙ append_assoc ss ps os
 
 -- ---- the header
 
@@ -85,13 +154,57 @@ map_behind : (xs ys : List spec.LocalSignal) → map signal_in (xs ++ ys) ≡ ma
 map_behind [] ys = refl
 map_behind (x ∷ xs) ys = ap (λ r. signal_in x ∷ r) (map_behind xs ys)
 
-pub all_signals : (f : tree.Function) (l : spec.Locals) (c : Locals) (vs : List statements.Local) → AreLocals c l vs → signals_of c.signals.items ≡ local_signals (spec.header_of f l)
-all_signals f l c vs h =
-    sym (signals_of_placed c.signals.items) ∙ ap (map (λ (p : Placed). p.meaning.signal)) h.signals ∙ said_placed (all_locals l) ∙ map_behind l.inputs (l.result ∷ l.own)
-
 take_front : {A : Type 0} (xs ys : List A) → take (length xs) (xs ++ ys) ≡ xs
 take_front [] ys = refl
 take_front (x ∷ xs) ys = ap (λ r. x ∷ r) (take_front xs ys)
+
+in_order : (f : tree.Function) (l : spec.Locals) (c : Locals) (vs : List statements.Local) → AreLocals c l vs → signals_of c.signals.items ≡ map signal_in l.inputs ++ map signal_in (l.result ∷ l.own)
+in_order f l c vs h =
+    sym (signals_of_placed c.signals.items) ∙ ap (map (λ (p : Placed). p.meaning.signal)) h.signals ∙ said_placed (all_locals l) ∙ map_behind l.inputs (l.result ∷ l.own)
+
+abbrev input_in : spec.Passed → design.Signal
+input_in p = p.input.signal
+
+inputs_passed : (ps : List PassedInput) → inputs_of ps ≡ map input_in (map passed_of ps)
+inputs_passed [] = refl
+inputs_passed (p ∷ ps) = ap (λ r. input_in (passed_of p) ∷ r) (inputs_passed ps)
+
+taken : (n : ℕ) (ss : List LocalSignal) → signals_of (take n ss) ≡ take n (signals_of ss)
+taken zero ss = refl
+taken (suc n) [] = refl
+taken (suc n) (s ∷ ss) = ap (λ r. (local_meaning s).signal ∷ r) (taken n ss)
+
+dropped : (n : ℕ) (ss : List LocalSignal) → signals_of (drop n ss) ≡ drop n (signals_of ss)
+dropped zero ss = refl
+dropped (suc n) [] = refl
+dropped (suc n) (s ∷ ss) = dropped n ss
+
+behind_front : {A : Type 0} (xs ys : List A) → drop (length xs) (xs ++ ys) ≡ ys
+behind_front [] ys = refl
+behind_front (x ∷ xs) ys = behind_front xs ys
+
+-- the local signals of the definitions
+pub all_are : (f : tree.Function) (l : spec.Locals) (c : Locals) (vs : List statements.Local) → AreLocals c l vs → all_of c ≡ local_signals (spec.header_of f l)
+all_are f l c vs h =
+    let ins = map signal_in l.inputs in
+    let rest = map signal_in (l.result ∷ l.own) in
+    let many : c.inputs ≡ length ins = h.inputs ∙ sym (length-map l.inputs signal_in) in
+    let whole = in_order f l c vs h in
+    let front : signals_of (take c.inputs c.signals.items) ≡ ins = taken c.inputs c.signals.items ∙ ap (take c.inputs) whole ∙ ap (λ (n : ℕ). take n (ins ++ rest)) many ∙ take_front ins rest in
+    let back : signals_of (drop c.inputs c.signals.items) ≡ rest = dropped c.inputs c.signals.items ∙ ap (drop c.inputs) whole ∙ ap (λ (n : ℕ). drop n (ins ++ rest)) many ∙ behind_front ins rest in
+    let passed : inputs_of c.passed.items ≡ map input_in l.passed = inputs_passed c.passed.items ∙ ap (map input_in) h.passed in
+    ap (λ (xs : List design.Signal). xs ++ (inputs_of c.passed.items ++ signals_of (drop c.inputs c.signals.items))) front
+    ∙ ap (λ (xs : List design.Signal). ins ++ (xs ++ signals_of (drop c.inputs c.signals.items))) passed
+    ∙ ap (λ (xs : List design.Signal). ins ++ (map input_in l.passed ++ xs)) back
+    ∙ sym (append_assoc ins (map input_in l.passed) rest)
+
+-- the inputs are among the local signals
+pub inputs_there : (l : spec.Locals) (c : Locals) (vs : List statements.Local) → AreLocals c l vs → c.inputs ≤ length c.signals.items
+inputs_there l c vs h =
+    let a = h.inputs in
+    let placed : length c.signals.items ≡ length (all_locals l) = sym (length-map c.signals.items placed_local) ∙ ap (λ (ps : List Placed). length ps) h.signals ∙ length-map (all_locals l) placed_local_of in
+    let b = length-append l.inputs (l.result ∷ l.own) in
+    omega (arith, a, placed, b)
 
 index_front : (xs ys : List design.Signal) (y d : design.Signal) → slice_index_or (xs ++ y ∷ ys) (length xs) d ≡ y
 index_front [] ys y d = refl
@@ -103,16 +216,22 @@ drop_front (x ∷ xs) ys y = drop_front xs ys y
 
 module _ (h : Function) (f : tree.Function) (c : Locals) (l : spec.Locals) (vs : List statements.Local) (is : IsHeader h f.place c) (locals : AreLocals c l vs) (numbered : are_numbered 0 0 (local_signals (spec.header_of f l)) ≡ true) where
   abbrev inputs : List design.Signal
-  inputs = map signal_in l.inputs
+  inputs = map signal_in l.inputs ++ map input_in l.passed
 
   abbrev own : List design.Signal
   own = map signal_in l.own
 
   pub signals_are : signals_from 0 h.signals ≡ local_signals (spec.header_of f l)
-  signals_are = is.signals (ap (are_numbered 0 0) (all_signals f l c vs locals) ∙ numbered) ∙ all_signals f l c vs locals
+  signals_are = is.signals (ap (are_numbered 0 0) (all_are f l c vs locals) ∙ numbered) ∙ all_are f l c vs locals
 
   inputs_are : h.inputs ≡ length inputs
-  inputs_are = is.inputs ∙ locals.inputs ∙ sym (length-map l.inputs signal_in)
+  inputs_are =
+      let a = locals.inputs in
+      let b = length-map l.inputs signal_in in
+      let d = length-map l.passed input_in in
+      let passed : length c.passed.items ≡ length l.passed = sym (length-map c.passed.items passed_of) ∙ ap (λ (ps : List spec.Passed). length ps) locals.passed in
+      let both = length-append (map signal_in l.inputs) (map input_in l.passed) in
+      is.inputs ∙ (let e : c.inputs + length c.passed.items ≡ length inputs = omega (arith, a, b, d, passed, both) in e)
 
   abbrev made : ℕ → ℕ → List design.Signal → design.Header
   made at n ss = record { place = at; inputs = take n ss; result = slice_index_or ss n no_signal; own = drop (suc n) ss }

@@ -65,9 +65,9 @@ stack_kept source fs f ps h = all_kept source fs f (reverse ps) (each_reversed (
 
 -- ---- what scopes keep of their functions
 
-stack_behind : (fs : List Frame) (f : Frame) → stack_shapes (fs ++ f ∷ []) ≡ stack_shapes fs ++ shapes_in (pairs f.names.map) ∷ []
+stack_behind : (fs : List Frame) (f : Frame) → stack_shapes (fs ++ f ∷ []) ≡ stack_shapes fs ++ shapes_in f.names ∷ []
 stack_behind [] f = refl
-stack_behind (g ∷ fs) f = ap (λ r. shapes_in (pairs g.names.map) ∷ r) (stack_behind fs f)
+stack_behind (g ∷ fs) f = ap (λ r. shapes_in g.names ∷ r) (stack_behind fs f)
 
 after_behind : (es : List Env) (fs : List Frame) (f : Frame)
     → stack_shapes_after es (fs ++ f ∷ []) ≡ stack_shapes_after es fs ++ shapes_of (complete (env_above (envs_after es fs) f.parent f.turn) f.names) ∷ []
@@ -77,4 +77,4 @@ after_behind es (g ∷ fs) f = ap (λ r. shapes_of (complete (env_above es g.par
 -- one scope more that keeps its own
 pub kept_behind : (fs : List Frame) (f : Frame) → KeepShapes fs → KeepsShapes (env_above (envs fs) f.parent f.turn) f.names → KeepShapes (fs ++ f ∷ [])
 kept_behind fs f all own =
-    stack_behind fs f ∙ ap (λ r. r ++ shapes_in (pairs f.names.map) ∷ []) all ∙ ap (λ x. stack_shapes_after [] fs ++ x ∷ []) own ∙ sym (after_behind [] fs f)
+    stack_behind fs f ∙ ap (λ r. r ++ shapes_in f.names ∷ []) all ∙ ap (λ x. stack_shapes_after [] fs ++ x ∷ []) own ∙ sym (after_behind [] fs f)

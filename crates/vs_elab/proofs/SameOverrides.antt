@@ -14,7 +14,7 @@ use Rattle.vs_elaborated.specs.Functions.{said_functions}
 use Rattle.vs_elaborated.specs.Generate.{Made}
 use Rattle.vs_elaborated.specs.Constructs.{constructs}
 use Rattle.vs_elaborated.specs.Pieces.{OfModule}
-use Rattle.vs_elaborated.specs.Surveys.{contents_said, loops_behind, counts_of, block_faults, block_entries, Totals, bits_over, piece_processes, processes_over, turns_after, items_of, declarations_of, header_of, Survey, survey}
+use Rattle.vs_elaborated.specs.Surveys.{contents_said, contents_unheard, loops_behind, counts_of, block_faults, block_entries, Totals, bits_over, piece_processes, processes_over, turns_after, items_of, declarations_of, header_of, Survey, survey}
 use Rattle.vs_items.specs.Overriding.{AreAlike}
 
 -- all that an instance of a module says, by its names with the values of its parameters
@@ -38,7 +38,8 @@ surveyed limits source parent m depth env totals parameters =
       pieces = said.pieces;
       faults =
           header_of (OfModule m []) ++ (repeated_names [] ds ++ (parameters.faults ++ (range_faults ranged ds ++ (flat_map (λ (s : SaidSignal). s.faults) signals
-          ++ (functions.faults ++ (flat_map (λ (x : Made). x.faults) made ++ (block_faults entries [] blocks ++ (said.faults ++ (bits_over limits.bits totals.bits signals ++ processes_over limits.processes totals.processes said.pieces)))))))));
+          ++ (functions.faults ++ (flat_map (λ (x : Made). x.faults) made ++ (block_faults entries [] blocks ++ (said.faults
+          ++ (bits_over limits.bits totals.bits signals ++ (processes_over limits.processes totals.processes said.pieces ++ contents_unheard (named (within env whole)) (OfModule m [])))))))))));
       totals =
           record totals {
             scopes = totals.scopes + 1;

@@ -1,10 +1,11 @@
 -- What is found of a scope is what its survey says.
-use Rattle.std.proofs.Common.{◌≡◌, ◌≤◌, ◌+◌, ◌^◌, ℕ, List, ◌++◌, length, map, Option, Some, None, refl, sym, ap, ◌∙◌, subst}
+use Rattle.std.proofs.Common.{◌≡◌, ◌≤◌, ◌+◌, ◌^◌, ℕ, List, ◌++◌, flat_map, length, map, Option, Some, None, refl, sym, ap, ◌∙◌, subst}
 use Rattle.std.specs.Prelude.{sum_by, Result, Ok, Err, IfOk, OnOk}
 use Rattle.vs_grammar.specs.Trees as tree
 use Rattle.vs_grammar.specs.Shapes.{Each}
 use Rattle.vs_const.specs.declared.faults.Fault.{Fault}
 use Rattle.vs_const.specs.Faults.{least, better}
+use Rattle.vs_const.specs.Meanings.{Find}
 use Rattle.vs_elaborated.specs.Limits.{the_limits}
 use Rattle.vs_elaborated.specs.Environments.{Env, find_entry, find_name, named, within}
 use Rattle.vs_elaborated.specs.Signals.{Start, all_nets}
@@ -12,7 +13,8 @@ use Rattle.vs_elaborated.specs.Generate.{Made}
 use Rattle.vs_elaborated.specs.Pieces.{Task, Said, both_said}
 use Rattle.vs_elaborated.specs.Instances.{Around}
 use Rattle.vs_elaborated.specs.Functions.{Counts}
-use Rattle.vs_elaborated.specs.Surveys.{Loops, Totals, Survey, survey, counts_of, declarations_of, header_said, items_of, items_said, ports_said, loops_behind, piece_processes, processes_over}
+use Rattle.vs_elaborated.specs.Unheard.{item_unheard, ports_unheard}
+use Rattle.vs_elaborated.specs.Surveys.{Loops, Totals, Survey, survey, counts_of, declarations_of, header_said, items_of, items_said, ports_said, loops_behind, piece_processes, processes_over, contents_unheard}
 use Rattle.vs_scope.specs.Again.{AreSeen}
 use Rattle.vs_scope.specs.Complete.{KeepsShapes, complete, function_declaration}
 use Rattle.vs_scope.specs.Functions.{functions_in}
@@ -60,6 +62,7 @@ pub record IsFound (source : tree.Source) (t : Task) (totals : Totals) (did : Lo
   pub items_are : items_of t.contents ≡ items
   pub header : tree.Header
   pub header_are : (env : Env) → header_said env t.contents ≡ ports_said env header
+  pub unheard_are : (find : Find) → contents_unheard find t.contents ≡ ports_unheard find header ++ flat_map (item_unheard find) items
   pub here : Env
   pub here_is : here ≡ within t.env (complete t.env r.names)
   pub names : MeanTheSame (complete t.env r.names) (entries_in t.env t.contents start before totals.turns)
@@ -70,7 +73,7 @@ pub record IsFound (source : tree.Source) (t : Task) (totals : Totals) (did : Lo
   pub first : r.fault ≡ better found said.fault
   pub found_is : found ≡ least (faults_in t.env t.contents start before totals.turns)
   pub said_is : (a : Around) (ms : List Made) → SeeTheSame a.env here → length ms ≡ length items
-      → IsSaid said the_limits.processes totals.processes (both_said (ports_said a.env header) (items_said the_limits source a (record { copies = behind.copies; headed = totals.loops.headed }) items ms))
+      → IsSaid said the_limits.processes totals.processes (both_said (ports_said a.env header) (items_said the_limits source a (record { copies = behind.copies; headed = totals.loops.headed }) items ms)) (ports_unheard (named a.env) header ++ flat_map (item_unheard (named a.env)) items)
   pub then_is : (env : Env) → SeeTheSame env here → did ≡ loops_behind the_limits env (record { copies = behind.copies; headed = totals.loops.headed }) items
   pub entries_are : found ≡ None → complete t.env r.names ≡ entries_in t.env t.contents start before totals.turns
   pub kept : KeepsShapes t.env r.names
@@ -118,8 +121,12 @@ module _ (source : tree.Source) (t : Task) (totals : Totals) (did : Loops) (r : 
   abbrev said_with : Loops → List tree.Item → Said
   said_with l is = both_said (ports_said (scope_env t totals) f.header) (items_said the_limits source (items_around t totals) l is all_made)
 
-  said : IsSaid f.said the_limits.processes totals.processes (said_with (loops_in t totals) f.items)
-  said = subst (λ (l : Loops). IsSaid f.said the_limits.processes totals.processes (said_with l f.items)) loops_are (f.said_is (items_around t totals) all_made alike as_many)
+  -- the processes that aren't woken by what functions read
+  abbrev unheard : List Fault
+  unheard = ports_unheard (named (scope_env t totals)) f.header ++ flat_map (item_unheard (named (scope_env t totals))) f.items
+
+  said : IsSaid f.said the_limits.processes totals.processes (said_with (loops_in t totals) f.items) unheard
+  said = subst (λ (l : Loops). IsSaid f.said the_limits.processes totals.processes (said_with l f.items) unheard) loops_are (f.said_is (items_around t totals) all_made alike as_many)
 
   said_same : said_with (loops_in t totals) f.items ≡ said_in source t totals
   said_same =
@@ -127,7 +134,9 @@ module _ (source : tree.Source) (t : Task) (totals : Totals) (did : Loops) (r : 
       ∙ ap (λ (h : Said). both_said h (items_said the_limits source (items_around t totals) (loops_in t totals) (items_of t.contents) all_made)) (sym (f.header_are (scope_env t totals)))
 
   said_fault : f.said.fault ≡ least (items_faults source t totals)
-  said_fault = said.fault ∙ ap (λ (s : Said). least (s.faults ++ processes_over the_limits.processes totals.processes s.pieces)) said_same
+  said_fault =
+      said.fault ∙ ap (λ (s : Said). least (s.faults ++ (processes_over the_limits.processes totals.processes s.pieces ++ unheard))) said_same
+      ∙ ap (λ (fs : List Fault). least ((said_in source t totals).faults ++ (processes_over the_limits.processes totals.processes (said_in source t totals).pieces ++ fs))) (sym (f.unheard_are (named (scope_env t totals))))
 
   said_processes : f.said.fault ≡ None → r.counts.processes ≡ totals.processes + sum_by piece_processes (said_in source t totals).pieces
   said_processes none = f.processes ∙ said.processes none ∙ ap (λ (s : Said). totals.processes + sum_by piece_processes s.pieces) said_same

@@ -11,6 +11,7 @@ use Rattle.vs_const.specs.Sound.{HasAllWords, IsSoundSignal, IsSoundMemory, IsSo
 use Rattle.vs_elaborated.specs.Environments.{Entry}
 use Rattle.vs_build.specs.Buildable.{IsBuildable}
 use Rattle.vs_build.specs.Outputs.{IsOutput}
+use Rattle.vs_build.proofs.Sounder.{signals_wider}
 use Rattle.vs_build.proofs.Wider.{IsWider, plain_wider, words_wider, header_wider, inside_wider, statement_wider}
 use Rattle.vs_items.specs.declared.connections.Connection.{Connection}
 use Rattle.vs_elab.specs.Wiring.{IsWirable}
@@ -18,7 +19,7 @@ use Rattle.vs_elab.proofs.NumberedNames.{names_numbered}
 
 signal_wider : (c d : Design) → IsWider c d → (needed : Bool) (s : SignalMeaning) → IsSoundSignal c needed s → IsSoundSignal d needed s
 signal_wider c d w true s h = h
-signal_wider c d w false s h = (plain_wider c d w s.signal h.0, h.1, h.2)
+signal_wider c d w false s h = (plain_wider c d w s.signal h.0, h.1, h.2, h.3)
 
 words_all_wider : (c d : Design) → IsWider c d → (array : Bool) (s : Signal) → HasAllWords array c s → HasAllWords array d s
 words_all_wider c d w false s h = words_wider c d w s h
@@ -37,6 +38,7 @@ function_sound c d w false f h = (
     blocking = h.1.blocking;
     statement = statement_wider (inside c f.header) (inside d f.header) (inside_wider c d w f.header) f.statement h.1.statement;
   },
+  signals_wider c d w f.passed h.2,
 )
 
 pub meaning_wider : (c d : Design) → IsWider c d → (needed : Bool) (m : Meaning) → IsSound c needed m → IsSound d needed m

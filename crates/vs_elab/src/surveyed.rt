@@ -3,7 +3,7 @@
 ghost use Rattle.std.specs.Prelude.{◌≡◌, ◌≤◌, ◌^◌, List, IfOk, OnOk, is_none, length};
 ghost use Rattle.vs_grammar.specs.Trees as tree;
 ghost use Rattle.vs_elaborated.specs.Limits.{the_limits};
-ghost use Rattle.vs_elaborated.specs.Environments.{Env, within};
+ghost use Rattle.vs_elaborated.specs.Environments.{Env, named, within};
 ghost use Rattle.vs_elaborated.specs.Generate as generate;
 ghost use Rattle.vs_elaborated.specs.Instances as instances;
 ghost use Rattle.vs_elaborated.specs.Surveys.{loops_behind};
@@ -16,6 +16,7 @@ ghost use Rattle.vs_items.specs.Loops.{SeeTheSame};
 ghost use Rattle.vs_items.specs.Modules.{AreOf};
 ghost use Rattle.vs_items.specs.Said.{IsSaid, scope_said};
 ghost use Rattle.vs_items.specs.Stated.{AreStated, IsStatedHeader};
+ghost use Rattle.vs_items.specs.Unheard.{scope_unheard};
 ghost use Rattle.vs_elab.specs.Reading.{IsSurveyed, IsText, source_of, task_of, totals_of};
 
 use crate::reading::{Counts, NewScope, Text};
@@ -49,7 +50,7 @@ fn said_here<'f, 'a>(
     requires stated { AreStated (contents_items contents) }
     requires few { total ≤ 2 ^ 16 }
     ensures said { IfOk result (λ r. (source : tree.Source) (a : instances.Around) (made : List generate.Made) → AreOf text.now.modules source → SeeTheSame a.env (within (around_env around.entry) (complete (around_env around.entry) names.now)) → length made ≡ length (contents_items contents.entry)
-        → IsSaid r 65536 total (scope_said source a loops.old contents.entry made)) }
+        → IsSaid r 65536 total (scope_said source a loops.old contents.entry made) (scope_unheard (named a.env) contents.entry)) }
     ensures loops { OnOk result ((env : Env) → SeeTheSame env (within (around_env around.entry) (complete (around_env around.entry) names.now)) → loops.new ≡ loops_behind the_limits env loops.old (contents_items contents.entry)) }
 {
     let here = View {

@@ -127,10 +127,11 @@ fn read_top<'a>(alloc: Global, text: &Text<'a>, top: &Known<'a>) -> Result<Readi
 /// - `LoopTurns`: over 4,096 turns of one loop of a block or of a function, or over 1,048,576 copies of statements of all (9.6).
 /// - `LoopVariable`: an integer that is named outside of its loops or assigned within one, heads a loop within its own, or heads loops of two blocks (9.6).
 /// - `FunctionRule`: a function without inputs, with a `<=`, with over 64 calls within one another or with over 1,048,576 local bits, what a function may not
-///   name, and a call with another number of arguments (10.4).
+///   name, a call with another number of arguments, and an assign or a block with `@*` that calls a function which reads a signal that the process doesn't
+///   name outside of calls (10.4).
 /// - `Recursion`: a function that is called by itself, or by one declared before it (10.4.1).
 ///
-/// Or it is want of memory. It takes time linear in the text and in what the generate constructs, loops and instances make of it.
+/// Or it is want of memory. It takes time linear in the text and in what the generate constructs, loops, instances and calls make of it.
 pub fn flatten(alloc: Global, source: &Source, top: &[u8]) -> Result<Flat, ElabError>
     requires { IsShaped (view.source source.now) }
     ensures design { IfOk result (λ f. elaborated (view.source source.now) top.now ≡ Ok (design_of f)) }

@@ -17,6 +17,7 @@ mod PortNames
 mod PortsFormed
 mod ClockedWords
 mod BlockingBodies
+mod SoundReads
 mod FormedFunctions
 mod SurveyParts
 mod ValuePieces

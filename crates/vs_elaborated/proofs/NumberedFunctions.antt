@@ -8,17 +8,16 @@ use Rattle.vs_design.specs.Designs.{Design}
 use Rattle.vs_grammar.specs.Trees as tree
 use Rattle.vs_grammar.specs.Trees.{Module, Source}
 use Rattle.vs_grammar.specs.Shapes.{Each}
-use Rattle.vs_const.specs.Meanings.{ConstantValue, SignalMeaning, FunctionMeaning, Unknown, Barred, is_local}
-use Rattle.vs_const.specs.declared.rules.Rule.TheVariants.{FunctionRule}
+use Rattle.vs_const.specs.Meanings.{ConstantValue, SignalMeaning, FunctionMeaning, Meaning, AValue, Undefined, ASignal, AMemory, AFunction, Incomplete, Another, Barred, Unknown, is_local}
 use Rattle.vs_const.specs.Typed.{Typed}
 use Rattle.vs_const.specs.Expressions.{constant}
 use Rattle.vs_elaborated.specs.Limits.{Limits}
-use Rattle.vs_elaborated.specs.Environments.{Declared, Later, OfSignal, OfParameter, OfGenvar, OfInteger, OfFunction, OfScope, Entry, Env, Turn, within, up_to, turn_of, is_late, find_entry, find_name, parameter_meaning, turn_meaning, with_words, signal_means, unless_outside, declared_meaning, entry_meaning, inside_function, named}
-use Rattle.vs_elaborated.specs.Statements.{Local}
+use Rattle.vs_elaborated.specs.Environments.{Declared, Later, OfSignal, OfParameter, OfGenvar, OfInteger, OfFunction, OfScope, Entry, Env, Turn, within, up_to, turn_of, is_late, find_entry, find_name, parameter_meaning, turn_meaning, with_words, declared_meaning, entry_meaning, inside_function, named}
+use Rattle.vs_elaborated.specs.Statements.{Local, find_local, local_or}
 use Rattle.vs_elaborated.specs.Declarations.{Sort, SignalOf, ParameterOf, FunctionOf, GenvarSort, IntegerSort, InstanceSort, Declaration, Named}
 use Rattle.vs_elaborated.specs.Parameters.{Override, declared_if, valued, put_value, first_declared, first_entries, said_parameter, said_parameters, said_type, is_signed, chosen}
 use Rattle.vs_elaborated.specs.Signals.{SaidSignal, put_signal, put_signals}
-use Rattle.vs_elaborated.specs.Functions.{LocalSignal, Locals, function_locals, declared_locals, all_locals, signal_at, declared_or, local_entries, Counts, next_function, and_function, completed, put_function, said_functions}
+use Rattle.vs_elaborated.specs.Functions.{LocalSignal, Locals, locals_in, declared_locals, all_locals, signal_at, meaning_or, own_meaning, find_passed, passed_or, passed_on, called_within, passed_meaning, Counts, next_function, and_function, completed, put_function, said_functions}
 use Rattle.vs_elaborated.specs.Generate.{BlockName, Nested, Made}
 use Rattle.vs_elaborated.specs.Ports.{find_module}
 use Rattle.vs_elaborated.specs.Pieces.{Said, all_said}
@@ -36,14 +35,6 @@ words_numbered : (d : Design) (words : Option Range) (m : SignalMeaning) → IsN
 words_numbered d None m = tt
 words_numbered d (Some r) m = tt
 
-outside_numbered : (d : Design) (inside : Bool) (m : SignalMeaning) → IsNumbered d (unless_outside inside m)
-outside_numbered d false m = words_numbered d m.signal.words m
-outside_numbered d true m = of (is_local m)
-  where
-    of : (b : Bool) → IsNumbered d (if b then signal_means m else Barred FunctionRule)
-    of true = words_numbered d m.signal.words m
-    of false = tt
-
 parameter_numbered : (d : Design) (late : Bool) (v : Option ConstantValue) (r : Option Range) → IsNumbered d (if late then Unknown else parameter_meaning v r)
 parameter_numbered d true v r = tt
 parameter_numbered d false None r = tt
@@ -56,7 +47,7 @@ turn_numbered d (Some v) = tt
 
 declared_numbered : (d : Design) (env : Env) (place : ℕ) (x : Declared) → IsNumberedDeclared d x → IsNumbered d (declared_meaning env place x)
 declared_numbered d env place Later s = tt
-declared_numbered d env place (OfSignal m) s = outside_numbered d env.in_function m
+declared_numbered d env place (OfSignal m) s = words_numbered d m.signal.words m
 declared_numbered d env place (OfParameter v r) s = parameter_numbered d (is_late env.before place) v r
 declared_numbered d env place OfGenvar s = turn_numbered d (turn_of env.turns place)
 declared_numbered d env place (OfInteger owner) s = tt
@@ -83,19 +74,43 @@ name_numbered d env (f ∷ fs) name s = of (find_entry f name) (entry_numbered d
 pub names_numbered : NamesAreNumbered
 names_numbered d env s name = name_numbered d env env.frames name s
 
-local_numbered : (d : Design) (o : Option LocalSignal) → IsNumberedDeclared d (declared_or o)
-local_numbered d None = tt
-local_numbered d (Some s) = tt
+-- a function of its number stays it, whatever is passed to it
+passed_numbered : (d : Design) (input : ℕ → Option SignalMeaning) (m : Meaning) → IsNumbered d m → IsNumbered d (passed_meaning input m)
+passed_numbered d input (ASignal s) h = own (is_local s)
+  where
+    of : (o : Option SignalMeaning) → IsNumbered d (passed_or o)
+    of None = tt
+    of (Some t) = tt
 
-locals_numbered : (d : Design) (l : Locals) (vs : List Local) → AreNumberedEntries d (local_entries l vs)
-locals_numbered d l [] = tt
-locals_numbered d l (v ∷ vs) = (local_numbered d (signal_at (all_locals l) v.name.place), locals_numbered d l vs)
+    own : (b : Bool) → IsNumbered d (if b then ASignal s else passed_or (input s.signal.number))
+    own true = tt
+    own false = of (input s.signal.number)
+passed_numbered d input (AMemory m) h = tt
+passed_numbered d input (AFunction f) h = of (passed_on input f.passed)
+  where
+    of : (o : Option (List SignalMeaning)) → IsNumbered d (called_within o f)
+    of None = tt
+    of (Some ss) = h
+passed_numbered d input (AValue v r turns) h = tt
+passed_numbered d input (Undefined r) h = tt
+passed_numbered d input Incomplete h = tt
+passed_numbered d input Another h = tt
+passed_numbered d input (Barred rule) h = tt
+passed_numbered d input Unknown h = tt
 
 pub inside_numbered : FunctionNamesAreNumbered
 inside_numbered d scope env f s name =
-    let l = function_locals scope (inside_function env []) f in
-    let inner = inside_function env (local_entries l (declared_locals f)) in
-    name_numbered d inner inner.frames name (locals_numbered d l (declared_locals f), s)
+    let l = locals_in scope env f in
+    let inner = inside_function env [] in
+    own_or d l (find_local (declared_locals f) name) (passed_meaning (find_passed l.passed) (named inner name)) (passed_numbered d (find_passed l.passed) (named inner name) (name_numbered d inner inner.frames name (tt, s)))
+  where
+    own : (d : Design) (o : Option LocalSignal) → IsNumbered d (meaning_or o)
+    own d None = tt
+    own d (Some s) = tt
+
+    own_or : (d : Design) (l : Locals) (o : Option Local) (m : Meaning) → IsNumbered d m → IsNumbered d (local_or (own_meaning l) o m)
+    own_or d l None m k = k
+    own_or d l (Some v) m k = own d (signal_at (all_locals l) v.name.place)
 
 -- ---- the functions of a scope
 

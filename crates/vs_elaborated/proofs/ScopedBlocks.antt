@@ -121,7 +121,7 @@ lawful_memory s h = both (are_lawful_words s.words) (not (is_memory s) || (is_va
 sound_variables : (d : Design) (ss : List LocalSignal) → Each IsFineVariable ss → AreIn d (local_signals ss) → Each (λ (s : LocalSignal). IsSoundSignal d false s.meaning) ss
 sound_variables d [] f h = tt
 sound_variables d (s ∷ ss) f h =
-    ((both (is_signal d s.meaning.signal) (not (is_memory s.meaning.signal)) h.0 (no_words s.meaning.signal.words f.0.words), f.0.known, λ i. absurd (no (sym f.0.signal_input ∙ i))), sound_variables d ss f.1 h.1)
+    ((both (is_signal d s.meaning.signal) (not (is_memory s.meaning.signal)) h.0 (no_words s.meaning.signal.words f.0.words), f.0.known, λ i. absurd (no (sym f.0.signal_input ∙ i)), f.0.lawful), sound_variables d ss f.1 h.1)
   where
     no : false ≡ true → ⊥
     no e = cc

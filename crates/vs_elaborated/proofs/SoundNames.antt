@@ -16,15 +16,14 @@ use Rattle.vs_design.specs.Clocks.{same_name}
 use Rattle.vs_grammar.specs.Trees as tree
 use Rattle.vs_grammar.specs.Shapes.{Each, Given, IsExpr, IsRange as IsRangeTree, IsValueType, IsFunction, is_port_kind}
 use Rattle.vs_const.specs.declared.faults.Fault.{Fault}
-use Rattle.vs_const.specs.declared.rules.Rule.TheVariants.{FunctionRule}
-use Rattle.vs_const.specs.Meanings.{ConstantValue, SignalMeaning, Barred, Unknown, Find, is_local, IsFairValue}
+use Rattle.vs_const.specs.Meanings.{ConstantValue, SignalMeaning, Meaning, Unknown, Find, IsFairValue}
 use Rattle.vs_const.specs.Typed.{Typed, is_over, natural}
 use Rattle.vs_const.specs.Selects.{range_if, range_of, bounds, address_bounds}
 use Rattle.vs_const.specs.Expressions.{constant}
 use Rattle.vs_const.specs.Sound.{IsSound, AreSound, IsFine}
 use Rattle.vs_const.proofs.Short.{short}
 use Rattle.vs_const.proofs.Formed.{IsNumber, natural_fine, IsRange, both_nil, both, split, bounds_fine, typed_fine, length_some}
-use Rattle.vs_elaborated.specs.Environments.{Declared, Later, OfSignal, OfParameter, OfGenvar, OfInteger, OfFunction, OfScope, Entry, Env, within, up_to, find_entry, find_name, turn_of, is_late, parameter_meaning, turn_meaning, with_words, signal_means, unless_outside, declared_meaning, entry_meaning, named}
+use Rattle.vs_elaborated.specs.Environments.{Declared, Later, OfSignal, OfParameter, OfGenvar, OfInteger, OfFunction, OfScope, Entry, Env, within, up_to, find_entry, find_name, turn_of, is_late, parameter_meaning, turn_meaning, with_words, declared_meaning, entry_meaning, named}
 use Rattle.vs_elaborated.specs.Declarations.{SignalSort, has_addresses, ParameterSort, Sort, SignalOf, ParameterOf, FunctionOf, GenvarSort, IntegerSort, InstanceSort, Declaration, Named}
 use Rattle.vs_elaborated.specs.Parameters.{SaidRange, of_bounds, said_range, descending, of_addresses, said_addresses, said_type, is_signed, Override, override_of, chosen, converted, declared_if, said_parameter, valued, put_value, first_declared, first_entries, said_parameters}
 use Rattle.vs_elaborated.specs.Signals.{Start, said_signal, said_signals, nets_of, after, SaidSignal, put_signal, put_signals, range_faults}
@@ -43,18 +42,9 @@ parameter_sound d needed false (Some v) (Some r) s = s
 parameter_sound d needed false (Some v) None s = absurd s
 parameter_sound d needed false None r s = absurd s
 
--- a function names no signal of its module
-outside_sound : (d : Design) (needed inside : Bool) (s : SignalMeaning) → IsSound d needed (signal_means s) → IsSound d needed (unless_outside inside s)
-outside_sound d needed false s h = h
-outside_sound d needed true s h = of (is_local s)
-  where
-    of : (b : Bool) → IsSound d needed (if b then signal_means s else Barred FunctionRule)
-    of true = h
-    of false = tt
-
 pub declared_sound : (d : Design) (needed : Bool) (env : Env) (place : ℕ) (declared : Declared) → IsSoundDeclared d needed declared → IsSound d needed (declared_meaning env place declared)
 declared_sound d needed env place Later s = tt
-declared_sound d needed env place (OfSignal m) s = outside_sound d needed env.in_function m s.0
+declared_sound d needed env place (OfSignal m) s = s.0
 declared_sound d needed env place (OfParameter v r) s = parameter_sound d needed (is_late env.before place) v r s
 declared_sound d needed env place OfGenvar s = turn_sound d needed (turn_of env.turns place)
 declared_sound d needed env place (OfInteger owner) s = tt
@@ -66,26 +56,26 @@ declared_sound d needed env place OfScope s = tt
 abbrev pub AreAll : (Declared → Type 0) → List (List Entry) → Type 0
 AreAll R fs = Each (λ (f : List Entry). Each (λ (e : Entry). R e.declared) f) fs
 
-entry_sound : (d : Design) (needed : Bool) (env : Env) (R : Declared → Type 0) → ((place : ℕ) (x : Declared) → R x → IsSound d needed (declared_meaning env place x))
-    → (es : List Entry) (name : List ℕ) → Each (λ (e : Entry). R e.declared) es → IsSound d needed (entry_meaning env (find_entry es name))
-entry_sound d needed env R sound [] name s = tt
-entry_sound d needed env R sound (e ∷ es) name s = of (same_name e.name name) (entry_sound d needed env R sound es name s.1)
-  where
-    of : (b : Bool) → IsSound d needed (entry_meaning env (find_entry es name)) → IsSound d needed (entry_meaning env (if b then Some e else find_entry es name))
-    of true k = sound e.place e.declared s.0
-    of false k = k
+module _ (P : Meaning → Type 0) (env : Env) (R : Declared → Type 0) (unknown : P Unknown) (meets : (place : ℕ) (x : Declared) → R x → P (declared_meaning env place x)) where
+  entry_meets : (es : List Entry) (name : List ℕ) → Each (λ (e : Entry). R e.declared) es → P (entry_meaning env (find_entry es name))
+  entry_meets [] name s = unknown
+  entry_meets (e ∷ es) name s = of (same_name e.name name) (entry_meets es name s.1)
+    where
+      of : (b : Bool) → P (entry_meaning env (find_entry es name)) → P (entry_meaning env (if b then Some e else find_entry es name))
+      of true k = meets e.place e.declared s.0
+      of false k = k
 
-pub name_sound : (d : Design) (needed : Bool) (env : Env) (R : Declared → Type 0) → ((place : ℕ) (x : Declared) → R x → IsSound d needed (declared_meaning env place x))
-    → (fs : List (List Entry)) (name : List ℕ) → AreAll R fs → IsSound d needed (entry_meaning env (find_name fs name))
-name_sound d needed env R sound [] name s = tt
-name_sound d needed env R sound (f ∷ fs) name s = of (find_entry f name) (entry_sound d needed env R sound f name s.0) (name_sound d needed env R sound fs name s.1)
-  where
-    of : (o : Option Entry) → IsSound d needed (entry_meaning env o) → IsSound d needed (entry_meaning env (find_name fs name)) → IsSound d needed (entry_meaning env (elim o [ Some e ↦ Some e | None ↦ find_name fs name ]))
-    of None k l = l
-    of (Some e) k l = k
+  -- what each name means there meets what everything does that is declared
+  pub name_meets : (fs : List (List Entry)) (name : List ℕ) → AreAll R fs → P (entry_meaning env (find_name fs name))
+  name_meets [] name s = unknown
+  name_meets (f ∷ fs) name s = of (find_entry f name) (entry_meets f name s.0) (name_meets fs name s.1)
+    where
+      of : (o : Option Entry) → P (entry_meaning env o) → P (entry_meaning env (find_name fs name)) → P (entry_meaning env (elim o [ Some e ↦ Some e | None ↦ find_name fs name ]))
+      of None k l = l
+      of (Some e) k l = k
 
 pub named_sound : (d : Design) (needed : Bool) (env : Env) → AreSoundFrames d needed env.frames → AreSound d needed (named env)
-named_sound d needed env s name = name_sound d needed env (IsSoundDeclared d needed) (declared_sound d needed env) env.frames name s
+named_sound d needed env s name = name_meets (IsSound d needed) env (IsSoundDeclared d needed) tt (declared_sound d needed env) env.frames name s
 
 -- in a constant nothing is asked of signals
 signal_needed : (d : Design) (m : SignalMeaning) (words : Option Range) → IsSound d true (with_words words m)
@@ -542,13 +532,13 @@ all_settled d (s ∷ ss) es k g = all_settled d ss (put_signal s.meaning es) k.1
             rest true b i k = cc
 
 -- the signals of a scope whose ranges have no fault
-signal_sound : (d : Design) (m : SignalMeaning) (words : Option Range) → m.signal.words ≡ words → Each (λ x. is_signal d x ≡ true) (nets_of m.signal) → m.known ≡ true → (m.signal.input ≡ true → m.input ≡ true) → IsSound d false (with_words words m)
-signal_sound d m None e h k i = (both (is_signal d m.signal) (not (is_memory m.signal)) (no_array (λ x. is_signal d x ≡ true) m.signal (ap (λ (w : Option Range). m.signal.net && is_some w) e ∙ and_false m.signal.net) h) (ap (λ (w : Option Range). not (is_some w)) e), k, i)
+signal_sound : (d : Design) (m : SignalMeaning) (words : Option Range) → m.signal.words ≡ words → Each (λ x. is_signal d x ≡ true) (nets_of m.signal) → m.known ≡ true → (m.signal.input ≡ true → m.input ≡ true) → is_lawful_range m.signal.range ≡ true → IsSound d false (with_words words m)
+signal_sound d m None e h k i l = (both (is_signal d m.signal) (not (is_memory m.signal)) (no_array (λ x. is_signal d x ≡ true) m.signal (ap (λ (w : Option Range). m.signal.net && is_some w) e ∙ and_false m.signal.net) h) (ap (λ (w : Option Range). not (is_some w)) e), k, i, l)
   where
     and_false : (b : Bool) → (b && false) ≡ false
     and_false true = refl
     and_false false = refl
-signal_sound d m (Some r) e h k i = (has_all d m.signal r e h, k, i)
+signal_sound d m (Some r) e h k i l = (has_all d m.signal r e h, k, i)
 
 pub signals_sound : (d : Design) (env : Env) → AreSoundFrames d true env.frames → (names : List Named) (start : Start) → Each (λ (s : SaidSignal). Each (λ x. is_signal d x ≡ true) (nets_of s.meaning.signal)) (said_signals env start names)
     → Each (λ (n : Named). IsShapedSort n.first.sort) names → range_faults env (map (λ (n : Named). n.first) names) ≡ [] → Each (IsSoundSaid d) (said_signals env start names)
@@ -565,7 +555,7 @@ signals_sound d env s (n ∷ ns) start h x k = of n.first.name n.first.sort n.se
         let g = both_nil (said_type t.value_type env).faults (said_addresses t.addresses env).faults f.0 in
         let one = (said_signal env start m t).meaning in
         let known = both (said_type t.value_type env).known (said_addresses t.addresses env).known (type_fine d t.value_type env s x.value_type g.0).known (addresses_fine d t.addresses env s x.addresses g.1).known in
-        ((signal_sound d one one.signal.words refl h.0 known (λ i. (split one.input start.top i).0), refl), rest (after start one) h.1 f.1)
+        ((signal_sound d one one.signal.words refl h.0 known (λ i. (split one.input start.top i).0) (type_fine d t.value_type env s x.value_type g.0).lawful, refl), rest (after start one) h.1 f.1)
     of w (ParameterOf p) second h x k rest = rest start h k
     of w (FunctionOf f) second h x k rest = rest start h k
     of w GenvarSort second h x k rest = rest start h k

@@ -6,7 +6,7 @@ use Rattle.vs_grammar.specs.Trees.{Source}
 use Rattle.vs_const.specs.declared.faults.Fault.{Fault}
 use Rattle.vs_const.proofs.Formed.{both_nil}
 use Rattle.vs_elaborated.specs.Limits.{Limits}
-use Rattle.vs_elaborated.specs.Environments.{Entry, Env, within}
+use Rattle.vs_elaborated.specs.Environments.{Entry, Env, within, named}
 use Rattle.vs_elaborated.specs.Declarations.{Named, names_of, repeated_names}
 use Rattle.vs_elaborated.specs.Parameters.{SaidEntries, first_entries, said_parameters}
 use Rattle.vs_elaborated.specs.Signals.{Start, SaidSignal, said_signals, range_faults, put_signals}
@@ -15,7 +15,7 @@ use Rattle.vs_elaborated.specs.Generate.{BlockName, Made}
 use Rattle.vs_elaborated.specs.Constructs.{constructs}
 use Rattle.vs_elaborated.specs.Pieces.{Task, Said}
 use Rattle.vs_elaborated.specs.Instances.{Around}
-use Rattle.vs_elaborated.specs.Surveys.{Loops, counts_of, items_of, declarations_of, overrides_of, header_of, contents_said, block_entries, block_faults, bits_over, processes_over, Totals, survey}
+use Rattle.vs_elaborated.specs.Surveys.{Loops, counts_of, items_of, declarations_of, overrides_of, header_of, contents_said, contents_unheard, block_entries, block_faults, bits_over, processes_over, Totals, survey}
 
 abbrev pub names_in : Task → List Named
 names_in k = names_of (declarations_of k.contents)
@@ -75,11 +75,15 @@ pub record AreFaultless (limits : Limits) (source : Source) (k : Task) (t : Tota
   pub said : (said_in limits source k t).faults ≡ []
   pub bits : bits_over limits.bits t.bits (signals_in k t) ≡ []
   pub processes : processes_over limits.processes t.processes (said_in limits source k t).pieces ≡ []
+  pub heard : contents_unheard (named (around_in limits k t).env) k.contents ≡ []
 
 -- the faults from each part on
 module _ (limits : Limits) (source : Source) (k : Task) (t : Totals) where
+  abbrev from_processes : List Fault
+  from_processes = processes_over limits.processes t.processes (said_in limits source k t).pieces ++ contents_unheard (named (around_in limits k t).env) k.contents
+
   abbrev from_bits : List Fault
-  from_bits = bits_over limits.bits t.bits (signals_in k t) ++ processes_over limits.processes t.processes (said_in limits source k t).pieces
+  from_bits = bits_over limits.bits t.bits (signals_in k t) ++ from_processes
 
   abbrev from_said : List Fault
   from_said = (said_in limits source k t).faults ++ from_bits
@@ -116,5 +120,6 @@ module _ (limits : Limits) (source : Source) (k : Task) (t : Totals) where
       let i = both_nil (flat_map (λ (m : Made). m.faults) (made_in limits k t)) from_blocks g.1 in
       let j = both_nil (block_faults (functions_in limits k t).entries [] (blocks_in limits k t)) from_said i.1 in
       let l = both_nil (said_in limits source k t).faults from_bits j.1 in
-      let m = both_nil (bits_over limits.bits t.bits (signals_in k t)) (processes_over limits.processes t.processes (said_in limits source k t).pieces) l.1 in
-      record { header = a.0; repeated = b.0; parameters = c.0; ranges = d.0; signals = f.0; functions = g.0; made = i.0; blocks = j.0; said = l.0; bits = m.0; processes = m.1 }
+      let m = both_nil (bits_over limits.bits t.bits (signals_in k t)) from_processes l.1 in
+      let n = both_nil (processes_over limits.processes t.processes (said_in limits source k t).pieces) (contents_unheard (named (around_in limits k t).env) k.contents) m.1 in
+      record { header = a.0; repeated = b.0; parameters = c.0; ranges = d.0; signals = f.0; functions = g.0; made = i.0; blocks = j.0; said = l.0; bits = m.0; processes = n.0; heard = n.1 }

@@ -17,10 +17,10 @@ use Rattle.vs_const.specs.Typed.{Typed}
 use Rattle.vs_const.specs.Expressions.{typed, constant, is_clean}
 use Rattle.vs_const.proofs.Formed.{both_nil, no_fault}
 use Rattle.vs_elaborated.specs.Statements.{Body, TypedStatement, typed_list, nothing_done, not_there, in_block, given, goes_on, and_turn, turns, most_turns, variable_faults, second_faults, as_copies, loop_turns, loop_done, scope_locals, repeated_locals, local_faults, scoped, typed_control, typed_statement, typed_fallback, typed_sequence, typed_arms, unrolled_within}
-use Rattle.vs_elaborated.specs.Environments.{inside_function, named}
+use Rattle.vs_elaborated.specs.Environments.{named}
 use Rattle.vs_const.specs.CallDepths.{calls_in}
 use Rattle.vs_elaborated.specs.Heads.{shared_heads}
-use Rattle.vs_elaborated.specs.Functions.{LocalSignal, declared_locals, function_locals, all_locals, header_of, function_names, function_body, size_faults}
+use Rattle.vs_elaborated.specs.Functions.{LocalSignal, declared_locals, locals_in, all_locals, header_of, function_names, function_body, size_faults}
 use Rattle.vs_elaborated.specs.Surveys.{block_body, scoped_body, scoped_signals, block_statement, block_heads, initial_body, initial_statement, initial_heads}
 use Rattle.vs_elaborated.specs.Runs.{labels_width, labels_sign, run_turns, runs, run_fallback, run_sequence, run_arms, RunsAsUnrolled, BlocksRunAsUnrolled, ScopedBlocksRunAsUnrolled, InitialsRunAsUnrolled, FunctionsRunAsUnrolled}
 
@@ -219,10 +219,10 @@ initials_run bound limits env loops b state l h =
 
 pub functions_run : FunctionsRunAsUnrolled
 functions_run bound number most scope env f state l h =
-    let locals = function_locals scope (inside_function env []) f in
+    let locals = locals_in scope env f in
     let s = unrolled_within most f.statement (function_body locals) (function_names scope env f) in
     let ranges = flat_map (λ (v : LocalSignal). v.faults) (all_locals locals) in
-    let sizes = size_faults f.place (header_of f locals) (suc (calls_in s.statement)) in
+    let sizes = size_faults f.place locals (header_of f locals) (suc (calls_in s.statement)) in
     let n = both_nil (repeated_locals [] (declared_locals f)) (ranges ++ (s.faults ++ sizes)) h in
     let m = both_nil ranges (s.faults ++ sizes) n.1 in
     runs_as_unrolled most bound f.statement (function_body locals) (function_names scope env f) state l (both_nil s.faults sizes m.1).0

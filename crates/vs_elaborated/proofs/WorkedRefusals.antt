@@ -212,9 +212,19 @@ loop_variables = record {
 pub function_rules : FunctionRules
 unfolding is_in_range word_kind system_kind sign_kind signs keywords left_out_words system_names literal_bits is_signed_literal has_size literal_size number_bits
 function_rules = record {
-  reads_signal = refused refl;
+  reads_memory = refused refl;
+  reads_array = refused refl;
   reads_integer = refused refl;
   writes_input = refused refl;
+  writes_signal = refused refl;
+  writes_what_it_reads = refused refl;
+  constant_signal = refused refl;
+  assign = refused refl;
+  declared_net = refused refl;
+  star = refused refl;
+  argument = refused refl;
+  through_another = refused refl;
+  port = refused refl;
   delayed = refused refl;
   arguments = refused refl;
   no_input = refused refl;

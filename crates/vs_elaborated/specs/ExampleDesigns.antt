@@ -2,7 +2,7 @@
 use Rattle.std.specs.Prelude.{◌≡◌, ℕ, Bool, true, false, List, [], ◌∷◌, ◌++◌, Option, Some, None, map, codes}
 use Rattle.vs_four.specs.declared.Bit4.TheVariants.{Zero, One}
 use Rattle.vs_four.specs.declared.Range.{Range}
-use Rattle.vs_design.specs.Expressions.{Signal, signal_length, BitNot, BitAnd, Greater, Header, Name, Word, Unary, Binary, At, Call, NoItem, Item}
+use Rattle.vs_design.specs.Expressions.{Signal, signal_length, BitNot, Add, BitAnd, Greater, Header, Name, Word, Unary, Binary, At, Call, NoItem, Item}
 use Rattle.vs_design.specs.Values.{assigned_value}
 use Rattle.vs_design.specs.Statements.{Whole, WordOf, Statement, Empty, Assignment, If}
 use Rattle.vs_design.specs.Designs.{Scope, Written, InputPort, OutputPort, Continuous, Initial, Design}
@@ -314,6 +314,30 @@ max_design = record (design_of (clk_signal ∷ a1 ∷ b2 ∷ y3 ∷ []) (Continu
   functions = record { header = max_header; statement = max_statement } ∷ [];
 }
 
+-- `function [3:0] plus(input [3:0] u); plus = u + b; endfunction assign y = plus(a) & b;`: the function reads b, which each call passes to an input behind u
+abbrev pub plus_text : List ℕ
+plus_text =
+    codes "module top(input clk, input [3:0] a, input [3:0] b, output [3:0] y); "
+    ++ (codes "function [3:0] plus(input [3:0] u); plus = u + b; endfunction " ++ codes "assign y = plus(a) & b; endmodule")
+
+abbrev pub b_passed : Signal
+b_passed = record (wire_of [] 1 (to_zero 3) 4) { input = true }
+
+abbrev pub plus2 : Signal
+plus2 = reg_of (codes "plus") 2 (to_zero 3) 8
+
+abbrev pub plus_header : Header
+plus_header = record { place = 31; inputs = u0 ∷ b_passed ∷ []; result = plus2; own = [] }
+
+abbrev pub plus_statement : Statement
+plus_statement = Assignment 48 (Whole plus2) (At 50 (Binary Add (At 50 (Name u0)) (At 52 (Name b_passed)))) true
+
+abbrev pub plus_design : Design
+plus_design =
+    record (design_of (clk_signal ∷ a1 ∷ b2 ∷ y3 ∷ []) (Continuous 55 Written 56 (Whole y3) (At 58 (Binary BitAnd (At 58 (Call plus_header plus_statement (Item (At 60 (Name a1)) (Item (At 58 (Name b2)) NoItem)))) (At 63 (Name b2)))) ∷ [])) {
+      functions = record { header = plus_header; statement = plus_statement } ∷ [];
+    }
+
 -- each turn is a copy, with the value of its integer as a literal of 32 bits, signed; a call holds its function
 pub record LoopsAndFunctions : Type 0 where
   pub parity : AreAlike (parity_of (codes "for (i = 0; i < 4; i = i + 1) p = p ^ a[i];")) (parity_of (codes "begin p = p ^ a[32'sd0]; p = p ^ a[32'sd1]; p = p ^ a[32'sd2]; p = p ^ a[32'sd3]; ; end"))
@@ -322,6 +346,15 @@ pub record LoopsAndFunctions : Type 0 where
   pub nested : AreAlike (parity_of (codes "begin : g integer j; for (i = 0; i < 2; i = i + 1) for (j = 0; j < i; j = j + 1) p = a[i + j]; end")) (parity_of (codes "begin ; begin p = a[32'sd1 + 32'sd0]; ; end ; end"))
   pub no_turn : AreAlike (parity_of (codes "for (i = 4; i < 4; i = i + 1) p = p ^ a[i];")) (parity_of (codes ";"))
   pub max : Shows itself max_design max_text
+  pub plus : Shows itself plus_design plus_text
+  -- a function hands on what the ones that it calls read, and reads a signal once
+  pub handed_on : Elaborates the_limits (items (codes "wire a, y; function f(input u); f = u & a; endfunction function g(input u); g = f(u) ^ f(a); endfunction assign y = g(1'b1) | a;"))
+  -- a list waits for what a function reads, as it waits for what its block reads, and another rule asks that it has it; a clocked block reads when it runs
+  pub listed : Elaborates the_limits (items (codes "wire a; reg r; function f(input u); f = a; endfunction always @(a) r = f(1'b0);"))
+  pub clocked : Elaborates the_limits (items (codes "wire a; reg r; function f(input u); f = a; endfunction always @(posedge a) r <= f(1'b0);"))
+  pub named_star : Elaborates the_limits (items (codes "wire a; reg r; function f(input u); f = a; endfunction always @* begin r = f(1'b0); if (a) r = 1'b1; end"))
+  -- what a function declares is no signal of its module
+  pub own_name : Elaborates the_limits (items (codes "wire a, y; function f(input a); f = a; endfunction function g(input u); begin : b reg a; a = u; g = a; end endfunction assign y = f(1'b0) & g(1'b1);"))
   -- each turn of a generate loop has an integer of its own
   pub generated : Elaborates the_limits (codes "module top(input a); genvar g; for (g = 0; g < 2; g = g + 1) begin : b reg r; integer i; always @* for (i = 0; i < 2; i = i + 1) r = a; end endmodule")
   -- integers and variables of a function are its own

@@ -219,9 +219,20 @@ pub record LoopVariables : Type 0 where
 
 -- what a function may not do (10.4.4), and what calls it
 pub record FunctionRules : Type 0 where
-  pub reads_signal : AreRefused FunctionRule (codes "function f(input u); f = ") (codes "a; endfunction")
+  pub reads_memory : AreRefused FunctionRule (codes "reg m [0:1]; function f(input u); f = ") (codes "m[0]; endfunction")
+  pub reads_array : AreRefused FunctionRule (codes "wire n [0:1]; function f(input u); f = ") (codes "n[0]; endfunction")
   pub reads_integer : AreRefused FunctionRule (codes "integer i; function f(input u); f = ") (codes "i; endfunction")
   pub writes_input : AreRefused FunctionRule (codes "function f(input u); ") (codes "u = 1'b0; endfunction")
+  pub writes_signal : AreRefused FunctionRule (codes "reg r; function f(input u); ") (codes "r = u; endfunction")
+  pub writes_what_it_reads : AreRefused FunctionRule (codes "reg r; function f(input u); begin f = r; ") (codes "r = u; end endfunction")
+  pub constant_signal : AreRefused NotConstant (codes "wire [3:0] v; function f(input [3:0] u); f = u[0 +: ") (codes "a]; endfunction")
+  -- who calls it names each signal that it reads, outside of calls
+  pub assign : AreRefused FunctionRule (codes "function f(input u); f = a; endfunction ") (codes "assign y = f(1'b0);")
+  pub declared_net : AreRefused FunctionRule (codes "function f(input u); f = a; endfunction ") (codes "wire w = f(1'b0);")
+  pub star : AreRefused FunctionRule (codes "reg r; function f(input u); f = a; endfunction ") (codes "always @* r = f(1'b0);")
+  pub argument : AreRefused FunctionRule (codes "function f(input u); f = a; endfunction ") (codes "assign y = f(a);")
+  pub through_another : AreRefused FunctionRule (codes "function f(input u); f = a; endfunction function g(input u); g = f(u); endfunction ") (codes "assign y = g(1'b0);")
+  pub port : IsRefused FunctionRule (codes "module m(input p); endmodule module top(input a); function f(input u); f = a; endfunction ") (codes "m u(f(1'b0)); endmodule")
   pub delayed : AreRefused FunctionRule (codes "function f(input u); ") (codes "f <= u; endfunction")
   pub arguments : AreRefused FunctionRule (codes "function f(input u); f = u; endfunction assign y = ") (codes "f(a, a);")
   pub no_input : AreRefused FunctionRule (codes "") (codes "function f; f = 1'b0; endfunction")

@@ -7,6 +7,8 @@ pub mod Declarations
 pub mod Parameters
 pub mod Signals
 pub mod Heads
+pub mod Reads
+pub mod Unheard
 pub mod Functions
 pub mod Generate
 pub mod Loops

@@ -11,10 +11,10 @@ use Rattle.vs_grammar.specs.Trees as tree
 use Rattle.vs_const.specs.Meanings.{Meaning, Find, turning}
 use Rattle.vs_const.specs.Expressions.{typed, constant}
 use Rattle.vs_elaborated.specs.Limits.{Limits}
-use Rattle.vs_elaborated.specs.Environments.{Env, inside_function, named}
+use Rattle.vs_elaborated.specs.Environments.{Env, named}
 use Rattle.vs_elaborated.specs.Targets.{typed_target}
 use Rattle.vs_elaborated.specs.Statements.{Body, typed_list, scope_locals, scoped, given, goes_on, most_turns, unrolled_within}
-use Rattle.vs_elaborated.specs.Functions.{function_locals, function_body, function_names, said_function}
+use Rattle.vs_elaborated.specs.Functions.{locals_in, function_body, function_names, said_function}
 use Rattle.vs_elaborated.specs.Pieces.{ScopedBlock}
 use Rattle.vs_elaborated.specs.Surveys.{Loops, Totals, block_body, scoped_body, block_statement, plain_block_said, scoped_signals, scoped_statement, initial_body, initial_statement, initial_said}
 
@@ -91,4 +91,4 @@ InitialsRunAsUnrolled = (bound : ℕ) (limits : Limits) (env : Env) (loops : Loo
 -- and that of a function, with its own names
 abbrev pub FunctionsRunAsUnrolled : Type 0
 FunctionsRunAsUnrolled = (bound number most scope : ℕ) (env : Env) (f : tree.Function) (state : State) → most_turns ≤ bound → (said_function number most scope env f).faults ≡ []
-    → runs bound f.statement (function_body (function_locals scope (inside_function env []) f)).declared (function_names scope env f) state ≡ does (said_function number most scope env f).meaning.statement state
+    → runs bound f.statement (function_body (locals_in scope env f)).declared (function_names scope env f) state ≡ does (said_function number most scope env f).meaning.statement state

@@ -13,10 +13,10 @@ use Rattle.vs_const.specs.Meanings.{SignalMeaning, is_local, IsFairValue}
 use Rattle.vs_const.specs.Typed.{Typed}
 use Rattle.vs_const.specs.Sound.{IsSoundFunction, IsSound, AreSound, IsFine}
 use Rattle.vs_elaborated.specs.Limits.{Limits}
-use Rattle.vs_elaborated.specs.Environments.{Declared, Later, OfSignal, OfParameter, OfGenvar, OfInteger, OfFunction, OfScope, Entry, Env, find_entry, signal_means, inside_function, named}
+use Rattle.vs_elaborated.specs.Environments.{Declared, Later, OfSignal, OfParameter, OfGenvar, OfInteger, OfFunction, OfScope, Entry, Env, find_entry, signal_means, named}
 use Rattle.vs_elaborated.specs.Parameters.{Override}
 use Rattle.vs_elaborated.specs.Statements.{typed_control}
-use Rattle.vs_elaborated.specs.Functions.{function_locals, header_of, function_names, function_body, said_function}
+use Rattle.vs_elaborated.specs.Functions.{locals_in, header_of, function_names, function_body, said_function}
 use Rattle.vs_elaborated.specs.Instances.{Around, connection_name, said_overrides, instance_said}
 use Rattle.vs_elaborated.specs.Generate.{Nested, Made}
 use Rattle.vs_elaborated.specs.Constructs.{constructs}
@@ -138,8 +138,8 @@ FunctionsAreFormed = (d : Design) (number most scope : ℕ) (env : Env) (f : Fun
 
 -- in a function names mean known local signals, functions that are formed, values, or nothing that an expression can name (10.4.4), and so do the variables of its named blocks
 pub record SeesSound (d : Design) (scope : ℕ) (env : Env) (f : Function) : Type 0 where
-  pub names : AreSound (inside d (header_of f (function_locals scope (inside_function env []) f))) false (function_names scope env f)
-  pub declared : (place : ℕ) → IsSound (inside d (header_of f (function_locals scope (inside_function env []) f))) false ((function_body (function_locals scope (inside_function env []) f)).declared place)
+  pub names : AreSound (inside d (header_of f (locals_in scope env f))) false (function_names scope env f)
+  pub declared : (place : ℕ) → IsSound (inside d (header_of f (locals_in scope env f))) false ((function_body (locals_in scope env f)).declared place)
 
 -- if it has no fault, in every design that has its scope
 abbrev pub FunctionsSeeSound : Type 0

@@ -10,7 +10,7 @@ use Rattle.vs_grammar.specs.Trees.{Source, items_list, target_place}
 use Rattle.vs_const.specs.declared.faults.Fault.{Fault}
 use Rattle.vs_const.specs.Faults.{fault, fault_if}
 use Rattle.vs_const.specs.declared.rules.Rule.TheVariants.{DuplicateName, TooManyBits, TooManyProcesses, LoopVariable}
-use Rattle.vs_const.specs.Meanings.{Meaning, Barred}
+use Rattle.vs_const.specs.Meanings.{Meaning, Barred, Find}
 use Rattle.vs_const.specs.Expressions.{typed}
 use Rattle.vs_elaborated.specs.Limits.{Limits}
 use Rattle.vs_elaborated.specs.Environments.{OfScope, Entry, Env, within, with_turn, find_entry, named, Turn}
@@ -25,6 +25,7 @@ use Rattle.vs_elaborated.specs.Signals.{is_reg, SaidSignal, said_signals, all_ne
 use Rattle.vs_elaborated.specs.Generate.{Nested, BlockName, Made}
 use Rattle.vs_elaborated.specs.Constructs.{constructs}
 use Rattle.vs_elaborated.specs.Ports.{header_faults}
+use Rattle.vs_elaborated.specs.Unheard.{item_unheard, ports_unheard}
 use Rattle.vs_elaborated.specs.Pieces.{Contents, OfModule, OfBlock, Task, ScopedBlock, Piece, Own, OfScopes, Initially, Instance, Within, Said, nothing_said, one_said, both_said, all_said}
 use Rattle.vs_elaborated.specs.Instances.{Around, instances_said}
 
@@ -296,6 +297,11 @@ header_said env (OfBlock items) = nothing_said []
 abbrev pub contents_said : Limits → Source → Around → Loops → Contents → List Made → Said
 contents_said limits source around loops c made = both_said (header_said around.env c) (items_said limits source around loops (items_of c) made)
 
+-- the processes of a scope that aren't woken by what functions read
+abbrev pub contents_unheard : Find → Contents → List Fault
+contents_unheard find (OfModule m overrides) = ports_unheard find m.header ++ flat_map (item_unheard find) (items_list m.items)
+contents_unheard find (OfBlock items) = flat_map (item_unheard find) items
+
 -- parameters don't see ranges, nor ranges, functions and generate constructs the names of the scope's own blocks
 abbrev pub survey : Limits → Source → Task → Totals → Survey
 survey limits source t totals =
@@ -318,7 +324,8 @@ survey limits source t totals =
       pieces = said.pieces;
       faults =
           header_of t.contents ++ (repeated_names [] ds ++ (parameters.faults ++ (range_faults ranged ds ++ (flat_map (λ (s : SaidSignal). s.faults) signals
-          ++ (functions.faults ++ (flat_map (λ (m : Made). m.faults) made ++ (block_faults entries [] blocks ++ (said.faults ++ (bits_over limits.bits totals.bits signals ++ processes_over limits.processes totals.processes said.pieces)))))))));
+          ++ (functions.faults ++ (flat_map (λ (m : Made). m.faults) made ++ (block_faults entries [] blocks ++ (said.faults
+          ++ (bits_over limits.bits totals.bits signals ++ (processes_over limits.processes totals.processes said.pieces ++ contents_unheard (named (within t.env whole)) t.contents))))))))));
       totals =
           record totals {
             scopes = totals.scopes + 1;

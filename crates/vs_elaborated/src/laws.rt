@@ -15,7 +15,7 @@ pub fn elaborated_law()
 {}
 
 /// What holds of a scope without a fault, in every design that has it and its signals: its names mean known signals, memories or functions, values or
-/// nothing, also in a function, its functions and its pieces are formed and write words of memories in clocked blocks alone, the ports that its
+/// nothing, also in a function, which names the signals that are passed to it, its functions and its pieces are formed and write words of memories in clocked blocks alone, the ports that its
 /// instances connect are signals and no memories, and its signals are numbered one after the other; and what generate constructs make nests less deep
 /// than they do (IEEE 1364-2005, 4.9, 10.4 and clause 12).
 pub fn scope_law()

@@ -1,9 +1,11 @@
--- The notes on a header of a stimulus that is wrong, and on a reset that a vector leaves unknown.
+-- The notes on a header of a stimulus that is wrong, and on a reset input or a select input that a vector leaves unknown.
 use Rattle.std.specs.Prelude.{ℕ, List, ◌++◌, Option, Some, None, codes, decimal}
 use Rattle.vs_excerpt.specs.Escapes.{escaped}
 use Rattle.vs_stim.specs.Header.{PortLists}
 use Rattle.vs_rows.specs.declared.naming.NameFault.{NameFault}
 use Rattle.vs_rows.specs.declared.naming.NameFault.TheVariants.{NoTitle, NoInput, NoOutput, Repeated, LacksInput, LacksOutput}
+use Rattle.vs_rows.specs.declared.controls.Control.{Control}
+use Rattle.vs_rows.specs.declared.controls.Control.TheVariants.{Reset, Select}
 use Rattle.vs_rows.specs.Fields.{Wrong}
 use Rattle.vs_rows.specs.Naming.{BadName}
 
@@ -27,9 +29,13 @@ fault_note LacksOutput place name = codes "note: no field behind -> names an out
 abbrev pub bad_note : BadName → List ℕ
 bad_note b = fault_note b.fault b.place b.name
 
--- of a reset input that isn't known
-abbrev pub reset_note : Wrong → List ℕ
-reset_note w = field_note w.place w.name (codes ", is a reset input and has a digit x or z\n")
+-- what is said of the field of an input that isn't known
+abbrev pub control_words : Control → List ℕ
+control_words Reset = codes ", is a reset input and has a digit x or z\n"
+control_words Select = codes ", is a select input and has a digit x or z\n"
+
+abbrev pub control_note : Control → Wrong → List ℕ
+control_note control w = field_note w.place w.name (control_words control)
 
 -- Nothing is wrong by the ports of the design: the files aren't as they were, or the design is refused, so that it has no ports that stimuli name.
 abbrev pub right_note : Option PortLists → List ℕ

@@ -3,7 +3,7 @@ use Rattle.std.specs.Prelude.{ℕ, zero, suc, ◌+◌, ◌-◌, Bool, true, fals
 use Rattle.std.specs.List.{list_any, after_first}
 use Rattle.std.specs.Option.{option_map_or}
 use Rattle.vs_refusal.specs.declared.names.LaneName.TheVariants.{BadHeader, FirstUnknown, NoExpectation}
-use Rattle.vs_refusal.specs.declared.names.LineName.TheVariants.{BadVector, UnknownReset}
+use Rattle.vs_refusal.specs.declared.names.LineName.TheVariants.{BadVector, UnknownReset, UnknownSelect}
 use Rattle.vs_refusal.specs.declared.refusal.Refusal.{Refusal}
 use Rattle.vs_refusal.specs.declared.refusal.Refusal.TheVariants.{Lane, Line}
 use Rattle.vs_excerpt.specs.Positions.{is_newline}
@@ -14,9 +14,11 @@ use Rattle.vs_stim.specs.Header.{PortLists}
 use Rattle.vs_rows.specs.Rows.{header_row, row_bytes, first_unknown}
 use Rattle.vs_rows.specs.Fields.{Wrong, is_mark, wrong_field}
 use Rattle.vs_rows.specs.Naming.{BadName}
-use Rattle.vs_rows.specs.Resets.{wrong_reset}
+use Rattle.vs_rows.specs.declared.controls.Control.{Control}
+use Rattle.vs_rows.specs.declared.controls.Control.TheVariants.{Reset, Select}
+use Rattle.vs_rows.specs.Controls.{wrong_control}
 use Rattle.vs_explanation.specs.Headers.{refuses_header, header_at}
-use Rattle.vs_explanation.specs.Naming.{reset_note, right_note}
+use Rattle.vs_explanation.specs.Naming.{control_note, right_note}
 use Rattle.vs_explanation.specs.Placed.{position_text, caret_text}
 use Rattle.vs_explanation.specs.Seen.{Seen}
 
@@ -50,14 +52,15 @@ abbrev pub refuses_fields : Refusal → Bool
 refuses_fields (Line BadVector lane row) = true
 refuses_fields _ = false
 
--- and a digit of a reset input is
-abbrev pub refuses_reset : Refusal → Bool
-refuses_reset (Line UnknownReset lane row) = true
-refuses_reset _ = false
+-- and a digit of such an input is
+abbrev pub refused_control : Refusal → Option Control
+refused_control (Line UnknownReset lane row) = Some Reset
+refused_control (Line UnknownSelect lane row) = Some Select
+refused_control _ = None
 
 -- names of a stimulus are held against the ports of the accepted design
 abbrev pub asks_ports : Refusal → Bool
-asks_ports r = refuses_header r || refuses_reset r
+asks_ports r = refuses_header r || is_some (refused_control r)
 
 -- the first field that isn't as the stimulus's header wants it, of the line with which this text begins
 abbrev pub wrong_under : Option Drawn → (file line : List ℕ) → Option Wrong
@@ -68,21 +71,21 @@ wrong_seen drawn None line = None
 wrong_seen drawn (Some file) None = None
 wrong_seen drawn (Some file) (Some line) = wrong_under drawn file line
 
--- the first field that leaves a reset unknown, of the line with which this text begins
-abbrev pub reset_under : PortLists → (file line : List ℕ) → Option Wrong
-reset_under ports file line = option_and_then (λ (at : ℕ). wrong_reset ports.inputs (row_bytes file at) (row_bytes line 0)) (header_row file)
+-- the first field that leaves such an input unknown, of the line with which this text begins
+abbrev pub control_under : Control → PortLists → (file line : List ℕ) → Option Wrong
+control_under control ports file line = option_and_then (λ (at : ℕ). wrong_control control ports.inputs (row_bytes file at) (row_bytes line 0)) (header_row file)
 
-abbrev pub reset_seen : Option PortLists → (file line : Option (List ℕ)) → Option Wrong
-reset_seen None file line = None
-reset_seen (Some ports) None line = None
-reset_seen (Some ports) (Some file) None = None
-reset_seen (Some ports) (Some file) (Some line) = reset_under ports file line
+abbrev pub control_seen : Control → Option PortLists → (file line : Option (List ℕ)) → Option Wrong
+control_seen control None file line = None
+control_seen control (Some ports) None line = None
+control_seen control (Some ports) (Some file) None = None
+control_seen control (Some ports) (Some file) (Some line) = control_under control ports file line
 
 -- of a line with a field that is refused, that one
 abbrev pub wrong_of : Refusal → Seen → (line : Option (List ℕ)) → Option Wrong
 wrong_of r seen line =
     if refuses_fields r then wrong_seen seen.drawn seen.file line
-    else (if refuses_reset r then reset_seen seen.ports seen.file line else None)
+    else option_and_then (λ (control : Control). control_seen control seen.ports seen.file line) (refused_control r)
 
 -- the byte of the line at which it begins; the first where there is none
 abbrev pub wrong_byte : Option Wrong → ℕ
@@ -127,11 +130,15 @@ matched_text (Some d) = codes "note: the files have changed: no field of the lin
 
 -- what is said of a line in which no field is wrong
 abbrev pub right_text : Refusal → Seen → List ℕ
-right_text r seen = if refuses_fields r then matched_text seen.drawn else (if refuses_reset r then right_note seen.ports else [])
+right_text r seen = if refuses_fields r then matched_text seen.drawn else (if is_some (refused_control r) then right_note seen.ports else [])
 
 -- and of a field that is
+abbrev pub field_text_of : Option Control → Seen → Wrong → List ℕ
+field_text_of (Some control) seen w = control_note control w
+field_text_of None seen w = wrong_text seen.drawn w
+
 abbrev pub field_text : Refusal → Seen → Wrong → List ℕ
-field_text r seen w = if refuses_reset r then reset_note w else wrong_text seen.drawn w
+field_text r seen w = field_text_of (refused_control r) seen w
 
 -- what is said of the fields of a line
 abbrev pub fields_text : Refusal → Seen → (line : Option (List ℕ)) → Option Wrong → List ℕ

@@ -1,4 +1,4 @@
-//! The notes on a header of a stimulus that is wrong, and on a reset that a vector leaves unknown.
+//! The notes on a header of a stimulus that is wrong, and on a reset input or a select input that a vector leaves unknown.
 
 ghost use Rattle.std.specs.Prelude.{◌≡◌, ◌++◌, OnOk, option_map};
 ghost use Rattle.vs_explanation.specs.Naming as spec;
@@ -6,7 +6,7 @@ ghost use Rattle.vs_rows.specs.Lent.{bad_of, wrong_of};
 
 use std::alloc::AllocError;
 use vs_excerpt::Page;
-use vs_rows::{BadName, NameFault, Wrong};
+use vs_rows::{BadName, Control, NameFault, Wrong};
 use vs_stim::Ports;
 
 /// Adds which field it is, and what is said of it.
@@ -43,16 +43,25 @@ pub(crate) fn push_bad_name(page: &mut Page, bad: &BadName<'_>) -> Result<(), Al
     }
 }
 
-/// Adds which field of a vector leaves a reset unknown. The only error is that memory ran out.
-pub(crate) fn push_reset(page: &mut Page, wrong: &Wrong<'_>) -> Result<(), AllocError>
-    ensures { OnOk result (page.new ≡ page.old ++ spec.reset_note (wrong_of wrong.now)) }
+/// What is said of a field that leaves such an input unknown.
+fn control_words(control: Control) -> &'static str
+    ensures { result.now ≡ spec.control_words control }
 {
-    push_field(
-        page,
-        wrong.place,
-        wrong.name,
-        ", is a reset input and has a digit x or z\n",
-    )
+    match control {
+        Control::Reset => ", is a reset input and has a digit x or z\n",
+        Control::Select => ", is a select input and has a digit x or z\n",
+    }
+}
+
+/// Adds which field of a vector leaves such an input unknown. The only error is that memory ran out.
+pub(crate) fn push_control(
+    page: &mut Page,
+    control: Control,
+    wrong: &Wrong<'_>,
+) -> Result<(), AllocError>
+    ensures { OnOk result (page.new ≡ page.old ++ spec.control_note control (wrong_of wrong.now)) }
+{
+    push_field(page, wrong.place, wrong.name, control_words(control))
 }
 
 /// Adds that nothing is wrong any more by these ports of the design, or that there are none to compare with. The only error is that memory ran out.

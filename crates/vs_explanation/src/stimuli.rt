@@ -8,14 +8,15 @@ ghost use Rattle.vs_names.specs.Drawn.{port_bits as bits};
 
 use crate::Seen;
 use crate::headers::{header_at, refuses_header};
-use crate::naming::{push_reset, push_right};
+use crate::naming::{push_control, push_right};
 use crate::placed::{push_caret, push_position};
 use std::alloc::{AllocError, Global};
 use vs_excerpt::{Page, push_excerpt};
 use vs_names::Drawing;
 use vs_refusal::{LaneName, LineName, Refusal};
 use vs_rows::{
-    BadName, Wrong, first_unknown, header_row, is_mark, row_bytes, wrong_field, wrong_reset,
+    BadName, Control, Wrong, first_unknown, header_row, is_mark, row_bytes, wrong_control,
+    wrong_field,
 };
 use vs_stim::Ports;
 
@@ -73,18 +74,22 @@ pub fn refuses_fields(refusal: &Refusal) -> bool
     matches!(refusal, Refusal::Line(LineName::BadVector, _, _))
 }
 
-/// Whether a line is refused for an unknown digit of a reset input.
-fn refuses_reset(refusal: &Refusal) -> bool
-    ensures { result ≡ spec.refuses_reset refusal.now }
+/// Of a line that is refused for an unknown digit of a reset input or a select input, which of the two.
+fn refused_control(refusal: &Refusal) -> Option<Control>
+    ensures { result ≡ spec.refused_control refusal.now }
 {
-    matches!(refusal, Refusal::Line(LineName::UnknownReset, _, _))
+    match refusal {
+        Refusal::Line(LineName::UnknownReset, _, _) => Some(Control::Reset),
+        Refusal::Line(LineName::UnknownSelect, _, _) => Some(Control::Select),
+        _ => None,
+    }
 }
 
-/// Whether names of a stimulus are held against the ports of the accepted design, for what is wrong in its header or leaves a reset unknown.
+/// Whether names of a stimulus are held against the ports of the accepted design, for what is wrong in its header or leaves a reset input or a select input unknown.
 pub fn asks_ports(refusal: &Refusal) -> bool
     ensures { result ≡ spec.asks_ports refusal.now }
 {
-    refuses_header(refusal) || refuses_reset(refusal)
+    refuses_header(refusal) || refused_control(refusal).is_some()
 }
 
 /// The first field that isn't as the stimulus's header wants it, of the line with which a text begins.
@@ -117,19 +122,21 @@ fn wrong_seen<'a>(
     }
 }
 
-/// The first field that leaves a reset unknown, of the line with which a text begins.
-fn reset_under<'a>(
+/// The first field that leaves such an input unknown, of the line with which a text begins.
+fn control_under<'a>(
     alloc: Global,
+    control: Control,
     ports: &Ports,
     file: &'a [u8],
     line: &[u8],
 ) -> Result<Option<Wrong<'a>>, AllocError>
-    ensures { IfOk result (λ wrong. option_map lent wrong ≡ spec.reset_under ports.now file.now line.now) }
+    ensures { IfOk result (λ wrong. option_map lent wrong ≡ spec.control_under control ports.now file.now line.now) }
 {
     match header_row(file) {
         None => Ok(None),
-        Some(at) => wrong_reset(
+        Some(at) => wrong_control(
             alloc,
+            control,
             ports.inputs(),
             row_bytes(file, at),
             row_bytes(line, 0),
@@ -138,16 +145,17 @@ fn reset_under<'a>(
 }
 
 /// The same of ports, a line and a file that may have been seen.
-fn reset_seen<'a>(
+fn control_seen<'a>(
     alloc: Global,
+    control: Control,
     ports: Option<&Ports>,
     file: Option<&'a [u8]>,
     line: Option<&[u8]>,
 ) -> Result<Option<Wrong<'a>>, AllocError>
-    ensures { IfOk result (λ wrong. option_map lent wrong ≡ spec.reset_seen (option_map (λ p. p.now) ports.entry) (option_map (λ t. t.now) file.entry) (option_map (λ t. t.now) line.entry)) }
+    ensures { IfOk result (λ wrong. option_map lent wrong ≡ spec.control_seen control (option_map (λ p. p.now) ports.entry) (option_map (λ t. t.now) file.entry) (option_map (λ t. t.now) line.entry)) }
 {
     match (ports, file, line) {
-        (Some(ports), Some(file), Some(line)) => reset_under(alloc, ports, file, line),
+        (Some(ports), Some(file), Some(line)) => control_under(alloc, control, ports, file, line),
         _ => Ok(None),
     }
 }
@@ -164,10 +172,10 @@ pub(crate) fn wrong_of<'a>(
     if refuses_fields(refusal) {
         return wrong_seen(alloc, seen.drawing, seen.file, line);
     }
-    if refuses_reset(refusal) {
-        return reset_seen(alloc, seen.ports, seen.file, line);
+    match refused_control(refusal) {
+        Some(control) => control_seen(alloc, control, seen.ports, seen.file, line),
+        None => Ok(None),
     }
-    Ok(None)
 }
 
 /// The byte of the line at which a wrong field begins; the first where there is none.
@@ -307,7 +315,7 @@ fn push_no_field(page: &mut Page, refusal: &Refusal, seen: &Seen<'_>) -> Result<
     if refuses_fields(refusal) {
         return push_matched(page, seen.drawing);
     }
-    if refuses_reset(refusal) {
+    if refused_control(refusal).is_some() {
         return push_right(page, seen.ports);
     }
     Ok(())
@@ -322,10 +330,9 @@ fn push_field_note(
 ) -> Result<(), AllocError>
     ensures { OnOk result (page.new ≡ page.old ++ spec.field_text refusal.now (seen_of seen.now) (lent wrong.now)) }
 {
-    if refuses_reset(refusal) {
-        push_reset(page, wrong)
-    } else {
-        push_wrong(page, seen.drawing, wrong)
+    match refused_control(refusal) {
+        Some(control) => push_control(page, control, wrong),
+        None => push_wrong(page, seen.drawing, wrong),
     }
 }
 

@@ -9,7 +9,7 @@ use Rattle.vs_refusal.specs.declared.names.ProcessName.TheVariants.{InitialForm,
 use Rattle.vs_refusal.specs.declared.names.LaneName.{LaneName}
 use Rattle.vs_refusal.specs.declared.names.LaneName.TheVariants.{BadHeader, FirstUnknown, NoVector, TooManyVectors, StimulusTooLong, NoExpectation}
 use Rattle.vs_refusal.specs.declared.names.LineName.{LineName}
-use Rattle.vs_refusal.specs.declared.names.LineName.TheVariants.{BadVector, LineTooLong, UnknownReset}
+use Rattle.vs_refusal.specs.declared.names.LineName.TheVariants.{BadVector, LineTooLong, UnknownReset, UnknownSelect}
 use Rattle.vs_refusal.specs.declared.refusal.Refusal.{Refusal}
 use Rattle.vs_refusal.specs.declared.refusal.Refusal.TheVariants.{Bare, SamePath, At, TooLarge, Latch, Sensitivity, TwoDrivers, Process, Cycle, Race, Lane, Line}
 
@@ -55,7 +55,7 @@ at_sentence TooManyBits = codes "the signals have more than 1,048,576 bits"
 at_sentence TooManyProcesses = codes "the design has more than 65,536 assigns and blocks"
 at_sentence LoopTurns = codes "a loop of a block or a function takes more than 4,096 turns, or all of them copy more than 1,048,576 statements"
 at_sentence LoopVariable = codes "an integer that is no variable is named outside its loops, or an integer is assigned in its loop, heads a loop within it, or heads loops of two blocks"
-at_sentence FunctionRule = codes "a function names a signal or an integer of its module, writes an input, has a <=, no input, too many bits or calls that nest too deep, or a call has another number of arguments"
+at_sentence FunctionRule = codes "a function names a memory or an integer of its module, writes a signal of it or an input, has a <=, no input, too many bits or calls that nest too deep, a call has another number of arguments, or an assign or a block with @* calls a function and doesn't itself name a signal that this one reads"
 at_sentence Recursion = codes "a function calls itself, or one that isn't declared before it"
 at_sentence TooWide = codes "an expression or target is longer than 64 bits"
 at_sentence Division = codes "/, % or ** has an operand that names a signal"
@@ -92,7 +92,7 @@ at_remedy TooManyBits = codes "split the design"
 at_remedy TooManyProcesses = codes "split the design"
 at_remedy LoopTurns = codes "check the loop's condition"
 at_remedy LoopVariable = codes "give each block integers of its own, and what is kept another that heads no loop"
-at_remedy FunctionRule = codes "pass signals as inputs, and give each input its argument"
+at_remedy FunctionRule = codes "pass what it may not name as an input, give each input its argument, and name what the function reads where it is called, or pass that too"
 at_remedy Recursion = codes "declare it before its calls, or write a loop"
 at_remedy TooWide = codes "split it"
 at_remedy Division = codes "only constants are divided"
@@ -133,11 +133,13 @@ abbrev pub line_sentence : LineName → List ℕ
 line_sentence BadVector = codes "the line isn't one field of digits for each input, and behind -> one for each output that the header names"
 line_sentence LineTooLong = codes "the line has more than 65,536 bytes"
 line_sentence UnknownReset = codes "a vector behind the first has an x or z digit of a reset input"
+line_sentence UnknownSelect = codes "a vector behind the first has an x or z digit of a select input"
 
 abbrev pub line_remedy : LineName → List ℕ
 line_remedy BadVector = codes "check the widths of the fields"
 line_remedy LineTooLong = codes "shorten it"
 line_remedy UnknownReset = codes "give resets 0 or 1 in every vector"
+line_remedy UnknownSelect = codes "give select inputs 0 or 1 in every vector"
 
 -- the sentence, up to the name or the number in it
 abbrev pub opening : Refusal → List ℕ

@@ -71,7 +71,7 @@ fn at_sentence(name: AtName) -> &'static str
         AtName::LoopVariable =>
             "an integer that is no variable is named outside its loops, or an integer is assigned in its loop, heads a loop within it, or heads loops of two blocks",
         AtName::FunctionRule =>
-            "a function names a signal or an integer of its module, writes an input, has a <=, no input, too many bits or calls that nest too deep, or a call has another number of arguments",
+            "a function names a memory or an integer of its module, writes a signal of it or an input, has a <=, no input, too many bits or calls that nest too deep, a call has another number of arguments, or an assign or a block with @* calls a function and doesn't itself name a signal that this one reads",
         AtName::Recursion => "a function calls itself, or one that isn't declared before it",
         AtName::TooWide => "an expression or target is longer than 64 bits",
         AtName::Division => "/, % or ** has an operand that names a signal",
@@ -120,7 +120,8 @@ fn at_remedy(name: AtName) -> &'static str
         AtName::LoopTurns => "check the loop's condition",
         AtName::LoopVariable =>
             "give each block integers of its own, and what is kept another that heads no loop",
-        AtName::FunctionRule => "pass signals as inputs, and give each input its argument",
+        AtName::FunctionRule =>
+            "pass what it may not name as an input, give each input its argument, and name what the function reads where it is called, or pass that too",
         AtName::Recursion => "declare it before its calls, or write a loop",
         AtName::TooWide => "split it",
         AtName::Division => "only constants are divided",
@@ -199,6 +200,8 @@ fn line_sentence(name: LineName) -> &'static str
             "the line isn't one field of digits for each input, and behind -> one for each output that the header names",
         LineName::LineTooLong => "the line has more than 65,536 bytes",
         LineName::UnknownReset => "a vector behind the first has an x or z digit of a reset input",
+        LineName::UnknownSelect =>
+            "a vector behind the first has an x or z digit of a select input",
     }
 }
 
@@ -210,6 +213,7 @@ fn line_remedy(name: LineName) -> &'static str
         LineName::BadVector => "check the widths of the fields",
         LineName::LineTooLong => "shorten it",
         LineName::UnknownReset => "give resets 0 or 1 in every vector",
+        LineName::UnknownSelect => "give select inputs 0 or 1 in every vector",
     }
 }
 

@@ -162,6 +162,10 @@ one_found limits source around loops i (m ∷ n ∷ ms) f h k = absurd (let no :
 pub none_counted : (most total : ℕ) → total ≤ most → (let c : Count = record { most = most; total = total; over = None } in IsCounted c total [])
 none_counted most total h = record { over = refl; total = λ e. sym (add-zero total); few = h }
 
+pub better_first : (a b : Option Fault) → better a b ≡ None → a ≡ None
+better_first None b h = refl
+better_first (Some a) b h = cc
+
 pub better_second : (a b : Option Fault) → better a b ≡ None → b ≡ None
 better_second None b h = h
 better_second (Some a) b h = cc

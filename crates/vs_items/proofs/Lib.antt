@@ -11,6 +11,7 @@ mod OverrideFaults
 mod OutputFaults
 mod InstanceFaults
 mod ItemFaults
+mod OtherItems
 mod ConnectedApart
 mod CountSteps
 mod OverridingSteps

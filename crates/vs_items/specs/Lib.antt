@@ -17,3 +17,4 @@ pub mod Counts
 pub mod Loops
 pub mod Heads
 pub mod Said
+pub mod Unheard

@@ -4,8 +4,6 @@ ghost use Rattle.std.specs.Prelude.{◌≡◌, ◌+◌, IfOk, OnOk};
 ghost use Rattle.vs_grammar.specs.Shapes.{IsStatement};
 ghost use Rattle.vs_ast.specs.Views as view;
 ghost use Rattle.vs_const.specs.Faults.{least};
-ghost use Rattle.vs_const.specs.Meanings.{Barred};
-ghost use Rattle.vs_const.specs.declared.rules.Rule.TheVariants.{LoopVariable};
 ghost use Rattle.vs_elaborated.specs.Limits.{the_limits};
 ghost use Rattle.vs_elaborated.specs.Surveys as survey;
 ghost use Rattle.vs_elaborated.specs.NamedBlocks.{named_blocks as named_blocks_of};
@@ -18,34 +16,12 @@ use crate::heads::heads_of;
 use crate::loops::Loops;
 use std::alloc::{AllocError, Global};
 use vs_ast::{AlwaysBlock, InitialBlock};
-use vs_bodies::{BodyKind, Surroundings, check_control, check_statement, is_clocked};
-use vs_const::{Env, Fault, Named, Rule, first_of};
+use vs_bodies::{Alone, BodyKind, check_control, check_statement, is_clocked};
+use vs_const::{Fault, first_of};
 use vs_scope::{Inside, View, fair_law, named_blocks};
 
 /// How many statements loops copy at most, those of all blocks and functions together.
 const MOST_COPIES: u32 = 1_048_576;
-
-/// What is around a block: no variable of a named block in it is taken.
-#[derive(Clone, Copy)]
-struct Alone<'e, E> {
-    env: &'e E,
-}
-
-impl<E: Env> Env for Alone<'_, E> {
-    ghost names = { λ a. E.names a.env.now };
-
-    fn find(&self, name: &[u8]) -> Named {
-        self.env.find(name)
-    }
-}
-
-impl<E: Env> Surroundings for Alone<'_, E> {
-    ghost declared = { λ a place. Barred LoopVariable };
-
-    fn declared(&self, _place: u32) -> Named {
-        Named::Barred(Rule::LoopVariable)
-    }
-}
 
 /// What is found of the statement of an always block where it stands: the first rule that it breaks, and how many statements its loops copy.
 #[derive(Clone, Copy)]

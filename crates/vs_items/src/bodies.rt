@@ -5,7 +5,7 @@ ghost use Rattle.vs_grammar.specs.Trees as tree;
 ghost use Rattle.vs_ast.specs.Views as view;
 ghost use Rattle.vs_const.specs.Faults.{least};
 ghost use Rattle.vs_elaborated.specs.Limits.{the_limits};
-ghost use Rattle.vs_elaborated.specs.Environments.{Env};
+ghost use Rattle.vs_elaborated.specs.Environments.{Env, named};
 ghost use Rattle.vs_elaborated.specs.Generate.{Made};
 ghost use Rattle.vs_elaborated.specs.Instances.{Around};
 ghost use Rattle.vs_elaborated.specs.Surveys.{item_said, items_said, loops_after, loops_behind};
@@ -15,6 +15,7 @@ ghost use Rattle.vs_items.specs.Loops.{SeeTheSame};
 ghost use Rattle.vs_items.specs.Modules.{AreOf};
 ghost use Rattle.vs_items.specs.Said.{IsSaid, scope_said};
 ghost use Rattle.vs_items.specs.Stated.{AreStated, IsStated, IsStatedHeader};
+ghost use Rattle.vs_items.specs.Unheard.{scope_unheard};
 
 use crate::blocks::{block_fault, initial_fault};
 use crate::counts::{Count, count_contents, count_header};
@@ -22,6 +23,7 @@ use crate::instances::instances_fault;
 use crate::items::{assigns_fault, header_fault, signals_fault};
 use crate::loops::Loops;
 use crate::modules::{Known, seen_by};
+use crate::unheard::contents_unheard;
 use std::alloc::{AllocError, Global};
 use vs_ast::Item;
 use vs_const::{Fault, first_of};
@@ -131,6 +133,8 @@ pub struct SaidItems {
 /// - `LoopTurns`: a loop takes more than 4,096 turns, or with its block all loops so far copy more than 1,048,576 statements, at the `for` (9.6).
 /// - `LoopVariable`: an integer heads a loop within another one of it, or loops of two blocks, at its name (9.6).
 /// - `TooManyProcesses`: where the first piece begins with which there are more than `most`.
+/// - `FunctionRule`: an assign, also a port's or a declared net's, or a block with `@*` calls a function that reads a signal which the process doesn't name
+///   outside of calls, where the process begins (10.4.4).
 ///
 /// An error is want of memory; more copies than 32 bits count are too many, too.
 pub fn said_items<'a>(
@@ -146,7 +150,7 @@ pub fn said_items<'a>(
     requires stated { AreStated (contents_items contents) }
     requires few { total ≤ most }
     ensures said { (source : tree.Source) (around : Around) (made : List Made) → AreOf modules.now source → SeeTheSame around.env (view_env here.now) → length made ≡ length (contents_items contents.entry)
-        → IfOk result (λ r. IsSaid r most total (scope_said source around loops.old contents.entry made)) }
+        → IfOk result (λ r. IsSaid r most total (scope_said source around loops.old contents.entry made) (scope_unheard (named around.env) contents.entry)) }
     ensures loops { (env : Env) → SeeTheSame env (view_env here.now) → OnOk result (loops.new ≡ loops_behind the_limits env loops.old (contents_items contents.entry)) }
 {
     let first = header_fault(alloc, contents, here)?;
@@ -159,8 +163,9 @@ pub fn said_items<'a>(
     };
     count_header(contents, &mut count);
     count_contents(alloc, modules, contents, &mut count)?;
+    let unheard = contents_unheard(alloc, contents, here)?;
     Ok(SaidItems {
-        fault: first_of(fault, count.over),
+        fault: first_of(fault, first_of(count.over, unheard)),
         processes: count.total,
     })
 }

@@ -18,6 +18,7 @@ mod outputs;
 mod overrides;
 mod overriding;
 mod ports;
+mod unheard;
 mod values;
 
 pub use blocks::scoped_fault;

@@ -7,9 +7,9 @@ use Rattle.vs_four.specs.declared.Bit4.TheVariants.{X}
 use Rattle.vs_four.specs.Tables.{same}
 use Rattle.vs_net.specs.Network.{Sleeper, State, Write, put, write_all, is_written, Network, AComb, kind, writes, listens, made}
 use Rattle.vs_net.specs.Solution.{all_x, is_asleep, blank, given}
-use Rattle.vs_net.specs.Lawful.{IsLawful, Settles, times, IsKnown}
+use Rattle.vs_net.specs.Lawful.{IsLawful, Settles, times, IsKnown, IsSure}
 use mathlib.Core.Path.{fun_ext}
-use Rattle.vs_net.proofs.Parts.{Agrees, made_off}
+use Rattle.vs_net.proofs.Parts.{Agrees, made_off, sure_sleeper}
 use Rattle.vs_net.proofs.Basics.{by_test, same_is, write_all_other, write_all_covered}
 
 is_x : (v : Bit4) → v ≡ X → same v X ≡ true
@@ -138,16 +138,16 @@ module _ (n : Network) (L : IsLawful n) where
       (λ e. ap (λ ws. is_written ws b) (given_blank before s p e) ∙ blank_written (made (n.process p) s) b ∙ made_off n L p b s k w)
       (λ e. ap (λ ws. is_written ws b) (given_made before s p e) ∙ made_off n L p b s k w)
 
-  -- where select nets are known it writes all its bits
-  pub given_all : (before s : State) (p b : ℕ) → Settles (kind (n.process p)) → ((c : ℕ) → L.selects c ≡ true → IsKnown (s c)) → writes (n.process p) b ≡ true → is_written (given n before p s) b ≡ true
-  given_all before s p b k known w = by_test (is_asleep (n.sleeper p) before s)
+  -- where its selectors are known it writes all its bits
+  pub given_all : (before s : State) (p b : ℕ) → Settles (kind (n.process p)) → IsSure n p s → writes (n.process p) b ≡ true → is_written (given n before p s) b ≡ true
+  given_all before s p b k sure w = by_test (is_asleep (n.sleeper p) before s)
       (λ e. let a = asleep_is before s p e in ap (λ ws. is_written ws b) (given_blank before s p e) ∙ blank_written (made (n.process p) s) b ∙ (L.sleepers p a.sleeper a.is_sleeper).exact b s w)
-      (λ e. ap (λ ws. is_written ws b) (given_made before s p e) ∙ L.exact p b s k (λ c l h. known c h) w)
+      (λ e. ap (λ ws. is_written ws b) (given_made before s p e) ∙ L.exact p b s k sure w)
 
-  pub given_local : (before s t : State) (p : ℕ) → Settles (kind (n.process p)) → ((b : ℕ) → listens (n.process p) b ≡ true → s b ≡ t b) → given n before p s ≡ given n before p t
-  given_local before s t p k h =
+  pub given_local : (before s t : State) (p : ℕ) → Settles (kind (n.process p)) → IsSure n p s → ((b : ℕ) → listens (n.process p) b ≡ true → s b ≡ t b) → given n before p s ≡ given n before p t
+  given_local before s t p k sure h =
       ap (λ u. if u then blank (made (n.process p) s) else made (n.process p) s) same_test
-      ∙ ap (λ ws. if is_asleep (n.sleeper p) before t then blank ws else ws) (L.local p s t k h)
+      ∙ ap (λ ws. if is_asleep (n.sleeper p) before t then blank ws else ws) (L.local p s t k sure h)
     where
       by_sleeper : (o : Option Sleeper) → n.sleeper p ≡ o → is_asleep o before s ≡ is_asleep o before t
       by_sleeper None e = refl
@@ -161,13 +161,13 @@ module _ (n : Network) (L : IsLawful n) where
     awake : Agrees n p s → Began s p
     asleep : (x : Sleeper) → n.sleeper p ≡ Some x → AsleepAt n s p → Began s p
 
-  pub began_of : (before s : State) (p : ℕ) → Settles (kind (n.process p)) → write_all s (given n before p s) ≡ s → Began s p
+  pub began_of : (before s : State) (p : ℕ) → Settles (kind (n.process p)) → (IsSure n p s → write_all s (given n before p s) ≡ s) → Began s p
   began_of before s p k e = by_test (is_asleep (n.sleeper p) before s)
       (λ t. let a = asleep_is before s p t in asleep a.sleeper a.is_sleeper (record {
         listened = a.listened;
-        bits = λ b w. sym (ap (λ (f : State). f b) e) ∙ ap (λ ws. write_all s ws b) (given_blank before s p t) ∙ blank_x (made (n.process p) s) s b ((L.sleepers p a.sleeper a.is_sleeper).exact b s w);
+        bits = λ b w. sym (ap (λ (f : State). f b) (e (sure_sleeper n L p s a.sleeper a.is_sleeper))) ∙ ap (λ ws. write_all s ws b) (given_blank before s p t) ∙ blank_x (made (n.process p) s) s b ((L.sleepers p a.sleeper a.is_sleeper).exact b s w);
       }))
-      (λ t. awake (λ b w. ap (λ ws. write_all s ws b) (sym (given_made before s p t)) ∙ ap (λ (f : State). f b) e))
+      (λ t. awake (λ sure b w. ap (λ ws. write_all s ws b) (sym (given_made before s p t)) ∙ ap (λ (f : State). f b) (e sure)))
 
   -- x in each bit, where the block sleeps on
   pub asleep_holds : (before s : State) (p : ℕ) → Settles (kind (n.process p)) → is_asleep (n.sleeper p) before s ≡ true → ((b : ℕ) → writes (n.process p) b ≡ true → s b ≡ X) → write_all s (given n before p s) ≡ s
@@ -175,14 +175,14 @@ module _ (n : Network) (L : IsLawful n) where
       (λ w. let a = asleep_is before s p t in blank_x (made (n.process p) s) s b ((L.sleepers p a.sleeper a.is_sleeper).exact b s w) ∙ sym (h b w))
       (λ w. write_all_other (blank (made (n.process p) s)) s b (blank_written (made (n.process p) s) b ∙ made_off n L p b s k w)))
 
-  pub awake_holds : (before s : State) (p : ℕ) → Settles (kind (n.process p)) → is_asleep (n.sleeper p) before s ≡ false → Agrees n p s → write_all s (given n before p s) ≡ s
-  awake_holds before s p k t g = fun_ext (λ b. ap (λ ws. write_all s ws b) (given_made before s p t) ∙ by_test (writes (n.process p) b) (g b) (λ w. write_all_other (made (n.process p) s) s b (made_off n L p b s k w)))
+  pub awake_holds : (before s : State) (p : ℕ) → Settles (kind (n.process p)) → is_asleep (n.sleeper p) before s ≡ false → IsSure n p s → Agrees n p s → write_all s (given n before p s) ≡ s
+  awake_holds before s p k t sure g = fun_ext (λ b. ap (λ ws. write_all s ws b) (given_made before s p t) ∙ by_test (writes (n.process p) b) (g sure b) (λ w. write_all_other (made (n.process p) s) s b (made_off n L p b s k w)))
 
   -- where a block agreed before and agrees now, it is no matter whether it is taken to sleep
   pub agreed_asleep : (before s : State) (p : ℕ) → Settles (kind (n.process p)) → IsAsleep n before s p → Agrees n p before → Agrees n p s → (b : ℕ) → writes (n.process p) b ≡ true → s b ≡ X
   agreed_asleep before s p k a g h b w =
-      sym (h b w)
-      ∙ ap (λ ws. write_all s ws b) (L.local p s before k (λ c l. a.listened c l ∙ sym (a.before_asleep.listened c l)))
+      sym (h (sure_sleeper n L p s a.sleeper a.is_sleeper) b w)
+      ∙ ap (λ ws. write_all s ws b) (L.local p s before k (sure_sleeper n L p s a.sleeper a.is_sleeper) (λ c l. a.listened c l ∙ sym (a.before_asleep.listened c l)))
       ∙ write_all_covered (made (n.process p) before) s before b ((L.sleepers p a.sleeper a.is_sleeper).exact b before w)
-      ∙ g b w
+      ∙ g (sure_sleeper n L p before a.sleeper a.is_sleeper) b w
       ∙ a.before_asleep.bits b w

@@ -85,7 +85,7 @@ module _ (n : Network) (L : IsLawful n) (v base : State) (known : IsKnownVector 
     ]
 
     agreed_in : (p : ℕ) → Settles (kind (n.process p)) → ReadsIn L.late (n.process p) q.now → Agrees n p q.now → WrittenIn p
-    agreed_in p s reads g b w = subst (λ (x : Bit4). L.late b x ≡ true) (g b w) (L.time_zero.late_made p s q.now reads b w q.now)
+    agreed_in p s reads g b w = subst (λ (x : Bit4). L.late b x ≡ true) (g (λ c e. L.time_zero.late_known p c (q.now c) e (reads c (L.selector_is p c e).2)) b w) (L.time_zero.late_made p s q.now reads b w q.now)
 
     -- a block that is to be woken can't sleep on
     wakes_up : (p : ℕ) → Sleeps p → ReadsIn L.late (n.process p) q.now → ((b : ℕ) → listens (n.process p) b ≡ true → q.now b ≡ base b) → ⊥

@@ -1,6 +1,7 @@
 -- Slot 0 before the first activation.
 use Rattle.vs_net.proofs.Beginning.{begins_idle, begins_other, own_initial, own_initial_updates, unset_initial, unset_updates, first_idle_at, first_undriven, first_other, begins_after}
-use Rattle.std.proofs.Common.{◌≡◌, ◌≢◌, ℕ, true, false, [], ◌⊎◌, inl, inr, Option, Some, None, refl, sym, ap, ◌∙◌, subst, IsSome, List, ◌∷◌, ◌++◌, arith}
+use Rattle.std.proofs.Common.{◌≡◌, ◌≢◌, ℕ, Bool, true, false, ◌||◌, ◌==◌, eq-eqb, [], ◌⊎◌, inl, inr, Option, Some, None, refl, sym, ap, ◌∙◌, subst, IsSome, List, ◌∷◌, ◌++◌, arith}
+use Rattle.std.specs.List.{list_any}
 use Rattle.std.proofs.lemmas.Bool.{both_ways}
 use Rattle.vs_four.specs.declared.Bit4.{Bit4}
 use Rattle.vs_four.specs.declared.Bit4.TheVariants.{X, Zero}
@@ -296,7 +297,12 @@ module _ (n : Network) (L : IsLawful n) (v : State) where
       WrittenIn p = (b : ℕ) → writes (n.process p) b ≡ true → In b
 
       agreed_in : (p : ℕ) → Settles (kind (n.process p)) → n.sleeper p ≡ None → ReadsIn L.early (n.process p) q.now → Agrees n p q.now → WrittenIn p
-      agreed_in p s none reads g b w = subst (λ (v : Bit4). L.early b v ≡ true) (g b w) (L.time_zero.early_made p s none q.now reads b w q.now)
+      agreed_in p s none reads g b w = by_selectors (n.selectors p) refl
+        where
+          -- of a block with selectors early sets say nothing
+          by_selectors : (cs : List ℕ) → n.selectors p ≡ cs → In b
+          by_selectors [] e = subst (λ (v : Bit4). L.early b v ≡ true) (g (λ c h. absurd (let z = subst (λ (xs : List ℕ). list_any (λ d. c == d) xs ≡ true) e h in cc)) b w) (L.time_zero.early_made p s none q.now reads b w q.now)
+          by_selectors (c ∷ cs) e = L.time_zero.early_any p b c (q.now b) (subst (λ (xs : List ℕ). list_any (λ d. c == d) xs ≡ true) (sym e) (ap (λ (t : Bool). t || list_any (λ d. c == d) cs) (eq-eqb c c refl))) w
 
       written_in : (p : ℕ) → ReadsIn L.early (n.process p) q.now → Settles (kind (n.process p)) → EachEarly q p → WrittenIn p
       written_in p reads s (an_assign k part) = agreed_in p s (never_sleeps n L p (λ z. cc)) reads (assign_rests n L ph q (calm_of n q quiet) p k part)
@@ -338,7 +344,7 @@ module _ (n : Network) (L : IsLawful n) (v : State) where
         where
           by_sleeper : (o : Option Sleeper) → n.sleeper p ≡ o → CombOk n (Fall v) (beginning n) q.now Sleeps q p
           by_sleeper None none = elim (L.quiet_or_woken p k none) [
-            | inl quiet_block ↦ comb_agrees m (λ b w. quiet_block q.now q.now (λ c l. all_early c) b w ∙ sym (x b w)) (sleepless none)
+            | inl quiet_block ↦ comb_agrees m (λ sure b w. quiet_block q.now q.now (λ c l. all_early c) b w ∙ sym (x b w)) (sleepless none)
             | inr woken_block ↦ comb_sleeps m woken_block none (λ b l. refl)
           ]
           by_sleeper (Some y) e = comb_asleep m y e

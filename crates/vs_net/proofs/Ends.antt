@@ -8,9 +8,9 @@ use Rattle.vs_net.specs.Queue.{Queue, Due}
 use Rattle.vs_net.proofs.Quiet.{IsQuiet, IsCalm}
 use Rattle.vs_net.specs.Solution.{IsSlotEnd, driven, given, is_asleep, IsWriter}
 use Rattle.vs_four.specs.declared.Bit4.TheVariants.{X}
-use Rattle.vs_net.specs.Lawful.{IsLawful, Settles}
+use Rattle.vs_net.specs.Lawful.{IsLawful, Settles, IsSure}
 use Rattle.vs_net.proofs.Basics.{by_test, put-same, write_all_other, write_none}
-use Rattle.vs_net.proofs.Parts.{Agrees, is_due, is_pending, is_settled, Phase, AssignPart, WriterPart, InputPart, inputs_deaf, settles_assign, made_off}
+use Rattle.vs_net.proofs.Parts.{Agrees, is_due, is_pending, is_settled, Phase, AssignPart, WriterPart, InputPart, inputs_deaf, settles_assign, made_off, sure_assign}
 use Rattle.vs_net.proofs.Levels.{by_order}
 use Rattle.vs_net.proofs.Settling.{Each, an_assign, an_input, a_comb, a_clocked, Holds, CombOk, comb_due, comb_agrees, comb_sleeps, comb_asleep, Roused, sleepless, agreed, roused, CombPart, ClockedPart, clocked_rests, clocked_fires, clocked_due, Once, Good, IsInput, Settling}
 use Rattle.vs_net.proofs.Nets.{Family, IsPort, nets, net_writer, some_writer, off_nets, port_of, reset_net_family}
@@ -27,8 +27,8 @@ settles_no_input AClocked s i = s
 
 module _ (n : Network) (L : IsLawful n) where
   -- agreement on its own bits is agreement on all
-  pub agrees_all : (p : ℕ) (s : State) → Settles (kind (n.process p)) → Agrees n p s → write_all s (made (n.process p) s) ≡ s
-  agrees_all p s k g = fun_ext (λ b. by_test (writes (n.process p) b) (g b) (λ e. write_all_other (made (n.process p) s) s b (made_off n L p b s k e)))
+  pub agrees_all : (p : ℕ) (s : State) → Settles (kind (n.process p)) → IsSure n p s → Agrees n p s → write_all s (made (n.process p) s) ≡ s
+  agrees_all p s k sure g = fun_ext (λ b. by_test (writes (n.process p) b) (g sure b) (λ e. write_all_other (made (n.process p) s) s b (made_off n L p b s k e)))
 
   module _ (ph : Phase) (q : Queue) (calm : IsCalm n q) where
     -- an assign at rest agrees
@@ -43,7 +43,7 @@ module _ (n : Network) (L : IsLawful n) where
     -- at rest a port's net has the value of the net that it copies
     pub port_rests : (p : ℕ) → kind (n.process p) ≡ AnAssign → (c : IsPort (nets n L) (n.process p)) → Each n (nets n L) ph comb clocked q p → q.now c.to ≡ q.now c.from
     unfolding write_all
-    port_rests p k c (an_assign k' part) = sym (assign_rests ph q calm p k' part c.to c.writes_it) ∙ ap (λ ws. write_all q.now ws c.to) (c.copies q.now) ∙ put-same q.now c.to (q.now c.from)
+    port_rests p k c (an_assign k' part) = sym (assign_rests ph q calm p k' part (sure_assign n L p q.now k') c.to c.writes_it) ∙ ap (λ ws. write_all q.now ws c.to) (c.copies q.now) ∙ put-same q.now c.to (q.now c.from)
     port_rests p k c (an_input k' part) = absurd (subst IsInput k k')
     port_rests p k c (a_comb k' part) = absurd cc
     port_rests p k c (a_clocked k' part) = absurd cc
@@ -172,7 +172,7 @@ module _ (n : Network) (L : IsLawful n) where
     pub settling_end : IsQuiet q → ((p : ℕ) → q.waiting p ≡ []) → ((p : ℕ) → sleeps p → ((b : ℕ) → listens (n.process p) b ≡ true → q.now b ≡ base b) → Agrees n p q.now) → IsSlotEnd n ph.before ph.slot q.now
     settling_end quiet none awake =
         record {
-          settled = λ p st. settled p st (h.each p);
+          settled = λ p st sure. settled p st sure (h.each p);
           updated = λ p b w e. updated p b w e (h.each p);
           kept = h.kept;
         }
@@ -187,8 +187,8 @@ module _ (n : Network) (L : IsLawful n) where
         as_made p k e = ap (write_all q.now) (given_none n L ph.before q.now p (never_sleeps n L p k)) ∙ e
 
         -- at the end a block that sleeps has x, and one that has run what its statement gives
-        comb_settled : (p : ℕ) → kind (n.process p) ≡ AComb → ((b r : ℕ) → writes (n.process r) b ≡ true → kind (n.process r) ≡ AClocked → q.now b ≡ driven (n.process r) ph.slot ph.before b) → CombOk n ph.slot ph.before base sleeps q p → write_all q.now (given n ph.before p q.now) ≡ q.now
-        comb_settled p k as_driven ok = by_ok ok
+        comb_settled : (p : ℕ) → kind (n.process p) ≡ AComb → ((b r : ℕ) → writes (n.process r) b ≡ true → kind (n.process r) ≡ AClocked → q.now b ≡ driven (n.process r) ph.slot ph.before b) → IsSure n p q.now → CombOk n ph.slot ph.before base sleeps q p → write_all q.now (given n ph.before p q.now) ≡ q.now
+        comb_settled p k as_driven sure ok = by_ok ok
           where
             st : Settles (kind (n.process p))
             st = subst Settles (sym k) tt
@@ -202,12 +202,12 @@ module _ (n : Network) (L : IsLawful n) where
             by_ok (comb_due d y) = absurd (let m = (quiet p).0 in cc)
             by_ok (comb_agrees m g y) = by_test (is_asleep (n.sleeper p) ph.before q.now)
                 (λ t. asleep_holds n L ph.before q.now p st t (blanks y g t))
-                (λ t. awake_holds n L ph.before q.now p st t g)
-            by_ok (comb_sleeps m s none g) = ap (write_all q.now) (given_none n L ph.before q.now p none) ∙ agrees_all p q.now st (awake p s g)
+                (λ t. awake_holds n L ph.before q.now p st t sure g)
+            by_ok (comb_sleeps m s none g) = ap (write_all q.now) (given_none n L ph.before q.now p none) ∙ agrees_all p q.now st sure (awake p s g)
             by_ok (comb_asleep m x e f g) = asleep_holds n L ph.before q.now p st (asleep_true n L ph.before q.now p (record { sleeper = x; is_sleeper = e; before_asleep = f; listened = g.listened })) g.bits
 
-        settled : (p : ℕ) → Settles (kind (n.process p)) → Each n (nets n L) ph (CombPart n ph.slot ph.before base sleeps) (ClockedPart n ph) q p → write_all q.now (given n ph.before p q.now) ≡ q.now
-        settled p st (an_assign k part) = as_made p (λ x. cc) (agrees_all p q.now st (assign_rests ph q calm p k part))
-        settled p st (an_input k part) = absurd (settles_no_input (kind (n.process p)) st k)
-        settled p st (a_clocked k part) = absurd (subst Settles k st)
-        settled p st (a_comb k part) = comb_settled p k (λ b r w u. updated r b (subst IsWriter (sym u) tt) w (h.each r)) part.ok
+        settled : (p : ℕ) → Settles (kind (n.process p)) → IsSure n p q.now → Each n (nets n L) ph (CombPart n ph.slot ph.before base sleeps) (ClockedPart n ph) q p → write_all q.now (given n ph.before p q.now) ≡ q.now
+        settled p st sure (an_assign k part) = as_made p (λ x. cc) (agrees_all p q.now st sure (assign_rests ph q calm p k part))
+        settled p st sure (an_input k part) = absurd (settles_no_input (kind (n.process p)) st k)
+        settled p st sure (a_clocked k part) = absurd (subst Settles k st)
+        settled p st sure (a_comb k part) = comb_settled p k (λ b r w u. updated r b (subst IsWriter (sym u) tt) w (h.each r)) sure part.ok

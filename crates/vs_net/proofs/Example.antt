@@ -328,9 +328,10 @@ example_lawful = record {
   selects = λ b. false;
   select_driven = λ b h. cc;
   select_made = λ p b s t k h w known. cc;
+  selector_is = λ p b h. cc;
   own = λ p b s k h. sym (exact p b s k) ∙ h;
   exact = λ p b s k known w. exact p b s k ∙ w;
-  local = local;
+  local = λ p s t k u. local p s t k;
   apart = apart;
   comb_updates = λ p s k. elim (comb_kind p k) [ inl e ↦ subst (λ (x : ℕ). updates (example_process x) s ≡ []) (sym e) refl | inr e ↦ subst (λ (x : ℕ). updates (example_process x) s ≡ []) (sym e) refl ];
   clocked_own = λ p b s k h. subst (λ (x : ℕ). writes (example_process x) b ≡ true) (sym (clocked_kind p k)) (clocked_own b s (subst (λ (x : ℕ). is_written (flatten (effects (example_process x) s)) b ≡ true) (clocked_kind p k) h));
@@ -360,6 +361,6 @@ example_lawful = record {
   sleepers = λ p x h. absurd cc;
   early = early;
   late = late;
-  time_zero = record { early_idle = early_idle; early_comb = early_comb; early_made = λ p k none. early_made p k; late_idle = late_idle; late_reset = λ p b r h w. absurd (no_reset p r h); late_asleep = λ p b x h w. absurd cc; late_input = late_input; late_clock = late_clock; late_made = late_made };
+  time_zero = record { early_idle = early_idle; early_comb = early_comb; early_made = λ p k none. early_made p k; early_any = λ p b c v h w. cc; late_known = λ p c v h. cc; late_idle = late_idle; late_reset = λ p b r h w. absurd (no_reset p r h); late_asleep = λ p b x h w. absurd cc; late_input = late_input; late_clock = late_clock; late_made = late_made };
   quiet_or_woken = λ p k none. quiet_or_woken p k;
 }

@@ -6,10 +6,10 @@ use Rattle.vs_four.specs.declared.Bit4.TheVariants.{X}
 use Rattle.vs_net.specs.Network.{Sleeper, State, write_all, Network, kind, writes, listens, made}
 use Rattle.vs_net.specs.Queue.{Slot}
 use Rattle.vs_net.specs.Solution.{all_x, is_asleep, given, IsSolution, beginning}
-use Rattle.vs_net.specs.Lawful.{IsLawful, Settles}
+use Rattle.vs_net.specs.Lawful.{IsLawful, Settles, IsSure}
 use Rattle.vs_net.specs.Laws.{HasAsTold, IsAsTold, HistoryIsInValues}
 use Rattle.vs_net.proofs.Basics.{by_test, write_all_covered}
-use Rattle.vs_net.proofs.Parts.{Agrees}
+use Rattle.vs_net.proofs.Parts.{Agrees, sure_sleeper}
 use Rattle.vs_net.proofs.Ends.{agrees_all}
 use Rattle.vs_net.proofs.Asleep.{AsleepAt, all_x_at, all_x_of, asleep_true, asleep_is, given_made, given_blank, blank_x}
 
@@ -25,28 +25,31 @@ module _ (n : Network) (L : IsLawful n) (p : ℕ) (x : Sleeper) (e : n.sleeper p
     sleeping : AsleepAt n s p → Stands s false
     woken : Agrees n p s → Stands s true
 
+  sure : (s : State) → IsSure n p s
+  sure s = sure_sleeper n L p s x e
+
   agreed_at : (before s : State) → write_all s (given n before p s) ≡ s → is_asleep (n.sleeper p) before s ≡ false → Agrees n p s
-  agreed_at before s g t b w = ap (λ ws. write_all s ws b) (sym (given_made n L before s p t)) ∙ ap (λ (f : State). f b) g
+  agreed_at before s g t known b w = ap (λ ws. write_all s ws b) (sym (given_made n L before s p t)) ∙ ap (λ (f : State). f b) g
 
   -- a block that has been woken agrees, also where it is taken to sleep
   still_agrees : (before s : State) → write_all s (given n before p s) ≡ s → Agrees n p before → Agrees n p s
   still_agrees before s g h = by_test (is_asleep (n.sleeper p) before s)
       (λ t. let a = asleep_is n L before s p t in
-      λ b w.
-      ap (λ ws. write_all s ws b) (L.local p s before st (λ c l. a.listened c l ∙ sym (a.before_asleep.listened c l)))
+      λ known b w.
+      ap (λ ws. write_all s ws b) (L.local p s before st (sure s) (λ c l. a.listened c l ∙ sym (a.before_asleep.listened c l)))
       ∙ write_all_covered (made (n.process p) before) s before b ((L.sleepers p x e).exact b before w)
-      ∙ h b w
+      ∙ h (sure before) b w
       ∙ a.before_asleep.bits b w
       ∙ sym (sym (ap (λ (f : State). f b) g) ∙ ap (λ ws. write_all s ws b) (given_blank n L before s p t) ∙ blank_x (made (n.process p) s) s b ((L.sleepers p x e).exact b s w)))
       (λ t. agreed_at before s g t)
 
   step : (before s : State) (was : Bool) → write_all s (given n before p s) ≡ s → Stands before was → (test : Bool) → all_x s x.on ≡ test → HasAsTold n p x (was || not test) s × Stands s (was || not test)
-  step before s true g (woken h) test t = let a = still_agrees before s g h in (agrees_all n L p s st a, woken a)
+  step before s true g (woken h) test t = let a = still_agrees before s g h in (agrees_all n L p s st (sure s) a, woken a)
   step before s false g (sleeping h) false t =
       let no : is_asleep (n.sleeper p) before s ≡ false = by_test (is_asleep (n.sleeper p) before s)
       (λ y. let a = asleep_is n L before s p y in absurd (both_ways (all_x s x.on) t (all_x_of s x.on (λ b m. a.listened b (sym ((L.sleepers p x e).on_is b) ∙ m)))))
       (λ y. y) in
-      let a = agreed_at before s g no in (agrees_all n L p s st a, woken a)
+      let a = agreed_at before s g no in (agrees_all n L p s st (sure s) a, woken a)
   step before s false g (sleeping h) true t =
       let yes = asleep_true n L before s p (record { sleeper = x; is_sleeper = e; before_asleep = h; listened = on_x s t }) in
       let bits : (b : ℕ) → writes (n.process p) b ≡ true → s b ≡ X = (λ b w. sym (ap (λ (f : State). f b) g) ∙ ap (λ ws. write_all s ws b) (given_blank n L before s p yes) ∙ blank_x (made (n.process p) s) s b ((L.sleepers p x e).exact b s w)) in
@@ -57,7 +60,7 @@ module _ (n : Network) (L : IsLawful n) (p : ℕ) (x : Sleeper) (e : n.sleeper p
   told before (slot ∷ slots) [] was h s = tt
   told before [] (y ∷ ys) was h s = absurd s
   told before (slot ∷ slots) (y ∷ ys) was h s =
-      let one = step before y was (s.0.settled p st) h (all_x y x.on) refl in
+      let one = step before y was (s.0.settled p st (sure y)) h (all_x y x.on) refl in
       (one.0, told y slots ys (was || not (all_x y x.on)) one.1 s.1)
 
   idle_stands : Stands (beginning n) false

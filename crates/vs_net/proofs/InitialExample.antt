@@ -200,9 +200,10 @@ lawful = record {
   selects = λ b. false;
   select_driven = λ b h. cc;
   select_made = λ p b s t k h w known. cc;
+  selector_is = λ p b h. cc;
   own = λ p b s k h. sym (by_comb (λ x. is_written (made (initial_process x) s) b ≡ writes (initial_process x) b) (one_written 3 b (and_bit (s 2) (s 1))) p k) ∙ h;
   exact = λ p b s k known w. by_comb (λ x. is_written (made (initial_process x) s) b ≡ writes (initial_process x) b) (one_written 3 b (and_bit (s 2) (s 1))) p k ∙ w;
-  local = λ p s t k. by_comb (λ x. ((b : ℕ) → listens (initial_process x) b ≡ true → s b ≡ t b) → made (initial_process x) s ≡ made (initial_process x) t) (λ h. ap₂ (λ v w. one_write 3 (and_bit v w)) (h 2 refl) (h 1 refl)) p k;
+  local = λ p s t k u. by_comb (λ x. ((b : ℕ) → listens (initial_process x) b ≡ true → s b ≡ t b) → made (initial_process x) s ≡ made (initial_process x) t) (λ h. ap₂ (λ v w. one_write 3 (and_bit v w)) (h 2 refl) (h 1 refl)) p k;
   apart = apart;
   comb_updates = λ p s k. by_comb (λ x. updates (initial_process x) s ≡ []) refl p (is_comb p k);
   clocked_own = λ p b s k. by_clocked (λ x. is_written (flatten (effects (initial_process x) s)) b ≡ true → writes (initial_process x) b ≡ true) (λ h. clocked_own b s h) p k;
@@ -234,6 +235,8 @@ lawful = record {
     early_idle = λ b h. subst (λ (v : Bit4). early b v ≡ true) (sym (begins b)) (early_idle b);
     early_comb = λ p b k w. at_3 early (λ v. refl) b X (by_comb (λ x. writes (initial_process x) b ≡ true → (b == 3) ≡ true) (λ h. h) p (is_comb p k) w);
     early_made = λ p k none s h b w t. at_3 early (λ v. refl) b _ (by_comb (λ x. writes (initial_process x) b ≡ true → (b == 3) ≡ true) (λ h. h) p k w);
+    early_any = λ p b c v h w. cc;
+    late_known = λ p c v h. cc;
     late_idle = λ b h. late_idle b h _;
     late_reset = λ p b r h w. absurd (no_reset p r h);
     late_input = late_input;

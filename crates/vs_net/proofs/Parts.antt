@@ -2,10 +2,10 @@
 use Rattle.std.proofs.Common.{◌≡◌, ◌≢◌, ℕ, Bool, true, false, List, [], ◌∷◌, ◌++◌, ◌⊎◌, inl, inr, refl, sym, ap, ◌∙◌, subst, Option, Some, None}
 use Rattle.std.proofs.lemmas.Bool.{both_ways}
 use Rattle.vs_four.specs.declared.Bit4.{Bit4}
-use Rattle.vs_net.specs.Network.{State, Write, Update, put, write_all, is_written, flatten, Process, Input, Clock, Assign, Comb, Clocked, Network, Kind, AnInput, TheClock, AnAssign, AComb, AClocked, kind, writes, listens, clock_net, made}
+use Rattle.vs_net.specs.Network.{Sleeper, State, Write, Update, put, write_all, is_written, flatten, Process, Input, Clock, Assign, Comb, Clocked, Network, Kind, AnInput, TheClock, AnAssign, AComb, AClocked, kind, writes, listens, clock_net, made}
 use Rattle.vs_net.specs.Queue.{Mode, Waiting, Due, Slot, Queue, changes}
 use Rattle.vs_net.specs.Solution.{driven}
-use Rattle.vs_net.specs.Lawful.{IsLawful, Settles}
+use Rattle.vs_net.specs.Lawful.{IsLawful, Settles, IsKnown, IsSure}
 use Rattle.vs_net.proofs.Basics.{by_test, put-other, write_all_at, write_all_other}
 use Rattle.vs_net.proofs.Waking.{Woke, stays, wakes, woke_on, Spares, changes_all}
 pub use Rattle.vs_net.proofs.Nets.{IsInput}
@@ -84,7 +84,7 @@ acts_changes n p q ws own =
 
 -- the values agree with what the process makes of them
 abbrev pub Agrees : Network → ℕ → State → Type 0
-Agrees n p s = (b : ℕ) → writes (n.process p) b ≡ true → write_all s (made (n.process p) s) b ≡ s b
+Agrees n p s = IsSure n p s → (b : ℕ) → writes (n.process p) b ≡ true → write_all s (made (n.process p) s) b ≡ s b
 
 -- an assign is due, or has its present value pending, or agrees
 pub data AssignOk (n : Network) (q : Queue) (p : ℕ) : Type 0 where
@@ -134,11 +134,22 @@ module _ (n : Network) (L : IsLawful n) where
       (λ e. absurd (ne (L.one_writer p r b e h)))
       (λ e. e)
 
+  -- a process is as sure on values that are the same in what it listens to
+  pub sure_same : (p : ℕ) (s t : State) → ((b : ℕ) → listens (n.process p) b ≡ true → s b ≡ t b) → IsSure n p s → IsSure n p t
+  sure_same p s t same sure b e = subst IsKnown (same b (L.selector_is p b e).2) (sure b e)
+
+  -- an assign is sure, and so is a block that may sleep
+  pub sure_assign : (p : ℕ) (s : State) → kind (n.process p) ≡ AnAssign → IsSure n p s
+  sure_assign p s k b e = absurd (let c = (L.selector_is p b e).0 in cc)
+
+  pub sure_sleeper : (p : ℕ) (s : State) (x : Sleeper) → n.sleeper p ≡ Some x → IsSure n p s
+  sure_sleeper p s x h b e = absurd (let none = (L.selector_is p b e).1 in cc)
+
   pub agrees_other : (p r : ℕ) (q q' : Queue) → Settles (kind (n.process r)) → r ≢ p → Acts n p q q' → ((b : ℕ) → listens (n.process r) b ≡ true → q'.now b ≡ q.now b) → Agrees n r q.now → Agrees n r q'.now
-  agrees_other p r q q' k ne a same g b w =
+  agrees_other p r q q' k ne a same g sure b w =
       let stay = a.now b (not_written p r b ne w) in
-      let made_same = L.local r q'.now q.now k same in
-      ap (λ ws. write_all q'.now ws b) made_same ∙ write_all_at (made (n.process r) q.now) q'.now q.now b stay ∙ g b w ∙ sym stay
+      let made_same = L.local r q'.now q.now k sure same in
+      ap (λ ws. write_all q'.now ws b) made_same ∙ write_all_at (made (n.process r) q.now) q'.now q.now b stay ∙ g (sure_same r q'.now q.now same sure) b w ∙ sym stay
 
   pub settles_assign : (r : ℕ) → kind (n.process r) ≡ AnAssign → Settles (kind (n.process r))
   settles_assign r k = subst Settles (sym k) tt
@@ -147,7 +158,7 @@ module _ (n : Network) (L : IsLawful n) where
   assign_ok_other p r q q' k ne a (wakes m d) ok = is_due d
   assign_ok_other p r q q' k ne a (stays e same) (is_due d) = is_due (e ∙ d)
   assign_ok_other p r q q' k ne a (stays e same) (is_pending m h) =
-      is_pending (e ∙ m) (a.pending r ne ∙ h ∙ ap Some (sym (L.local r q'.now q.now (settles_assign r k) (same m))))
+      is_pending (e ∙ m) (a.pending r ne ∙ h ∙ ap Some (sym (L.local r q'.now q.now (settles_assign r k) (sure_assign r q'.now k) (same m))))
   assign_ok_other p r q q' k ne a (stays e same) (is_settled m h g) =
       is_settled (e ∙ m) (a.pending r ne ∙ h) (agrees_other p r q q' (settles_assign r k) ne a (same m) g)
 

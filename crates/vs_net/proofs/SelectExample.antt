@@ -1,12 +1,13 @@
 -- The example of a selector is lawful, and has runs.
-use Rattle.std.proofs.Common.{◌≡◌, ◌≢◌, ℕ, zero, suc, ◌≤◌, Bool, true, false, List, [], ◌∷◌, ◌||◌, ◌==◌, ◌⊎◌, inl, inr, Some, None, refl, sym, ap, ◌∙◌, subst, eqb-true, map, arith}
+use Rattle.std.proofs.Common.{◌≡◌, ◌≢◌, ℕ, zero, suc, ◌≤◌, Bool, true, false, List, [], ◌∷◌, ◌||◌, ◌==◌, if◌then◌else◌, ◌⊎◌, inl, inr, Some, None, refl, sym, ap, ◌∙◌, subst, eqb-true, map, arith}
+use Rattle.std.specs.List.{list_any}
 use Rattle.std.proofs.lemmas.Bool.{cond-true, both_ways}
 use Rattle.vs_four.specs.declared.Bit4.{Bit4}
 use Rattle.vs_four.specs.declared.Bit4.TheVariants.{Zero, One, X, Z}
 use Rattle.vs_four.specs.Tables.{not_bit}
-use Rattle.vs_net.specs.Network.{State, Reset, reset_of, write_all, is_written, flatten, Input, AnInput, TheClock, AnAssign, AComb, AClocked, kind, writes, listens, made, updates}
+use Rattle.vs_net.specs.Network.{State, Reset, reset_of, write_all, is_written, flatten, is_selector, Input, AnInput, TheClock, AnAssign, AComb, AClocked, kind, writes, listens, made, updates}
 use Rattle.vs_net.specs.Queue.{change, changes, is_held, Choice, IsCompleted, ends}
-use Rattle.vs_net.specs.Lawful.{IsLawful, Settles, IsOrdered, IsKnown, IsUnknown}
+use Rattle.vs_net.specs.Lawful.{IsLawful, Settles, IsOrdered, IsKnown, IsSure, IsUnknown}
 use Rattle.vs_net.specs.LevelRun.{level_run}
 use Rattle.vs_net.specs.Checked.{is_completed}
 use Rattle.vs_net.specs.Example.{one_write}
@@ -161,10 +162,22 @@ select_made b s t p k = by_settles (λ x. selects b ≡ true → writes (select_
     (λ h w known. subst IsKnown (sym (gives 4 b (not_bit (s 1)) t w)) (known_not (s 1) (known 1 refl refl)))
     (λ h w known. absurd (not_selects b w h)) p k
 
-exact : (b : ℕ) (s : State) (p : ℕ) → Settles (kind (select_process p)) → ((c : ℕ) → listens (select_process p) c ≡ true → selects c ≡ true → IsKnown (s c)) → writes (select_process p) b ≡ true → is_written (made (select_process p) s) b ≡ true
-exact b s p k = by_settles (λ x. ((c : ℕ) → listens (select_process x) c ≡ true → selects c ≡ true → IsKnown (s c)) → writes (select_process x) b ≡ true → is_written (made (select_process x) s) b ≡ true)
+exact : (b : ℕ) (s : State) (p : ℕ) → Settles (kind (select_process p)) → IsSure select_example p s → writes (select_process p) b ≡ true → is_written (made (select_process p) s) b ≡ true
+exact b s p k = by_settles (λ x. IsSure select_example x s → writes (select_process x) b ≡ true → is_written (made (select_process x) s) b ≡ true)
     (λ known w. one_written 4 b (not_bit (s 1)) ∙ w)
-    (λ known w. all_taken (s 4) s b (known 4 refl refl) w) p k
+    (λ sure w. all_taken (s 4) s b (sure 4 refl) w) p k
+
+-- the one selector is the block's t
+selector_bit : (p b : ℕ) → is_selector select_example p b ≡ true → (p ≡ 1) × (b ≡ 4)
+selector_bit p b h = go (p == 1) h refl
+  where
+    go : (x : Bool) → list_any (λ (c : ℕ). b == c) (if x then (4 ∷ []) else []) ≡ true → (p == 1) ≡ x → (p ≡ 1) × (b ≡ 4)
+    go true h e = (eqb-true p 1 e, eqb-true b 4 (or_false (b == 4) h))
+    go false h e = cc
+
+selector_is : (p b : ℕ) → is_selector select_example p b ≡ true → (kind (select_process p) ≡ AComb) × (select_example.sleeper p ≡ None) × (listens (select_process p) b ≡ true) × (selects b ≡ true)
+selector_is p b h = let i = selector_bit p b h in subst (λ (x : ℕ). (kind (select_process x) ≡ AComb) × (select_example.sleeper x ≡ None) × (listens (select_process x) b ≡ true) × (selects b ≡ true)) (sym i.0)
+    (subst (λ (y : ℕ). (kind (select_process 1) ≡ AComb) × (select_example.sleeper 1 ≡ None) × (listens (select_process 1) y ≡ true) × (selects y ≡ true)) (sym i.1) (refl, refl, refl, refl))
 
 apart : (p b : ℕ) → writes (select_process p) b ≡ true → listens (select_process p) b ≡ false
 apart zero b h = ap (λ (x : ℕ). x == 1) (eqb-true b 4 h)
@@ -205,7 +218,23 @@ late_set (suc (suc zero)) Zero = true
 late_set (suc (suc zero)) One = true
 late_set (suc (suc zero)) X = false
 late_set (suc (suc zero)) Z = false
+late_set (suc (suc (suc (suc zero)))) Zero = true
+late_set (suc (suc (suc (suc zero)))) One = true
+late_set (suc (suc (suc (suc zero)))) X = false
+late_set (suc (suc (suc (suc zero)))) Z = false
 late_set b v = true
+
+late_1 : (v : Bit4) → late_set 1 v ≡ true → IsKnown v
+late_1 Zero h = inl refl
+late_1 One h = inr refl
+late_1 X h = cc
+late_1 Z h = cc
+
+late_4 : (v : Bit4) → late_set 4 v ≡ true → IsKnown v
+late_4 Zero h = inl refl
+late_4 One h = inr refl
+late_4 X h = cc
+late_4 Z h = cc
 
 early_2 : (v : Bit4) → early 2 v ≡ true → v ≡ X
 early_2 X h = refl
@@ -237,7 +266,9 @@ late_idle : (b : ℕ) → ((p : ℕ) → writes (select_process p) b ≡ true �
 late_idle zero h v = refl
 late_idle (suc zero) h v = let k = h 3 refl in cc
 late_idle (suc (suc zero)) h v = let k = h 4 refl in cc
-late_idle (suc (suc (suc b))) h v = refl
+late_idle (suc (suc (suc zero))) h v = refl
+late_idle (suc (suc (suc (suc zero)))) h v = let k = h 0 refl in cc
+late_idle (suc (suc (suc (suc (suc b))))) h v = refl
 
 known_in : (k b : ℕ) (v : Bit4) → (b == k) ≡ true → late_set k Zero ≡ true → late_set k One ≡ true → IsKnown v → late_set b v ≡ true
 known_in k b v e h0 h1 i = subst (λ (c : ℕ). late_set c v ≡ true) (sym (eqb-true b k e)) (elim i [ inl x ↦ subst (λ (y : Bit4). late_set k y ≡ true) (sym x) h0 | inr x ↦ subst (λ (y : Bit4). late_set k y ≡ true) (sym x) h1 ])
@@ -249,6 +280,11 @@ late_input (suc (suc zero)) b v k w i = cc
 late_input (suc (suc (suc zero))) b v k w i = known_in 1 b v (or_false (b == 1) w) refl refl i
 late_input (suc (suc (suc (suc zero)))) b v k w i = elim (or_parts (b == 2) ((b == 3) || false) w) [ inl e ↦ known_in 2 b v e refl refl i | inr e ↦ known_in 3 b v (or_false (b == 3) e) refl refl i ]
 late_input (suc (suc (suc (suc (suc p))))) b v k w i = cc
+
+late_made : (b : ℕ) (s t : State) (p : ℕ) → Settles (kind (select_process p)) → ((c : ℕ) → listens (select_process p) c ≡ true → late_set c (s c) ≡ true) → writes (select_process p) b ≡ true → late_set b (write_all t (made (select_process p) s) b) ≡ true
+late_made b s t p k = by_settles (λ x. ((c : ℕ) → listens (select_process x) c ≡ true → late_set c (s c) ≡ true) → writes (select_process x) b ≡ true → late_set b (write_all t (made (select_process x) s) b) ≡ true)
+    (λ h w. subst (λ v. late_set b v ≡ true) (sym (gives 4 b (not_bit (s 1)) t w)) (known_in 4 b (not_bit (s 1)) w refl refl (known_not (s 1) (late_1 (s 1) (h 1 refl)))))
+    (λ h w. at late_set 5 (λ v. refl) b _ w) p k
 
 lawful : IsLawful select_example
 unfolding write_all flatten
@@ -263,9 +299,10 @@ lawful = record {
   selects = selects;
   select_driven = select_driven;
   select_made = λ p b s t k. select_made b s t p k;
+  selector_is = selector_is;
   own = λ p b s k. by_settles (λ x. is_written (made (select_process x) s) b ≡ true → writes (select_process x) b ≡ true) (λ h. sym (one_written 4 b (not_bit (s 1))) ∙ h) (λ h. own_taken (s 4) s b h) p k;
   exact = λ p b s k. exact b s p k;
-  local = λ p s t k. by_settles (λ x. ((b : ℕ) → listens (select_process x) b ≡ true → s b ≡ t b) → made (select_process x) s ≡ made (select_process x) t)
+  local = λ p s t k u. by_settles (λ x. ((b : ℕ) → listens (select_process x) b ≡ true → s b ≡ t b) → made (select_process x) s ≡ made (select_process x) t)
       (λ h. ap (λ v. one_write 4 (not_bit v)) (h 1 refl))
       (λ h. ap (λ v. taken v s) (h 4 refl) ∙ same_taken (t 4) s t (h 2 refl) (h 3 refl)) p k;
   apart = apart;
@@ -298,12 +335,14 @@ lawful = record {
     early_idle = λ b h. early_idle b;
     early_comb = λ p b k w. in_sets early (λ v. refl) (λ v. refl) b X p (subst Settles (sym k) tt) w;
     early_made = λ p k none s h b w t. in_sets early (λ v. refl) (λ v. refl) b _ p k w;
+    early_any = λ p b c v h w. let i = selector_bit p c h in at early 5 (λ x. refl) b v (subst (λ (x : ℕ). writes (select_process x) b ≡ true) i.0 w);
+    late_known = λ p c v h g. late_4 v (subst (λ (x : ℕ). late_set x v ≡ true) (selector_bit p c h).1 g);
     late_idle = λ b h. late_idle b h _;
     late_reset = λ p b r h w. absurd (no_reset p r h);
     late_input = late_input;
     late_clock = λ p b k w. subst (λ (c : ℕ). late_set c Zero ≡ true) (sym (eqb-true b 0 (subst (λ (x : ℕ). writes (select_process x) b ≡ true) (clock_kind p k) w))) refl;
     late_asleep = λ p b x h w. absurd cc;
-    late_made = λ p k s h b w t. in_sets late_set (λ v. refl) (λ v. refl) b _ p k w;
+    late_made = λ p k s h b w t. late_made b s t p k h w;
   };
   quiet_or_woken = λ p k none. inr (record { bit = 2; listened = subst (λ (x : ℕ). listens (select_process x) 2 ≡ true) (sym (comb_kind p k)) refl; unknown = λ v h. inl (early_2 v h); known = λ v h. late_2 v h });
 }

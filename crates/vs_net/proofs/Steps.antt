@@ -8,7 +8,7 @@ use Rattle.vs_net.specs.Lawful.{IsLawful, Settles}
 use Rattle.vs_net.proofs.Basics.{by_test, same_number, put-same, put-other, write_all_at, write_all_again, write_all-append, held_stays, is_written-append, is_written-append_right}
 use Rattle.vs_net.proofs.Waking.{Woke, stays, wakes, Changed, changes_all, changes_clock, edge_same, woken_calm, fires, fires_reset, fires_none, fires_still}
 use Rattle.vs_net.proofs.Nets.{Family, IsPort, nets, clock_net_family, reset_net_family, off_nets, port_of}
-use Rattle.vs_net.proofs.Parts.{IsInput, inputs_deaf, input_not_clocked, Acts, acts_on, acts_mode, acts_pending, acts_active, acts_waiting, acts_changes, Own, Agrees, AssignOk, is_due, is_pending, is_settled, Phase, PortOk, AssignPart, WriterPart, InputPart, Steady, settles_assign}
+use Rattle.vs_net.proofs.Parts.{IsInput, inputs_deaf, input_not_clocked, Acts, acts_on, acts_mode, acts_pending, acts_active, acts_waiting, acts_changes, Own, Agrees, AssignOk, is_due, is_pending, is_settled, Phase, PortOk, AssignPart, WriterPart, InputPart, Steady, settles_assign, sure_assign}
 
 -- each net of a family has its value from before the slot's change, or from after it
 abbrev pub NetsIn : (ℕ → Option Family) → Phase → Queue → Type 0
@@ -162,7 +162,7 @@ module _ (n : Network) (L : IsLawful n) (ph : Phase) where
     evaluated_self =
         record {
           ok = elim evaluated_pending [
-            | inl h ↦ is_settled (put-same q.mode p Waiting) h.0 (λ b w. held_stays value q.now b h.1)
+            | inl h ↦ is_settled (put-same q.mode p Waiting) h.0 (λ sure b w. held_stays value q.now b h.1)
             | inr h ↦ is_pending (put-same q.mode p Waiting) h
           ];
           own = λ ws e. elim evaluated_pending [
@@ -206,9 +206,9 @@ module _ (n : Network) (L : IsLawful n) (ph : Phase) where
     applied_ok (stays e same) (is_settled m h g) = absurd cc
     applied_ok (stays e same) (is_pending m h) =
         let z : ws ≡ made (n.process p) q.now = cc in
-        let made_same = L.local p q_applied.now q.now (settles_assign n L p k) (same m) in
+        let made_same = L.local p q_applied.now q.now (settles_assign n L p k) (sure_assign n L p q_applied.now k) (same m) in
         is_settled (e ∙ m) applied_pending
-        (λ b w. ap (λ x. write_all q_applied.now x b) (made_same ∙ sym z) ∙ write_all_at ws q_applied.now (write_all q.now ws) b (ch.now b) ∙ write_all_again ws q.now b ∙ sym (ch.now b))
+        (λ sure b w. ap (λ x. write_all q_applied.now x b) (made_same ∙ sym z) ∙ write_all_at ws q_applied.now (write_all q.now ws) b (ch.now b) ∙ write_all_again ws q.now b ∙ sym (ch.now b))
 
     -- a port
     module _ (c : IsPort (nets n L) (n.process p)) where
@@ -350,8 +350,8 @@ module _ (n : Network) (L : IsLawful n) (ph : Phase) where
     ran_mode = put-same q_done.mode p Waiting
 
     pub ran_agrees : Agrees n p q_ran.now
-    ran_agrees b w =
-        let same_reads = L.local p q_ran.now q.now settles_comb (λ x l. ran_acts.now x (by_test (writes (n.process p) x) (λ e. absurd (both_ways (listens (n.process p) x) (L.apart p x e) l)) (λ e. e))) in
+    ran_agrees sure b w =
+        let same_reads = L.local p q_ran.now q.now settles_comb sure (λ x l. ran_acts.now x (by_test (writes (n.process p) x) (λ e. absurd (both_ways (listens (n.process p) x) (L.apart p x e) l)) (λ e. e))) in
         ap (λ x. write_all q_ran.now x b) same_reads
         ∙ write_all_at (made (n.process p) q.now) q_ran.now (write_all q.now (made (n.process p) q.now)) b (ran_ch.now b)
         ∙ write_all_again (made (n.process p) q.now) q.now b

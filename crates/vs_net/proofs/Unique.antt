@@ -6,7 +6,8 @@ use Rattle.vs_net.specs.Network.{State, write_all, Network, kind, writes, listen
 use Rattle.vs_net.specs.Queue.{Slot, Fall, Rise}
 use Rattle.vs_net.specs.Solution.{given, IsSlotEnd, IsSolution, IsWriter}
 use Rattle.vs_net.proofs.Asleep.{given_local, given_all, given_none}
-use Rattle.vs_net.specs.Lawful.{IsLawful, Settles, IsKnown}
+use Rattle.vs_net.specs.Lawful.{IsLawful, Settles, IsKnown, IsSure}
+use Rattle.vs_net.proofs.Parts.{sure_same}
 use Rattle.vs_net.specs.Laws.{OneSolution, HasKnownSelects, AreKnownSelects}
 use Rattle.vs_net.proofs.Basics.{write_all_covered, write_none}
 use Rattle.vs_net.proofs.Levels.{by_order, no_writer, settles, updates, writer_of, same_writer}
@@ -24,11 +25,14 @@ module _ (n : Network) (L : IsLawful n) (before : State) (slot : Slot) (s t : St
 
   same_of : (p : ℕ) → Settles (kind (n.process p)) → ((b r : ℕ) → listens (n.process p) b ≡ true → writes (n.process r) b ≡ true → Settles (kind (n.process r)) → Same r) → Same p
   same_of p k below b w =
-      let reads = given_local n L before s t p k (λ c l. same_at c (λ r wr kr. below c r l wr kr c wr)) in
-      sym (ap (λ (f : State). f b) (ss.settled p k))
+      let same : (c : ℕ) → listens (n.process p) c ≡ true → s c ≡ t c = (λ c l. same_at c (λ r wr kr. below c r l wr kr c wr)) in
+      let sure : IsSure n p t = (λ c e. known c (L.selector_is p c e).3) in
+      let before_sure : IsSure n p s = sure_same n L p t s (λ c l. sym (same c l)) sure in
+      let reads = given_local n L before s t p k before_sure same in
+      sym (ap (λ (f : State). f b) (ss.settled p k before_sure))
       ∙ ap (λ ws. write_all s ws b) reads
-      ∙ write_all_covered (given n before p t) s t b (given_all n L before t p b k known w)
-      ∙ ap (λ (f : State). f b) (ts.settled p k)
+      ∙ write_all_covered (given n before p t) s t b (given_all n L before t p b k sure w)
+      ∙ ap (λ (f : State). f b) (ts.settled p k sure)
 
   pub one_end : s ≡ t
   one_end = fun_ext (λ b. same_at b (λ r w k. by_order n L Same same_of r k b w))
@@ -45,8 +49,10 @@ module _ (n : Network) (L : IsLawful n) (before : State) (slot : Slot) (s : Stat
         | inl i ↦ inputs d.0 b i d.1 h
         | inr x ↦ (let same = same_writer n L p d.0 b w d.1 in
             let awake = subst (λ (y : ℕ). n.sleeper y ≡ None) same x.1 in
-            subst IsKnown (ap (λ ws. write_all s ws b) (sym (given_none n L before s p awake)) ∙ ap (λ (f : State). f b) (e.settled p k))
-            (L.select_made p b s s k h w (λ c l g. let y = L.select_driven c g in elim y.2 [ inl i ↦ inputs y.0 c i y.1 g | inr z ↦ below c y.0 l y.1 z.0 c y.1 g ])))
+            let reads : (c : ℕ) → listens (n.process p) c ≡ true → L.selects c ≡ true → IsKnown (s c) = (λ c l g. let y = L.select_driven c g in elim y.2 [ inl i ↦ inputs y.0 c i y.1 g | inr z ↦ below c y.0 l y.1 z.0 c y.1 g ]) in
+            let sure : IsSure n p s = (λ c g. let i = L.selector_is p c g in reads c i.2 i.3) in
+            subst IsKnown (ap (λ ws. write_all s ws b) (sym (given_none n L before s p awake)) ∙ ap (λ (f : State). f b) (e.settled p k sure))
+            (L.select_made p b s s k h w reads))
       ]
 
   pub selects_known : (b : ℕ) → L.selects b ≡ true → IsKnown (s b)

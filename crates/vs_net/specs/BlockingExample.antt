@@ -26,7 +26,7 @@ blocking_idle (suc (suc (suc zero))) = Z
 blocking_idle _ = X
 
 abbrev pub blocking_example : Network
-blocking_example = record { process = blocking_process; count = 5; idle = blocking_idle; initial = λ p. []; initial_updates = λ p. []; sleeper = λ p. None }
+blocking_example = record { process = blocking_process; count = 5; idle = blocking_idle; initial = λ p. []; initial_updates = λ p. []; sleeper = λ p. None; selectors = λ p. [] }
 
 -- the values of clk, d, t, y, q and r
 abbrev pub blocking_bits : State → List Bit4
@@ -80,7 +80,7 @@ race_process (suc (suc (suc zero))) = Input (1 ∷ [])
 race_process (suc (suc (suc (suc p)))) = Input []
 
 abbrev pub race : Network
-race = record { process = race_process; count = 4; idle = λ b. X; initial = λ p. []; initial_updates = λ p. []; sleeper = λ p. None }
+race = record { process = race_process; count = 4; idle = λ b. X; initial = λ p. []; initial_updates = λ p. []; sleeper = λ p. None; selectors = λ p. [] }
 
 -- one vector: d is 1
 abbrev pub race_start : Queue

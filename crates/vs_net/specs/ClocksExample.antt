@@ -19,7 +19,7 @@ clocks_process (suc (suc (suc (suc zero)))) = Input (2 ∷ [])
 clocks_process (suc (suc (suc (suc (suc p))))) = Input []
 
 abbrev pub clocks_example : Network
-clocks_example = record { process = clocks_process; count = 5; idle = λ b. X; initial = λ p. []; initial_updates = λ p. []; sleeper = λ p. None }
+clocks_example = record { process = clocks_process; count = 5; idle = λ b. X; initial = λ p. []; initial_updates = λ p. []; sleeper = λ p. None; selectors = λ p. [] }
 
 -- the values of c, e, d, p and q
 abbrev pub clocks_bits : State → List Bit4

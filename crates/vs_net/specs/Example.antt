@@ -29,7 +29,7 @@ example_idle (suc zero) = Z
 example_idle _ = X
 
 abbrev pub example : Network
-example = record { process = example_process; count = 6; idle = example_idle; initial = λ p. []; initial_updates = λ p. []; sleeper = λ p. None }
+example = record { process = example_process; count = 6; idle = example_idle; initial = λ p. []; initial_updates = λ p. []; sleeper = λ p. None; selectors = λ p. [] }
 
 -- the values of clk, its port's net, a, y, q and r
 abbrev pub six_bits : State → List Bit4

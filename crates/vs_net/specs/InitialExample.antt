@@ -28,7 +28,7 @@ late_writes (suc zero) = one_write 4 One ∷ []
 late_writes _ = []
 
 abbrev pub initial_example : Network
-initial_example = record { process = initial_process; count = 4; idle = λ b. X; initial = initial_writes; initial_updates = late_writes; sleeper = λ p. None }
+initial_example = record { process = initial_process; count = 4; idle = λ b. X; initial = initial_writes; initial_updates = late_writes; sleeper = λ p. None; selectors = λ p. [] }
 
 -- the values of clk, d, q, y and r
 abbrev pub initial_bits : State → List Bit4

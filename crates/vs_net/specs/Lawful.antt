@@ -3,8 +3,8 @@ use Rattle.std.specs.Prelude.{◌≡◌, ◌≢◌, ◌≤◌, ℕ, Bool, true, 
 use Rattle.std.specs.List.{list_any}
 use Rattle.vs_four.specs.declared.Bit4.{Bit4}
 use Rattle.vs_four.specs.declared.Bit4.TheVariants.{Zero, One, X, Z}
-use Rattle.vs_net.specs.Network.{Reset, to_value, reset_of, Sleeper, State, Write, write_all, is_written, flatten, Process, Input, Network, AnInput, TheClock, AnAssign, AComb, AClocked, kind, writes, listens, clock_net, made, updates, effects, branch}
-pub use Rattle.vs_net.specs.Solution.{Settles}
+use Rattle.vs_net.specs.Network.{Reset, to_value, reset_of, Sleeper, State, Write, write_all, is_written, flatten, Process, Input, Network, is_selector, AnInput, TheClock, AnAssign, AComb, AClocked, kind, writes, listens, clock_net, made, updates, effects, branch}
+pub use Rattle.vs_net.specs.Solution.{Settles, IsKnown, IsSure}
 use Rattle.vs_net.specs.Solution.{at_first, all_initial, beginning}
 
 -- the assign that copies one clock net to another, as that of an input port does (11.6.6)
@@ -42,9 +42,14 @@ IsOrdered n placed (p ∷ order) =
     × IsOrdered n (λ r. placed r ⊎ (r ≡ p)) order
 
 -- A level order: it has each assign and combinational block, each after all others that write a bit which it is sensitive to.
--- A list that has more, as a process twice, is one too: the laws hold of each of them.
+-- A list that has more, as a process twice, is one too: the laws hold of each of them, but for that of one pass, which asks that each stands once.
 abbrev pub IsLevelOrder : Network → List ℕ → Type 0
 IsLevelOrder n order = IsOrdered n (λ p. ⊥) order
+
+-- each number stands once
+abbrev pub IsOnce : (ℕ → Type 0) → List ℕ → Type 0
+IsOnce placed [] = Unit {0}
+IsOnce placed (p ∷ order) = (placed p → ⊥) × IsOnce (λ r. placed r ⊎ (r ≡ p)) order
 
 -- all bits that the process is sensitive to are in their sets
 abbrev pub ReadsIn : (ℕ → Bit4 → Bool) → Process → State → Type 0
@@ -58,15 +63,14 @@ WritesIn sets process s = (b : ℕ) → writes process b ≡ true → (t : State
 abbrev pub IsUnknown : Bit4 → Type 0
 IsUnknown v = (v ≡ X) ⊎ (v ≡ Z)
 
--- 0 or 1
-abbrev pub IsKnown : Bit4 → Type 0
-IsKnown v = (v ≡ Zero) ⊎ (v ≡ One)
-
 -- Sets of what each bit may hold: early at the moment before the first activation, where no assign or block is due, and late at the end of slot 0.
 pub record IsTimeZero (n : Network) (early late : ℕ → Bit4 → Bool) : Type 0 where
   pub early_idle : (b : ℕ) → ((p : ℕ) → writes (n.process p) b ≡ true → Settles (kind (n.process p)) → ⊥) → early b (at_first n b) ≡ true
   pub early_comb : (p b : ℕ) → kind (n.process p) ≡ AComb → writes (n.process p) b ≡ true → early b X ≡ true
   pub early_made : (p : ℕ) → Settles (kind (n.process p)) → n.sleeper p ≡ None → (s : State) → ReadsIn early (n.process p) s → WritesIn early (n.process p) s
+  -- of a block with selectors, which may leave its bits as they were, early sets say nothing; and its selectors are known late
+  pub early_any : (p b c : ℕ) (v : Bit4) → is_selector n p c ≡ true → writes (n.process p) b ≡ true → early b v ≡ true
+  pub late_known : (p c : ℕ) (v : Bit4) → is_selector n p c ≡ true → late c v ≡ true → IsKnown v
   pub late_idle : (b : ℕ) → ((p : ℕ) → writes (n.process p) b ≡ true → kind (n.process p) ≡ AClocked) → late b (beginning n b) ≡ true
   -- where a reset branch writes the bit, also its last value
   pub late_reset : (p b : ℕ) (r : Reset) → reset_of (n.process p) ≡ Some r → writes (n.process p) b ≡ true → late b (write_all (beginning n) (flatten (branch r)) b) ≡ true
@@ -118,10 +122,12 @@ pub record IsLawful (n : Network) : Type 0 where
   pub selects : ℕ → Bool
   pub select_driven : (b : ℕ) → selects b ≡ true → (p : ℕ) × (writes (n.process p) b ≡ true) × ((kind (n.process p) ≡ AnInput) ⊎ (Settles (kind (n.process p)) × (n.sleeper p ≡ None)))
   pub select_made : (p b : ℕ) (s t : State) → Settles (kind (n.process p)) → selects b ≡ true → writes (n.process p) b ≡ true → ((c : ℕ) → listens (n.process p) c ≡ true → selects c ≡ true → IsKnown (s c)) → IsKnown (write_all t (made (n.process p) s) b)
-  -- an assign or a combinational block writes its own bits alone, by what it listens to alone, and all of them where the select nets among that are known
+  -- selectors are select nets, those of a combinational block that can't sleep and that is sensitive to them
+  pub selector_is : (p b : ℕ) → is_selector n p b ≡ true → (kind (n.process p) ≡ AComb) × (n.sleeper p ≡ None) × (listens (n.process p) b ≡ true) × (selects b ≡ true)
+  -- an assign or a combinational block writes its own bits alone, and where its selectors are known all of them, by what it listens to alone
   pub own : (p b : ℕ) (s : State) → Settles (kind (n.process p)) → is_written (made (n.process p) s) b ≡ true → writes (n.process p) b ≡ true
-  pub exact : (p b : ℕ) (s : State) → Settles (kind (n.process p)) → ((c : ℕ) → listens (n.process p) c ≡ true → selects c ≡ true → IsKnown (s c)) → writes (n.process p) b ≡ true → is_written (made (n.process p) s) b ≡ true
-  pub local : (p : ℕ) (s t : State) → Settles (kind (n.process p)) → ((b : ℕ) → listens (n.process p) b ≡ true → s b ≡ t b) → made (n.process p) s ≡ made (n.process p) t
+  pub exact : (p b : ℕ) (s : State) → Settles (kind (n.process p)) → IsSure n p s → writes (n.process p) b ≡ true → is_written (made (n.process p) s) b ≡ true
+  pub local : (p : ℕ) (s t : State) → Settles (kind (n.process p)) → IsSure n p s → ((b : ℕ) → listens (n.process p) b ≡ true → s b ≡ t b) → made (n.process p) s ≡ made (n.process p) t
   pub apart : (p b : ℕ) → writes (n.process p) b ≡ true → listens (n.process p) b ≡ false
   -- no nonblocking update in a combinational block
   pub comb_updates : (p : ℕ) (s : State) → kind (n.process p) ≡ AComb → updates (n.process p) s ≡ []

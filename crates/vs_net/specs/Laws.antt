@@ -7,7 +7,7 @@ use Rattle.vs_net.specs.Solution.{all_x, beginning, IsSolution, IsSlotEnd}
 use Rattle.vs_net.specs.Settle.{settle, IsFed}
 use Rattle.vs_net.specs.LevelRun.{level_run}
 use Rattle.vs_net.specs.Bound.{IsWeighed, bound, IsPartOfRun, HasNoNext}
-use Rattle.vs_net.specs.Lawful.{IsLawful, IsKnown, IsLevelOrder}
+use Rattle.vs_net.specs.Lawful.{IsLawful, IsKnown, IsLevelOrder, IsOnce}
 
 -- the vector has no x and no z in a data input
 abbrev pub IsKnownVector : Network → State → Type 0
@@ -69,10 +69,10 @@ RunsEnd =
     → (earlier : List Choice) → IsPartOfRun n (start n first v vs) earlier
     → (later : List Choice) × IsCompleted n (start n first v vs) (earlier ++ later)
 
--- where inputs and registers have their values, one pass over a level order gives the values at the slot's end
+-- where inputs and registers have their values, one pass over a level order that has each process once gives the values at the slot's end
 abbrev pub OnePassSettles : Type 0
 OnePassSettles =
-    (n : Network) → IsLawful n → (order : List ℕ) → IsLevelOrder n order
+    (n : Network) → IsLawful n → (order : List ℕ) → IsLevelOrder n order → IsOnce (λ p. ⊥) order
     → (before : State) (slot : Slot) (s : State) → IsFed n before slot s → IsSlotEnd n before slot (settle n before order s)
 
 -- what a block that may sleep has at the end of a slot: what its statement gives, where it has been woken, else x

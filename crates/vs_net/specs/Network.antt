@@ -115,6 +115,11 @@ pub record Network : Type 0 where
   pub initial_updates : ℕ → List Update
   -- which combinational blocks may sleep; this is for the solution, and no matter to the queue
   pub sleeper : ℕ → Option Sleeper
+  -- the bits on which a combinational block depends to assign its own, its selectors: where one of them has x or z it may leave some of its bits as they were. This too is for the solution alone
+  pub selectors : ℕ → List ℕ
+
+abbrev pub is_selector : Network → ℕ → ℕ → Bool
+is_selector n p b = list_any (λ c. b == c) (n.selectors p)
 
 pub data Kind : Type 0 where
   AnInput TheClock AnAssign AComb AClocked : Kind

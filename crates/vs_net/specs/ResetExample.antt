@@ -37,7 +37,7 @@ reset_sleeper (suc (suc zero)) = Some (record { on = 3 ∷ []; bits = 4 ∷ [] }
 reset_sleeper _ = None
 
 abbrev pub reset_example : Network
-reset_example = record { process = reset_process; count = 5; idle = reset_idle; initial = λ p. []; initial_updates = λ p. []; sleeper = reset_sleeper }
+reset_example = record { process = reset_process; count = 5; idle = reset_idle; initial = λ p. []; initial_updates = λ p. []; sleeper = reset_sleeper; selectors = λ p. [] }
 
 -- the values of clk, the reset input, its port's net, t and z
 abbrev pub five_bits : State → List Bit4

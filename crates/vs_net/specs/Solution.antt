@@ -1,8 +1,9 @@
 -- The equations of a design, slot by slot: the values at the end of each slot, with no queue.
-use Rattle.std.specs.Prelude.{◌≡◌, ℕ, zero, suc, Bool, true, false, List, [], ◌∷◌, ◌++◌, ◌&&◌, map, Option, Some, None, if◌then◌else◌}
-use Rattle.vs_four.specs.declared.Bit4.TheVariants.{X}
+use Rattle.std.specs.Prelude.{◌≡◌, ℕ, zero, suc, Bool, true, false, List, [], ◌∷◌, ◌++◌, ◌&&◌, ◌⊎◌, map, Option, Some, None, if◌then◌else◌}
+use Rattle.vs_four.specs.declared.Bit4.{Bit4}
+use Rattle.vs_four.specs.declared.Bit4.TheVariants.{Zero, One, X}
 use Rattle.vs_four.specs.Tables.{same}
-use Rattle.vs_net.specs.Network.{Sleeper, State, Write, Update, write_all, flatten, Reset, branch, to_value, Process, Clocked, Network, Kind, AnInput, TheClock, AnAssign, AComb, AClocked, kind, writes, made, effects}
+use Rattle.vs_net.specs.Network.{Sleeper, State, Write, Update, write_all, flatten, Reset, branch, to_value, Process, Clocked, Network, is_selector, Kind, AnInput, TheClock, AnAssign, AComb, AClocked, kind, writes, made, effects}
 use Rattle.vs_net.specs.Queue.{Slot, Fall, Rise, drive}
 
 -- a writer: an input, which writes by nonblocking updates (9.2.2), or a clocked block, which may write at once too (9.2.1)
@@ -69,10 +70,18 @@ blank ws = map (λ w. record { bit = w.bit; value = X }) ws
 abbrev pub given : Network → State → ℕ → State → List Write
 given n before p s = if is_asleep (n.sleeper p) before s then blank (made (n.process p) s) else made (n.process p) s
 
+-- 0 or 1
+abbrev pub IsKnown : Bit4 → Type 0
+IsKnown v = (v ≡ Zero) ⊎ (v ≡ One)
+
+-- a process surely assigns all its bits: its selectors, where it has any, are known
+abbrev pub IsSure : Network → ℕ → State → Type 0
+IsSure n p s = (b : ℕ) → is_selector n p b ≡ true → IsKnown (s b)
+
 -- s are the values at the end of the slot, where those at its beginning were before
 pub record IsSlotEnd (n : Network) (before : State) (slot : Slot) (s : State) : Type 0 where
-  -- Each assign's target has the value of its right side (6.1), and each combinational block's bits have what its statement gives from what it reads, or x as long as it sleeps.
-  pub settled : (p : ℕ) → Settles (kind (n.process p)) → write_all s (given n before p s) ≡ s
+  -- Each assign's target has the value of its right side (6.1), and each combinational block's bits have what its statement gives from what it reads, or x as long as it sleeps. Nothing is said of a block that has an unknown selector: what it leaves as it was may depend on the order.
+  pub settled : (p : ℕ) → Settles (kind (n.process p)) → IsSure n p s → write_all s (given n before p s) ≡ s
   -- inputs have the drive's last values, and registers what the run of their block gives
   pub updated : (p b : ℕ) → IsWriter (kind (n.process p)) → writes (n.process p) b ≡ true → s b ≡ driven (n.process p) slot before b
   -- a bit that no process writes stays: z in a net, x in a variable (4.2)

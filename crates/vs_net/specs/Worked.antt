@@ -25,7 +25,7 @@ worked_idle (suc (suc (suc zero))) = Z
 worked_idle _ = X
 
 abbrev pub worked : Network
-worked = record { process = worked_process; count = 5; idle = worked_idle; initial = λ p. []; initial_updates = λ p. []; sleeper = λ p. None }
+worked = record { process = worked_process; count = 5; idle = worked_idle; initial = λ p. []; initial_updates = λ p. []; sleeper = λ p. None; selectors = λ p. [] }
 
 -- a vector: the values of a and b
 abbrev pub vector_of : Bit4 → Bit4 → State

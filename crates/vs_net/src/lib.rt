@@ -34,7 +34,7 @@ pub fn exists_law()
     ensures { LevelRunIsOne }
 {}
 
-/// Where inputs and registers have their values, one pass over a level order solves the equations of a slot.
+/// Where inputs and registers have their values, one pass over a level order that has each process once solves the equations of a slot.
 pub fn pass_law()
     ensures { OnePassSettles }
 {}

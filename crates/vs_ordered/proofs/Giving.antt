@@ -13,6 +13,7 @@ use Rattle.vs_design.specs.Values.{count_from, bits_of_signal, read}
 use Rattle.vs_design.specs.Footprints.{contains, signals_bits}
 use Rattle.vs_design.specs.Elaborated.{have_bits_from}
 use Rattle.vs_design.specs.Resets.{reset_inputs}
+use Rattle.vs_design.specs.Selects.{select_firsts}
 use Rattle.vs_design.specs.Accepted.{IsAcceptedDesign}
 use Rattle.vs_queue.specs.Driven as Q
 use Rattle.vs_queue.specs.Driven.{AreGiven, AreVectors}
@@ -138,16 +139,16 @@ twice clocks (s ∷ ss) = by s.input (twice clocks ss)
     by true e = ap (λ (xs : List Signal). if not (contains clocks s.first) then (s ∷ xs) else xs) e
     by false e = e
 
-lengths_are : (resets : List ℕ) (ss : List Signal) → lengths (map (input_of resets) ss) ≡ map signal_length ss
-lengths_are resets [] = refl
-lengths_are resets (s ∷ ss) = ap (λ (ns : List ℕ). signal_length s ∷ ns) (lengths_are resets ss)
+lengths_are : (resets selects : List ℕ) (ss : List Signal) → lengths (map (input_of resets selects) ss) ≡ map signal_length ss
+lengths_are resets selects [] = refl
+lengths_are resets selects (s ∷ ss) = ap (λ (ns : List ℕ). signal_length s ∷ ns) (lengths_are resets selects ss)
 
 vector_given : (d : Design) (names : List (List ℕ)) (a : IsAcceptedDesign d names) (x : Vector) → sizes x ≡ lengths (data_inputs d (clock_bits a.clocks)) → AreGiven (Q.data_inputs (clock_bits a.clocks) (top_inputs d)) x (vector_state d (clock_bits a.clocks) x)
 vector_given d names a x fits =
     let clocks = (clock_bits a.clocks) in
     let those : List Signal = filter (is_data_input clocks) d.signals in
     let up = ascending (is_data_input clocks) 0 d.signals a.lawful.bits_numbered in
-    let here = given 0 those x (λ b. X) up (fits ∙ lengths_are (reset_inputs d clocks) those) in
+    let here = given 0 those x (λ b. X) up (fits ∙ lengths_are (reset_inputs d clocks) (select_firsts d) those) in
     subst (λ (ss : List Signal). AreGiven ss x (vector_state d clocks x)) (sym (twice clocks d.signals))
     (subst (λ (bs : List ℕ). AreGiven those x (write_all (λ b. X) (map2 write_to bs (bits_of x)))) (sym (data_bits_are d names a)) here)
 

@@ -125,6 +125,7 @@ stop_cases P lane E.NoExpectation fault refusal = refusal
 stop_cases P lane (E.BadVector line) fault refusal = refusal
 stop_cases P lane E.FirstUnknown fault refusal = refusal
 stop_cases P lane (E.UnknownReset line) fault refusal = refusal
+stop_cases P lane (E.UnknownSelect line) fault refusal = refusal
 stop_cases P lane E.NoVector fault refusal = refusal
 stop_cases P lane E.TooManyVectors fault refusal = refusal
 stop_cases P lane E.StimulusTooLong fault refusal = refusal

@@ -9,12 +9,16 @@ use Rattle.vs_four.specs.declared.Range.{Range}
 use Rattle.vs_four.specs.Selects.{range_length, is_descending}
 use Rattle.vs_net.specs.Laws.{IsKnownVector, AreKnownResets}
 use Rattle.vs_design.specs.Clocks.{clock_bits}
+use Rattle.vs_net.specs.Network.{State}
+use Rattle.vs_net.specs.Queue.{slots_of}
+use Rattle.vs_design.specs.Laws.{AreKnownSelects}
 use Rattle.vs_design.specs.Expressions.{Signal, range_or_one, words_length, signal_length, addresses}
 use Rattle.vs_design.specs.Designs.{Design}
 use Rattle.vs_design.specs.Elaborated.{is_lawful_range, is_declared, are_lawful_words, is_array_net, is_lawful_memory}
 use Rattle.vs_design.specs.Footprints.{contains, is_memory, is_variable}
 use Rattle.vs_design.specs.Networks.{network_of}
 use Rattle.vs_design.specs.Resets.{reset_inputs}
+use Rattle.vs_design.specs.Selects.{select_firsts}
 use Rattle.vs_design.specs.Accepted.{IsAcceptedDesign}
 use Rattle.vs_clock.specs.Clocked.{Clocked}
 use Rattle.vs_queue.specs.Driven.{AreVectors}
@@ -23,7 +27,7 @@ use Rattle.vs_stim.specs.Header.{IsInput, lengths}
 use Rattle.vs_rounds.specs.Drives.{Vector, vector_state}
 use Rattle.vs_rounds.specs.Inputs.{AreDataInputs, data_inputs, input_of, inputs_among, is_data_input}
 use Rattle.vs_rounds.proofs.Known.{vector_is_known}
-use Rattle.vs_rounds.proofs.Resets.{all_resets_known}
+use Rattle.vs_rounds.proofs.Resets.{all_resets_known, all_selects_known, first_controls}
 use Rattle.vs_ordered.specs.Traced.{AreSized, AreValid}
 use Rattle.vs_ordered.proofs.Giving.{vectors_given}
 
@@ -63,25 +67,25 @@ plain_input s h e = long s.words (none (is_some s.words) s.net s.input (range_le
     long None e = refl
     long (Some r) e = cc
 
-an_input : (d : Design) (resets : List ℕ) (clocks : List ℕ) (s : Signal) → is_declared d s ≡ true → is_lawful_memory s ≡ true → is_data_input clocks s ≡ true → IsInput (input_of resets s)
-an_input d resets clocks s declared memory input =
+an_input : (d : Design) (resets selects : List ℕ) (clocks : List ℕ) (s : Signal) → is_declared d s ≡ true → is_lawful_memory s ≡ true → is_data_input clocks s ≡ true → IsInput (input_of resets selects s)
+an_input d resets selects clocks s declared memory input =
     let long = plain_input s memory (and_parts s.input (not (contains clocks s.first)) input).0 in
     record { some = omega (arith, long, one_or_more s.range); at_most_64 = omega (arith, long, few_bits d s declared) }
 
-inputs_of : (d : Design) (resets : List ℕ) (clocks : List ℕ) (ss : List Signal) → list_all (is_declared d) ss ≡ true → list_all is_lawful_memory ss ≡ true → All IsInput (inputs_among resets clocks ss)
-inputs_of d resets clocks [] h m = All-nil IsInput
-inputs_of d resets clocks (s ∷ ss) h m =
+inputs_of : (d : Design) (resets selects : List ℕ) (clocks : List ℕ) (ss : List Signal) → list_all (is_declared d) ss ≡ true → list_all is_lawful_memory ss ≡ true → All IsInput (inputs_among resets selects clocks ss)
+inputs_of d resets selects clocks [] h m = All-nil IsInput
+inputs_of d resets selects clocks (s ∷ ss) h m =
     let declared = and_parts (is_declared d s) (list_all (is_declared d) ss) h in
     let memories = and_parts (is_lawful_memory s) (list_all is_lawful_memory ss) m in
-    here (is_data_input clocks s) (λ input. an_input d resets clocks s declared.0 memories.0 input) (inputs_of d resets clocks ss declared.1 memories.1)
+    here (is_data_input clocks s) (λ input. an_input d resets selects clocks s declared.0 memories.0 input) (inputs_of d resets selects clocks ss declared.1 memories.1)
   where
-    here : (c : Bool) → (c ≡ true → IsInput (input_of resets s)) → All IsInput (inputs_among resets clocks ss)
-        → All IsInput (map (input_of resets) (if c then (s ∷ filter (is_data_input clocks) ss) else filter (is_data_input clocks) ss))
-    here true few others = All-cons IsInput (input_of resets s) (inputs_among resets clocks ss) (few refl) others
+    here : (c : Bool) → (c ≡ true → IsInput (input_of resets selects s)) → All IsInput (inputs_among resets selects clocks ss)
+        → All IsInput (map (input_of resets selects) (if c then (s ∷ filter (is_data_input clocks) ss) else filter (is_data_input clocks) ss))
+    here true few others = All-cons IsInput (input_of resets selects s) (inputs_among resets selects clocks ss) (few refl) others
     here false few others = others
 
 are_inputs : (d : Design) (names : List (List ℕ)) (a : IsAcceptedDesign d names) → AreDataInputs d (clock_bits a.clocks) (data_inputs d (clock_bits a.clocks))
-are_inputs d names a = record { each = inputs_of d (reset_inputs d (clock_bits a.clocks)) (clock_bits a.clocks) d.signals a.lawful.declared a.lawful.memories; inputs_are = refl }
+are_inputs d names a = record { each = inputs_of d (reset_inputs d (clock_bits a.clocks)) (select_firsts d) (clock_bits a.clocks) d.signals a.lawful.declared a.lawful.memories; inputs_are = refl }
 
 -- ---- the clocks that were found
 
@@ -100,6 +104,7 @@ pub record IsAsked (d : Design) (vectors : List Vector) (first : Vector) (later 
   pub given : AreVectors d clocks vectors (vector_state d clocks first ∷ map (vector_state d clocks) later)
   pub known : IsKnownVector (network_of d clocks) (vector_state d clocks first)
   pub resets : AreKnownResets (network_of d clocks) (map (vector_state d clocks) later)
+  pub selects : (before : State) → AreKnownSelects d clocks before (slots_of (vector_state d clocks first ∷ map (vector_state d clocks) later))
 
 asked : (d : Design) (names : List (List ℕ)) (a : IsAcceptedDesign d names) (vectors : List Vector) (first : Vector) (later : List Vector)
     → AreSized d (clock_bits a.clocks) vectors → AreValid d (clock_bits a.clocks) vectors first later → IsAsked d vectors first later (clock_bits a.clocks)
@@ -110,7 +115,8 @@ asked d names a vectors first later sized valid =
     record {
       given = subst (λ (vs : List Vector). AreVectors d clocks vs (vector_state d clocks first ∷ map (vector_state d clocks) later)) (sym valid.vectors_are) (vectors_given d names a (first ∷ later) fits);
       known = vector_is_known d names a inputs first (are_inputs d names a) (fits 0 first (omega arith)) valid.known;
-      resets = all_resets_known d names a inputs later (are_inputs d names a) (λ k v h. fits (suc k) v (omega (arith, h))) valid.resets;
+      resets = all_resets_known d names a inputs later (are_inputs d names a) (λ k v h. fits (suc k) v (omega (arith, h))) valid.controls;
+      selects = λ before. all_selects_known d names a inputs (first ∷ later) (are_inputs d names a) fits (first_controls inputs first later valid.known valid.controls) before;
     }
 
 abbrev Asks : Design → List Vector → Vector → List Vector → List ℕ → Type 0

@@ -10,7 +10,7 @@ use Rattle.vs_queue.specs.Ordered.{driven_bits, drawn_values, seed_after}
 use Rattle.vs_rounds.specs.Drives.{Vector, vector_state}
 use Rattle.vs_rounds.specs.Inputs.{data_inputs}
 use Rattle.vs_stim.specs.Header.{lengths}
-use Rattle.vs_stim.specs.Laws.{known_in_resets}
+use Rattle.vs_stim.specs.Laws.{known_in_controls}
 use Rattle.vs_stim.specs.Row.{sizes}
 use Rattle.vs_stim.specs.Vectors.{vector_known}
 use Rattle.vs_vcd.specs.Shared.{text_of}
@@ -19,11 +19,11 @@ use Rattle.vs_vcd.specs.Shared.{text_of}
 abbrev pub AreSized : Design → List ℕ → List Vector → Type 0
 AreSized d clocks vectors = All (λ (vector : Vector). sizes vector ≡ lengths (data_inputs d clocks)) vectors
 
--- these are vectors of a valid stimulus: in the first one all is known, and in the others the inputs of resets
+-- these are vectors of a valid stimulus: in the first one all is known, and in the others the reset inputs and the select inputs
 pub record AreValid (d : Design) (clocks : List ℕ) (vectors : List Vector) (first : Vector) (later : List Vector) : Type 0 where
   pub vectors_are : vectors ≡ first ∷ later
   pub known : vector_known first ≡ true
-  pub resets : All (λ (vector : Vector). known_in_resets (data_inputs d clocks) vector ≡ true) later
+  pub controls : All (λ (vector : Vector). known_in_controls (data_inputs d clocks) vector ≡ true) later
 
 -- The text is the dump of every completed run of the queue on these vectors, whatever it begins with and whatever the order of its steps (11.4.2) and of its initial processes.
 abbrev pub IsEveryDump : Bool → Design → List ℕ → ℕ → Vector → List Vector → List ℕ → Type 0

@@ -113,7 +113,7 @@ lawful_tests d =
 abbrev rule_tests : Design → List Signal → Bool
 rule_tests d clocks =
     list_all fits_process d.processes && (list_all fits_initial d.initials && (nat_le (size d) 16777216 && (is_empty (function_latches d.functions) && (not (list_any has_other_start d.initials) && (list_all (λ p. is_empty (mixed_assigns p)) d.processes
-    && (list_all (λ p. is_empty (missing_bits p)) d.processes && (list_all (λ p. is_empty (latches p)) d.processes && (is_empty (shared_bits d) && (is_empty (clashed_bits d) && (not (list_any (reads_clock (clock_nets d (clock_bits clocks))) d.processes) && (not (list_any (has_other_clock (clock_nets d (clock_bits clocks)) (root_of d (clock_bits clocks))) d.processes)
+    && (list_all (λ p. is_empty (missing_bits p)) d.processes && (list_all (λ p. is_empty (latches d p)) d.processes && (is_empty (shared_bits d) && (is_empty (clashed_bits d) && (not (list_any (reads_clock (clock_nets d (clock_bits clocks))) d.processes) && (not (list_any (has_other_clock (clock_nets d (clock_bits clocks)) (root_of d (clock_bits clocks))) d.processes)
     && (not (list_any (has_other_form (clock_nets d (clock_bits clocks)) (root_of d (clock_bits clocks))) d.processes) && (has_no_cycle d && (has_no_race d && not (list_any (is_uncertain d (families d (clock_bits clocks) (level_order d))) d.processes)))))))))))))))
 
 le_is : (a b : ℕ) → nat_le a b ≡ true → a ≤ b

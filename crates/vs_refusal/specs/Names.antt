@@ -9,7 +9,7 @@ use Rattle.vs_refusal.specs.declared.names.ProcessName.TheVariants.{InitialForm,
 use Rattle.vs_refusal.specs.declared.names.LaneName.{LaneName}
 use Rattle.vs_refusal.specs.declared.names.LaneName.TheVariants.{BadHeader, FirstUnknown, NoVector, TooManyVectors, StimulusTooLong, NoExpectation}
 use Rattle.vs_refusal.specs.declared.names.LineName.{LineName}
-use Rattle.vs_refusal.specs.declared.names.LineName.TheVariants.{BadVector, LineTooLong, UnknownReset}
+use Rattle.vs_refusal.specs.declared.names.LineName.TheVariants.{BadVector, LineTooLong, UnknownReset, UnknownSelect}
 
 abbrev pub bare_number : BareName → ℕ
 bare_number Usage = 1
@@ -131,8 +131,10 @@ abbrev pub line_number : LineName → ℕ
 line_number BadVector = 71
 line_number LineTooLong = 76
 line_number UnknownReset = 77
+line_number UnknownSelect = 78
 
 abbrev pub line_text : LineName → List ℕ
 line_text BadVector = codes "BadVector"
 line_text LineTooLong = codes "LineTooLong"
 line_text UnknownReset = codes "UnknownReset"
+line_text UnknownSelect = codes "UnknownSelect"

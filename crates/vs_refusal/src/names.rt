@@ -131,6 +131,8 @@ pub enum LineName {
     LineTooLong,
     /// A vector behind the first has an x or z digit of a reset input.
     UnknownReset,
+    /// A vector behind the first has an x or z digit of a select input.
+    UnknownSelect,
 }
 
 impl BareName {
@@ -314,6 +316,7 @@ impl LineName {
             LineName::BadVector => 71,
             LineName::LineTooLong => 76,
             LineName::UnknownReset => 77,
+            LineName::UnknownSelect => 78,
         }
     }
 
@@ -325,6 +328,7 @@ impl LineName {
             LineName::BadVector => "BadVector",
             LineName::LineTooLong => "LineTooLong",
             LineName::UnknownReset => "UnknownReset",
+            LineName::UnknownSelect => "UnknownSelect",
         }
     }
 }

@@ -23,6 +23,7 @@ use Rattle.vs_design.specs.Values.{count_from, bits_of_signal}
 use Rattle.vs_design.specs.Footprints.{contains, without, signals_bits, is_input}
 use Rattle.vs_design.specs.Elaborated.{have_bits_from}
 use Rattle.vs_design.specs.Resets.{reset_inputs}
+use Rattle.vs_design.specs.Selects.{select_firsts}
 use Rattle.vs_design.specs.Accepted.{IsAcceptedDesign}
 use Rattle.vs_design.specs.Initials.{sole_bits}
 use Rattle.vs_design.specs.Networks.{spare_clocks, process_of, block_process, writer_of, spare_writers, keeper_of, at_or_input, network_of}
@@ -192,17 +193,17 @@ clocks_apart d (name ∷ names) ss h found c k = names_apart d h (name ∷ names
 pub data_bits_are : (d : Design) (names : List (List ℕ)) (a : IsAcceptedDesign d names) → data_bits d (clock_bits a.clocks) ≡ signals_bits (filter (is_data_input (clock_bits a.clocks)) d.signals)
 data_bits_are d names a = bits_are (clock_bits a.clocks) d.signals (clocks_apart d names a.clocks a.lawful.bits_numbered a.clocks_found)
 
-inputs_sum : (resets : List ℕ) (ss : List Signal) → sum (lengths (map (input_of resets) ss)) ≡ length (signals_bits ss)
-inputs_sum resets [] = refl
-inputs_sum resets (s ∷ ss) =
-    let rest = inputs_sum resets ss in
+inputs_sum : (resets selects : List ℕ) (ss : List Signal) → sum (lengths (map (input_of resets selects) ss)) ≡ length (signals_bits ss)
+inputs_sum resets selects [] = refl
+inputs_sum resets selects (s ∷ ss) =
+    let rest = inputs_sum resets selects ss in
     let first = length-count_from s.first (signal_length s) in
-    sum_by-cons (λ x. x) (signal_length s) (lengths (map (input_of resets) ss)) ∙ omega (arith, length-append (bits_of_signal s) (signals_bits ss))
+    sum_by-cons (λ x. x) (signal_length s) (lengths (map (input_of resets selects) ss)) ∙ omega (arith, length-append (bits_of_signal s) (signals_bits ss))
 
 pub inputs_fit : (d : Design) (names : List (List ℕ)) (a : IsAcceptedDesign d names) (inputs : List Input) → AreDataInputs d (clock_bits a.clocks) inputs → sum (lengths inputs) ≡ length (data_bits d (clock_bits a.clocks))
 inputs_fit d names a inputs h =
     ap (λ (is : List Input). sum (lengths is)) h.inputs_are
-    ∙ inputs_sum (reset_inputs d (clock_bits a.clocks)) (filter (is_data_input (clock_bits a.clocks)) d.signals) ∙ ap length (sym (data_bits_are d names a))
+    ∙ inputs_sum (reset_inputs d (clock_bits a.clocks)) (select_firsts d) (filter (is_data_input (clock_bits a.clocks)) d.signals) ∙ ap length (sym (data_bits_are d names a))
 
 -- ---- the bits of a vector
 

@@ -1,9 +1,10 @@
--- The inputs of resets are known in every vector of a valid stimulus.
+-- The inputs of resets and select inputs are known in every vector of a valid stimulus.
 use Rattle.std.proofs.Common.{◌≡◌, ◌<◌, ◌≤◌, ◌+◌, ◌∙◌, ◌==◌, ◌&&◌, ◌||◌, ℕ, zero, suc, Bool, true, false, not, if◌then◌else◌, List, [], ◌∷◌, ◌++◌, length, map, filter, find, sym, ap, refl, subst, arith, Option, Some, None, inl, inr, ◌⊎◌, All, sum, nat_lt}
 use Rattle.std.specs.List.{list_any}
 use Rattle.std.proofs.lemmas.Bool.{and_parts, eqb-true, eq-eqb}
 use Rattle.std.proofs.lemmas.Bool.Decides.{nat_tests}
 use Rattle.std.proofs.lemmas.Option.{same_Some}
+use Rattle.std.proofs.lemmas.List.Elements.{All-cons}
 use Rattle.vs_four.specs.declared.Bit4.{Bit4}
 use Rattle.vs_four.specs.declared.Bit4.TheVariants.{X}
 use Rattle.vs_four.specs.Tables.{is_known}
@@ -11,6 +12,7 @@ use Rattle.vs_four.specs.Logic.{BitList, map2}
 use Rattle.vs_net.specs.Network.{State, Reset, put, write_all}
 use Rattle.vs_net.specs.Network as N
 use Rattle.vs_net.specs.Lawful.{IsKnown}
+use Rattle.vs_net.specs.Queue.{slots_of}
 use Rattle.vs_net.specs.Laws.{HasKnownResets, AreKnownResets}
 use Rattle.vs_design.specs.Expressions.{Signal, signal_length}
 use Rattle.vs_design.specs.Statements.{Statement}
@@ -20,6 +22,8 @@ use Rattle.vs_design.specs.Footprints.{contains, signals_bits}
 use Rattle.vs_design.specs.Elaborated.{have_bits_from}
 use Rattle.vs_design.specs.Clocks.{clock_bits, Events, ByClock, ByBoth, clock_nets, root_of, may_reset, first_of, one_bit_inputs}
 use Rattle.vs_design.specs.Resets.{reset_branch, reset_with, reset_by, reset_of, has_root, reset_inputs}
+use Rattle.vs_design.specs.Selects.{root_numbers, data_selects, select_firsts}
+use Rattle.vs_design.specs.Laws.{HasKnownSelects, AreKnownSelects}
 use Rattle.vs_design.specs.Accepted.{IsAcceptedDesign}
 use Rattle.vs_design.specs.Initials.{sole_bits}
 use Rattle.vs_design.specs.Networks.{spare_clocks, events_in, block_process, process_of, writer_of, spare_writers, keeper_of, at_or_input, network_of}
@@ -27,10 +31,11 @@ use Rattle.vs_cone.specs.Given.{data_bits}
 use Rattle.vs_stim.specs.declared.input.Input.{Input}
 use Rattle.vs_stim.specs.Header.{lengths}
 use Rattle.vs_stim.specs.Row.{sizes}
-use Rattle.vs_stim.specs.Vectors.{all_known}
-use Rattle.vs_stim.specs.Laws.{known_in_resets}
+use Rattle.vs_stim.specs.Vectors.{all_known, vector_known}
+use Rattle.vs_stim.specs.Laws.{known_in_controls}
 use Rattle.vs_rounds.specs.Drives.{Vector, bits_of, write_to, vector_state}
 use Rattle.vs_rounds.specs.Inputs.{is_data_input, input_of, AreDataInputs}
+use Rattle.vs_design.proofs.Signals.{count_low, count_high}
 use Rattle.vs_rounds.proofs.Settled.{length-count_from}
 use Rattle.vs_rounds.proofs.Known.{IsApart, AreApart, first_is, apart_past, data_bits_are, inputs_fit, bits_long, known_bit, or_true, contains_front, skip_bit}
 
@@ -235,27 +240,56 @@ written_at (c ∷ bs) (x ∷ xs) s b long known h =
     let p = and_parts (not (b == c) || is_known x) (known_at b bs xs) known in
     written_at bs xs (put s c x) b (omega (arith, long)) p.1 (next_at c x bs s b (b == c) refl p.0 h)
 
--- ---- the values of the reset inputs
+-- ---- the values of the inputs that have to be known
 
-signal_known_at : (resets : List ℕ) (b : ℕ) (s : Signal) (x : BitList) → contains resets b ≡ true → IsApart b s → (not (contains resets s.first) || all_known x) ≡ true → known_at b (bits_of_signal s) x ≡ true
-signal_known_at resets b s x on (inl own) known =
-    let is_reset : contains resets s.first ≡ true = ap (contains resets) own.0 ∙ on in
-    known_at-all b (bits_of_signal s) x (subst (λ (e : Bool). (not e || all_known x) ≡ true) is_reset known)
-signal_known_at resets b s x on (inr other) known = known_at-none b s.first (signal_length s) x other
+-- no bit of the signal is b, or each vector is known in it
+abbrev IsHeld : (resets selects : List ℕ) → ℕ → Signal → Type 0
+IsHeld resets selects b s = ((contains resets s.first || contains selects s.first) ≡ true) ⊎ ((b < s.first) ⊎ (s.first + signal_length s ≤ b))
 
-signals_known_at : (resets : List ℕ) (b : ℕ) (ss : List Signal) (v : Vector) → contains resets b ≡ true → AreApart b ss
-    → sizes v ≡ lengths (map (input_of resets) ss) → known_in_resets (map (input_of resets) ss) v ≡ true → known_at b (signals_bits ss) (bits_of v) ≡ true
-signals_known_at resets b [] v on apart fits known = refl
-signals_known_at resets b (s ∷ ss) [] on apart fits known = absurd (cc)
-signals_known_at resets b (s ∷ ss) (x ∷ v) on apart fits known =
+abbrev AreHeld : (resets selects : List ℕ) → ℕ → List Signal → Type 0
+AreHeld resets selects b [] = Unit {0}
+AreHeld resets selects b (s ∷ ss) = IsHeld resets selects b s × AreHeld resets selects b ss
+
+signal_known_at : (resets selects : List ℕ) (b : ℕ) (s : Signal) (x : BitList) → IsHeld resets selects b s → (not (contains resets s.first || contains selects s.first) || all_known x) ≡ true → known_at b (bits_of_signal s) x ≡ true
+signal_known_at resets selects b s x (inl on) known = known_at-all b (bits_of_signal s) x (subst (λ (e : Bool). (not e || all_known x) ≡ true) on known)
+signal_known_at resets selects b s x (inr other) known = known_at-none b s.first (signal_length s) x other
+
+signals_known_at : (resets selects : List ℕ) (b : ℕ) (ss : List Signal) (v : Vector) → AreHeld resets selects b ss
+    → sizes v ≡ lengths (map (input_of resets selects) ss) → known_in_controls (map (input_of resets selects) ss) v ≡ true → known_at b (signals_bits ss) (bits_of v) ≡ true
+signals_known_at resets selects b [] v held fits known = refl
+signals_known_at resets selects b (s ∷ ss) [] held fits known = absurd (cc)
+signals_known_at resets selects b (s ∷ ss) (x ∷ v) held fits known =
     let first : length x ≡ signal_length s = cc in
-    let later : sizes v ≡ lengths (map (input_of resets) ss) = cc in
-    let k = and_parts (not (contains resets s.first) || all_known x) (known_in_resets (map (input_of resets) ss) v) known in
+    let later : sizes v ≡ lengths (map (input_of resets selects) ss) = cc in
+    let k = and_parts (not (contains resets s.first || contains selects s.first) || all_known x) (known_in_controls (map (input_of resets selects) ss) v) known in
     known_at-append b (bits_of_signal s) (signals_bits ss) x (bits_of v) (length-count_from s.first (signal_length s) ∙ sym first)
-    (signal_known_at resets b s x on apart.0 k.0) (signals_known_at resets b ss v on apart.1 later k.1)
+    (signal_known_at resets selects b s x held.0 k.0) (signals_known_at resets selects b ss v held.1 later k.1)
+
+-- a data bit is known in a vector, where each input that may have it is
+bit_known : (d : Design) (names : List (List ℕ)) (a : IsAcceptedDesign d names) (inputs : List Input) (v : Vector) → AreDataInputs d (clock_bits a.clocks) inputs → sizes v ≡ lengths inputs → known_in_controls inputs v ≡ true
+    → (b : ℕ) → AreHeld (reset_inputs d (clock_bits a.clocks)) (select_firsts d) b (filter (is_data_input (clock_bits a.clocks)) d.signals) → contains (signals_bits (filter (is_data_input (clock_bits a.clocks)) d.signals)) b ≡ true
+    → IsKnown (vector_state d (clock_bits a.clocks) v b)
+bit_known d names a inputs v h fits known b held driven =
+    let clocks = (clock_bits a.clocks) in
+    let those = filter (is_data_input clocks) d.signals in
+    let each = signals_known_at (reset_inputs d clocks) (select_firsts d) b those v held (subst (λ (is : List Input). sizes v ≡ lengths is) h.inputs_are fits) (subst (λ (is : List Input). known_in_controls is v ≡ true) h.inputs_are known) in
+    let long = sym (bits_long v ∙ ap sum fits ∙ inputs_fit d names a inputs h) in
+    written_at (data_bits d clocks) (bits_of v) (λ b. X) b long
+    (subst (λ (bs : List ℕ). known_at b bs (bits_of v) ≡ true) (sym (data_bits_are d names a)) each)
+    (inl (subst (λ (bs : List ℕ). contains bs b ≡ true) (sym (data_bits_are d names a)) driven))
+
+-- ---- resets
+
+reset_held : (resets selects : List ℕ) (b : ℕ) (s : Signal) → contains resets b ≡ true → IsApart b s → IsHeld resets selects b s
+reset_held resets selects b s on (inl own) = inl (ap (λ (e : Bool). e || contains selects s.first) (ap (contains resets) own.0 ∙ on))
+reset_held resets selects b s on (inr other) = inr other
+
+resets_held : (resets selects : List ℕ) (b : ℕ) (ss : List Signal) → contains resets b ≡ true → AreApart b ss → AreHeld resets selects b ss
+resets_held resets selects b [] on apart = tt
+resets_held resets selects b (s ∷ ss) on apart = (reset_held resets selects b s on apart.0, resets_held resets selects b ss on apart.1)
 
 -- a vector whose reset inputs are known has known resets
-resets_known : (d : Design) (names : List (List ℕ)) (a : IsAcceptedDesign d names) (inputs : List Input) (v : Vector) → AreDataInputs d (clock_bits a.clocks) inputs → sizes v ≡ lengths inputs → known_in_resets inputs v ≡ true
+resets_known : (d : Design) (names : List (List ℕ)) (a : IsAcceptedDesign d names) (inputs : List Input) (v : Vector) → AreDataInputs d (clock_bits a.clocks) inputs → sizes v ≡ lengths inputs → known_in_controls inputs v ≡ true
     → HasKnownResets (network_of d (clock_bits a.clocks)) (vector_state d (clock_bits a.clocks) v)
 resets_known d names a inputs v h fits known = λ p r is.
     let clocks = (clock_bits a.clocks) in
@@ -263,18 +297,167 @@ resets_known d names a inputs v h fits known = λ p r is.
     let root = root_among d clocks d.processes (top_inputs d) p r is in
     let on : contains resets r.input ≡ true = kept_in (λ i. list_any (λ q. has_root i (reset_of d clocks q)) d.processes) (one_bit_inputs d clocks) r.input root.1 root.0 in
     let apart = data_apart clocks r.input d.signals (firsts_apart clocks r.input 0 d.signals a.lawful.bits_numbered root.1) in
-    let those = filter (is_data_input clocks) d.signals in
-    let each = signals_known_at resets r.input those v on apart (subst (λ (is : List Input). sizes v ≡ lengths is) h.inputs_are fits) (subst (λ (is : List Input). known_in_resets is v ≡ true) h.inputs_are known) in
-    let long = sym (bits_long v ∙ ap sum fits ∙ inputs_fit d names a inputs h) in
-    written_at (data_bits d clocks) (bits_of v) (λ b. X) r.input long
-    (subst (λ (bs : List ℕ). known_at r.input bs (bits_of v) ≡ true) (sym (data_bits_are d names a)) each)
-    (inl (subst (λ (bs : List ℕ). contains bs r.input ≡ true) (sym (data_bits_are d names a)) (firsts_driven clocks r.input d.signals root.1)))
+    bit_known d names a inputs v h fits known r.input (resets_held resets (select_firsts d) r.input (filter (is_data_input clocks) d.signals) on apart) (firsts_driven clocks r.input d.signals root.1)
 
 -- and so have all of these
 pub all_resets_known : (d : Design) (names : List (List ℕ)) (a : IsAcceptedDesign d names) (inputs : List Input) (vs : List Vector) → AreDataInputs d (clock_bits a.clocks) inputs
-    → All (λ v. sizes v ≡ lengths inputs) vs → All (λ v. known_in_resets inputs v ≡ true) vs → AreKnownResets (network_of d (clock_bits a.clocks)) (map (vector_state d (clock_bits a.clocks)) vs)
+    → All (λ v. sizes v ≡ lengths inputs) vs → All (λ v. known_in_controls inputs v ≡ true) vs → AreKnownResets (network_of d (clock_bits a.clocks)) (map (vector_state d (clock_bits a.clocks)) vs)
 all_resets_known d names a inputs [] h fits known = tt
 all_resets_known d names a inputs (v ∷ vs) h fits known = (
   resets_known d names a inputs v h (fits 0 v (omega arith)) (known 0 v (omega arith)),
   all_resets_known d names a inputs vs h (λ i x lt. fits (suc i) x (omega (arith, lt))) (λ i x lt. known (suc i) x (omega (arith, lt))),
 )
+
+-- ---- selects
+
+-- the inputs among these signals that pass the test, by their first bits
+abbrev heads : (Signal → Bool) → List Signal → List ℕ
+heads test ss = map (λ (s : Signal). s.first) (filter test (filter (λ s. s.input) ss))
+
+-- and those that aren't a clock
+abbrev chosen : (Signal → Bool) → List ℕ → List Signal → List Signal
+chosen test clocks ss = filter (λ s. not (contains clocks s.first)) (filter test (filter (λ s. s.input) ss))
+
+in_either : (xs ys : List ℕ) (b : ℕ) → contains (xs ++ ys) b ≡ true → (contains xs b ≡ true) ⊎ (contains ys b ≡ true)
+in_either [] ys b h = inr h
+in_either (x ∷ xs) ys b h = go (b == x) h (in_either xs ys b)
+  where
+    go : (e : Bool) → (e || contains (xs ++ ys) b) ≡ true → (contains (xs ++ ys) b ≡ true → (contains xs b ≡ true) ⊎ (contains ys b ≡ true)) → ((e || contains xs b) ≡ true) ⊎ (contains ys b ≡ true)
+    go true k later = inl refl
+    go false k later = later k
+
+-- the signal is a chosen one and has the bit
+abbrev HasChosen : (Signal → Bool) → (clocks : List ℕ) (b : ℕ) → Signal → Type 0
+HasChosen test clocks b s = (contains (bits_of_signal s) b ≡ true) × (s.input ≡ true) × (test s ≡ true) × (not (contains clocks s.first) ≡ true)
+
+chosen_here : (test : Signal → Bool) (clocks : List ℕ) (b : ℕ) (s : Signal) (ss : List Signal) → contains (signals_bits (chosen test clocks (s ∷ ss))) b ≡ true → HasChosen test clocks b s ⊎ (contains (signals_bits (chosen test clocks ss)) b ≡ true)
+chosen_here test clocks b s ss = by_input s.input refl
+  where
+    inputs : List Signal
+    inputs = filter (λ x. x.input) ss
+
+    others : List Signal
+    others = chosen test clocks ss
+
+    by_clock : (c : Bool) → not (contains clocks s.first) ≡ c → s.input ≡ true → test s ≡ true → contains (signals_bits (if c then s ∷ others else others)) b ≡ true → HasChosen test clocks b s ⊎ (contains (signals_bits others) b ≡ true)
+    by_clock true other is passes h = elim (in_either (bits_of_signal s) (signals_bits others) b h) [
+      | inl own ↦ inl (own, is, passes, other)
+      | inr later ↦ inr later
+    ]
+    by_clock false other is passes h = inr h
+
+    by_test : (t : Bool) → test s ≡ t → s.input ≡ true → contains (signals_bits (filter (λ x. not (contains clocks x.first)) (if t then s ∷ filter test inputs else filter test inputs))) b ≡ true
+        → HasChosen test clocks b s ⊎ (contains (signals_bits others) b ≡ true)
+    by_test true passes is h = by_clock (not (contains clocks s.first)) refl is passes h
+    by_test false passes is h = inr h
+
+    by_input : (i : Bool) → s.input ≡ i → contains (signals_bits (filter (λ x. not (contains clocks x.first)) (filter test (if i then s ∷ inputs else inputs)))) b ≡ true
+        → HasChosen test clocks b s ⊎ (contains (signals_bits others) b ≡ true)
+    by_input true is h = by_test (test s) refl is h
+    by_input false is h = inr h
+
+head_first : (test : Signal → Bool) (s : Signal) (ss : List Signal) → s.input ≡ true → test s ≡ true → contains (heads test (s ∷ ss)) s.first ≡ true
+head_first test s ss is passes =
+    let inputs = filter (λ (x : Signal). x.input) ss in
+    ap (λ (i : Bool). contains (map (λ (x : Signal). x.first) (filter test (if i then s ∷ inputs else inputs))) s.first) is
+    ∙ ap (λ (t : Bool). contains (map (λ (x : Signal). x.first) (if t then s ∷ filter test inputs else filter test inputs)) s.first) passes
+    ∙ ap (λ (e : Bool). e || contains (heads test ss) s.first) (eq-eqb s.first s.first refl)
+
+head_later : (test : Signal → Bool) (s : Signal) (ss : List Signal) (f : ℕ) → contains (heads test ss) f ≡ true → contains (heads test (s ∷ ss)) f ≡ true
+head_later test s ss f h = by_input s.input
+  where
+    inputs : List Signal
+    inputs = filter (λ x. x.input) ss
+
+    by_test : (t : Bool) → contains (map (λ (x : Signal). x.first) (if t then s ∷ filter test inputs else filter test inputs)) f ≡ true
+    by_test true = ap (λ (e : Bool). (f == s.first) || e) h ∙ or_true (f == s.first)
+    by_test false = h
+
+    by_input : (i : Bool) → contains (map (λ (x : Signal). x.first) (filter test (if i then s ∷ inputs else inputs))) f ≡ true
+    by_input true = by_test (test s)
+    by_input false = h
+
+chosen_behind : (test : Signal → Bool) (clocks : List ℕ) (b base : ℕ) (ss : List Signal) → have_bits_from base ss ≡ true → contains (signals_bits (chosen test clocks ss)) b ≡ true → base ≤ b
+chosen_behind test clocks b base [] h k = absurd (cc)
+chosen_behind test clocks b base (s ∷ ss) h k =
+    let at = first_is base s ss h in
+    elim (chosen_here test clocks b s ss k) [
+      | inl own ↦ omega (arith, at.0, count_low s.first (signal_length s) b own.0)
+      | inr later ↦ let behind = chosen_behind test clocks b (base + signal_length s) ss at.1 later in omega (arith, behind)
+    ]
+
+-- signals behind the bit
+past_held : (resets selects : List ℕ) (b base : ℕ) (ss : List Signal) → have_bits_from base ss ≡ true → b < base → AreHeld resets selects b ss
+past_held resets selects b base [] h past = tt
+past_held resets selects b base (s ∷ ss) h past =
+    let at = first_is base s ss h in
+    (inr (inl (omega (arith, at.0))), past_held resets selects b (base + signal_length s) ss at.1 (omega arith))
+
+-- a chosen signal's bit is in no other signal
+chosen_held : (resets selects : List ℕ) (test : Signal → Bool) (clocks : List ℕ) (b base : ℕ) (ss : List Signal) → have_bits_from base ss ≡ true → contains (signals_bits (chosen test clocks ss)) b ≡ true
+    → ((f : ℕ) → contains (heads test ss) f ≡ true → contains selects f ≡ true) → AreHeld resets selects b ss
+chosen_held resets selects test clocks b base [] h k on = tt
+chosen_held resets selects test clocks b base (s ∷ ss) h k on =
+    let at = first_is base s ss h in
+    elim (chosen_here test clocks b s ss k) [
+      | inl own ↦
+          let here = on s.first (head_first test s ss own.1 own.2) in
+          let high = count_high s.first (signal_length s) b own.0 in
+          (inl (ap (λ (e : Bool). contains resets s.first || e) here ∙ or_true (contains resets s.first)), past_held resets selects b (base + signal_length s) ss at.1 (omega (arith, at.0, high)))
+      | inr later ↦
+          let behind = chosen_behind test clocks b (base + signal_length s) ss at.1 later in
+          (inr (inr (omega (arith, at.0, behind))), chosen_held resets selects test clocks b (base + signal_length s) ss at.1 later (λ f i. on f (head_later test s ss f i)))
+    ]
+
+data_held : (resets selects : List ℕ) (clocks : List ℕ) (b : ℕ) (ss : List Signal) → AreHeld resets selects b ss → AreHeld resets selects b (filter (is_data_input clocks) ss)
+data_held resets selects clocks b [] h = tt
+data_held resets selects clocks b (s ∷ ss) h = by_test (is_data_input clocks s) (data_held resets selects clocks b ss h.1)
+  where
+    by_test : (t : Bool) → AreHeld resets selects b (filter (is_data_input clocks) ss) → AreHeld resets selects b (if t then s ∷ filter (is_data_input clocks) ss else filter (is_data_input clocks) ss)
+    by_test true later = (h.0, later)
+    by_test false later = later
+
+-- its bits are data bits
+chosen_driven : (test : Signal → Bool) (clocks : List ℕ) (b : ℕ) (ss : List Signal) → contains (signals_bits (chosen test clocks ss)) b ≡ true → contains (signals_bits (filter (is_data_input clocks) ss)) b ≡ true
+chosen_driven test clocks b [] h = absurd (cc)
+chosen_driven test clocks b (s ∷ ss) h =
+    let those = filter (is_data_input clocks) ss in
+    elim (chosen_here test clocks b s ss h) [
+      | inl own ↦
+          let is_data : is_data_input clocks s ≡ true = ap (λ (i : Bool). i && not (contains clocks s.first)) own.1 ∙ own.3 in
+          subst (λ (e : Bool). contains (signals_bits (if e then s ∷ those else those)) b ≡ true) (sym is_data) (contains_front (bits_of_signal s) (signals_bits those) b own.0)
+      | inr later ↦ skip_bit (is_data_input clocks s) s those b (chosen_driven test clocks b ss later)
+    ]
+
+-- a vector whose select inputs are known has known selects
+selects_known : (d : Design) (names : List (List ℕ)) (a : IsAcceptedDesign d names) (inputs : List Input) (v : Vector) → AreDataInputs d (clock_bits a.clocks) inputs → sizes v ≡ lengths inputs → known_in_controls inputs v ≡ true
+    → HasKnownSelects d (clock_bits a.clocks) (vector_state d (clock_bits a.clocks) v)
+selects_known d names a inputs v h fits known = λ b selects.
+    let clocks = (clock_bits a.clocks) in
+    let test : Signal → Bool = λ s. contains (root_numbers d) s.number in
+    let held = chosen_held (reset_inputs d clocks) (select_firsts d) test clocks b 0 d.signals a.lawful.bits_numbered selects (λ f i. i) in
+    bit_known d names a inputs v h fits known b (data_held (reset_inputs d clocks) (select_firsts d) clocks b d.signals held) (chosen_driven test clocks b d.signals selects)
+
+-- and so have all slots of such vectors
+pub all_selects_known : (d : Design) (names : List (List ℕ)) (a : IsAcceptedDesign d names) (inputs : List Input) (vs : List Vector) → AreDataInputs d (clock_bits a.clocks) inputs
+    → All (λ v. sizes v ≡ lengths inputs) vs → All (λ v. known_in_controls inputs v ≡ true) vs → (before : State) → AreKnownSelects d (clock_bits a.clocks) before (slots_of (map (vector_state d (clock_bits a.clocks)) vs))
+all_selects_known d names a inputs [] h fits known before = tt
+all_selects_known d names a inputs (v ∷ vs) h fits known before =
+    let clocks = (clock_bits a.clocks) in
+    let here = selects_known d names a inputs v h (fits 0 v (omega arith)) (known 0 v (omega arith)) in
+    (here, (here, all_selects_known d names a inputs vs h (λ i x lt. fits (suc i) x (omega (arith, lt))) (λ i x lt. known (suc i) x (omega (arith, lt))) (vector_state d clocks v)))
+
+-- ---- the first vector
+
+controls_of_known : (is : List Input) (v : Vector) → vector_known v ≡ true → known_in_controls is v ≡ true
+controls_of_known [] v h = refl
+controls_of_known (i ∷ is) [] h = refl
+controls_of_known (i ∷ is) (x ∷ v) h =
+    let p = and_parts (all_known x) (vector_known v) h in
+    ap (λ (k : Bool). (not (i.reset || i.select) || k) && known_in_controls is v) p.0
+    ∙ ap (λ (k : Bool). k && known_in_controls is v) (or_true (not (i.reset || i.select)))
+    ∙ controls_of_known is v p.1
+
+-- the first vector, which is known, and those behind it
+pub first_controls : (is : List Input) (first : Vector) (later : List Vector) → vector_known first ≡ true → All (λ v. known_in_controls is v ≡ true) later → All (λ v. known_in_controls is v ≡ true) (first ∷ later)
+first_controls is first later known controls = All-cons (λ v. known_in_controls is v ≡ true) first later (controls_of_known is first known) controls

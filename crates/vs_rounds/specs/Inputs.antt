@@ -6,6 +6,7 @@ use Rattle.vs_design.specs.Designs.{Design}
 use Rattle.vs_design.specs.Footprints.{contains, is_memory}
 use Rattle.vs_design.specs.Clocks.{clock_bits, same_name}
 use Rattle.vs_design.specs.Resets.{reset_inputs}
+use Rattle.vs_design.specs.Selects.{select_firsts}
 use Rattle.vs_design.specs.Accepted.{IsAcceptedDesign}
 use Rattle.vs_cone.specs.Given.{data_bits}
 use Rattle.vs_stim.specs.declared.input.Input.{Input}
@@ -16,16 +17,16 @@ use Rattle.vs_stim.specs.Header.{IsInput, lengths}
 abbrev pub is_data_input : List ℕ → Signal → Bool
 is_data_input clocks s = s.input && not (contains clocks s.first)
 
--- A stimulus names the signal so, and gives it as many digits as it has bits. It is a reset input where its bit is one of these.
-abbrev pub input_of : List ℕ → Signal → Input
-input_of resets s = record { name = s.name; length = signal_length s; reset = contains resets s.first }
+-- A stimulus names the signal so, and gives it as many digits as it has bits. It is a reset input where its bit is one of these, and a select input where its first bit is one of those.
+abbrev pub input_of : (resets selects : List ℕ) → Signal → Input
+input_of resets selects s = record { name = s.name; length = signal_length s; reset = contains resets s.first; select = contains selects s.first }
 
-abbrev pub inputs_among : List ℕ → List ℕ → List Signal → List Input
-inputs_among resets clocks signals = map (input_of resets) (filter (is_data_input clocks) signals)
+abbrev pub inputs_among : (resets selects : List ℕ) → List ℕ → List Signal → List Input
+inputs_among resets selects clocks signals = map (input_of resets selects) (filter (is_data_input clocks) signals)
 
 -- the inputs of the top but the clocks, which have these bits, in order of declaration
 abbrev pub data_inputs : Design → List ℕ → List Input
-data_inputs d clocks = inputs_among (reset_inputs d clocks) clocks d.signals
+data_inputs d clocks = inputs_among (reset_inputs d clocks) (select_firsts d) clocks d.signals
 
 -- a signal of the top, whose scope is 0, that has one of these names; a memory is no port
 abbrev pub is_output : List (List ℕ) → Signal → Bool

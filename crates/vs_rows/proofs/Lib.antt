@@ -3,4 +3,4 @@ pub mod Parts
 pub mod Starts
 pub mod Onward
 pub mod Behind
-pub mod Resetting
+pub mod Controlled

@@ -2,5 +2,5 @@ pub mod Rows
 pub mod Fields
 pub mod Lent
 pub mod Expected
-pub mod Resets
+pub mod Controls
 pub mod Naming

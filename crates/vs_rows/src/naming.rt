@@ -4,9 +4,9 @@ ghost use Rattle.std.specs.Prelude.{◌≡◌, ◌≤◌, ◌^◌, [], IfOk, get
 ghost use Rattle.vs_rows.specs.Lent.{bad_of};
 ghost use Rattle.vs_rows.specs.Naming as spec;
 
+use crate::controls::before_arrow;
 use crate::expected::behind_arrow;
 use crate::fields::{field_at, starts};
-use crate::resets::before_arrow;
 use std::alloc::{AllocError, Global};
 use vs_stim::{Input, Output, Ports};
 

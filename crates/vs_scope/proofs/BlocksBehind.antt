@@ -1,10 +1,13 @@
 -- The names of blocks behind those of a scope's declarations.
 use Rattle.std.proofs.Common.{◌≡◌, ℕ, Bool, true, false, List, [], ◌∷◌, ◌++◌, map, take, drop, length, max, Option, Some, None, if◌then◌else◌, refl, sym, ap, ◌∙◌, subst, append_assoc}
 use Rattle.std.specs.Borrow.{Bor}
+use Rattle.std.specs.Prelude.{Vec}
+use Rattle.std.specs.Global.{Global}
 use Rattle.std.proofs.lemmas.List.{map-append, append-nil, take_at, drop_at}
 use Rattle.vs_design.specs.Clocks.{same_name}
 use Rattle.vs_ast.specs.declared.items.Function.{Function}
 use Rattle.vs_const.specs.declared.faults.Fault.{Fault}
+use Rattle.vs_const.specs.declared.names.SignalShape.{SignalShape}
 use Rattle.vs_const.specs.Faults.{fault, fault_if}
 use Rattle.vs_const.specs.declared.rules.Rule.TheVariants.{DuplicateName}
 use Rattle.vs_elaborated.specs.Limits.{the_limits}
@@ -14,12 +17,13 @@ use Rattle.vs_elaborated.specs.Generate.{BlockName}
 use Rattle.vs_elaborated.specs.Surveys.{clash_with, has_name, block_faults}
 use Rattle.vs_maps.specs.Maps.{Pair}
 use Rattle.vs_maps.specs.MapViews.{pairs}
+use Rattle.vs_maps.specs.declared.maps.NameMap.{NameMap}
 use Rattle.vs_scope.specs.declared.names.Entry.{Entry as EntryOf}
 use Rattle.vs_scope.specs.declared.names.Names.{Names}
 use Rattle.vs_scope.specs.Clashes.{IsBehind}
 use Rattle.vs_scope.specs.declared.counts.Counts.{Counts as CountsOf}
 use Rattle.vs_scope.specs.Counts.{counted}
-use Rattle.vs_scope.specs.Complete.{Shape, shape_kept, shape_said, completed, complete, function_declaration, shapes_in, shapes_of, KeepsShapes, ArePairsIncomplete}
+use Rattle.vs_scope.specs.Complete.{Shape, shape_kept, shape_said, completed, complete, function_declaration, reads_at, shapes_by, shapes_of, KeepsShapes, ArePairsIncomplete}
 use Rattle.vs_scope.specs.Functions.{AreCompleted}
 use Rattle.vs_scope.specs.Surveys.{MeanTheSame}
 use Rattle.vs_scope.specs.Views.{pair_entry, entries}
@@ -27,7 +31,7 @@ use Rattle.vs_scope.proofs.ClashSteps.{or_else, find_append}
 use Rattle.vs_scope.proofs.Completing.{names_completed, shapes_none}
 
 pub behind_itself : (names : Names) → IsBehind names names
-behind_itself names = record { more = []; pairs_are = sym (append-nil (pairs names.map)); incomplete = tt; scope = refl; counts = refl; functions = refl; plain = refl }
+behind_itself names = record { more = []; pairs_are = sym (append-nil (pairs names.map)); incomplete = tt; scope = refl; counts = refl; functions = refl; reads = refl; plain = refl }
 
 incomplete_both : (ps qs : List (Pair EntryOf)) → ArePairsIncomplete ps → ArePairsIncomplete qs → ArePairsIncomplete (ps ++ qs)
 incomplete_both [] qs h k = k
@@ -41,6 +45,7 @@ behind_then a b c h k = record {
   scope = k.scope ∙ h.scope;
   counts = k.counts ∙ h.counts;
   functions = k.functions ∙ h.functions;
+  reads = k.reads ∙ h.reads;
   plain = k.plain ∙ h.plain;
 }
 
@@ -79,15 +84,17 @@ shapes_both : (es fs : List Entry) → shapes_of (es ++ fs) ≡ shapes_of es ++ 
 shapes_both [] fs = refl
 shapes_both (e ∷ es) fs = ap (λ (r : List (Option Shape)). shape_said e.declared ∷ r) (shapes_both es fs)
 
-shapes_in_both : (ps qs : List (Pair EntryOf)) → shapes_in (ps ++ qs) ≡ shapes_in ps ++ shapes_in qs
-shapes_in_both [] qs = refl
-shapes_in_both (p ∷ ps) qs = ap (λ (r : List (Option Shape)). shape_kept p.value.declared ∷ r) (shapes_in_both ps qs)
+shapes_by_both : (reads : List ℕ → List SignalShape) (ps qs : List (Pair EntryOf)) → shapes_by reads (ps ++ qs) ≡ shapes_by reads ps ++ shapes_by reads qs
+shapes_by_both reads [] qs = refl
+shapes_by_both reads (p ∷ ps) qs = ap (λ (r : List (Option Shape)). shape_kept (reads p.name) p.value.declared ∷ r) (shapes_by_both reads ps qs)
 
 pub keeps_behind : (outer : Env) (old new : Names) → old.plain ≡ length (entries old) → IsBehind old new → KeepsShapes outer old → KeepsShapes outer new
 keeps_behind outer old new e h k =
-    ap shapes_in h.pairs_are ∙ shapes_in_both (pairs old.map) h.more
-    ∙ ap (λ (r : List (Option Shape)). r ++ shapes_in h.more) k
-    ∙ ap (λ (r : List (Option Shape)). shapes_of (complete outer old) ++ r) (shapes_none h.more h.incomplete)
+    let reads = reads_at (pairs old.reads) in
+    ap (λ (m : NameMap (Vec SignalShape Global)). shapes_by (reads_at (pairs m)) (pairs new.map)) h.reads
+    ∙ ap (shapes_by reads) h.pairs_are ∙ shapes_by_both reads (pairs old.map) h.more
+    ∙ ap (λ (r : List (Option Shape)). r ++ shapes_by reads h.more) k
+    ∙ ap (λ (r : List (Option Shape)). shapes_of (complete outer old) ++ r) (shapes_none reads h.more h.incomplete)
     ∙ sym (shapes_both (complete outer old) (map pair_entry h.more))
     ∙ ap shapes_of (sym (complete_behind outer old new e h))
 

@@ -101,7 +101,7 @@ unchanged name (e ∷ es) = by (same_name e.name name) ∙ ap (λ (r : List envi
 
 -- ---- no function is complete
 
-pub incomplete_with : (name : List ℕ) (e : Entry) (ps : List (Pair Entry)) → shape_kept e.declared ≡ None → ArePairsIncomplete ps → ArePairsIncomplete (with_value name e ps)
+pub incomplete_with : (name : List ℕ) (e : Entry) (ps : List (Pair Entry)) → shape_kept [] e.declared ≡ None → ArePairsIncomplete ps → ArePairsIncomplete (with_value name e ps)
 incomplete_with name e [] h k = (h, tt)
 incomplete_with name e (p ∷ ps) h k = by (same_name p.name name) (incomplete_with name e ps h k.1)
   where
@@ -112,7 +112,7 @@ incomplete_with name e (p ∷ ps) h k = by (same_name p.name name) (incomplete_w
 pub still_itself : (names : Names) → IsStill names names
 still_itself names = record { scope = refl; counts = refl; incomplete = λ h. h }
 
-pub still_with : (old new : Names) (name : List ℕ) (e : Entry) → new.scope ≡ old.scope → new.counts ≡ old.counts → new.functions.items ≡ old.functions.items → pairs new.map ≡ with_value name e (pairs old.map) → shape_kept e.declared ≡ None
+pub still_with : (old new : Names) (name : List ℕ) (e : Entry) → new.scope ≡ old.scope → new.counts ≡ old.counts → new.functions.items ≡ old.functions.items → pairs new.map ≡ with_value name e (pairs old.map) → shape_kept [] e.declared ≡ None
     → IsStill old new
 still_with old new name e s c f put h = record {
   scope = s;

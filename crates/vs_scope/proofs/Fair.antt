@@ -2,8 +2,8 @@
 use Rattle.std.proofs.Common.{ℕ, zero, suc, Bool, true, false, List, [], ◌∷◌, ◌++◌, slice_index_or, map, Option, Some, None, if◌then◌else◌, refl, sym, subst, arith}
 use Rattle.vs_four.specs.declared.Range.{Range}
 use Rattle.vs_design.specs.Clocks.{same_name}
-use Rattle.vs_const.specs.Meanings.{ConstantValue, SignalMeaning, FunctionMeaning, Unknown, Barred, is_local, IsFairValue, IsFairMeaning, IsFair}
-use Rattle.vs_elaborated.specs.Environments.{Declared, Later, OfSignal, OfParameter, OfGenvar, OfInteger, OfFunction, OfScope, Entry, Env, no_env, within, find_entry, find_name, is_late, turn_meaning, turn_of, parameter_meaning, with_words, signal_means, unless_outside, function_meaning, declared_meaning, entry_meaning, named}
+use Rattle.vs_const.specs.Meanings.{ConstantValue, SignalMeaning, FunctionMeaning, Unknown, IsFairValue, IsFairMeaning, IsFair}
+use Rattle.vs_elaborated.specs.Environments.{Declared, Later, OfSignal, OfParameter, OfGenvar, OfInteger, OfFunction, OfScope, Entry, Env, no_env, within, find_entry, find_name, is_late, turn_meaning, turn_of, parameter_meaning, with_words, function_meaning, declared_meaning, entry_meaning, named}
 use Rattle.vs_maps.specs.Maps.{Pair}
 use Rattle.vs_maps.specs.MapViews.{pairs}
 use Rattle.vs_scope.specs.declared.names.Declared.{Declared as DeclaredOf}
@@ -14,7 +14,6 @@ use Rattle.vs_scope.specs.declared.names.Entry.{Entry as EntryOf}
 use Rattle.vs_scope.specs.declared.frames.Frame.{Frame}
 use Rattle.vs_scope.specs.declared.places.View.{View}
 use Rattle.vs_scope.specs.declared.names.Names.{Names}
-use Rattle.vs_const.specs.declared.rules.Rule.TheVariants.{FunctionRule}
 use Rattle.vs_scope.specs.Views.{declared, evaluated, pair_entry, entries}
 use Rattle.vs_scope.specs.Complete.{complete}
 use Rattle.vs_scope.specs.Functions.{IsCompletedDeclared, AreCompleted}
@@ -139,21 +138,13 @@ fair_signal : (s : SignalMeaning) (words : Option Range) → IsFairMeaning (with
 fair_signal s None = tt
 fair_signal s (Some r) = tt
 
-fair_outside : (b : Bool) (s : SignalMeaning) → IsFairMeaning (unless_outside b s)
-fair_outside true s = by (is_local s)
-  where
-    by : (t : Bool) → IsFairMeaning (if t then signal_means s else Barred FunctionRule)
-    by true = fair_signal s s.signal.words
-    by false = tt
-fair_outside false s = fair_signal s s.signal.words
-
 fair_function : (o : Option FunctionMeaning) → IsFairMeaning (function_meaning o)
 fair_function None = tt
 fair_function (Some f) = tt
 
 fair_meaning : (env : Env) (place : ℕ) (d : Declared) → FairDeclared d → IsFairMeaning (declared_meaning env place d)
 fair_meaning env place Later h = tt
-fair_meaning env place (OfSignal s) h = fair_outside env.in_function s
+fair_meaning env place (OfSignal s) h = fair_signal s s.signal.words
 fair_meaning env place (OfParameter value range) h = by (is_late env.before place)
   where
     by : (b : Bool) → IsFairMeaning (if b then Unknown else parameter_meaning value range)

@@ -7,7 +7,9 @@ use Rattle.vs_ast.specs.Views as view
 use Rattle.vs_ast.specs.Views.{option}
 use Rattle.vs_ast.specs.declared.items.Function.{Function}
 use Rattle.vs_const.specs.declared.names.FunctionShape.{FunctionShape}
+use Rattle.vs_const.specs.declared.names.SignalShape.{SignalShape}
 use Rattle.vs_const.specs.Meanings.{FunctionMeaning}
+use Rattle.vs_const.specs.MentionViews.{kept, kept_of}
 use Rattle.vs_elaborated.specs.Limits.{Limits, the_limits}
 use Rattle.vs_elaborated.specs.Environments as environment
 use Rattle.vs_elaborated.specs.Environments.{Env, within, find_entry}
@@ -23,13 +25,13 @@ use Rattle.vs_scope.specs.declared.names.Evaluated.TheVariants.{Value, Undefined
 use Rattle.vs_scope.specs.declared.names.Entry.{Entry}
 use Rattle.vs_scope.specs.declared.names.Names.{Names}
 use Rattle.vs_scope.specs.Again.{IsPart, is_awaited, kept_declared, kept_pair, kept_pairs, shape_at, shape_in}
-use Rattle.vs_scope.specs.Complete.{completed, complete, function_declaration, shape_kept, shapes_in, shapes_of, KeepsShapes, ArePairsIncomplete}
+use Rattle.vs_scope.specs.Complete.{completed, complete, function_declaration, reads_at, shape_kept, shapes_by, shapes_in, shapes_of, KeepsShapes, ArePairsIncomplete}
 use Rattle.vs_scope.specs.Counts.{counted}
 use Rattle.vs_scope.specs.Functions.{is_incomplete, AreCompleted, IsCalled}
 use Rattle.vs_scope.specs.Seen.{HasShape, StandsFor, Finds}
 use Rattle.vs_scope.specs.Views.{declared, entries, pair_entry}
 use Rattle.vs_scope.proofs.BlocksBehind.{complete_front}
-use Rattle.vs_scope.proofs.Completing.{found_complete, keeps_none}
+use Rattle.vs_scope.proofs.Completing.{found_complete, keeps_none, reads_complete}
 use Rattle.vs_scope.proofs.NamedLists.{same_self, same_swap}
 use Rattle.vs_scope.proofs.PutShapes.{put_kept, put_none}
 use Rattle.vs_scope.proofs.Saying.{said_next, complete_more}
@@ -219,18 +221,26 @@ shape_kept_of outer whole name g k h = by (value_at name (pairs whole.map)) (fou
         let is : m.entry.declared ≡ environment.OfFunction (Some g) = cc in
         kept_stands e.declared m.entry.declared g is m.declared_is
 
--- a name of which nothing changes
-pub put_other : (name : List ℕ) (g : FunctionMeaning) (ps : List (Pair Entry)) (es : List environment.Entry) → AreDistinct ps → AreCompleted (map pair_entry ps) es → shapes_in ps ≡ shapes_of es
-    → is_awaited (value_at name ps) ≡ false → shapes_in ps ≡ shapes_of (put_function name g es)
-put_other name g ps es d h k a = by (value_at name ps) refl a
+-- and of the signals that it reads
+pub reads_kept_of : (outer : Env) (whole : Names) (name : List ℕ) (g : FunctionMeaning) → KeepsShapes outer whole → means (complete outer whole) name ≡ called g → map kept (reads_at (pairs whole.reads) name) ≡ map kept_of g.passed
+reads_kept_of outer whole name g k h = by (find_entry (complete outer whole) name) refl h
   where
-    by : (o : Option Entry) → value_at name ps ≡ o → is_awaited o ≡ false → shapes_in ps ≡ shapes_of (put_function name g es)
-    by None is a = put_none name g ps es h k is
-    by (Some old) is a = put_kept name g old ps es d h k is a
+    by : (o : Option environment.Entry) → find_entry (complete outer whole) name ≡ o → option (λ (x : environment.Entry). x.declared) o ≡ called g → map kept (reads_at (pairs whole.reads) name) ≡ map kept_of g.passed
+    by None f m = cc
+    by (Some e) f m = let is : e.declared ≡ environment.OfFunction (Some g) = cc in reads_complete outer whole name e g k f is
+
+-- a name of which nothing changes
+pub put_other : (reads : List ℕ → List SignalShape) (name : List ℕ) (g : FunctionMeaning) (ps : List (Pair Entry)) (es : List environment.Entry) → AreDistinct ps → AreCompleted (map pair_entry ps) es → shapes_by reads ps ≡ shapes_of es
+    → is_awaited (value_at name ps) ≡ false → shapes_by reads ps ≡ shapes_of (put_function name g es)
+put_other reads name g ps es d h k a = by (value_at name ps) refl a
+  where
+    by : (o : Option Entry) → value_at name ps ≡ o → is_awaited o ≡ false → shapes_by reads ps ≡ shapes_of (put_function name g es)
+    by None is a = put_none reads name g ps es h k is
+    by (Some old) is a = put_kept reads name g old ps es d h k is a
 
 -- one function less is left
 pub part_more : (outer : Env) (old new whole : Names) (f : Bor Function) (rest : List Declaration) → IsPart outer old whole (function_declaration f ∷ rest) → IsCalled old new f
-    → shapes_in (pairs new.map) ≡ shapes_of (put_function (view.function f.now).name.bytes (said_next outer old (completed outer old).counts f).meaning (complete outer old))
+    → shapes_in new ≡ shapes_of (put_function (view.function f.now).name.bytes (said_next outer old (completed outer old).counts f).meaning (complete outer old))
     → IsPart outer new whole rest
 part_more outer old new whole f rest h c shapes = record {
   names_are = c.entries_are ∙ h.names_are;
@@ -303,7 +313,7 @@ entries_kept (p ∷ ps) =
     ap (λ (d : environment.Declared). (let x : environment.Entry = record { name = p.name; place = p.value.first.name.now.place; declared = d } in x) ∷ map pair_entry (kept_pairs ps)) (declared_kept p.value.declared)
     ∙ ap (λ (r : List environment.Entry). pair_entry p ∷ r) (entries_kept ps)
 
-incomplete_kept : (d : Declared) → shape_kept (kept_declared d) ≡ None
+incomplete_kept : (d : Declared) → shape_kept [] (kept_declared d) ≡ None
 incomplete_kept states.Later = refl
 incomplete_kept states.Announced = refl
 incomplete_kept (states.Signal s) = refl

@@ -3,6 +3,7 @@ pub mod Scopes
 pub mod Entries
 pub mod Fair
 pub mod Viewing
+pub mod ItemsAt
 pub mod Meant
 pub mod LoopVariables
 pub mod Steps
@@ -46,3 +47,7 @@ pub mod SaidFunctions
 pub mod PutShapes
 pub mod FunctionsAgain
 pub mod WholeSurveys
+pub mod NumberedKeys
+pub mod PassedSignals
+pub mod HandedOn
+pub mod HandsSoFar

@@ -1,6 +1,7 @@
 -- Declarations and local signals of a function, one after the other.
-use Rattle.std.proofs.Common.{◌≡◌, ℕ, zero, suc, ◌+◌, ◌<◌, ◌≤◌, ◌&&◌, not, Bool, true, false, List, [], ◌∷◌, ◌++◌, map, flat_map, length, get_or, take, sum_by, fold, if◌then◌else◌, Option, Some, None, refl, sym, ap, ◌∙◌, subst, append_assoc, arith}
+use Rattle.std.proofs.Common.{◌≡◌, ℕ, zero, suc, ◌+◌, ◌<◌, ◌≤◌, ◌&&◌, not, Bool, true, false, List, [], ◌∷◌, ◌++◌, map, flat_map, length, get_or, take, sum_by, if◌then◌else◌, Option, Some, None, refl, sym, ap, ◌∙◌, subst, append_assoc, arith}
 use Rattle.std.proofs.lemmas.List.{append-nil, map-append, take_more, take_all}
+use Rattle.std.proofs.lemmas.List.Sums.{sum_by-cons}
 use Rattle.vs_design.specs.Expressions.{signal_length}
 use Rattle.vs_grammar.specs.Trees as tree
 use Rattle.vs_grammar.specs.Shapes.{Each, Given, IsValueType, AreVariables, IsScope, IsFunction, IsStatement, IsFallback, AreStatements, AreArms}
@@ -8,6 +9,7 @@ use Rattle.vs_const.specs.declared.faults.Fault.{Fault}
 use Rattle.vs_const.specs.declared.names.Role.{Role}
 use Rattle.vs_const.specs.declared.names.Role.TheVariants.{InFunction, AsResult}
 use Rattle.vs_const.specs.Faults.{least, better}
+use Rattle.vs_const.specs.Meanings.{SignalMeaning}
 use Rattle.vs_const.proofs.Least.{least_append}
 use Rattle.vs_elaborated.specs.Environments.{Env}
 use Rattle.vs_elaborated.specs.Statements as statements
@@ -17,7 +19,8 @@ use Rattle.vs_scope.specs.declared.local_signals.Signalling.{Signalling}
 use Rattle.vs_scope.specs.declared.local_signals.SaidLocal.{SaidLocal}
 use Rattle.vs_scope.specs.declared.locals.Local.{Local}
 use Rattle.vs_scope.specs.Locals.{IsSaidLocal, local, local_start, placed_local, placed_local_of}
-use Rattle.vs_scope.specs.LocalLists.{AreShapedLocals, local_faults, IsSigned}
+use Rattle.vs_scope.specs.Inside.{all_bits}
+use Rattle.vs_scope.specs.LocalLists.{AreShapedLocals, local_faults, IsSkipped, AreAdded, IsSigned}
 use Rattle.vs_scope.specs.Signalled.{Placed}
 use Rattle.vs_scope.proofs.SoFar.{better_assoc, better_none}
 
@@ -87,17 +90,28 @@ and_true false = refl
 pub signed_none : (s : Signalling) → IsSigned s s []
 signed_none s = record { signals = sym (append-nil (map placed_local s.signals.items)); next = refl; fault = sym (better_none s.fault); known = sym (and_true s.known) }
 
-pub signed_then : (a b c : Signalling) (xs ys : List spec.LocalSignal) → IsSigned a b xs → IsSigned b c ys → IsSigned a c (xs ++ ys)
-signed_then a b c xs ys h k = record {
+added : (a b : Signalling) (xs : List spec.LocalSignal) → IsSigned a b xs → AreAdded a b xs
+added a b xs h = record { signals = h.signals; fault = h.fault; known = h.known }
+
+added_then : (a b c : Signalling) (xs ys : List spec.LocalSignal) → AreAdded a b xs → AreAdded b c ys → AreAdded a c (xs ++ ys)
+added_then a b c xs ys h k = record {
   signals =
       k.signals ∙ ap (λ (r : List Placed). r ++ map placed_local_of ys) h.signals ∙ append_assoc (map placed_local a.signals.items) (map placed_local_of xs) (map placed_local_of ys)
       ∙ ap (λ (r : List Placed). map placed_local a.signals.items ++ r) (sym (map-append placed_local_of xs ys));
-  next = k.next ∙ ap (λ (s : spec.Start). spec.behind_all s ys) h.next ∙ behind_both (local_start a.next) xs ys;
   fault =
       k.fault ∙ ap (λ (o : Option Fault). better o (least (local_faults ys))) h.fault ∙ better_assoc a.fault (least (local_faults xs)) (least (local_faults ys))
       ∙ ap (better a.fault) (sym (least_append (local_faults xs) (local_faults ys)) ∙ ap least (sym (faults_both xs ys)));
   known = k.known ∙ ap (λ (b : Bool). b && spec.are_known ys) h.known ∙ known_both xs ys a.known;
 }
+
+-- what passes signals adds none
+added_skipped : (a b e : Signalling) (xs : List spec.LocalSignal) (next : spec.Start) → AreAdded a b xs → IsSkipped b e next → AreAdded a e xs
+added_skipped a b e xs next h k = record { signals = ap (map placed_local) k.signals ∙ h.signals; fault = k.fault ∙ h.fault; known = k.known ∙ h.known }
+
+pub signed_then : (a b c : Signalling) (xs ys : List spec.LocalSignal) → IsSigned a b xs → IsSigned b c ys → IsSigned a c (xs ++ ys)
+signed_then a b c xs ys h k =
+    let g = added_then a b c xs ys (added a b xs h) (added b c ys k) in
+    record { signals = g.signals; next = k.next ∙ ap (λ (s : spec.Start). spec.behind_all s ys) h.next ∙ behind_both (local_start a.next) xs ys; fault = g.fault; known = g.known }
 
 pub signals_both : (env : Env) (s : spec.Start) (role : Role) (input : Bool) (vs ws : List statements.Local)
     → spec.signals_of env s role input (vs ++ ws) ≡ spec.signals_of env s role input vs ++ spec.signals_of env (spec.behind_all s (spec.signals_of env s role input vs)) role input ws
@@ -136,12 +150,25 @@ shaped_local (a ∷ all) (suc i) v h k e = shaped_local all i v h.1 (omega arith
 
 -- ---- counts
 
-bits_from : (s : spec.Start) (ss : List spec.LocalSignal) (n : ℕ) → s.bit ≡ n → (spec.behind_all s ss).bit ≡ fold (λ a (x : spec.LocalSignal). a + signal_length x.meaning.signal) n ss
-bits_from s [] n h = h
-bits_from s (x ∷ ss) n h = bits_from (spec.behind s x) ss (n + signal_length x.meaning.signal) (ap (λ (k : ℕ). k + signal_length x.meaning.signal) h)
+abbrev pub signal_bits : List spec.LocalSignal → ℕ
+signal_bits ss = sum_by (λ (x : spec.LocalSignal). signal_length x.meaning.signal) ss
 
-pub bits_are : (scope : ℕ) (ss : List spec.LocalSignal) → (spec.behind_all (record { scope = scope; signal = 0; bit = 0 }) ss).bit ≡ sum_by (λ (x : spec.LocalSignal). signal_length x.meaning.signal) ss
-bits_are scope ss = bits_from (record { scope = scope; signal = 0; bit = 0 }) ss 0 refl
+abbrev pub input_bits : List spec.Passed → ℕ
+input_bits ps = sum_by (λ (p : spec.Passed). signal_length p.input.signal) ps
+
+bits_behind : (s : spec.Start) (ss : List spec.LocalSignal) → (spec.behind_all s ss).bit ≡ s.bit + signal_bits ss
+bits_behind s [] = omega arith
+bits_behind s (x ∷ ss) =
+    let rest = bits_behind (spec.behind s x) ss in
+    let sum = sum_by-cons (λ (y : spec.LocalSignal). signal_length y.meaning.signal) x ss in
+    omega (arith, rest, sum)
+
+bits_passed : (s : spec.Start) (ms : List SignalMeaning) → (spec.behind_all_passed s ms).bit ≡ s.bit + input_bits (spec.passed_signals s ms)
+bits_passed s [] = omega arith
+bits_passed s (m ∷ ms) =
+    let rest = bits_passed (spec.behind_passed s m) ms in
+    let sum = sum_by-cons (λ (p : spec.Passed). signal_length p.input.signal) (record { number = m.signal.number; input = spec.passed_signal s m }) (spec.passed_signals (spec.behind_passed s m) ms) in
+    omega (arith, rest, sum)
 
 pub count_is : (env : Env) (s : spec.Start) (role : Role) (input : Bool) (vs : List statements.Local) → length (spec.signals_of env s role input vs) ≡ length vs
 count_is env s role input [] = refl
@@ -200,27 +227,46 @@ shaped_own f h =
     shaped_both (spec.variables_of (is_variable_in f.statement) (flat_map statements.locals_of f.variables)) (spec.block_locals f.statement)
     (shaped_variables (is_variable_in f.statement) (flat_map statements.locals_of f.variables) (shaped_declarations f.variables h.variables)) (shaped_blocks f.statement h.statement)
 
--- ---- all local signals: the inputs, the result, its own variables
+-- ---- all local signals: the inputs, those that pass signals, the result, its own variables
 
-pub three_signed : (env : Env) (scope : ℕ) (f : tree.Function) (a b c d : Signalling) (r : Local) → local_start a.next ≡ record { scope = scope; signal = 0; bit = 0 } → local r ≡ spec.result_local f
+-- all of a function, and where the next would begin
+pub record AreAllSigned (a d : Signalling) (l : spec.Locals) : Type 0 where
+  pub added : AreAdded a d (spec.all_locals l)
+  pub bits : d.next.bit ≡ all_bits l
+
+pub all_signed : (env : Env) (scope : ℕ) (reads : List SignalMeaning) (f : tree.Function) (a b e c d : Signalling) (r : Local) → local_start a.next ≡ record { scope = scope; signal = 0; bit = 0 } → local r ≡ spec.result_local f
     → IsSigned a b (spec.signals_of env (local_start a.next) InFunction true (flat_map statements.locals_of f.inputs))
-    → IsSigned b c (spec.signals_of env (local_start b.next) AsResult false (local r ∷ []))
+    → IsSkipped b e (spec.behind_all_passed (local_start b.next) reads)
+    → IsSigned e c (spec.signals_of env (local_start e.next) AsResult false (local r ∷ []))
     → IsSigned c d (spec.signals_of env (local_start c.next) InFunction false (spec.own_locals f))
-    → IsSigned a d (spec.all_locals (spec.function_locals scope env f)) × ((spec.local_signal env (local_start b.next) AsResult false (local r)).meaning ≡ (spec.function_locals scope env f).result.meaning)
-three_signed env scope f a b c d r start rs h k m =
+    → AreAllSigned a d (spec.function_locals scope env reads f) × ((spec.local_signal env (local_start e.next) AsResult false (local r)).meaning ≡ (spec.function_locals scope env reads f).result.meaning) × (spec.passed_signals (local_start b.next) reads ≡ (spec.function_locals scope env reads f).passed)
+all_signed env scope reads f a b e c d r start rs h sk k m =
     let zero_start : spec.Start = record { scope = scope; signal = 0; bit = 0 } in
     let ins = spec.signals_of env zero_start InFunction true (flat_map statements.locals_of f.inputs) in
-    let next = spec.behind_all zero_start ins in
+    let between = spec.behind_all zero_start ins in
+    let next = spec.behind_all_passed between reads in
     let result = spec.local_signal env next AsResult false (spec.result_local f) in
+    let own = spec.signals_of env (spec.behind next result) InFunction false (spec.own_locals f) in
     let first : spec.signals_of env (local_start a.next) InFunction true (flat_map statements.locals_of f.inputs) ≡ ins =
     ap (λ (s : spec.Start). spec.signals_of env s InFunction true (flat_map statements.locals_of f.inputs)) start in
-    let at : local_start b.next ≡ next = h.next ∙ ap (spec.behind_all (local_start a.next)) first ∙ ap (λ (s : spec.Start). spec.behind_all s ins) start in
-    let second : spec.signals_of env (local_start b.next) AsResult false (local r ∷ []) ≡ result ∷ [] =
-    ap (λ (s : spec.Start). spec.signals_of env s AsResult false (local r ∷ [])) at ∙ ap (λ (v : statements.Local). spec.signals_of env next AsResult false (v ∷ [])) rs in
-    let behind : local_start c.next ≡ spec.behind next result = k.next ∙ ap (spec.behind_all (local_start b.next)) second ∙ ap (λ (s : spec.Start). spec.behind_all s (result ∷ [])) at in
-    let third : spec.signals_of env (local_start c.next) InFunction false (spec.own_locals f) ≡ spec.signals_of env (spec.behind next result) InFunction false (spec.own_locals f) =
-    ap (λ (s : spec.Start). spec.signals_of env s InFunction false (spec.own_locals f)) behind in (
-      signed_then a b d ins (result ∷ spec.signals_of env (spec.behind next result) InFunction false (spec.own_locals f)) (subst (IsSigned a b) first h)
-          (signed_then b c d (result ∷ []) (spec.signals_of env (spec.behind next result) InFunction false (spec.own_locals f)) (subst (IsSigned b c) second k) (subst (IsSigned c d) third m)),
-      ap (λ (s : spec.Start). (spec.local_signal env s AsResult false (local r)).meaning) at ∙ ap (λ (v : statements.Local). (spec.local_signal env next AsResult false v).meaning) rs,
+    let at : local_start b.next ≡ between = h.next ∙ ap (spec.behind_all (local_start a.next)) first ∙ ap (λ (s : spec.Start). spec.behind_all s ins) start in
+    let at_result : local_start e.next ≡ next = sk.next_is ∙ ap (λ (s : spec.Start). spec.behind_all_passed s reads) at in
+    let second : spec.signals_of env (local_start e.next) AsResult false (local r ∷ []) ≡ result ∷ [] =
+    ap (λ (s : spec.Start). spec.signals_of env s AsResult false (local r ∷ [])) at_result ∙ ap (λ (v : statements.Local). spec.signals_of env next AsResult false (v ∷ [])) rs in
+    let behind : local_start c.next ≡ spec.behind next result = k.next ∙ ap (spec.behind_all (local_start e.next)) second ∙ ap (λ (s : spec.Start). spec.behind_all s (result ∷ [])) at_result in
+    let third : spec.signals_of env (local_start c.next) InFunction false (spec.own_locals f) ≡ own = ap (λ (s : spec.Start). spec.signals_of env s InFunction false (spec.own_locals f)) behind in
+    let last : local_start d.next ≡ spec.behind_all (spec.behind next result) own = m.next ∙ ap (spec.behind_all (local_start c.next)) third ∙ ap (λ (s : spec.Start). spec.behind_all s own) behind in
+    let ins_bits = bits_behind zero_start ins in
+    let passed_bits = bits_passed between reads in
+    let own_bits = bits_behind (spec.behind next result) own in
+    let sum = sum_by-cons (λ (y : spec.LocalSignal). signal_length y.meaning.signal) result own in
+    let end : d.next.bit ≡ (spec.behind_all (spec.behind next result) own).bit = ap (λ (s : spec.Start). s.bit) last in (
+      record {
+        added =
+            added_then a e d ins (result ∷ own) (added_skipped a b e ins (spec.behind_all_passed (local_start b.next) reads) (added a b ins (subst (IsSigned a b) first h)) sk)
+            (added_then e c d (result ∷ []) own (added e c (result ∷ []) (subst (IsSigned e c) second k)) (added c d own (subst (IsSigned c d) third m)));
+        bits = omega (arith, end, own_bits, sum, passed_bits, ins_bits);
+      },
+      ap (λ (s : spec.Start). (spec.local_signal env s AsResult false (local r)).meaning) at_result ∙ ap (λ (v : statements.Local). (spec.local_signal env next AsResult false v).meaning) rs,
+      ap (λ (s : spec.Start). spec.passed_signals s reads) at,
     )

@@ -36,7 +36,7 @@ value_means env place value range v e h = ap (declared_meaning env place) e ∙ 
 
 -- a function that is complete
 pub function_means : (env : Env) (place : ℕ) (f : FunctionShape) (d : Declared) → StandsFor (states.Function (Some f)) d → Means (answers.Function f) (declared_meaning env place d)
-function_means env place f d s = (s.0, ap (declared_meaning env place) s.1, s.2.number, s.2.inputs, s.2.range, s.2.signed, s.2.known, s.2.words, s.2.depth)
+function_means env place f d s = (s.0, ap (declared_meaning env place) s.1, s.2.number, s.2.inputs, s.2.range, s.2.signed, s.2.known, s.2.words, s.2.depth, s.2.passed)
 
 -- by what a look-up finds
 pub found_means : (r : Named) (env : Env) (o : Option Entry) (name : List ℕ) (c : EntryOf) → Finds o name c → ((d : Declared) → StandsFor c.declared d → Means r (declared_meaning env c.first.name.now.place d)) → Means r (entry_meaning env o)

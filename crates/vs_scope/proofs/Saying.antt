@@ -7,7 +7,9 @@ use Rattle.vs_ast.specs.Views as view
 use Rattle.vs_grammar.specs.Trees as tree
 use Rattle.vs_const.specs.declared.faults.Fault.{Fault}
 use Rattle.vs_const.specs.Faults.{least, better}
+use Rattle.vs_const.specs.declared.names.SignalShape.{SignalShape}
 use Rattle.vs_const.specs.Meanings.{FunctionMeaning}
+use Rattle.vs_const.specs.MentionViews.{kept, kept_of}
 use Rattle.vs_const.proofs.Least.{least_append}
 use Rattle.vs_elaborated.specs.Limits.{Limits, the_limits}
 use Rattle.vs_elaborated.specs.Environments.{Entry, Env, within}
@@ -15,7 +17,6 @@ use Rattle.vs_elaborated.specs.Declarations as declarations
 use Rattle.vs_elaborated.specs.Declarations.{Declaration, FunctionOf}
 use Rattle.vs_elaborated.specs.Functions as spec
 use Rattle.vs_elaborated.specs.Functions.{Counts, next_function, and_function, put_function, said_functions}
-use Rattle.vs_maps.specs.MapViews.{pairs}
 use Rattle.vs_scope.specs.declared.names.Names.{Names}
 use Rattle.vs_scope.specs.declared.functions.SaidFunction.{SaidFunction}
 use Rattle.vs_scope.specs.declared.functions.SaidFunctions.{SaidFunctions}
@@ -155,13 +156,13 @@ saying_skip outer names s d rest all called none h = by d.sort none h
     by declarations.InstanceSort none h = record { plain = h.plain; kept = h.kept; counts_now = h.counts_now; entries_are = h.entries_are; fault = h.fault; counts_are = h.counts_are; functions = h.functions }
 
 -- one function more
-pub saying_more : (outer : Env) (old new : Names) (s t : SaidFunctions) (f : Bor Function) (one : SaidFunction) (rest : List Declaration) (all : spec.SaidFunctions) (called : List Declaration)
+pub saying_more : (outer : Env) (old new : Names) (s t : SaidFunctions) (f : Bor Function) (one : SaidFunction) (reads : List SignalShape) (rest : List Declaration) (all : spec.SaidFunctions) (called : List Declaration)
     → IsCalled old new f
-    → ((es : List Entry) (g : FunctionMeaning) → AreCompleted (entries old) es → shapes_in (pairs old.map) ≡ shapes_of es → HasShape one.shape g → shapes_in (pairs new.map) ≡ shapes_of (put_function (view.function f.now).name.bytes g es))
-    → IsSaidFunction one (said_next outer old (counted s.counts) f)
+    → ((es : List Entry) (g : FunctionMeaning) → AreCompleted (entries old) es → shapes_in old ≡ shapes_of es → HasShape one.shape g → map kept reads ≡ map kept_of g.passed → shapes_in new ≡ shapes_of (put_function (view.function f.now).name.bytes g es))
+    → IsSaidFunction one (said_next outer old (counted s.counts) f) → map kept reads ≡ map kept_of (said_next outer old (counted s.counts) f).meaning.passed
     → t.fault ≡ better s.fault one.fault → t.counts.copies ≡ s.counts.copies + one.copies → t.counts.functions ≡ s.counts.functions + 1
     → IsSaying outer old s (function_declaration f ∷ rest) all called → IsSaying outer new t rest all called
-saying_more outer old new s t f one rest all called h shapes says fault copies functions before =
+saying_more outer old new s t f one reads rest all called h shapes says passed fault copies functions before =
     let now = counted s.counts in
     let said = said_next outer old now f in
     let is : said_next outer old (completed outer old).counts f ≡ said = ap (λ (n : Counts). said_next outer old n f) (sym before.counts_now) in
@@ -174,7 +175,7 @@ saying_more outer old new s t f one rest all called h shapes says fault copies f
     ∙ ap (said_functions the_limits old.scope outer (and_function now said) rest) whole in
     record {
       plain = plain_of old new f h before.plain;
-      kept = shapes (complete outer old) said.meaning (names_completed outer old) before.kept says.shape ∙ ap shapes_of (sym whole);
+      kept = shapes (complete outer old) said.meaning (names_completed outer old) before.kept says.shape passed ∙ ap shapes_of (sym whole);
       counts_now =
           then_counts
           ∙ sym (counts_more outer old new f before.plain h ∙ ap (λ (x : spec.SaidFunction). and_function (completed outer old).counts x) is ∙ ap (λ (n : Counts). and_function n said) (sym before.counts_now));

@@ -1,8 +1,10 @@
 -- What is seen in a scope, by what is seen around it.
-use Rattle.std.proofs.Common.{◌≡◌, ℕ, zero, suc, ◌+◌, ◌<◌, ◌≤◌, Bool, true, false, List, [], ◌∷◌, ◌++◌, length, get_or, slice_index_or, nat_lt, Option, Some, None, MatchOption, if◌then◌else◌, refl, sym, ap, ◌∙◌, subst, arith, length-append}
+use Rattle.std.proofs.Common.{slice_get, ◌≡◌, ℕ, zero, suc, ◌+◌, ◌<◌, ◌≤◌, Bool, true, false, List, [], ◌∷◌, ◌++◌, length, get_or, slice_index_or, nat_lt, Option, Some, None, MatchOption, if◌then◌else◌, refl, sym, ap, ◌∙◌, subst, arith, length-append}
 use Rattle.std.proofs.lemmas.Bool.{ltb-true, ltb-false}
 use Rattle.vs_ast.specs.Views.{option}
-use Rattle.vs_elaborated.specs.Environments.{Entry, Env, no_env, within, find_entry, find_name, turn_of}
+use Rattle.vs_const.specs.Meanings.{FunctionMeaning, IsShapeIn}
+use Rattle.vs_const.specs.declared.names.SignalShape.{SignalShape}
+use Rattle.vs_elaborated.specs.Environments.{Entry, Env, OfFunction, no_env, within, find_entry, find_name, turn_of}
 use Rattle.vs_elaborated.specs.Surveys.{turned}
 use Rattle.vs_scope.specs.declared.frames.Frame.{Frame}
 use Rattle.vs_scope.specs.declared.frames.Turn.{Turn}
@@ -84,7 +86,7 @@ shapes_from : (es : List Env) (fs : List Frame) (i : ℕ) (f : Frame) → i < le
     → KeepsShapes (env_above (envs_after es fs) (below f.parent (length es + i)) f.turn) f.names
 shapes_from es [] i f h e k = absurd (omega arith)
 shapes_from es (g ∷ gs) zero f h e k =
-    let first : shapes_in (pairs g.names.map) ≡ shapes_of (complete (env_above es g.parent g.turn) g.names) = cc in
+    let first : shapes_in g.names ≡ shapes_of (complete (env_above es g.parent g.turn) g.names) = cc in
     subst (λ (n : ℕ). KeepsShapes (env_above (envs_after es (g ∷ gs)) (below f.parent n) f.turn) f.names) (omega arith)
     (subst (λ (a : Env). KeepsShapes (turned a (option turn f.turn)) f.names) (parent_kept es (g ∷ gs) f.parent) (subst (λ (x : Frame). KeepsShapes (env_above es x.parent x.turn) x.names) (sym e) first))
 shapes_from es (g ∷ gs) (suc i) f h e k =
@@ -150,3 +152,27 @@ found_above fs i f name h e k m =
 pub turn_step : (fs : List Frame) (i : ℕ) (f : Frame) (genvar : ℕ) → i < length fs → f ≡ get_or fs i f
     → turn_of (env_at (envs fs) (Some i)).turns genvar ≡ value_or f.turn genvar (turn_of (env_at (envs fs) (below f.parent i)).turns genvar)
 turn_step fs i f genvar h k = ap (λ (a : Env). turn_of a.turns genvar) (env_step fs i f h k) ∙ turned_turns (env_at (envs fs) (below f.parent i)) f.turn genvar
+
+-- ---- what a call passes
+
+pub passed_nowhere : (name : List ℕ) (e : Entry) → find_name no_env.frames name ≡ Some e → ⊥
+passed_nowhere name e h = cc
+
+-- a name that the scope declares is found there
+found_here : (env : Env) (es : List Entry) (name : List ℕ) (e : Entry) (c : EntryOf) → Finds (find_entry es name) name c → find_name (es ∷ env.frames) name ≡ Some e → find_entry es name ≡ Some e
+found_here env es name e c f h = f.found_is ∙ sym (find_in es env.frames name f.entry f.found_is) ∙ h
+
+pub passed_here : (fs : List Frame) (i : ℕ) (f : Frame) (name : List ℕ) (e : Entry) (g : FunctionMeaning) (c : EntryOf) (s : Option SignalShape) (number : ℕ) → i < length fs → f ≡ get_or fs i f → KeepShapes fs
+    → value_at name (pairs f.names.map) ≡ Some c → find_name (env_at (envs fs) (Some i)).frames name ≡ Some e → e.declared ≡ OfFunction (Some g)
+    → ((outer : Env) (x : Entry) (y : FunctionMeaning) → KeepsShapes outer f.names → find_entry (complete outer f.names) name ≡ Some x → x.declared ≡ OfFunction (Some y) → IsShapeIn s (slice_get y.passed number)) → IsShapeIn s (slice_get g.passed number)
+passed_here fs i f name e g c s number h k keeps at found is passes =
+    let outer = env_above (envs fs) (below f.parent i) f.turn in
+    let shapes = shapes_at fs i f h k keeps in
+    passes outer e g shapes
+    (found_here outer (complete outer f.names) name e c (at_some outer f.names name c shapes at) (sym (ap (λ (a : Env). find_name a.frames name) (env_step fs i f h k)) ∙ found)) is
+
+-- and in a scope with what is around it
+pub passed_within : (outer : Env) (names : Names) (name : List ℕ) (e : Entry) (g : FunctionMeaning) (c : EntryOf) (s : Option SignalShape) (number : ℕ) → KeepsShapes outer names → value_at name (pairs names.map) ≡ Some c
+    → find_name (complete outer names ∷ outer.frames) name ≡ Some e → e.declared ≡ OfFunction (Some g)
+    → ((x : Entry) (y : FunctionMeaning) → find_entry (complete outer names) name ≡ Some x → x.declared ≡ OfFunction (Some y) → IsShapeIn s (slice_get y.passed number)) → IsShapeIn s (slice_get g.passed number)
+passed_within outer names name e g c s number keeps at found is passes = passes e g (found_here outer (complete outer names) name e c (at_some outer names name c keeps at) found) is

@@ -10,13 +10,13 @@ use Rattle.vs_const.specs.declared.rules.Rule.{Rule}
 use Rattle.vs_const.proofs.Least.{least_append}
 use Rattle.vs_elaborated.specs.Limits.{the_limits}
 use Rattle.vs_elaborated.specs.Pieces.{Task}
-use Rattle.vs_elaborated.specs.Environments.{within}
+use Rattle.vs_elaborated.specs.Environments.{within, named}
 use Rattle.vs_elaborated.specs.Declarations.{repeated_names}
 use Rattle.vs_elaborated.specs.Signals.{range_faults}
-use Rattle.vs_elaborated.specs.Surveys.{Totals, counts_of, survey, header_of, declarations_of, overrides_of, block_faults, bits_over, processes_over}
+use Rattle.vs_elaborated.specs.Surveys.{Totals, counts_of, survey, header_of, declarations_of, overrides_of, block_faults, bits_over, processes_over, contents_unheard}
 use Rattle.vs_scope.specs.Signalled.{faults_of}
 use Rattle.vs_scope.specs.Scopes.{evaluated_entries, said_functions_of}
-use Rattle.vs_scope.specs.Surveys.{IsOfParts, start_at, signals_in, made_in, made_faults, declared_in, blocks_in, said_in}
+use Rattle.vs_scope.specs.Surveys.{IsOfParts, start_at, signals_in, made_in, made_faults, declared_in, blocks_in, said_in, scope_env}
 
 same_fault : (p q : ℕ) (m n : Rule) → p ≡ q → m ≡ n → (let f : Fault = record { rule = m; place = p } in f) ≡ record { rule = n; place = q }
 same_fault p q m n h k = cc
@@ -96,6 +96,6 @@ survey_parts source t totals =
           gather (header_of t.contents) (repeated_names [] ds) parameters.faults (range_faults (within t.env parameters.entries) ds) (flat_map faults_of signals)
           (said_functions_of t.env (overrides_of t.contents) start before ds).faults (made_faults (made_in t.env t.contents start before totals.turns))
           (block_faults (declared_in t.env t.contents start before) [] (blocks_in t.env t.contents start before totals.turns)) (said_in source t totals).faults (bits_over the_limits.bits totals.bits signals)
-          (processes_over the_limits.processes totals.processes (said_in source t totals).pieces);
+          (processes_over the_limits.processes totals.processes (said_in source t totals).pieces ++ contents_unheard (named (scope_env t totals)) t.contents);
       totals_is = refl;
     }

@@ -1,7 +1,9 @@
 -- What is seen where an expression stands.
-use Rattle.std.proofs.Common.{◌≡◌, ℕ, Bool, true, false, List, [], ◌∷◌, Option, Some, None, refl, ap, ◌∙◌}
+use Rattle.std.proofs.Common.{◌≡◌, ℕ, Bool, true, false, List, [], ◌∷◌, Option, Some, None, if◌then◌else◌, refl, ap, ◌∙◌}
 use Rattle.vs_ast.specs.Views.{option}
-use Rattle.vs_elaborated.specs.Environments.{Entry, Env, within, inside_function, find_name, turn_of}
+use Rattle.vs_four.specs.declared.Range.{Range}
+use Rattle.vs_const.specs.Meanings.{ConstantValue, SignalMeaning, FunctionMeaning, AFunction, Unknown}
+use Rattle.vs_elaborated.specs.Environments.{Declared, Later, OfSignal, OfParameter, OfFunction, OfGenvar, OfInteger, OfScope, Entry, Env, within, inside_function, find_name, turn_of, is_late, with_words, parameter_meaning, turn_meaning, declared_meaning, entry_meaning, named}
 use Rattle.vs_maps.specs.Maps.{value_at}
 use Rattle.vs_maps.specs.MapViews.{pairs}
 use Rattle.vs_scope.specs.declared.names.Entry.{Entry as EntryOf}
@@ -72,3 +74,38 @@ view_inside v h k m = by v.in_function v.inside v.before h k m
     by true None (Some p) h k m = cc
     by true (Some t) p h k m = cc
     by false t p h k m = cc
+
+-- ---- what a call passes
+
+-- what means a function is one that is complete
+no_words : (o : Option Range) (s : SignalMeaning) (f : FunctionMeaning) → with_words o s ≡ AFunction f → ⊥
+no_words None s f h = cc
+no_words (Some r) s f h = cc
+
+no_parameter : (b : Bool) (o : Option ConstantValue) (r : Option Range) (f : FunctionMeaning) → (if b then Unknown else parameter_meaning o r) ≡ AFunction f → ⊥
+no_parameter true o r f h = cc
+no_parameter false None r f h = cc
+no_parameter false (Some v) None f h = cc
+no_parameter false (Some v) (Some r) f h = cc
+
+no_turn : (o : Option ℕ) (f : FunctionMeaning) → turn_meaning o ≡ AFunction f → ⊥
+no_turn None f h = cc
+no_turn (Some v) f h = cc
+
+function_declared : (env : Env) (place : ℕ) (d : Declared) (f : FunctionMeaning) → declared_meaning env place d ≡ AFunction f → d ≡ OfFunction (Some f)
+function_declared env place Later f h = cc
+function_declared env place (OfSignal s) f h = absurd (no_words s.signal.words s f h)
+function_declared env place (OfParameter v r) f h = absurd (no_parameter (is_late env.before place) v r f h)
+function_declared env place (OfFunction None) f h = cc
+function_declared env place (OfFunction (Some g)) f h = let is : g ≡ f = cc in ap (λ (x : FunctionMeaning). OfFunction (Some x)) is
+function_declared env place OfGenvar f h = absurd (no_turn (turn_of env.turns place) f h)
+function_declared env place (OfInteger owner) f h = cc
+function_declared env place OfScope f h = cc
+
+-- where it is declared
+pub function_found : (env : Env) (name : List ℕ) (f : FunctionMeaning) → named env name ≡ AFunction f → (e : Entry) × (find_name env.frames name ≡ Some e) × (e.declared ≡ OfFunction (Some f))
+function_found env name f h = by (find_name env.frames name) refl h
+  where
+    by : (o : Option Entry) → find_name env.frames name ≡ o → entry_meaning env o ≡ AFunction f → (e : Entry) × (find_name env.frames name ≡ Some e) × (e.declared ≡ OfFunction (Some f))
+    by None is h = cc
+    by (Some e) is h = (e, is, function_declared env e.place e.declared f h)

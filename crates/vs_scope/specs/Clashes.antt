@@ -66,4 +66,5 @@ pub record IsBehind (old new : Names) : Type 0 where
   pub scope : new.scope ≡ old.scope
   pub counts : new.counts ≡ old.counts
   pub functions : new.functions.items ≡ old.functions.items
+  pub reads : new.reads ≡ old.reads
   pub plain : new.plain ≡ old.plain

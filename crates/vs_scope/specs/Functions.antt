@@ -36,6 +36,7 @@ pub record IsSaidFunction (c : SaidFunction) (s : spec.SaidFunction) : Type 0 wh
 pub record IsOfParts (c : SaidFunction) (place number : ℕ) (h : SaidHeader) (s : StatementSaid) : Type 0 where
   pub number_is : c.shape.number ≡ number
   pub inputs : c.shape.inputs ≡ h.inputs
+  pub passed : c.shape.passed ≡ h.passed
   pub range : c.shape.range ≡ h.range
   pub signed : c.shape.signed ≡ h.signed
   pub known : c.shape.known ≡ (h.known && is_none c.fault)

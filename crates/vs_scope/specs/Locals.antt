@@ -1,8 +1,9 @@
 -- What the code finds of the local signals of a function.
-use Rattle.std.specs.Prelude.{◌≡◌, ℕ, false, List, length, map, slice_get, Option, Some, None}
+use Rattle.std.specs.Prelude.{◌≡◌, ℕ, Bool, true, false, List, [], length, map, slice_get, Option, Some, None, is_some, if◌then◌else◌}
 use Rattle.vs_ast.specs.Views as view
 use Rattle.vs_ast.specs.Views.{option}
 use Rattle.vs_const.specs.Faults.{least}
+use Rattle.vs_const.specs.declared.names.Role.TheVariants.{InFunction}
 use Rattle.vs_const.specs.declared.rules.Rule.TheVariants.{LoopVariable}
 use Rattle.vs_const.specs.Meanings.{SignalMeaning, Meaning, ASignal, Barred, Find}
 use Rattle.vs_elaborated.specs.Environments.{named}
@@ -15,6 +16,7 @@ use Rattle.vs_maps.specs.PlaceViews.{placed as by_place}
 use Rattle.vs_scope.specs.declared.locals.Local.{Local}
 use Rattle.vs_scope.specs.declared.local_signals.LocalStart.{LocalStart}
 use Rattle.vs_scope.specs.declared.names.LocalSignal.{LocalSignal}
+use Rattle.vs_scope.specs.declared.names.PassedInput.{PassedInput}
 use Rattle.vs_scope.specs.declared.local_signals.SaidLocal.{SaidLocal}
 use Rattle.vs_scope.specs.declared.inside.Locals.{Locals}
 use Rattle.vs_scope.specs.declared.inside.Inside.{Inside}
@@ -45,6 +47,18 @@ placed_local s = record { place = s.place; meaning = local_meaning s }
 abbrev pub placed_local_of : spec.LocalSignal → Placed
 placed_local_of s = record { place = s.place; meaning = s.meaning }
 
+-- an input that passes a signal of the module
+abbrev pub passed_of : PassedInput → spec.Passed
+passed_of p = record {
+  number = p.signal;
+  input = record {
+    signal = record { name = []; scope = p.scope; number = p.number; net = true; input = true; range = p.range; signed = p.signed; first = p.first; words = None; integer = false };
+    input = true;
+    role = InFunction;
+    known = p.known;
+  };
+}
+
 -- with the first fault of its range
 pub record IsSaidLocal (c : SaidLocal) (s : spec.LocalSignal) : Type 0 where
   pub placed_is : placed_local c.signal ≡ placed_local_of s
@@ -52,10 +66,10 @@ pub record IsSaidLocal (c : SaidLocal) (s : spec.LocalSignal) : Type 0 where
 
 -- ---- look-ups
 
--- the local signal of this number
-abbrev pub numbered : List LocalSignal → Option ℕ → Option LocalSignal
-numbered ss None = None
-numbered ss (Some i) = slice_get ss i
+-- the one of this number
+abbrev pub numbered : {A : Type 0} → List A → Option ℕ → Option A
+numbered xs None = None
+numbered xs (Some i) = slice_get xs i
 
 -- the one that is declared at this place
 abbrev pub local_at : Locals → ℕ → Option LocalSignal
@@ -71,9 +85,21 @@ abbrev pub own_or : Locals → Option ℕ → Meaning → Meaning
 own_or l None m = m
 own_or l (Some place) m = own_meaning (local_at l place)
 
--- what each name means within a function
+-- the input that passes the signal of a number
+abbrev pub input_of : Locals → ℕ → Option SignalMeaning
+input_of l number = option (λ (p : PassedInput). (passed_of p).input) (numbered l.passed.items (found_at number (by_place l.by_signal)))
+
+-- whether there is one for each of these
+abbrev pub hands_on : Locals → List SignalMeaning → Bool
+hands_on l ss = is_some (spec.passed_on (input_of l) ss)
+
+-- what a name means that means this around: in a function what is passed to it
+abbrev pub outer_meaning : Inside → Meaning → Meaning
+outer_meaning i m = if i.here.in_function then spec.passed_meaning (input_of i.locals) m else m
+
+-- what each name means within a function, or within an always block
 abbrev pub inside_names : Inside → Find
-inside_names i name = own_or i.locals (value_at name (pairs i.locals.names)) (named (view_env i.here) name)
+inside_names i name = own_or i.locals (value_at name (pairs i.locals.names)) (outer_meaning i (named (view_env i.here) name))
 
 -- what a variable of a named block means that is declared at a place
 abbrev pub inside_declared : Inside → ℕ → Meaning
@@ -88,5 +114,7 @@ place_of vs name = option (λ (v : statements.Local). v.name.place) (statements.
 pub record AreLocals (c : Locals) (l : spec.Locals) (vs : List statements.Local) : Type 0 where
   pub signals : map placed_local c.signals.items ≡ map placed_local_of (spec.all_locals l)
   pub inputs : c.inputs ≡ length l.inputs
+  pub passed : map passed_of c.passed.items ≡ l.passed
+  pub by_signal : (number : ℕ) → input_of c number ≡ spec.find_passed l.passed number
   pub by_name : (name : List ℕ) → value_at name (pairs c.names) ≡ place_of vs name
   pub at_place : (place : ℕ) → option local_meaning (local_at c place) ≡ option (λ (s : spec.LocalSignal). s.meaning) (spec.signal_at (spec.all_locals l) place)

@@ -1,5 +1,5 @@
 -- What is found of a name that is seen at a place of the text.
-use Rattle.std.specs.Prelude.{◌≡◌, ℕ, List, Option, Some, None, length}
+use Rattle.std.specs.Prelude.{◌≡◌, ◌+◌, ℕ, List, Option, Some, None, length}
 use Rattle.vs_const.specs.Meanings.{FunctionMeaning}
 use Rattle.vs_const.specs.CallDepths.{calls_in}
 use Rattle.vs_const.specs.declared.names.FunctionShape.{FunctionShape}
@@ -12,7 +12,8 @@ use Rattle.vs_scope.specs.Views.{declared}
 -- what a call needs to know of a function
 pub record HasShape (f : FunctionShape) (g : FunctionMeaning) : Type 0 where
   pub number : f.number ≡ g.number
-  pub inputs : f.inputs ≡ length g.header.inputs
+  pub inputs : f.inputs + f.passed ≡ length g.header.inputs
+  pub passed : f.passed ≡ length g.passed
   pub range : f.range ≡ g.header.result.range
   pub signed : f.signed ≡ g.header.result.signed
   pub known : f.known ≡ g.known

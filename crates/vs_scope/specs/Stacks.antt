@@ -4,7 +4,6 @@ use Rattle.vs_ast.specs.Views.{option}
 use Rattle.vs_elaborated.specs.Environments as environment
 use Rattle.vs_elaborated.specs.Environments.{Env, no_env, within}
 use Rattle.vs_elaborated.specs.Surveys.{turned}
-use Rattle.vs_maps.specs.MapViews.{pairs}
 use Rattle.vs_scope.specs.declared.frames.Turn.{Turn}
 use Rattle.vs_scope.specs.declared.frames.Frame.{Frame}
 use Rattle.vs_scope.specs.Complete.{Shape, complete, shapes_in, shapes_of}
@@ -47,7 +46,7 @@ envs fs = envs_after [] fs
 
 -- what each scope keeps of its functions, and what they mean
 abbrev pub stack_shapes : List Frame → List (List (Option Shape))
-stack_shapes fs = map (λ (f : Frame). shapes_in (pairs f.names.map)) fs
+stack_shapes fs = map (λ (f : Frame). shapes_in f.names) fs
 
 abbrev pub stack_shapes_after : List Env → List Frame → List (List (Option Shape))
 stack_shapes_after es [] = []

@@ -7,14 +7,14 @@ use Rattle.vs_design.specs.Expressions.{signal_length}
 use Rattle.vs_const.specs.declared.faults.Fault.{Fault}
 use Rattle.vs_const.specs.Faults.{least, better}
 use Rattle.vs_elaborated.specs.Limits.{the_limits}
-use Rattle.vs_elaborated.specs.Environments.{Entry, Env, within, find_entry}
+use Rattle.vs_elaborated.specs.Environments.{Entry, Env, within, find_entry, named}
 use Rattle.vs_elaborated.specs.Functions.{Counts}
 use Rattle.vs_elaborated.specs.Signals.{Start, SaidSignal, all_nets, net_count}
 use Rattle.vs_elaborated.specs.Generate.{BlockName, Made}
 use Rattle.vs_elaborated.specs.Constructs.{constructs}
 use Rattle.vs_elaborated.specs.Pieces.{Contents as ContentsOf, OfModule, OfBlock, Task, Said}
 use Rattle.vs_design.specs.Statements.{Function}
-use Rattle.vs_elaborated.specs.Surveys.{Loops, loops_behind, contents_said, block_faults, block_entries, Totals, bits_over, piece_processes, processes_over, turns_after, items_of, declarations_of, overrides_of, header_of, counts_of, Survey, survey}
+use Rattle.vs_elaborated.specs.Surveys.{Loops, loops_behind, contents_said, contents_unheard, block_faults, block_entries, Totals, bits_over, piece_processes, processes_over, turns_after, items_of, declarations_of, overrides_of, header_of, counts_of, Survey, survey}
 use Rattle.vs_scope.specs.declared.contents.Contents.{Contents}
 use Rattle.vs_scope.specs.declared.contents.Contents.TheVariants.{Module, Block}
 use Rattle.vs_scope.specs.declared.frames.Frame.{Frame}
@@ -110,9 +110,10 @@ abbrev pub said_in : tree.Source → Task → Totals → Said
 said_in source t totals =
     contents_said the_limits source (record { scope = totals.scopes; depth = t.depth; env = scope_env t totals }) (loops_in t totals) t.contents (made_in t.env t.contents (start_at t totals) (counts_of totals) totals.turns)
 
--- the faults of the items themselves
+-- the faults of the items themselves, and of the processes that aren't woken by what functions read
 abbrev pub items_faults : tree.Source → Task → Totals → List Fault
-items_faults source t totals = (said_in source t totals).faults ++ processes_over the_limits.processes totals.processes (said_in source t totals).pieces
+items_faults source t totals =
+    (said_in source t totals).faults ++ (processes_over the_limits.processes totals.processes (said_in source t totals).pieces ++ contents_unheard (named (scope_env t totals)) t.contents)
 
 -- the counts behind it
 abbrev pub totals_behind : tree.Source → Task → Totals → Totals

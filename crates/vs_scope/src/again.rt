@@ -6,13 +6,13 @@ ghost use Rattle.vs_elaborated.specs.Environments.{Env};
 ghost use Rattle.vs_maps.specs.Maps.{AreDistinct, value_at};
 ghost use Rattle.vs_maps.specs.MapViews.{pairs};
 ghost use Rattle.vs_scope.specs.Again.{IsPart, is_awaited, is_function, shape_at};
-ghost use Rattle.vs_scope.specs.Complete.{KeepsShapes, function_declaration};
+ghost use Rattle.vs_scope.specs.Complete.{KeepsShapes, function_declaration, reads_at};
 
 use crate::functions::is_incomplete;
 use crate::names::{Declared, Entry, Names};
 use std::alloc::{AllocError, Global};
 use vs_ast::Function;
-use vs_const::FunctionShape;
+use vs_const::{FunctionShape, SignalShape};
 use vs_maps::NameMap;
 
 /// Whether it is a function.
@@ -64,6 +64,7 @@ impl<'a> Names<'a> {
         }
         Ok(Names {
             map,
+            reads: NameMap::new(alloc),
             scope: self.scope,
             counts: self.counts,
             functions: Vec::new(alloc),
@@ -96,15 +97,31 @@ impl<'a> Names<'a> {
         }
     }
 
+    /// The signals of its module that the function of this name reads, if it is one of a function that is complete.
+    fn reads_of(&self, alloc: Global, f: &Function) -> Result<Vec<SignalShape>, AllocError>
+        ensures { IfOk result (λ r. r.items ≡ reads_at (pairs self.now.reads) f.now.name.text) }
+    {
+        match self.reads.get(f.name.text.as_slice()) {
+            None => Ok(Vec::new(alloc)),
+            Some(list) => list.as_slice().to_vec(alloc),
+        }
+    }
+
     /// The next function of a scope is complete, as in `whole`, where all are.
-    pub fn with_function(&mut self, whole: &Names<'a>, f: &'a Function) -> Result<(), AllocError>
+    pub fn with_function(
+        &mut self,
+        alloc: Global,
+        whole: &Names<'a>,
+        f: &'a Function,
+    ) -> Result<(), AllocError>
         ensures { (outer : Env) (rest : List declarations.Declaration) → KeepsShapes outer whole.now → IsPart outer self.old whole.now (function_declaration f.entry ∷ rest)
             → OnOk result (IsPart outer self.new whole.now rest) }
     {
         self.are_distinct();
         if self.awaits(f) {
             if let Some(shape) = whole.shape_of(f) {
-                self.put_function(f, shape)?;
+                let reads = whole.reads_of(alloc, f)?;
+                self.put_function(f, shape, reads)?;
             }
         } else {
             self.functions.push(f)?;

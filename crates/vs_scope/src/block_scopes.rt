@@ -1,6 +1,6 @@
 //! Named blocks of always blocks that declare variables, each of which is a scope (IEEE 1364-2005, 9.8.2 and 12.7).
 
-ghost use Rattle.std.specs.Prelude.{◌≡◌, ◌+◌, ◌++◌, ℕ, IfOk, List, OnOk, None, Some, if◌then◌else◌, flat_map, length, map, nat_lt};
+ghost use Rattle.std.specs.Prelude.{◌≡◌, ◌+◌, ◌++◌, ℕ, IfOk, List, OnOk, None, Some, false, if◌then◌else◌, flat_map, length, map, nat_lt};
 ghost use Rattle.vs_ast.specs.Views as view;
 ghost use Rattle.vs_elaborated.specs.Environments.{named as names_of};
 ghost use Rattle.vs_const.specs.Faults.{least};
@@ -23,7 +23,7 @@ use crate::signals::Start;
 use std::alloc::{AllocError, Global};
 use vs_ast::{BlockScope, CaseArm, Name, Statement};
 use vs_const::{Fault, Role, Rule, fault_at, fault_if, first_of};
-use vs_maps::{NameMap, NameSet};
+use vs_maps::{NameMap, NameSet, PlaceMap};
 
 /// How many bits a design has at most.
 const MOST_BITS: u64 = 1_048_576;
@@ -340,7 +340,8 @@ pub fn within_blocks<'f, 'a>(
     start: Start,
     blocks: &[NamedBlock<'a>],
 ) -> Result<SaidBlocks<'f, 'a>, AllocError>
-    requires { AreShapedBlocks (map named blocks.now) }
+    requires shaped { AreShapedBlocks (map named blocks.now) }
+    requires outside { here.in_function ≡ false }
     ensures names { IfOk result (λ r. inside_names r.inside ≡ names_of (view_env here.entry)) }
     ensures said { IfOk result (λ r. IsSaidBlocks r (view_env here.entry) start (map named blocks.now)) }
 {
@@ -368,6 +369,8 @@ pub fn within_blocks<'f, 'a>(
             locals: Locals {
                 signals,
                 inputs: 0,
+                passed: Vec::new(alloc),
+                by_signal: PlaceMap::new(alloc),
                 names: NameMap::new(alloc),
                 places,
             },

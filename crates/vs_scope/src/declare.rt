@@ -1,6 +1,6 @@
 //! The names that declarations make, and which of them are declared too often (IEEE 1364-2005, 12.3.3 and 12.7).
 
-ghost use Rattle.std.specs.Prelude.{◌≡◌, ◌&&◌, ◌||◌, not, [], OnOk, IfOk, map, is_some, None};
+ghost use Rattle.std.specs.Prelude.{◌≡◌, [], ◌&&◌, ◌||◌, not, OnOk, IfOk, map, is_some, None};
 ghost use Rattle.vs_ast.specs.Views as view;
 ghost use Rattle.vs_const.specs.Faults.{least, fault_if};
 ghost use Rattle.vs_const.specs.declared.rules.Rule.TheVariants.{DuplicateName};
@@ -103,7 +103,7 @@ fn is_open(first: Sort<'_>, second: Option<Declaration<'_>>, sort: Sort<'_>) -> 
 /// What is known of a name before values and ranges are.
 fn first_declared<'a>(number: u32, sort: Sort<'a>) -> Declared<'a>
     ensures declared { scope.declared result ≡ first_declared number (scope.sort sort.entry) }
-    ensures incomplete { shape_kept result ≡ None }
+    ensures incomplete { shape_kept [] result ≡ None }
 {
     match sort {
         Sort::Signal { .. } | Sort::Variable => Declared::Announced,
@@ -202,6 +202,7 @@ pub(crate) fn declared_names<'a>(
 {
     let mut names = Names {
         map: NameMap::new(alloc),
+        reads: NameMap::new(alloc),
         scope: number,
         counts,
         functions: Vec::new(alloc),

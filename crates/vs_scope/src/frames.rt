@@ -1,11 +1,13 @@
 //! Scopes, one within the other, and what is declared in them (IEEE 1364-2005, 12.4.1, 12.7 and 12.8).
 
-ghost use Rattle.std.specs.Prelude.{◌≡◌, None, MatchOption};
+ghost use Rattle.std.specs.Prelude.{◌≡◌, None, Some, MatchOption, slice_get};
+ghost use Rattle.vs_const.specs.Meanings.{FunctionMeaning, IsShapeIn};
 ghost use Rattle.vs_elaborated.specs.Environments as spec;
 ghost use Rattle.vs_scope.specs.Seen.{Finds};
 ghost use Rattle.vs_scope.specs.Stacks as view;
 
 use crate::names::{Entry, Names};
+use vs_const::SignalShape;
 
 /// The value of the genvar that is declared at this place (12.4.1).
 #[derive(Clone, Copy)]
@@ -51,6 +53,34 @@ pub(crate) fn entry_at<'f, 'a>(
                 match frame.names.find(name) {
                     Some(e) => Some(e),
                     None => entry_at(frames, below(frame.parent, i), name),
+                }
+            } else {
+                None
+            }
+        }
+    }
+}
+
+/// The signal of this number among those that a call of the function of this name passes, in the scope of this number or in the innermost one around it
+/// that has the name (10.4.4).
+pub(crate) fn passed_at(
+    frames: &[Frame<'_>],
+    scope: Option<usize>,
+    name: &[u8],
+    number: u32,
+) -> Option<SignalShape>
+    requires { view.KeepShapes frames.now }
+    ensures { (e : spec.Entry) (f : FunctionMeaning) → spec.find_name (view.env_at (view.envs frames.now) scope).frames name.now ≡ Some e → e.declared ≡ spec.OfFunction (Some f)
+        → IsShapeIn result (slice_get f.passed number) }
+{
+    match scope {
+        None => None,
+        Some(i) => {
+            if i < frames.len() {
+                let frame = &frames[i];
+                match frame.names.find(name) {
+                    Some(_) => frame.names.passed(name, number),
+                    None => passed_at(frames, below(frame.parent, i), name, number),
                 }
             } else {
                 None

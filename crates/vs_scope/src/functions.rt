@@ -6,28 +6,28 @@ ghost use Rattle.vs_ast.specs.Views as view;
 ghost use Rattle.vs_const.specs.Faults.{least, fault_if};
 ghost use Rattle.vs_const.specs.declared.rules.Rule.TheVariants.{FunctionRule};
 ghost use Rattle.vs_const.specs.Meanings.{FunctionMeaning};
+ghost use Rattle.vs_const.specs.MentionViews.{kept, kept_of};
 ghost use Rattle.vs_elaborated.specs.Declarations as declarations;
 ghost use Rattle.vs_elaborated.specs.Environments as environment;
-ghost use Rattle.vs_elaborated.specs.Environments.{Env, inside_function};
+ghost use Rattle.vs_elaborated.specs.Environments.{within};
 ghost use Rattle.vs_elaborated.specs.Functions as spec;
 ghost use Rattle.vs_elaborated.specs.Limits.{the_limits};
-ghost use Rattle.vs_maps.specs.MapViews.{pairs};
-ghost use Rattle.vs_scope.specs.Complete.{IsIncomplete, KeepsShapes, function_declaration, shapes_in, shapes_of};
+ghost use Rattle.vs_scope.specs.Complete.{IsIncomplete, KeepsShapes, complete, function_declaration, shapes_in, shapes_of};
 ghost use Rattle.vs_scope.specs.Counts.{counted};
-ghost use Rattle.vs_scope.specs.Frames.{around_env, view_env};
+ghost use Rattle.vs_scope.specs.Frames.{around_env};
 ghost use Rattle.vs_scope.specs.Functions.{AreCompleted, IsCalled, IsOfParts, IsSaidFunction, IsSameScope, IsSaying, functions_in, is_incomplete};
 ghost use Rattle.vs_scope.specs.Seen.{HasShape};
 ghost use Rattle.vs_scope.specs.Shaped.{AreShaped, IsShaped};
 ghost use Rattle.vs_scope.specs.Views.{declaration, entries};
 
 use crate::counts::{Counts, one_more, together};
-use crate::inside::{Inside, SaidLocals, said_locals};
+use crate::inside::{Inside, SaidLocals, function_reads, said_locals};
 use crate::names::{Declaration, Declared, Entry, Names, Sort};
 use crate::places::{Around, View};
 use std::alloc::{AllocError, Global};
 use vs_ast::Function;
 use vs_bodies::{BodyKind, StatementSaid, check_statement};
-use vs_const::{Fault, FunctionShape, Rule, fault_if, first_of};
+use vs_const::{Fault, FunctionShape, Rule, SignalShape, fault_if, first_of};
 
 /// How many statements loops copy at most, those of all blocks and functions together.
 const MOST_COPIES: u32 = 1_048_576;
@@ -46,6 +46,13 @@ pub(crate) struct SaidFunction {
     pub(crate) copies: u32,
 }
 
+/// What a function says, and the signals of its module that it reads (10.4.4).
+#[derive(Drop)]
+pub(crate) struct ReadFunction {
+    pub(crate) said: SaidFunction,
+    pub(crate) reads: Vec<SignalShape>,
+}
+
 /// What functions say so far: the first rule that they break, and the counts then.
 #[derive(Clone, Copy)]
 pub(crate) struct SaidFunctions {
@@ -53,11 +60,12 @@ pub(crate) struct SaidFunctions {
     pub(crate) counts: Counts,
 }
 
-/// What a function's local signals say: how many of them are inputs, the range and the sign of its result, the first fault of their names and ranges,
-/// whether all ranges are known, and how many bits they have.
+/// What a function's local signals say: how many of them are inputs that it declares, and how many pass signals of its module, the range and the sign of its
+/// result, the first fault of their names and ranges, whether all ranges are known, and how many bits they have.
 #[derive(Clone, Copy)]
 pub(crate) struct SaidHeader {
     pub(crate) inputs: usize,
+    pub(crate) passed: usize,
     pub(crate) range: Option<vs_four::Range>,
     pub(crate) signed: bool,
     pub(crate) fault: Option<Fault>,
@@ -112,11 +120,13 @@ fn function_of(
     let size = size_fault(place, header.inputs, said.depth, header.bits);
     let fault = first_of(header.fault, first_of(said.fault, size));
     let inputs = input_count(header.inputs)?;
+    let passed = input_count(header.passed)?;
     let depth = call_depth(said.depth)?;
     Ok(SaidFunction {
         shape: FunctionShape {
             number,
             inputs,
+            passed,
             range: header.range,
             signed: header.signed,
             known: is_known(header.known, fault),
@@ -127,21 +137,32 @@ fn function_of(
     })
 }
 
-/// What a function says, by what is seen in it of its scope. `number` is its number in the design, and `most` says how many statements its loops may copy.
+/// What a function of a scope says, by the functions of the scope that are complete. `number` is its number in the design, and `most` says how many
+/// statements its loops may copy.
 ///
 /// Its faults are those of its local signals (`said_locals`), those of its statement (`vs_bodies::check_statement`), and `FunctionRule`, at its `function`: it
-/// has no input, calls nest over 64 deep in it, or its local signals have over 1,048,576 bits.
+/// declares no input, calls nest over 64 deep in it, or its local signals have over 1,048,576 bits, those among them that pass what it reads of its module.
 pub(crate) fn said_function<'a>(
     alloc: Global,
-    here: View<'_, 'a>,
-    scope: u32,
+    around: Around<'_, 'a>,
+    names: &Names<'a>,
     f: &'a Function,
     number: u32,
     most: u32,
-) -> Result<SaidFunction, AllocError>
-    requires { IsFunction (view.function f.now) }
-    ensures { (outer : Env) → view_env here.entry ≡ inside_function outer [] → IfOk result (λ r. IsSaidFunction r (spec.said_function number most scope outer (view.function f.now))) }
+) -> Result<ReadFunction, AllocError>
+    requires shaped { IsFunction (view.function f.now) }
+    requires kept { KeepsShapes (around_env around) names.now }
+    ensures said { IfOk result (λ r. IsSaidFunction r.said (spec.said_function number most names.now.scope (within (around_env around.entry) (complete (around_env around.entry) names.now)) (view.function f.now))) }
+    ensures reads { IfOk result (λ r. map kept r.reads.items ≡ map kept_of (spec.function_reads (within (around_env around.entry) (complete (around_env around.entry) names.now)) (view.function f.now))) }
 {
+    let reads = function_reads(alloc, around, names, f)?;
+    let here = View {
+        around,
+        names,
+        inside: None,
+        before: None,
+        in_function: true,
+    };
     let SaidLocals {
         locals,
         result_range,
@@ -149,9 +170,10 @@ pub(crate) fn said_function<'a>(
         fault,
         known,
         bits,
-    } = said_locals(alloc, &here, scope, f)?;
+    } = said_locals(alloc, &here, names.scope, f, reads.as_slice())?;
     let header = SaidHeader {
         inputs: locals.inputs,
+        passed: reads.len(),
         range: result_range,
         signed: result_signed,
         fault,
@@ -165,7 +187,8 @@ pub(crate) fn said_function<'a>(
         clocked: false,
     };
     let said = check_statement(alloc, &f.statement, kind, &inside, most)?;
-    function_of(f.place, number, header, said)
+    let whole = function_of(f.place, number, header, said)?;
+    Ok(ReadFunction { said: whole, reads })
 }
 
 /// Whether it is a function that isn't complete yet.
@@ -180,11 +203,16 @@ pub(crate) fn is_incomplete(d: &Declared<'_>) -> bool
 
 impl<'a> Names<'a> {
     /// What a call needs to know is kept of the function of this name, if its first declaration is a function that wasn't complete.
-    fn put_shape(&mut self, name: &'a [u8], shape: FunctionShape) -> Result<(), AllocError>
+    fn put_shape(
+        &mut self,
+        name: &'a [u8],
+        shape: FunctionShape,
+        reads: Vec<SignalShape>,
+    ) -> Result<(), AllocError>
         ensures entries { OnOk result (entries self.new ≡ entries self.old) }
         ensures rest { OnOk result (IsSameScope self.old self.new) }
-        ensures shapes { OnOk result ((es : List environment.Entry) (g : FunctionMeaning) → AreCompleted (entries self.old) es → shapes_in (pairs self.old.map) ≡ shapes_of es → HasShape shape g
-            → shapes_in (pairs self.new.map) ≡ shapes_of (spec.put_function name.now g es)) }
+        ensures shapes { OnOk result ((es : List environment.Entry) (g : FunctionMeaning) → AreCompleted (entries self.old) es → shapes_in self.old ≡ shapes_of es → HasShape shape g → map kept reads.items ≡ map kept_of g.passed
+            → shapes_in self.new ≡ shapes_of (spec.put_function name.now g es)) }
     {
         match self.map.get(name).copied() {
             None => Ok(()),
@@ -204,6 +232,7 @@ impl<'a> Names<'a> {
                             declared: Declared::Function(Some(shape)),
                         },
                     )?;
+                    self.reads.put(name, reads)?;
                 }
                 Ok(())
             }
@@ -215,12 +244,13 @@ impl<'a> Names<'a> {
         &mut self,
         f: &'a Function,
         shape: FunctionShape,
+        reads: Vec<SignalShape>,
     ) -> Result<(), AllocError>
         ensures called { OnOk result (IsCalled self.old self.new f.entry) }
-        ensures shapes { OnOk result ((es : List environment.Entry) (g : FunctionMeaning) → AreCompleted (entries self.old) es → shapes_in (pairs self.old.map) ≡ shapes_of es → HasShape shape g
-            → shapes_in (pairs self.new.map) ≡ shapes_of (spec.put_function (view.function f.now).name.bytes g es)) }
+        ensures shapes { OnOk result ((es : List environment.Entry) (g : FunctionMeaning) → AreCompleted (entries self.old) es → shapes_in self.old ≡ shapes_of es → HasShape shape g → map kept reads.items ≡ map kept_of g.passed
+            → shapes_in self.new ≡ shapes_of (spec.put_function (view.function f.now).name.bytes g es)) }
     {
-        self.put_shape(f.name.text.as_slice(), shape)?;
+        self.put_shape(f.name.text.as_slice(), shape, reads)?;
         self.functions.push(f)?;
         Ok(())
     }
@@ -242,16 +272,16 @@ fn say_function<'a>(
     ensures scope { OnOk result (names.new.scope ≡ names.old.scope) }
     ensures counts { OnOk result (names.new.counts ≡ names.old.counts) }
 {
-    let here = View {
-        around,
-        names: &*names,
-        inside: None,
-        before: None,
-        in_function: true,
-    };
     let left = MOST_COPIES.saturating_sub(said.counts.copies);
-    let one = said_function(alloc, here, names.scope, f, said.counts.functions, left)?;
-    names.put_function(f, one.shape)?;
+    let ReadFunction { said: one, reads } = said_function(
+        alloc,
+        around,
+        &*names,
+        f,
+        said.counts.functions,
+        left,
+    )?;
+    names.put_function(f, one.shape, reads)?;
     let copies = together(said.counts.copies, one.copies)?;
     let functions = one_more(said.counts.functions)?;
     let fault = first_of(said.fault, one.fault);

@@ -44,7 +44,8 @@ pub use inside::{Inside, Locals, SaidLocals, said_locals, within_function};
 pub use laws::{fair_law, shaped_law, survey_law};
 pub use made::{BlockName, Made, Nested};
 pub use names::{
-    Declaration, Declared, Entry, Evaluated, LocalSignal, Names, Parameter, Signal, Sort,
+    Declaration, Declared, Entry, Evaluated, LocalSignal, Names, Parameter, PassedInput, Signal,
+    Sort,
 };
 pub use parameters::Override;
 pub use places::{Around, View};

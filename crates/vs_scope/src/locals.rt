@@ -9,12 +9,13 @@ ghost use Rattle.vs_elaborated.specs.Uses.{is_variable_in, is_variable_among};
 ghost use Rattle.vs_maps.specs.Maps.{value_at};
 ghost use Rattle.vs_maps.specs.MapViews.{pairs};
 ghost use Rattle.vs_scope.specs.Locals.{local, place_of};
+ghost use Rattle.vs_bodies.specs.Layers.{AreLocals as AreDeclared};
 ghost use Rattle.vs_bodies.specs.Locals.{later_faults};
 ghost use Rattle.vs_scope.specs.OwnNames.{ArePlaces};
 
 use std::alloc::{AllocError, Global};
 use vs_ast::{BlockScope, CaseArm, Function, Name, Statement, ValueType, Variables};
-use vs_bodies::{is_variable_among, is_variable_in};
+use vs_bodies::{Local as Place, is_variable_among, is_variable_in};
 use vs_const::{Fault, Rule, fault_at, first_of};
 use vs_maps::NameMap;
 
@@ -299,6 +300,43 @@ fn own_names<'a>(alloc: Global, all: &[Local<'a>]) -> Result<OwnNames<'a>, Alloc
         fault = first_of(fault, found);
     }
     Ok(OwnNames { places, fault })
+}
+
+/// One name more, by where it is declared: of two of one name the first.
+fn add_place<'a>(places: &mut NameMap<'a, Place>, v: &Local<'a>) -> Result<(), AllocError>
+    ensures { OnOk result ((before : List statements.Local) → AreDeclared places.old before → AreDeclared places.new (before ++ local v.now ∷ [])) }
+{
+    let name = v.name.text.as_slice();
+    if places.get(name).is_some() {
+        return Ok(());
+    }
+    let place = Place {
+        place: v.name.place,
+    };
+    places.put(name, place)?;
+    Ok(())
+}
+
+/// Where each of these names is declared: of two of one name the first.
+fn places_of<'a>(alloc: Global, all: &[Local<'a>]) -> Result<NameMap<'a, Place>, AllocError>
+    ensures { IfOk result (λ m. AreDeclared m (map local all.now)) }
+{
+    let mut places = NameMap::new(alloc);
+    for v in all {
+        add_place(&mut places, v)?;
+    }
+    Ok(places)
+}
+
+/// The name space of this function, by where each name is declared.
+pub(crate) fn own_places<'a>(
+    alloc: Global,
+    f: &'a Function,
+) -> Result<NameMap<'a, Place>, AllocError>
+    ensures { IfOk result (λ m. AreDeclared m (spec.declared_locals (view.function f.now))) }
+{
+    let all = declared_locals(alloc, f)?;
+    places_of(alloc, all.as_slice())
 }
 
 /// The name space of this function.

@@ -11,7 +11,7 @@ ghost use Rattle.vs_maps.specs.MapViews.{pairs};
 use crate::counts::Counts;
 use std::alloc::Global;
 use vs_ast::{Expr, Function, Name, Parameters, Signals};
-use vs_const::{Constant, FunctionShape, Role};
+use vs_const::{Constant, FunctionShape, Role, SignalShape};
 use vs_four::Range;
 use vs_maps::NameMap;
 
@@ -132,11 +132,26 @@ pub struct Entry<'a> {
     pub declared: Declared<'a>,
 }
 
+/// An input that passes a signal of its module to a function (10.4.4). `signal` is the number of that signal, `number` and `first` are the number of the
+/// input and that of its first bit, among the function's local signals; `known` says that no fault leaves its range undefined.
+#[derive(Clone, Copy)]
+pub struct PassedInput {
+    pub signal: u32,
+    pub scope: u32,
+    pub number: u32,
+    pub range: Option<Range>,
+    pub signed: bool,
+    pub first: u64,
+    pub known: bool,
+}
+
 /// The names of a scope, in order of declaration. `scope` is its number, and `counts` are those before it. `functions` are those of its functions that
-/// are complete so far, in the order of the text; they see the first `plain` names, which are all but those of blocks.
+/// are complete so far, in the order of the text; they see the first `plain` names, which are all but those of blocks. `reads` are the signals of the module
+/// that each of them reads, by its name.
 #[derive(Drop)]
 pub struct Names<'a> {
     pub map: NameMap<'a, Entry<'a>>,
+    pub reads: NameMap<'a, Vec<SignalShape>>,
     pub scope: u32,
     pub counts: Counts,
     pub functions: Vec<&'a Function>,
@@ -144,7 +159,11 @@ pub struct Names<'a> {
 }
 
 impl<'a> Names<'a> {
-    ghost use Rattle.vs_scope.specs.Complete.{IsIncomplete};
+    ghost use Rattle.std.specs.Prelude.{slice_get};
+    ghost use Rattle.vs_const.specs.Meanings.{FunctionMeaning, IsShapeIn};
+    ghost use Rattle.vs_elaborated.specs.Environments as environment;
+    ghost use Rattle.vs_elaborated.specs.Environments.{Env};
+    ghost use Rattle.vs_scope.specs.Complete.{IsIncomplete, KeepsShapes, complete};
     ghost use Rattle.vs_scope.specs.Views.{entries, entry_of};
 
     /// The names of a scope of this number in which no expression stands: that of a named block.
@@ -155,6 +174,7 @@ impl<'a> Names<'a> {
     {
         Names {
             map: NameMap::new(alloc),
+            reads: NameMap::new(alloc),
             scope,
             counts: Counts {
                 copies: 0,
@@ -171,5 +191,16 @@ impl<'a> Names<'a> {
         ensures entry { MatchOption result (find_entry (entries self.now) name.now ≡ None) (λ e. find_entry (entries self.now) name.now ≡ Some (entry_of name.now e.now)) }
     {
         self.map.get(name)
+    }
+
+    /// The signal of this number among those that a call of the function of this name passes (10.4.4).
+    pub(crate) fn passed(&self, name: &[u8], number: u32) -> Option<SignalShape>
+        ensures { (outer : Env) (e : environment.Entry) (f : FunctionMeaning) → KeepsShapes outer self.now → find_entry (complete outer self.now) name.now ≡ Some e → e.declared ≡ environment.OfFunction (Some f)
+            → IsShapeIn result (slice_get f.passed number) }
+    {
+        match self.reads.get(name) {
+            None => None,
+            Some(list) => list.as_slice().get(number as usize).copied(),
+        }
     }
 }

@@ -4,10 +4,10 @@ ghost use Rattle.std.proofs.Props.{props};
 ghost use Rattle.vs_scope.specs.Complete.{KeepsShapes};
 ghost use Rattle.vs_scope.specs.Stacks.{KeepShapes, env_above, envs};
 
-use crate::frames::{Frame, Turn, below, entry_at, turn_at, value_or};
+use crate::frames::{Frame, Turn, below, entry_at, passed_at, turn_at, value_or};
 use crate::meanings::{function_means, genvar_meaning, no_signal, signal_means};
-use crate::names::{Declared, Entry, Evaluated, Names, Signal};
-use vs_const::{Env, Named, Rule};
+use crate::names::{Declared, Entry, Evaluated, Names};
+use vs_const::{Env, Named, Rule, SignalShape};
 
 /// What is around a scope: the scope that a generate block stands in, and the value of its loop. What the scopes keep of their functions is what those
 /// mean.
@@ -21,7 +21,7 @@ pub struct Around<'f, 'a> {
 
 /// A scope with what is around it, where an expression stands. `inside` is the value of a loop whose head is looked at, and `before` the place of
 /// the parameter that is evaluated: those declared from there on aren't used (12.2). `in_function` says that a function of the scope is around, which
-/// names no signal and no integer of its module (10.4.4).
+/// names no integer of its module (10.4.4).
 #[derive(Clone, Copy)]
 pub struct View<'f, 'a> {
     pub around: Around<'f, 'a>,
@@ -33,7 +33,8 @@ pub struct View<'f, 'a> {
 }
 
 impl<'f, 'a> Around<'f, 'a> {
-    ghost use Rattle.std.specs.Prelude.{◌≡◌, None, MatchOption};
+    ghost use Rattle.std.specs.Prelude.{◌≡◌, None, Some, MatchOption, slice_get};
+    ghost use Rattle.vs_const.specs.Meanings.{FunctionMeaning, IsShapeIn};
     ghost use Rattle.vs_elaborated.specs.Environments as spec;
     ghost use Rattle.vs_scope.specs.Frames.{around_env};
     ghost use Rattle.vs_scope.specs.Seen.{Finds};
@@ -46,6 +47,14 @@ impl<'f, 'a> Around<'f, 'a> {
         entry_at(self.frames, self.parent, name)
     }
 
+    /// The signal of this number among those that a call of the function of this name passes, in the innermost scope around that has the name.
+    fn passed(&self, name: &[u8], number: u32) -> Option<SignalShape>
+        ensures { (e : spec.Entry) (f : FunctionMeaning) → spec.find_name (around_env self.now).frames name.now ≡ Some e → e.declared ≡ spec.OfFunction (Some f)
+            → IsShapeIn result (slice_get f.passed number) }
+    {
+        passed_at(self.frames, self.parent, name, number)
+    }
+
     /// The value of the innermost loop of this genvar.
     fn turn(&self, genvar: u32) -> Option<u32>
         ensures { result ≡ spec.turn_of (around_env self.now).turns genvar }
@@ -56,13 +65,13 @@ impl<'f, 'a> Around<'f, 'a> {
 }
 
 impl<'f, 'a> View<'f, 'a> {
-    ghost use Rattle.std.specs.Prelude.{◌≡◌, ◌<◌, None, Some, MatchOption, length};
-    ghost use Rattle.vs_const.specs.Meanings.{Means};
+    ghost use Rattle.std.specs.Prelude.{◌≡◌, ◌<◌, false, None, Some, MatchOption, length};
+    ghost use Rattle.vs_const.specs.Meanings.{AFunction, FunctionMeaning, IsShapeIn, Means};
     ghost use Rattle.vs_elaborated.specs.Environments as spec;
     ghost use Rattle.vs_scope.specs.Frames as view;
-    ghost use Rattle.std.specs.Prelude.{ℕ};
+    ghost use Rattle.std.specs.Prelude.{ℕ, slice_get};
     ghost use Rattle.vs_scope.specs.Seen.{Finds, StandsFor};
-    ghost use Rattle.vs_scope.specs.Views.{evaluated, signal_meaning, unknown_signal};
+    ghost use Rattle.vs_scope.specs.Views.{evaluated};
 
     /// The scope of this number, as the expressions of its items see it.
     pub fn of(frames: &'f [Frame<'a>], number: usize) -> View<'f, 'a>
@@ -70,6 +79,7 @@ impl<'f, 'a> View<'f, 'a> {
         requires kept { view.KeepShapes frames.now }
         ensures is { view.view_env result ≡ view.env_at (view.envs frames.now) (Some number) }
         ensures inside { result.inside ≡ None }
+        ensures outside { result.in_function ≡ false }
     {
         let frame = &frames[number];
         View {
@@ -113,28 +123,6 @@ impl<'f, 'a> View<'f, 'a> {
         }
     }
 
-    /// What a signal of the scope means here: a function names none but its own.
-    fn signal(&self, s: &Signal<'_>) -> Named
-        ensures { Means result (spec.unless_outside (view.view_env self.now).in_function (signal_meaning s.now)) }
-    {
-        if self.in_function {
-            Named::Barred(Rule::FunctionRule)
-        } else {
-            signal_means(s)
-        }
-    }
-
-    /// What a signal means here of which nothing is known yet.
-    fn announced(&self) -> Named
-        ensures { Means result (spec.unless_outside (view.view_env self.now).in_function unknown_signal) }
-    {
-        if self.in_function {
-            Named::Barred(Rule::FunctionRule)
-        } else {
-            no_signal()
-        }
-    }
-
     /// The rule that an integer of the scope breaks where it is named outside of its loops.
     fn integer_rule(&self) -> Rule
         ensures { (scope : ℕ) → result ≡ spec.integer_rule (view.view_env self.now).in_function (Some scope) }
@@ -163,6 +151,16 @@ impl<'f, 'a> View<'f, 'a> {
         }
     }
 
+    /// The signal of this number among those that a call of the function of this name passes, in the innermost scope that has the name.
+    fn signal_passed(&self, name: &[u8], number: u32) -> Option<SignalShape>
+        ensures { (f : FunctionMeaning) → spec.named (view.view_env self.now) name.now ≡ AFunction f → IsShapeIn result (slice_get f.passed number) }
+    {
+        match self.names.find(name) {
+            Some(_) => self.names.passed(name, number),
+            None => self.around.passed(name, number),
+        }
+    }
+
     /// What a declaration means here.
     fn meaning(&self, e: &Entry<'_>) -> Named
         ensures { (d : spec.Declared) → StandsFor e.now.declared d → Means result (spec.declared_meaning (view.view_env self.now) e.now.first.name.now.place d) }
@@ -170,8 +168,8 @@ impl<'f, 'a> View<'f, 'a> {
         let place = e.first.name.place;
         match e.declared {
             Declared::Later => Named::Unknown,
-            Declared::Announced => self.announced(),
-            Declared::Signal(s) => self.signal(&s),
+            Declared::Announced => no_signal(),
+            Declared::Signal(s) => signal_means(&s),
             Declared::Parameter(value) => self.parameter(place, value),
             Declared::Function(f) => function_means(f),
             Declared::Genvar => genvar_meaning(self.turn(place)),
@@ -192,5 +190,9 @@ impl Env for View<'_, '_> {
             None => Named::Unknown,
             Some(e) => self.meaning(e),
         }
+    }
+
+    fn passed(&self, name: &[u8], number: u32) -> Option<SignalShape> {
+        self.signal_passed(name, number)
     }
 }

@@ -17,9 +17,7 @@ use Rattle.vs_design.specs.Sets.{Set4, is_only_one}
 use Rattle.vs_design.specs.Lifted.{Family}
 use Rattle.vs_design.specs.LiftedBodies.{item_sets}
 use Rattle.vs_design.specs.Sleepers.{at_once, arms_at_once}
-use Rattle.vs_flat.specs.Arena.{Arena}
 use Rattle.vs_sets.specs.Branches.{taken_arms}
-use Rattle.vs_sets.specs.StatementParts.{statement_of}
 use Rattle.vs_sets.specs.Matches.{are_within, items_at, branches_of}
 use Rattle.vs_sets.proofs.Fit.{and_left, and_right, and_both}
 
@@ -82,9 +80,9 @@ sure_step tree statement other arms k arm kind w s subject f h is sure =
     ap (λ xs. taken_arms (arms_at_once (R.arms_tree tree statement other xs)) kind w s subject f) (drop_more arms k arm h ∙ ap (λ x. x ∷ drop (k + 1) arms) (sym is))
     ∙ cond-true (list_any is_only_one (item_sets kind w s subject (items_of (map tree arm.items)) f)) _ _ sure
 
-pub branches_push : (a : Arena) (bs : List (Option ℕ)) (b : Option ℕ) → branches_of a (bs ++ b ∷ []) ≡ branches_of a bs ++ at_once (R.branch (statement_of a) b) ∷ []
-branches_push a [] b = refl
-branches_push a (c ∷ bs) b = ap (λ xs. at_once (R.branch (statement_of a) c) ∷ xs) (branches_push a bs b)
+pub branches_push : (st : ℕ → Statement) (bs : List (Option ℕ)) (b : Option ℕ) → branches_of st (bs ++ b ∷ []) ≡ branches_of st bs ++ at_once (R.branch st b) ∷ []
+branches_push st [] b = refl
+branches_push st (c ∷ bs) b = ap (λ xs. at_once (R.branch st c) ∷ xs) (branches_push st bs b)
 
 -- ---- the length of a case
 
@@ -119,6 +117,15 @@ width_at_once (Default s) w = refl
 pub sign_at_once : (arms : Arms) (s : Bool) → arms_sign (arms_at_once arms) s ≡ arms_sign arms s
 sign_at_once (Arm items t rest) s = sign_at_once rest (all_signed s items)
 sign_at_once (Default t) s = refl
+
+-- whatever its statements are
+pub width_of_arms : (tree : ℕ → Expression) (st next : ℕ → Statement) (other : Option ℕ) (arms : List F.Arm) (w : ℕ) → arms_width (R.arms_tree tree st other arms) w ≡ arms_width (R.arms_tree tree next other arms) w
+width_of_arms tree st next other [] w = refl
+width_of_arms tree st next other (arm ∷ arms) w = width_of_arms tree st next other arms (widest w (items_of (map tree arm.items)))
+
+pub sign_of_arms : (tree : ℕ → Expression) (st next : ℕ → Statement) (other : Option ℕ) (arms : List F.Arm) (s : Bool) → arms_sign (R.arms_tree tree st other arms) s ≡ arms_sign (R.arms_tree tree next other arms) s
+sign_of_arms tree st next other [] s = refl
+sign_of_arms tree st next other (arm ∷ arms) s = sign_of_arms tree st next other arms (all_signed s (items_of (map tree arm.items)))
 
 pub get_is : {A : Type 0} (xs : List A) (k : ℕ) (x : A) → k < length xs → x ≡ get_or xs k x → slice_get xs k ≡ Some x
 get_is [] k x h e = absurd (omega arith)

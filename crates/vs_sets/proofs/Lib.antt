@@ -21,3 +21,5 @@ pub mod FlagSteps
 pub mod WrittenBits
 pub mod Callees
 pub mod Arguments
+pub mod Completing
+pub mod LastArm

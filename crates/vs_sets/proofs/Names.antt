@@ -1,6 +1,6 @@
 -- What is named in a lawful flat design is there, and where the bits of signals are.
 use Rattle.std.proofs.Common.{◌≡◌, ℕ, zero, suc, ◌+◌, ◌<◌, ◌≤◌, Bool, true, false, List, [], ◌∷◌, length, map, take, drop, get_or, Option, Some, None, refl, sym, ap, ap₂, ◌∙◌, subst, arith, ◌⊎◌, inl, inr}
-use Rattle.std.specs.Prelude.{◌&&◌, ◌==◌, not, is_some, nat_lt, nat_le, slice_get, sum_by}
+use Rattle.std.specs.Prelude.{◌&&◌, ◌||◌, ◌==◌, not, is_some, nat_lt, nat_le, slice_get, sum_by}
 use Rattle.std.specs.List.{list_all}
 use Rattle.std.proofs.lemmas.Bool.Decides.{nat_tests}
 use Rattle.std.proofs.lemmas.List.Sums.{sum_by-cons}
@@ -110,7 +110,7 @@ local_ranges d h [] p = refl
 local_ranges d h (s ∷ ss) p =
     let own = and_left (is_local d h s) _ p in
     let scope = (s.scope == h.result.scope) && nat_lt s.scope (length d.scopes) in
-    let front = and_left (scope && is_lawful_range s.range) (not s.net) (and_left (scope && is_lawful_range s.range && not s.net) (not (is_memory s)) own) in
+    let front = and_left (scope && is_lawful_range s.range) (not s.net || s.input) (and_left (scope && is_lawful_range s.range && (not s.net || s.input)) (not (is_memory s)) own) in
     and_both (is_lawful_range s.range) _ (and_right scope (is_lawful_range s.range) front) (local_ranges d h ss (and_right (is_local d h s) _ p))
 
 function_at : (d : D.Design) (fs : List T.Function) (f : ℕ) (x : T.Function) → list_all (is_formed_function d) fs ≡ true → slice_get fs f ≡ Some x → is_formed_function d x ≡ true

@@ -9,8 +9,8 @@ use Rattle.std.proofs.lemmas.List.{drop_more}
 use Rattle.std.proofs.lemmas.List.Folds.{list_any-append}
 use Rattle.std.proofs.lemmas.Bool.{cond-true, cond-false}
 use Rattle.vs_design.specs.Footprints.{contains, statement_bits, arms_bits}
-use Rattle.vs_design.specs.Expressions.{Expression}
-use Rattle.vs_design.specs.Statements.{Statement, Empty, If, Arms}
+use Rattle.vs_design.specs.Expressions.{Expression, Items}
+use Rattle.vs_design.specs.Statements.{Statement, Empty, If, Arms, Arm, Default}
 use Rattle.vs_design.specs.Within.{items_within, statement_within, arms_within}
 use Rattle.vs_design.specs.Fits.{fits_statement, fits_arms}
 use Rattle.vs_four.specs.declared.Bit4.TheVariants.{X}
@@ -21,10 +21,13 @@ use Rattle.vs_design.specs.Sleepers.{at_once}
 use Rattle.vs_flat.specs.declared.statements.Arm as F
 use Rattle.vs_flat.specs.Arena.{Arena}
 use Rattle.vs_flat.specs.Trees as R
+use Rattle.vs_flat.specs.DesignOf.{design_of}
+use Rattle.vs_design.proofs.Completed.{completed_bits}
 use Rattle.vs_sets.specs.Branches.{replaced, branch_sets}
 use Rattle.vs_sets.specs.Matches.{branches_of, IsOneOf, IsEither}
 use Rattle.vs_sets.specs.StatementParts.{BranchBelow, ArmsBelow, BranchFacts, Covers, EachRuns, statement_of, arms_of}
 use Rattle.vs_sets.specs.Nodes.{tree_of}
+use Rattle.vs_sets.specs.Completing.{IsNext, done}
 use Rattle.vs_sets.proofs.Fit.{and_left, and_right}
 use Rattle.vs_sets.proofs.BranchSteps.{union_same, or_true}
 use Rattle.vs_sets.proofs.Unwritten.{body_other, branch_sets-append}
@@ -140,45 +143,108 @@ covered_or_not bits b s c h = at (contains (statement_bits s) b) refl where
   at false e = e
 
 -- a bit that no branch writes keeps its set, where there is a branch
-branches_other : (a : Arena) (count n : ℕ) (bits : List ℕ) (bs : List (Option ℕ)) (f : Family) (b : ℕ) → All (BranchFacts a count n bits) bs → 1 ≤ length bs → contains bits b ≡ false → branch_sets (branches_of a bs) f b ≡ f b
-branches_other a count n bits [] f b h some absent = absurd (omega arith)
-branches_other a count n bits (x ∷ []) f b h some absent =
-    let here = body_other (R.branch (statement_of a) x) f b (covered_or_not bits b (R.branch (statement_of a) x) (h 0 x (omega arith)).covers absent) in
-    Rattle.vs_sets.proofs.BranchSteps.union_none (lifted_body (at_once (R.branch (statement_of a) x)) f b) ∙ here
-branches_other a count n bits (x ∷ y ∷ bs) f b h some absent =
-    let here = body_other (R.branch (statement_of a) x) f b (covered_or_not bits b (R.branch (statement_of a) x) (h 0 x (omega arith)).covers absent) in
-    ap₂ union here (branches_other a count n bits (y ∷ bs) f b (λ k d i. h (suc k) d (omega (arith, i))) (omega arith) absent) ∙ union_same (f b)
+abbrev AreCovered : (ℕ → Statement) → List ℕ → List (Option ℕ) → Type 0
+AreCovered st bits bs = All (λ x. Covers bits (R.branch st x)) bs
+
+branches_other : (st : ℕ → Statement) (bits : List ℕ) (bs : List (Option ℕ)) (f : Family) (b : ℕ) → AreCovered st bits bs → 1 ≤ length bs → contains bits b ≡ false → branch_sets (branches_of st bs) f b ≡ f b
+branches_other st bits [] f b h some absent = absurd (omega arith)
+branches_other st bits (x ∷ []) f b h some absent =
+    let here = body_other (R.branch st x) f b (covered_or_not bits b (R.branch st x) (h 0 x (omega arith)) absent) in
+    Rattle.vs_sets.proofs.BranchSteps.union_none (lifted_body (at_once (R.branch st x)) f b) ∙ here
+branches_other st bits (x ∷ y ∷ bs) f b h some absent =
+    let here = body_other (R.branch st x) f b (covered_or_not bits b (R.branch st x) (h 0 x (omega arith)) absent) in
+    ap₂ union here (branches_other st bits (y ∷ bs) f b (λ k d i. h (suc k) d (omega (arith, i))) (omega arith) absent) ∙ union_same (f b)
 
 -- what is put back is as before
-pub back : (a : Arena) (count n : ℕ) (bits : List ℕ) (bs : List (Option ℕ)) (f : Family) → All (BranchFacts a count n bits) bs → 1 ≤ length bs → replaced bits f (branch_sets (branches_of a bs) f) ≡ f
-back a count n bits bs f h some = fun_ext (λ b. at b (contains bits b) refl) where
-  at : (b : ℕ) (k : Bool) → contains bits b ≡ k → (if contains bits b then f b else branch_sets (branches_of a bs) f b) ≡ f b
+pub back : (st : ℕ → Statement) (bits : List ℕ) (bs : List (Option ℕ)) (f : Family) → AreCovered st bits bs → 1 ≤ length bs → replaced bits f (branch_sets (branches_of st bs) f) ≡ f
+back st bits bs f h some = fun_ext (λ b. at b (contains bits b) refl) where
+  at : (b : ℕ) (k : Bool) → contains bits b ≡ k → (if contains bits b then f b else branch_sets (branches_of st bs) f b) ≡ f b
   at b true e = cond-true (contains bits b) _ _ e
-  at b false e = cond-false (contains bits b) _ _ e ∙ branches_other a count n bits bs f b h some e
+  at b false e = cond-false (contains bits b) _ _ e ∙ branches_other st bits bs f b h some e
 
 -- and what is united is the union
-pub both : (a : Arena) (count n : ℕ) (bits : List ℕ) (bs cs : List (Option ℕ)) (f : Family) → All (BranchFacts a count n bits) bs → 1 ≤ length bs → All (BranchFacts a count n bits) cs → 1 ≤ length cs
-    → replaced bits (either (branch_sets (branches_of a bs) f) (branch_sets (branches_of a cs) f)) (branch_sets (branches_of a cs) f) ≡ either (branch_sets (branches_of a bs) f) (branch_sets (branches_of a cs) f)
-both a count n bits bs cs f h some i others = fun_ext (λ b. at b (contains bits b) refl) where
+pub both : (st : ℕ → Statement) (bits : List ℕ) (bs cs : List (Option ℕ)) (f : Family) → AreCovered st bits bs → 1 ≤ length bs → AreCovered st bits cs → 1 ≤ length cs
+    → replaced bits (either (branch_sets (branches_of st bs) f) (branch_sets (branches_of st cs) f)) (branch_sets (branches_of st cs) f) ≡ either (branch_sets (branches_of st bs) f) (branch_sets (branches_of st cs) f)
+both st bits bs cs f h some i others = fun_ext (λ b. at b (contains bits b) refl) where
   at : (b : ℕ) (k : Bool) → contains bits b ≡ k
-      → (if contains bits b then either (branch_sets (branches_of a bs) f) (branch_sets (branches_of a cs) f) b else branch_sets (branches_of a cs) f b) ≡ either (branch_sets (branches_of a bs) f) (branch_sets (branches_of a cs) f) b
+      → (if contains bits b then either (branch_sets (branches_of st bs) f) (branch_sets (branches_of st cs) f) b else branch_sets (branches_of st cs) f b) ≡ either (branch_sets (branches_of st bs) f) (branch_sets (branches_of st cs) f) b
   at b true e = cond-true (contains bits b) _ _ e
   at b false e =
-      let x = branches_other a count n bits bs f b h some e in
-      let y = branches_other a count n bits cs f b i others e in
+      let x = branches_other st bits bs f b h some e in
+      let y = branches_other st bits cs f b i others e in
       cond-false (contains bits b) _ _ e ∙ y ∙ sym (union_same (f b)) ∙ ap₂ union (sym x) (sym y)
 
-pub branches_append : (a : Arena) (bs cs : List (Option ℕ)) → branches_of a (bs ++ cs) ≡ branches_of a bs ++ branches_of a cs
-branches_append a [] cs = refl
-branches_append a (b ∷ bs) cs = ap (λ xs. at_once (R.branch (statement_of a) b) ∷ xs) (branches_append a bs cs)
+pub branches_append : (st : ℕ → Statement) (bs cs : List (Option ℕ)) → branches_of st (bs ++ cs) ≡ branches_of st bs ++ branches_of st cs
+branches_append st [] cs = refl
+branches_append st (b ∷ bs) cs = ap (λ xs. at_once (R.branch st b) ∷ xs) (branches_append st bs cs)
 
-pub join_is : (a : Arena) (count n : ℕ) (bits : List ℕ) (all left right : List (Option ℕ)) (f t1 t2 t3 t4 : Family) → left ++ right ≡ all → All (BranchFacts a count n bits) left → 1 ≤ length left → All (BranchFacts a count n bits) right → 1 ≤ length right
-    → t1 ≡ branch_sets (branches_of a left) f → t2 ≡ replaced bits f t1 → t3 ≡ branch_sets (branches_of a right) t2 → t4 ≡ replaced bits (either t1 t3) t3 → t4 ≡ branch_sets (branches_of a all) f
-join_is a count n bits all left right f t1 t2 t3 t4 e h some i others p q r s =
-    let back_is : t2 ≡ f = q ∙ ap (replaced bits f) p ∙ back a count n bits left f h some in
-    let second : t3 ≡ branch_sets (branches_of a right) f = r ∙ ap (branch_sets (branches_of a right)) back_is in
-    s ∙ ap₂ (λ x y. replaced bits (either x y) y) p second ∙ both a count n bits left right f h some i others
-    ∙ sym (branch_sets-append (branches_of a left) (branches_of a right) f) ∙ ap (λ bs. branch_sets bs f) (sym (branches_append a left right)) ∙ ap (λ bs. branch_sets (branches_of a bs) f) e
+pub join_is : (st : ℕ → Statement) (bits : List ℕ) (all left right : List (Option ℕ)) (f t1 t2 t3 t4 : Family) → left ++ right ≡ all → AreCovered st bits left → 1 ≤ length left → AreCovered st bits right → 1 ≤ length right
+    → t1 ≡ branch_sets (branches_of st left) f → t2 ≡ replaced bits f t1 → t3 ≡ branch_sets (branches_of st right) t2 → t4 ≡ replaced bits (either t1 t3) t3 → t4 ≡ branch_sets (branches_of st all) f
+join_is st bits all left right f t1 t2 t3 t4 e h some i others p q r s =
+    let back_is : t2 ≡ f = q ∙ ap (replaced bits f) p ∙ back st bits left f h some in
+    let second : t3 ≡ branch_sets (branches_of st right) f = r ∙ ap (branch_sets (branches_of st right)) back_is in
+    s ∙ ap₂ (λ x y. replaced bits (either x y) y) p second ∙ both st bits left right f h some i others
+    ∙ sym (branch_sets-append (branches_of st left) (branches_of st right) f) ∙ ap (λ bs. branch_sets bs f) (sym (branches_append st left right)) ∙ ap (λ bs. branch_sets (branches_of st bs) f) e
+
+-- ---- completed statements
+
+-- a completed branch writes no more than the branch
+pub done_covers : (complete : Bool) (a : Arena) (bits : List ℕ) (b : Option ℕ) → Covers bits (R.branch (statement_of a) b) → Covers bits (R.branch (done complete a) b)
+done_covers complete a bits None h = h
+done_covers true a bits (Some s) h = λ b k. h b (completed_bits (design_of a) (statement_of a s) b k)
+done_covers false a bits (Some s) h = h
+
+-- a default that the arms of a case then have is one of these branches, or none
+pub default_facts : (a : Arena) (count nodes n : ℕ) (bits : List ℕ) (arms : List F.Arm) (other next : Option ℕ) → ArmsBelow nodes n arms → BranchBelow n other → fits_arms (arms_of a other arms) ≡ true → arms_within count (arms_of a other arms) ≡ true
+    → ((b : ℕ) → contains (arms_bits (arms_of a other arms)) b ≡ true → contains bits b ≡ true) → IsNext arms other next → (b : Option ℕ) → IsOneOf arms next b → BranchFacts a count n bits b
+default_facts a count nodes n bits arms other next below otherwise fit within covers (inl none) b (inl e) =
+    subst (BranchFacts a count n bits) (sym (e ∙ none)) (record { earlier = tt; fits = refl; within = refl; covers = nothing_covered bits })
+default_facts a count nodes n bits arms other next below otherwise fit within covers (inr i) b (inl e) =
+    subst (BranchFacts a count n bits) (sym e) (case_facts a count nodes n bits arms other below otherwise fit within covers next i)
+default_facts a count nodes n bits arms other next below otherwise fit within covers one b (inr i) = case_facts a count nodes n bits arms other below otherwise fit within covers b (inr i)
+
+pub all_covered : (complete : Bool) (a : Arena) (count n : ℕ) (bits : List ℕ) (bs : List (Option ℕ)) → All (BranchFacts a count n bits) bs → AreCovered (done complete a) bits bs
+all_covered complete a count n bits bs h = all_facts (BranchFacts a count n bits) (λ x. Covers bits (R.branch (done complete a) x)) bs (λ x p. done_covers complete a bits x p.covers) h
+
+-- what holds of all statements of a case's arms
+module _ (tree : ℕ → Expression) (st : ℕ → Statement) (items : Items → Bool) (holds : Statement → Bool) (all : Arms → Bool)
+    (at_arm : (i : Items) (s : Statement) (rest : Arms) → all (Arm i s rest) ≡ (items i && holds s && all rest)) (at_default : (s : Statement) → all (Default s) ≡ holds s) (at_nothing : holds Empty ≡ true) where
+  arm_holds : (other : Option ℕ) (arms : List F.Arm) → all (R.arms_tree tree st other arms) ≡ true → (k : ℕ) (arm : F.Arm) → slice_get arms k ≡ Some arm → holds (st arm.statement) ≡ true
+  arm_holds other [] h k arm e = absurd (let z : ⊥ = cc in z)
+  arm_holds other (x ∷ arms) h zero arm e =
+      let same : x ≡ arm = cc in
+      let here = and_left (items (items_of (map tree x.items)) && holds (st x.statement)) (all (R.arms_tree tree st other arms)) (sym (at_arm (items_of (map tree x.items)) (st x.statement) (R.arms_tree tree st other arms)) ∙ h) in
+      subst (λ (y : F.Arm). holds (st y.statement) ≡ true) same (and_right (items (items_of (map tree x.items))) (holds (st x.statement)) here)
+  arm_holds other (x ∷ arms) h (suc k) arm e =
+      arm_holds other arms (and_right (items (items_of (map tree x.items)) && holds (st x.statement)) (all (R.arms_tree tree st other arms)) (sym (at_arm (items_of (map tree x.items)) (st x.statement) (R.arms_tree tree st other arms)) ∙ h)) k arm e
+
+  other_holds : (other : Option ℕ) (arms : List F.Arm) → all (R.arms_tree tree st other arms) ≡ true → holds (R.branch st other) ≡ true
+  other_holds other [] h = sym (at_default (R.branch st other)) ∙ h
+  other_holds other (x ∷ arms) h =
+      other_holds other arms (and_right (items (items_of (map tree x.items)) && holds (st x.statement)) (all (R.arms_tree tree st other arms)) (sym (at_arm (items_of (map tree x.items)) (st x.statement) (R.arms_tree tree st other arms)) ∙ h))
+
+  with_next : (other next : Option ℕ) (arms : List F.Arm) → all (R.arms_tree tree st other arms) ≡ true → holds (R.branch st next) ≡ true → all (R.arms_tree tree st next arms) ≡ true
+  with_next other next [] h k = at_default (R.branch st next) ∙ k
+  with_next other next (x ∷ arms) h k =
+      let here = items (items_of (map tree x.items)) && holds (st x.statement) in
+      let parts = sym (at_arm (items_of (map tree x.items)) (st x.statement) (R.arms_tree tree st other arms)) ∙ h in
+      at_arm (items_of (map tree x.items)) (st x.statement) (R.arms_tree tree st next arms)
+      ∙ Rattle.vs_sets.proofs.Fit.and_both here (all (R.arms_tree tree st next arms)) (and_left here (all (R.arms_tree tree st other arms)) parts) (with_next other next arms (and_right here (all (R.arms_tree tree st other arms)) parts) k)
+
+  -- holds with a default that the case may have
+  next_holds : (other next : Option ℕ) (arms : List F.Arm) → IsNext arms other next → all (R.arms_tree tree st other arms) ≡ true → all (R.arms_tree tree st next arms) ≡ true
+  next_holds other next arms one h = with_next other next arms h (here one)
+    where
+      here : IsNext arms other next → holds (R.branch st next) ≡ true
+      here (inl e) = ap (λ b. holds (R.branch st b)) e ∙ at_nothing
+      here (inr (inl e)) = ap (λ b. holds (R.branch st b)) e ∙ other_holds other arms h
+      here (inr (inr i)) = ap (λ b. holds (R.branch st b)) i.3 ∙ arm_holds other arms h i.0 i.1 i.2
+
+pub next_fits : (a : Arena) (arms : List F.Arm) (other next : Option ℕ) → IsNext arms other next → fits_arms (arms_of a other arms) ≡ true → fits_arms (arms_of a next arms) ≡ true
+next_fits a arms other next one h = next_holds (tree_of a) (statement_of a) fit_items fits_statement fits_arms (λ i s rest. refl) (λ s. refl) refl other next arms one h
+
+pub next_within : (a : Arena) (count : ℕ) (arms : List F.Arm) (other next : Option ℕ) → IsNext arms other next → arms_within count (arms_of a other arms) ≡ true → arms_within count (arms_of a next arms) ≡ true
+next_within a count arms other next one h = next_holds (tree_of a) (statement_of a) (items_within count) (statement_within count) (arms_within count) (λ i s rest. refl) (λ s. refl) refl other next arms one h
 
 pub All_same : {A : Type 0} (P : A → Type 0) (xs ys : List A) → xs ≡ ys → All P xs → All P ys
 All_same {A} P xs ys e h = subst (λ (zs : List A). All P zs) e h

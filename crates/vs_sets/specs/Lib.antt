@@ -13,6 +13,7 @@ pub mod TargetsOf
 pub mod Branches
 pub mod StatementParts
 pub mod Matches
+pub mod Completing
 pub mod Laws
 pub mod Twice
 pub mod Flags

@@ -5,17 +5,15 @@ use Rattle.vs_design.specs.Expressions.{Expression, width}
 use Rattle.vs_design.specs.Statements.{Statement}
 use Rattle.vs_design.specs.Sleepers.{at_once}
 use Rattle.vs_flat.specs.declared.statements.Arm.{Arm}
-use Rattle.vs_flat.specs.Arena.{Arena}
 use Rattle.vs_flat.specs.Trees.{branch}
-use Rattle.vs_sets.specs.StatementParts.{statement_of}
 
 -- each expression has at most so many bits
 abbrev pub are_within : ℕ → List Expression → Bool
 are_within w es = list_all (λ e. nat_le (width e) w) es
 
--- the branches with these numbers, each `<=` taken as a `=`
-abbrev pub branches_of : Arena → List (Option ℕ) → List Statement
-branches_of a bs = map (λ b. at_once (branch (statement_of a) b)) bs
+-- the branches with these numbers, by what the statements are, each `<=` taken as a `=`
+abbrev pub branches_of : (ℕ → Statement) → List (Option ℕ) → List Statement
+branches_of st bs = map (λ b. at_once (branch st b)) bs
 
 -- the items of arm k
 abbrev pub items_at : List Arm → ℕ → List ℕ

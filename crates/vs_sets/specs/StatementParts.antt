@@ -41,8 +41,12 @@ statement_of a s = R.statement_at (arena_statements a) s
 abbrev pub place_of_statement : A.Arena → ℕ → ℕ
 place_of_statement a s = unwrap_or (A.statement_place a s) 0
 
+-- the tree of a statement's node, where its parts have these
+abbrev pub tree_with : A.Arena → (ℕ → T.Statement) → ℕ → Statement → T.Statement
+tree_with a st place s = R.statement_tree (tree_of a) st place s
+
 abbrev pub statement_of_node : A.Arena → ℕ → Statement → T.Statement
-statement_of_node a place s = R.statement_tree (tree_of a) (statement_of a) place s
+statement_of_node a place s = tree_with a (statement_of a) place s
 
 abbrev pub arms_of : A.Arena → Option ℕ → List Arm → T.Arms
 arms_of a other arms = R.arms_tree (tree_of a) (statement_of a) other arms

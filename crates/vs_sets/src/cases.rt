@@ -1,6 +1,6 @@
 //! Which arms of a case may be taken (IEEE 1364-2005, 9.5).
 
-ghost use Rattle.std.specs.Prelude.{◌≡◌, ◌≤◌, ◌<◌, ◌+◌, ℕ, length, map, true, false, max, IfOk, All};
+ghost use Rattle.std.specs.Prelude.{◌≡◌, ◌≤◌, ◌<◌, ◌+◌, ℕ, length, map, true, false, max, if◌then◌else◌, Some, IfOk, All};
 ghost use Rattle.std.specs.List.{list_any};
 ghost use Rattle.vs_design.specs.Expressions as E;
 ghost use Rattle.vs_design.specs.Statements as T;
@@ -9,24 +9,30 @@ ghost use Rattle.vs_design.specs.Lifted as L;
 ghost use Rattle.vs_design.specs.Expressions.{items_of};
 ghost use Rattle.vs_design.specs.LiftedBodies.{match_bit, item_sets, lifted_body};
 ghost use Rattle.vs_design.specs.Sets.{Set4 as SetOf, is_only_one};
+ghost use Rattle.vs_design.specs.Footprints.{contains, read_bits};
+ghost use Rattle.vs_design.specs.Selects.{arms_constant};
 ghost use Rattle.vs_design.specs.Sleepers.{arms_at_once};
 ghost use Rattle.vs_design.specs.Within.{items_within, arms_within, names_within};
 ghost use Rattle.vs_sets.specs.BitOperators.{operator_of};
 ghost use Rattle.vs_sets.specs.Branches.{branch_sets, taken_arms};
+ghost use Rattle.vs_flat.specs.Trees.{arms_tree};
+ghost use Rattle.vs_sets.specs.Completing.{last_arm};
 ghost use Rattle.vs_sets.specs.Matches.{IsOneOf, are_within, branches_of, items_at};
 ghost use Rattle.vs_sets.specs.Nodes.{EachBelow, tree_of};
 ghost use Rattle.vs_sets.specs.StatementParts.{ArmsBelow, arms_of};
-ghost use Rattle.vs_sets.specs.Tables.{family_of};
+ghost use Rattle.vs_sets.specs.Tables.{family_of, known_of};
 
 use crate::SetList;
 use crate::bits::BitOperator;
 use crate::bitwise::set_match;
 use crate::contexts::{case_context, own_context};
 use crate::lifter::Lifter;
-use std::alloc::AllocError;
+use crate::set4::Set4;
+use std::alloc::{AllocError, Global};
 use vs_base::{CaseKind, Context};
-use vs_flat::Arm;
+use vs_flat::{Arm, names_law};
 use vs_four::Bit4;
+use vs_shape::Shapes;
 
 /// Whether an arm is surely taken where the case comes to it, and whether it may be.
 #[derive(Clone, Copy, Debug)]
@@ -101,7 +107,7 @@ fn taken_arms(
     requires many { length subject.now ≡ context.width }
     ensures some { IfOk result (λ v. 1 ≤ length v.items) }
     ensures from { IfOk result (λ v. All (IsOneOf arms.now other) v.items) }
-    ensures taken { IfOk result (λ v. branches_of lifter.now.shapes.now v.items ≡ taken_arms (arms_at_once (arms_of lifter.now.shapes.now other arms.now)) kind context.width context.signed subject.now (family_of lifter.now.table.now)) }
+    ensures taken { (st : ℕ → T.Statement) → IfOk result (λ v. branches_of st v.items ≡ taken_arms (arms_at_once (arms_tree (tree_of lifter.now.shapes.now) st other arms.now)) kind context.width context.signed subject.now (family_of lifter.now.table.now)) }
 {
     let mut taken = Vec::new(lifter.alloc);
     for arm in arms {
@@ -137,9 +143,61 @@ pub(crate) fn case_branches(
     requires fit { fits_arms (arms_of lifter.now.shapes.now other arms.now) ≡ true }
     ensures some { IfOk result (λ v. 1 ≤ length v.items) }
     ensures from { IfOk result (λ v. All (IsOneOf arms.now other) v.items) }
-    ensures taken { IfOk result (λ v. branch_sets (branches_of lifter.now.shapes.now v.items) (family_of lifter.now.table.now) ≡ lifted_body (T.Case kind (tree_of lifter.now.shapes.now of) (arms_at_once (arms_of lifter.now.shapes.now other arms.now))) (family_of lifter.now.table.now)) }
+    ensures taken { (st : ℕ → T.Statement) → IfOk result (λ v. branch_sets (branches_of st v.items) (family_of lifter.now.table.now) ≡ lifted_body (T.Case kind (tree_of lifter.now.shapes.now of) (arms_at_once (arms_tree (tree_of lifter.now.shapes.now) st other arms.now))) (family_of lifter.now.table.now)) }
 {
     let context = case_context(lifter.shapes, own_context(lifter.shapes, of), arms, other);
     let subject = lifter.lifted(of, context)?;
     taken_arms(lifter, nodes, kind, context, &subject, arms, other)
+}
+
+/// This arm's statement where it may be taken, or else the last one before.
+fn with_arm(last: Option<u32>, may: bool, statement: u32) -> Option<u32>
+    ensures { result ≡ (if may then Some statement else last) }
+{
+    if may { Some(statement) } else { last }
+}
+
+/// The statement of the last arm of a case that its expression can take where the bits that it reads are 0 or 1, by a table of bits that are; none where there is no such arm. Its items are constant.
+pub fn last_arm(
+    alloc: Global,
+    shapes: &Shapes,
+    known: &[Set4],
+    kind: CaseKind,
+    of: u32,
+    arms: &[Arm],
+    other: Option<u32>,
+) -> Result<Option<u32>, AllocError>
+    requires known { known_of known.now }
+    requires reads { (b : ℕ) → contains (read_bits (tree_of shapes.now of)) b ≡ true → b < length known.now }
+    requires constant { arms_constant (arms_of shapes.now other arms.now) ≡ true }
+    requires of_there { of < length shapes.now.nodes }
+    requires there { ArmsBelow (length shapes.now.nodes) (length shapes.now.statements) arms.now }
+    requires of_within { names_within (length known.now) (tree_of shapes.now of) ≡ true }
+    requires names { arms_within (length known.now) (arms_of shapes.now other arms.now) ≡ true }
+    requires of_fit { is_fit (tree_of shapes.now of) ≡ true }
+    requires fit { fits_arms (arms_of shapes.now other arms.now) ≡ true }
+    ensures { IfOk result (λ o. o ≡ last_arm shapes.now kind of arms.now other) }
+{
+    names_law();
+    let nodes = shapes.flat().expr_count();
+    let lifter = Lifter {
+        alloc,
+        shapes,
+        table: known,
+    };
+    let context = case_context(shapes, own_context(shapes, of), arms, other);
+    let subject = lifter.lifted(of, context)?;
+    let mut last = None;
+    for arm in arms {
+        let found = match_items(
+            &lifter,
+            nodes,
+            kind,
+            context,
+            &subject,
+            arm.items.as_slice(),
+        )?;
+        last = with_arm(last, found.may, arm.statement);
+    }
+    Ok(last)
 }

@@ -8,6 +8,7 @@ mod branches;
 mod calls;
 mod cases;
 mod contexts;
+mod defaults;
 mod flags;
 mod folds;
 mod laws;
@@ -27,7 +28,9 @@ mod words;
 
 pub use bodies::{run, statement_node};
 pub use branches::{put_back, sets_of};
+pub use cases::last_arm;
 pub use contexts::{case_context, own_context};
+pub use defaults::Defaults;
 pub use laws::at_once_law;
 pub use lifter::{Span, named_span, span_of};
 pub use list::SetList;

@@ -25,6 +25,7 @@ use crate::bitwise::set_choose;
 use crate::bodies::Runner;
 use crate::calls::{Callee, called, local_span};
 use crate::contexts::own_context;
+use crate::defaults::Defaults;
 use crate::folds::{all_of, set_or, variable};
 use crate::lifter::Lifter;
 use crate::lifts::{Lift, set_lift};
@@ -396,11 +397,17 @@ impl Lifter<'_> {
         ensures { OnOk result (family_of local.new ≡ L.lifted_body (function_of self.now.shapes.now function).statement (L.argument_sets (arguments_of self.now.shapes.now arguments.now) (function_of self.now.shapes.now function).header.inputs (family_of self.now.table.now) (family_of local.old))) }
     {
         self.put_arguments(e, function, arguments, local)?;
+        let none: [Option<u32>; 0] = [];
+        let written = Defaults {
+            complete: false,
+            others: &none,
+        };
         let runner = Runner {
             alloc: self.alloc,
             shapes: self.shapes,
             nodes: callee.nodes,
             bits: callee.writes.as_slice(),
+            defaults: &written,
         };
         runner.run(callee.statement, local)
     }

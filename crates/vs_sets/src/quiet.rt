@@ -11,6 +11,7 @@ ghost use Rattle.vs_sets.specs.Tables.{family_of};
 
 use crate::Set4;
 use crate::bodies::run;
+use crate::defaults::Defaults;
 use crate::table::{are_only_x, fill};
 use std::alloc::{AllocError, Global};
 use vs_four::Bit4;
@@ -33,7 +34,12 @@ pub fn leaves_x(
     ensures stays { IfOk result (λ r. r ≡ stays_x (statement_of shapes.now s)) }
     ensures after { OnOk result (family_of table.new ≡ (λ c. only X)) }
 {
-    run(alloc, shapes, s, bits, table)?;
+    let none: [Option<u32>; 0] = [];
+    let written = Defaults {
+        complete: false,
+        others: &none,
+    };
+    run(alloc, shapes, &written, s, bits, table)?;
     let unknown = are_only_x(table, bits);
     fill(table, bits, Set4::only(Bit4::X));
     Ok(unknown)

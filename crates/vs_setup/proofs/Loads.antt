@@ -3,6 +3,7 @@ use Rattle.std.proofs.Common.{◌≡◌, ℕ, Bool, Some, List, sym, subst, ap, 
 use Rattle.vs_design.specs.Clocks.{clock_bits}
 use Rattle.vs_design.specs.Expressions.{Signal}
 use Rattle.vs_design.specs.Designs.{Design}
+use Rattle.vs_design.specs.Resets.{reset_inputs}
 use Rattle.vs_design.specs.Accepted.{IsAcceptedDesign}
 use Rattle.vs_flat.specs.DesignOf.{design_of}
 use Rattle.vs_clock.specs.Clocked.{Clocked, AreClocksOf}
@@ -30,7 +31,7 @@ outputs_named one {text = text} {top = top} accepted a h =
 
 -- the ports of an accepted text
 pub ports_named : (demanded : Bool) (text : List ℕ) (top : Option (List ℕ)) (clocks : List (List ℕ)) (a : Acceptance) (ports : PortLists) → OneReading → (accepted : IsAcceptedText text top clocks (design_of a.flat))
-    → HaveOutputs text top a → IsAcceptance clocks a → ports.inputs ≡ inputs_among a.clocks.reset_inputs a.clocks.bits (design_of a.flat).signals
+    → HaveOutputs text top a → IsAcceptance clocks a → ports.inputs ≡ inputs_among a.clocks.reset_inputs a.selects a.clocks.bits (design_of a.flat).signals
     → ports.outputs ≡ outputs_among a.outputs (design_of a.flat).signals → ports.demanded ≡ demanded → ports ≡ ports_with demanded accepted
 ports_named demanded text top clocks a ports one accepted have lent inputs_are outputs_are demanded_is = λ i. record { inputs = named i; outputs = outputs_is i; demanded = demanded_is i }
   where
@@ -43,7 +44,8 @@ ports_named demanded text top clocks a ports one accepted have lent inputs_are o
     named : ports.inputs ≡ data_inputs d (clock_bits accepted.accepted.clocks)
     named =
         inputs_are
-        ∙ ap (λ (resets : List ℕ). inputs_among resets clocks_are d.signals) lent.resets_are.inputs
+        ∙ ap (λ (resets : List ℕ). inputs_among resets a.selects clocks_are d.signals) lent.resets_are.inputs
+        ∙ ap (λ (firsts : List ℕ). inputs_among (reset_inputs d clocks_are) firsts clocks_are d.signals) lent.selects_are
         ∙ ap (data_inputs d) (sym (clocks_told d clocks a.clocks accepted.accepted lent.clocks_are))
 
     outputs_is : ports.outputs ≡ outputs d (top_outputs accepted.source top)
@@ -51,7 +53,7 @@ ports_named demanded text top clocks a ports one accepted have lent inputs_are o
 
 pub loaded : (demanded : Bool) (text : List ℕ) (top : Option (List ℕ)) (clocks : List (List ℕ)) (a : Acceptance) (ports : PortLists)
     → InputBitsFit → OneReading → (accepted : IsAcceptedText text top clocks (design_of a.flat)) → a.size ≡ told_size accepted.written → HaveOutputs text top a → IsAcceptance clocks a
-    → ports.inputs ≡ inputs_among a.clocks.reset_inputs a.clocks.bits (design_of a.flat).signals → ports.outputs ≡ outputs_among a.outputs (design_of a.flat).signals
+    → ports.inputs ≡ inputs_among a.clocks.reset_inputs a.selects a.clocks.bits (design_of a.flat).signals → ports.outputs ≡ outputs_among a.outputs (design_of a.flat).signals
     → ports.demanded ≡ demanded → IsLoaded demanded text top clocks a ports
 loaded demanded text top clocks a ports fit one accepted size_is have lent inputs_are outputs_are demanded_is = record {
   accepted = accepted;
@@ -74,7 +76,7 @@ loaded demanded text top clocks a ports fit one accepted size_is have lent input
     named = ap (λ (p : PortLists). p.inputs) ports_is
 
     each : All IsInput ports.inputs
-    each = subst (All IsInput) (sym inputs_are) (are_inputs a.clocks.reset_inputs a.flat a.clocks.bits lent.lawful)
+    each = subst (All IsInput) (sym inputs_are) (are_inputs a.clocks.reset_inputs a.selects a.flat a.clocks.bits lent.lawful)
 
     each_output : All IsOutput ports.outputs
     each_output = subst (All IsOutput) (sym outputs_are) (are_outputs a.outputs a.flat lent.lawful)

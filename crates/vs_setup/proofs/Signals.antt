@@ -112,20 +112,20 @@ few_bits_at a clocks lawful n s e input =
     let here = signal_there a n s e in
     has_few (design_of a) clocks (signal_of n s) (all_at (is_declared (design_of a)) (arena_signals a) n (signal_of n s) lawful.design.declared here) (all_at is_lawful_memory (arena_signals a) n (signal_of n s) lawful.design.memories here) input
 
-inputs_of : (d : Design) (resets : List ℕ) (clocks : List ℕ) (ss : List Signal) → list_all (is_declared d) ss ≡ true → list_all is_lawful_memory ss ≡ true → All IsInput (inputs_among resets clocks ss)
-inputs_of d resets clocks [] h m = All-nil IsInput
-inputs_of d resets clocks (s ∷ ss) h m =
+inputs_of : (d : Design) (resets selects : List ℕ) (clocks : List ℕ) (ss : List Signal) → list_all (is_declared d) ss ≡ true → list_all is_lawful_memory ss ≡ true → All IsInput (inputs_among resets selects clocks ss)
+inputs_of d resets selects clocks [] h m = All-nil IsInput
+inputs_of d resets selects clocks (s ∷ ss) h m =
     let declared = and_parts (is_declared d s) (list_all (is_declared d) ss) h in
     let memories = and_parts (is_lawful_memory s) (list_all is_lawful_memory ss) m in
-    here (is_data_input clocks s) (λ input. has_few d clocks s declared.0 memories.0 input) (inputs_of d resets clocks ss declared.1 memories.1)
+    here (is_data_input clocks s) (λ input. has_few d clocks s declared.0 memories.0 input) (inputs_of d resets selects clocks ss declared.1 memories.1)
   where
-    here : (c : Bool) → (c ≡ true → HasFew s) → All IsInput (inputs_among resets clocks ss)
-        → All IsInput (map (input_of resets) (if c then (s ∷ filter (is_data_input clocks) ss) else filter (is_data_input clocks) ss))
-    here true few others = All-cons IsInput (input_of resets s) (inputs_among resets clocks ss) (record { some = (few refl).some; at_most_64 = (few refl).at_most_64 }) others
+    here : (c : Bool) → (c ≡ true → HasFew s) → All IsInput (inputs_among resets selects clocks ss)
+        → All IsInput (map (input_of resets selects) (if c then (s ∷ filter (is_data_input clocks) ss) else filter (is_data_input clocks) ss))
+    here true few others = All-cons IsInput (input_of resets selects s) (inputs_among resets selects clocks ss) (record { some = (few refl).some; at_most_64 = (few refl).at_most_64 }) others
     here false few others = others
 
-pub are_inputs : (resets : List ℕ) (a : Arena) (clocks : List ℕ) → IsLawful a → All IsInput (inputs_among resets clocks (design_of a).signals)
-are_inputs resets a clocks lawful = inputs_of (design_of a) resets clocks (design_of a).signals lawful.design.declared lawful.design.memories
+pub are_inputs : (resets selects : List ℕ) (a : Arena) (clocks : List ℕ) → IsLawful a → All IsInput (inputs_among resets selects clocks (design_of a).signals)
+are_inputs resets selects a clocks lawful = inputs_of (design_of a) resets selects clocks (design_of a).signals lawful.design.declared lawful.design.memories
 
 -- ---- the signals in order
 

@@ -18,21 +18,22 @@ use vs_flat::{Flat, Signal, bits_of};
 use vs_program::Span;
 use vs_stim::{Input, Name, Output};
 
-/// The data inputs of a design whose clocks and whose reset inputs are these bits, in order of declaration.
+/// The data inputs of a design whose clocks and whose reset inputs are these bits, and whose select inputs begin with these, in order of declaration.
 pub(crate) fn data_inputs(
     alloc: Global,
     flat: &Flat,
     clocks: &[u32],
     resets: &[u32],
+    selects: &[u32],
 ) -> Result<Vec<Input>, AllocError>
     requires { IsLawful flat.now }
-    ensures { IfOk result (λ inputs. inputs.items ≡ inputs_among resets.now clocks.now (design_of flat.now).signals) }
+    ensures { IfOk result (λ inputs. inputs.items ≡ inputs_among resets.now selects.now clocks.now (design_of flat.now).signals) }
 {
     let mut inputs = Vec::new(alloc);
     for n in 0..flat.signal_count() {
         let signal = flat.signal(n);
         if is_data_input(signal, clocks) {
-            inputs.push(input_of(alloc, signal, resets)?)?;
+            inputs.push(input_of(alloc, signal, resets, selects)?)?;
         }
     }
     Ok(inputs)
@@ -45,16 +46,22 @@ fn is_data_input(signal: &Signal, clocks: &[u32]) -> bool
     signal.input && !contains(clocks, signal.first_bit)
 }
 
-/// A signal's name and length, and whether it is a reset input.
-fn input_of(alloc: Global, signal: &Signal, resets: &[u32]) -> Result<Input, AllocError>
+/// A signal's name and length, and whether it is a reset input and whether it is a select input.
+fn input_of(
+    alloc: Global,
+    signal: &Signal,
+    resets: &[u32],
+    selects: &[u32],
+) -> Result<Input, AllocError>
     requires { signal_length signal.now ≤ 64 }
-    ensures { IfOk result (λ input. (n : ℕ) → input ≡ input_of resets.now (signal_of n signal.now)) }
+    ensures { IfOk result (λ input. (n : ℕ) → input ≡ input_of resets.now selects.now (signal_of n signal.now)) }
 {
     let name = signal.name.as_slice().to_vec(alloc)?;
     Ok(Input {
         name: Name::of(name),
         length: bits_of(signal),
         reset: contains(resets, signal.first_bit),
+        select: contains(selects, signal.first_bit),
     })
 }
 

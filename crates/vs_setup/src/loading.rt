@@ -79,13 +79,19 @@ pub fn engine_of<W: Lanes>(alloc: Global, accepted: &Accepted) -> Result<Engine<
 
 /// What stimuli name of an accepted design.
 fn ports_of(alloc: Global, accepted: &Accepted, demanded: bool) -> Result<Ports, AllocError>
-    ensures inputs { IfOk result (λ p. p.inputs ≡ inputs_among accepted.now.clocks.reset_inputs accepted.now.clocks.bits (design_of accepted.now.flat).signals) }
+    ensures inputs { IfOk result (λ p. p.inputs ≡ inputs_among accepted.now.clocks.reset_inputs accepted.now.selects accepted.now.clocks.bits (design_of accepted.now.flat).signals) }
     ensures outputs { IfOk result (λ p. p.outputs ≡ outputs_among accepted.now.outputs (design_of accepted.now.flat).signals) }
     ensures demanded { IfOk result (λ p. p.demanded ≡ demanded) }
 {
     let flat = accepted.typed().flat();
     let clocks = accepted.clocks();
-    let inputs = data_inputs(alloc, flat, clocks.bits(), clocks.reset_inputs())?;
+    let inputs = data_inputs(
+        alloc,
+        flat,
+        clocks.bits(),
+        clocks.reset_inputs(),
+        accepted.selects(),
+    )?;
     let outputs = outputs_of(alloc, flat, accepted.outputs())?;
     Ok(Ports::of(inputs, outputs, demanded))
 }

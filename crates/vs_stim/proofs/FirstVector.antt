@@ -4,11 +4,12 @@ use Rattle.std.specs.Prelude.{Option, Some, None}
 use Rattle.vs_four.specs.declared.Bit4.{Bit4}
 use Rattle.vs_stim.specs.Header.{PortLists, ColumnLists, lacks_output}
 use Rattle.vs_stim.specs.declared.error.StimError.{StimError}
-use Rattle.vs_stim.specs.declared.error.StimError.TheVariants.{BadHeader, NoExpectation, BadVector, FirstUnknown, UnknownReset, TooManyVectors}
+use Rattle.vs_stim.specs.declared.error.StimError.TheVariants.{BadHeader, NoExpectation, BadVector, FirstUnknown, TooManyVectors}
 use Rattle.vs_stim.specs.Lines.{Line, lines, all_lines, content}
-use Rattle.vs_stim.specs.Reading.{Reading, refused, with_vector, limits, Place, behind, too_long, Said, header_line, vector_line, not_taken, first_place, reading, read_vectors, read_header}
+use Rattle.vs_stim.specs.Reading.{Reading, refused, with_vector, limits, Place, behind, too_long, Said, header_line, vector_line, not_taken, unknown_in, first_place, reading, read_vectors, read_header}
 use Rattle.vs_stim.specs.Reading.Said.{Skipped, Malformed, Given}
-use Rattle.vs_stim.specs.Vectors.{Entry, vector_known, resets_known}
+use Rattle.vs_stim.specs.Vectors.{Entry, vector_known, broken}
+use Rattle.vs_stim.specs.declared.input.Column.{Column}
 use Rattle.vs_stim.proofs.Turns.{if_named}
 
 abbrev Vector : Type 0
@@ -48,22 +49,22 @@ turn_known cs p None Skipped skipped given h = h
 turn_known cs p None Malformed skipped given h = none_known (BadVector p.number)
 turn_known cs p None (Given v) skipped given h = go (vector_known v.values) refl
   where
-    known : (r : Bool) → vector_known v.values ≡ true → FirstKnown (elim (elim r as (λ _. Option StimError) [
-      | false ↦ Some (UnknownReset p.number)
-      | true ↦ None
+    known : (r : Option Column) → vector_known v.values ≡ true → FirstKnown (elim (elim r as (λ _. Option StimError) [
+      | Some c ↦ Some (unknown_in c p.number)
+      | None ↦ None
     ]) as (λ _. Reading) [ Some e ↦ refused e | None ↦ with_vector v (given v) ])
-    known false e = none_known (UnknownReset p.number)
-    known true e = record { known = λ first later h. let same : v.values ≡ first = cc in ap vector_known (sym same) ∙ e }
+    known (Some c) e = none_known (unknown_in c p.number)
+    known None e = record { known = λ first later h. let same : v.values ≡ first = cc in ap vector_known (sym same) ∙ e }
 
     go : (b : Bool) → vector_known v.values ≡ b → FirstKnown (elim (elim (nat_eq 0 0 && not b) as (λ _. Option StimError) [
       | true ↦ Some FirstUnknown
-      | false ↦ elim (resets_known cs.inputs v.values) [
-        | false ↦ Some (UnknownReset p.number)
-        | true ↦ elim (nat_eq 0 limits.vectors) [ true ↦ Some TooManyVectors | false ↦ None ]
+      | false ↦ elim (broken cs.inputs v.values) [
+        | Some c ↦ Some (unknown_in c p.number)
+        | None ↦ elim (nat_eq 0 limits.vectors) [ true ↦ Some TooManyVectors | false ↦ None ]
       ]
     ]) as (λ _. Reading) [ Some e ↦ refused e | None ↦ with_vector v (given v) ])
     go false e = none_known FirstUnknown
-    go true e = known (resets_known cs.inputs v.values) e
+    go true e = known (broken cs.inputs v.values) e
 
 pub vectors_known : (cs : ColumnLists) (p : Place) (ls : List Line) → FirstKnown (read_vectors limits cs p 0 ls)
 unfolding turn

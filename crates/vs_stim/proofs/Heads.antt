@@ -1,5 +1,5 @@
 -- The columns of a header.
-use Rattle.std.proofs.Common.{◌≡◌, ℕ, suc, ◌+◌, ◌<◌, ◌≤◌, Bool, true, false, List, [], ◌∷◌, length, map, get_or, refl, ap, sym, ◌∙◌, arith}
+use Rattle.std.proofs.Common.{◌≡◌, ℕ, suc, ◌+◌, ◌<◌, ◌≤◌, Bool, true, false, ◌||◌, List, [], ◌∷◌, length, map, get_or, refl, ap, sym, ◌∙◌, arith}
 use Rattle.std.specs.Prelude.{Option, Some, None, IfSome, bytes_eq, codes}
 use Rattle.std.specs.List.{AllByRecursion}
 use Rattle.vs_stim.specs.declared.input.Input.{Input}
@@ -12,9 +12,9 @@ use Rattle.vs_stim.specs.Reading.Said.{Skipped, Malformed, Given}
 use Rattle.vs_stim.specs.Row.{IsColumn}
 use Rattle.vs_stim.proofs.Arranged.{once_below}
 
--- which inputs are reset inputs
-abbrev pub resets : List Input → List Bool
-resets is = map (λ i. i.reset) is
+-- which inputs are reset inputs or select inputs
+abbrev pub controls : List Input → List Bool
+controls is = map (λ i. i.reset || i.select) is
 
 -- a column that `column_of` finds where the inputs are numbered from n
 record At (n : ℕ) (is : List Input) (c : Column) : Type 0 where
@@ -22,7 +22,7 @@ record At (n : ℕ) (is : List Input) (c : Column) : Type 0 where
   input : c.input ≡ n + index
   within : index < length (lengths is)
   size : get_or (lengths is) index 0 ≡ c.length
-  reset : get_or (resets is) index false ≡ c.reset
+  control : get_or (controls is) index false ≡ (c.reset || c.select)
   some : 1 ≤ c.length
   at_most_64 : c.length ≤ 64
 
@@ -33,7 +33,7 @@ later_at n i is (Some c) h = record {
   input = h.input ∙ omega arith;
   within = omega (arith, h.within);
   size = h.size;
-  reset = h.reset;
+  control = h.control;
   some = h.some;
   at_most_64 = h.at_most_64;
 }
@@ -43,14 +43,14 @@ column_at name n [] h = tt
 column_at name n (i ∷ is) h = go (bytes_eq name i.name) (later_at n i is (column_of (n + 1) name is) (column_at name (n + 1) is h.1))
   where
     go : (b : Bool) → IfSome (column_of (n + 1) name is) (At n (i ∷ is))
-        → IfSome (elim b as (λ _. Option Column) [ true ↦ Some (record { input = n; length = i.length; reset = i.reset }) | false ↦ column_of (n + 1) name is ]) (At n (i ∷ is))
-    go true k = record { index = 0; input = omega arith; within = omega arith; size = refl; reset = refl; some = h.0.some; at_most_64 = h.0.at_most_64 }
+        → IfSome (elim b as (λ _. Option Column) [ true ↦ Some (record { input = n; length = i.length; reset = i.reset; select = i.select }) | false ↦ column_of (n + 1) name is ]) (At n (i ∷ is))
+    go true k = record { index = 0; input = omega arith; within = omega arith; size = refl; control = refl; some = h.0.some; at_most_64 = h.0.at_most_64 }
     go false k = k
 
 -- a column of one of the inputs
 pub record IsNamed (is : List Input) (c : Column) : Type 0 where
   pub column : IsColumn (lengths is) c
-  pub reset : get_or (resets is) c.input false ≡ c.reset
+  pub control : get_or (controls is) c.input false ≡ (c.reset || c.select)
 
 at_named : (is : List Input) (o : Option Column) → IfSome o (At 0 is) → IfSome o (IsNamed is)
 at_named is None h = tt
@@ -58,7 +58,7 @@ at_named is (Some c) h =
     let e : h.index ≡ c.input = omega (arith, h.input) in
     record {
       column = record { known = omega (arith, h.within); size = ap (λ i. get_or (lengths is) i 0) (sym e) ∙ h.size; some = h.some; at_most_64 = h.at_most_64 };
-      reset = ap (λ i. get_or (resets is) i false) (sym e) ∙ h.reset;
+      control = ap (λ i. get_or (controls is) i false) (sym e) ∙ h.control;
     }
 
 columns_known : (is : List Input) (fs : List (List ℕ)) → AllByRecursion IsInput is → IfSome (columns_of is fs) (AllByRecursion (IsNamed is))

@@ -3,7 +3,7 @@ pub mod FirstVector
 pub mod Heads
 pub mod EachVector
 pub mod VectorSizes
-pub mod KnownResets
+pub mod KnownControls
 pub mod Behind
 pub mod Arranged
 pub mod Counted

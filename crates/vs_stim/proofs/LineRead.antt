@@ -14,15 +14,14 @@ use Rattle.vs_stim.specs.declared.input.Expected.{Expected}
 use Rattle.vs_stim.specs.declared.wanted.Digit.{Digit}
 use Rattle.vs_stim.specs.declared.wanted.Digit.TheVariants.{Exactly}
 use Rattle.vs_stim.specs.declared.row.Row.{Row}
-use Rattle.vs_stim.specs.declared.row.Spot.{Spot}
 use Rattle.vs_stim.specs.declared.row.Spot.TheVariants.{Start}
 use Rattle.vs_stim.specs.declared.source.Source.{Source}
 use Rattle.vs_stim.specs.declared.error.StimError.{StimError}
 use Rattle.vs_stim.specs.declared.error.StimError.TheVariants.{StimulusTooLong, LineTooLong}
-use Rattle.vs_stim.specs.Fields.{Fields, is_skipped, words, all_fields, fields}
+use Rattle.vs_stim.specs.Fields.{Fields, is_skipped, all_fields, fields}
 use Rattle.vs_stim.specs.Header.{each_once}
-use Rattle.vs_stim.specs.Lines.{Lines, Line, lines, all_lines, content, without_cr, is_inner}
-use Rattle.vs_stim.specs.Reading.{Said, Place, limits, too_long, behind}
+use Rattle.vs_stim.specs.Lines.{Lines, lines, all_lines, content, without_cr, is_inner}
+use Rattle.vs_stim.specs.Reading.{Said, Place, limits, too_long}
 use Rattle.vs_stim.specs.Reading.Said.{Skipped, Malformed, Given}
 use Rattle.vs_stim.specs.Vectors.{Entry, digit, bits_of, wanted_of}
 use Rattle.vs_stim.specs.Wanted.{Wanteds, exactly, wanted_sizes}

@@ -6,7 +6,7 @@ use Rattle.vs_four.specs.declared.Bit4.TheVariants.{Zero, One, X, Z}
 use Rattle.vs_stim.specs.declared.input.Input.{Input}
 use Rattle.vs_stim.specs.declared.wanted.Digit.TheVariants.{Exactly, Any}
 use Rattle.vs_stim.specs.declared.error.StimError.{StimError}
-use Rattle.vs_stim.specs.declared.error.StimError.TheVariants.{BadHeader, NoExpectation, BadVector, FirstUnknown, UnknownReset, NoVector, TooManyVectors, StimulusTooLong, LineTooLong}
+use Rattle.vs_stim.specs.declared.error.StimError.TheVariants.{BadHeader, NoExpectation, BadVector, FirstUnknown, UnknownReset, UnknownSelect, NoVector, TooManyVectors, StimulusTooLong, LineTooLong}
 use Rattle.vs_stim.specs.Header.{PortLists}
 use Rattle.vs_stim.specs.Numbers.{line_of_vector}
 use Rattle.vs_stim.specs.Reading.{Reading, Limits, reading, reading_within, columns, refused}
@@ -31,16 +31,19 @@ abbrev none : PortLists
 none = inputs_alone []
 
 abbrev two_inputs : List Input
-two_inputs = record { name = codes "a"; length = 1; reset = false } ∷ record { name = codes "b"; length = 1; reset = false } ∷ []
+two_inputs = record { name = codes "a"; length = 1; reset = false; select = false } ∷ record { name = codes "b"; length = 1; reset = false; select = false } ∷ []
 
 abbrev two : PortLists
 two = inputs_alone two_inputs
 
 abbrev wide : PortLists
-wide = inputs_alone (record { name = codes "a"; length = 4; reset = false } ∷ record { name = codes "b"; length = 2; reset = false } ∷ [])
+wide = inputs_alone (record { name = codes "a"; length = 4; reset = false; select = false } ∷ record { name = codes "b"; length = 2; reset = false; select = false } ∷ [])
 
 abbrev with_reset : PortLists
-with_reset = inputs_alone (record { name = codes "a"; length = 1; reset = false } ∷ record { name = codes "b"; length = 1; reset = true } ∷ [])
+with_reset = inputs_alone (record { name = codes "a"; length = 1; reset = false; select = false } ∷ record { name = codes "b"; length = 1; reset = true; select = false } ∷ [])
+
+abbrev with_select : PortLists
+with_select = inputs_alone (record { name = codes "r"; length = 1; reset = true; select = false } ∷ record { name = codes "s"; length = 1; reset = false; select = true } ∷ [])
 
 abbrev small : Limits
 small = record { vectors = 2; line = 10; bytes = 20 }
@@ -127,6 +130,14 @@ first_reset = refl
 -- a malformed line comes before an unknown reset
 malformed_reset : reading with_reset (line (codes "inputs a b") ++ line (codes "1 0") ++ line (codes "2 x")) ≡ gives (one_zero ∷ []) (Some (BadVector 3))
 malformed_reset = refl
+
+-- a select input is known in later vectors too
+unknown_select : reading with_select (line (codes "inputs s r") ++ line (codes "0 1") ++ line (codes "z 1")) ≡ gives (one_zero ∷ []) (Some (UnknownSelect 3))
+unknown_select = refl
+
+-- of a reset input and a select input the first in the design's order is told
+both_unknown : reading with_select (line (codes "inputs s r") ++ line (codes "0 1") ++ line (codes "x x")) ≡ gives (one_zero ∷ []) (Some (UnknownReset 3))
+both_unknown = refl
 
 -- the limits, small ones
 line_limit : reading_within small none (line (codes "#") ++ line (codes "# 34567890")) ≡ refused BadHeader
@@ -218,7 +229,7 @@ dash_input = refl
 -- the columns of a header
 header_is : columns with_outputs (line (codes "# s") ++ line (codes "inputs b a -> q y"))
     ≡ Some (record {
-      inputs = record { input = 1; length = 1; reset = false } ∷ record { input = 0; length = 1; reset = false } ∷ [];
+      inputs = record { input = 1; length = 1; reset = false; select = false } ∷ record { input = 0; length = 1; reset = false; select = false } ∷ [];
       expected = record { output = 1; length = 3 } ∷ record { output = 0; length = 1 } ∷ [];
     })
 header_is = refl

@@ -59,7 +59,7 @@ lacks_output ports cs = ports.demanded && is_nil cs.expected
 abbrev pub column_of : ℕ → List ℕ → List Input → Option Column
 column_of n name [] = None
 column_of n name (i ∷ is) =
-    elim (bytes_eq name i.name) [ true ↦ Some (record { input = n; length = i.length; reset = i.reset }) | false ↦ column_of (n + 1) name is ]
+    elim (bytes_eq name i.name) [ true ↦ Some (record { input = n; length = i.length; reset = i.reset; select = i.select }) | false ↦ column_of (n + 1) name is ]
 
 abbrev pub with_column : Column → Option (List Column) → Option (List Column)
 with_column c None = None

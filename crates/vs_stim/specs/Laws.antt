@@ -28,15 +28,15 @@ abbrev pub LaterLinesChangeNothing : Type 0
 LaterLinesChangeNothing = (ports : PortLists) (text later : List ℕ)
     → let vectors = (reading ports (text ++ 10 ∷ [])).vectors in take (length vectors) (reading ports (text ++ 10 ∷ later)).vectors ≡ vectors
 
--- these values, one for each input, have no x or z bit in a reset input
-abbrev pub known_in_resets : List Input → List (List Bit4) → Bool
-known_in_resets [] vs = true
-known_in_resets (i ∷ is) [] = true
-known_in_resets (i ∷ is) (v ∷ vs) = (not i.reset || all_known v) && known_in_resets is vs
+-- these values, one for each input, have no x or z bit in a reset input or a select input
+abbrev pub known_in_controls : List Input → List (List Bit4) → Bool
+known_in_controls [] vs = true
+known_in_controls (i ∷ is) [] = true
+known_in_controls (i ∷ is) (v ∷ vs) = (not (i.reset || i.select) || all_known v) && known_in_controls is vs
 
--- no vector of a text has an x or z bit in a reset input
-abbrev pub ResetsAreKnown : Type 0
-ResetsAreKnown = (ports : PortLists) (text : List ℕ) → All IsInput ports.inputs → All (λ vector. known_in_resets ports.inputs vector ≡ true) (reading ports text).vectors
+-- no vector of a text has an x or z bit in such an input
+abbrev pub ControlsAreKnown : Type 0
+ControlsAreKnown = (ports : PortLists) (text : List ℕ) → All IsInput ports.inputs → All (λ vector. known_in_controls ports.inputs vector ≡ true) (reading ports text).vectors
 
 -- ---- the lines of vectors
 

@@ -1,15 +1,16 @@
 -- What a text of a stimulus gives: its vectors one after the other, what outputs are wanted to have with each, and how it ends.
-use Rattle.std.specs.Prelude.{◌≡◌, ℕ, zero, suc, ◌+◌, Bool, true, false, not, ◌&&◌, List, [], ◌∷◌, ◌++◌, length, map, nat_eq, nat_le, nat_lt, Option, Some, None}
+use Rattle.std.specs.Prelude.{◌≡◌, ℕ, zero, suc, ◌+◌, Bool, true, false, not, ◌&&◌, List, [], ◌∷◌, ◌++◌, length, map, nat_eq, nat_le, nat_lt, if◌then◌else◌, Option, Some, None}
 use Rattle.vs_four.specs.declared.Bit4.{Bit4}
 use Rattle.vs_stim.specs.declared.input.Input.{Input}
+use Rattle.vs_stim.specs.declared.input.Column.{Column}
 use Rattle.vs_stim.specs.declared.input.Output.{Output}
 use Rattle.vs_stim.specs.declared.wanted.Digit.{Digit}
 use Rattle.vs_stim.specs.declared.error.StimError.{StimError}
-use Rattle.vs_stim.specs.declared.error.StimError.TheVariants.{BadHeader, NoExpectation, BadVector, FirstUnknown, UnknownReset, NoVector, TooManyVectors, StimulusTooLong, LineTooLong}
+use Rattle.vs_stim.specs.declared.error.StimError.TheVariants.{BadHeader, NoExpectation, BadVector, FirstUnknown, UnknownReset, UnknownSelect, NoVector, TooManyVectors, StimulusTooLong, LineTooLong}
 use Rattle.vs_stim.specs.Lines.{Line, lines, all_lines, content}
 use Rattle.vs_stim.specs.Fields.{is_skipped, fields}
 use Rattle.vs_stim.specs.Header.{PortLists, ColumnLists, lacks_output, header}
-use Rattle.vs_stim.specs.Vectors.{Entry, entry, vector_known, resets_known}
+use Rattle.vs_stim.specs.Vectors.{Entry, entry, vector_known, broken}
 
 -- the greatest number of vectors, of bytes in a line before its LF, and of bytes in the text
 pub record Limits : Type 0 where
@@ -88,15 +89,19 @@ header_line ports text = elim (is_skipped text) [ true ↦ Skipped | false ↦ s
 abbrev pub vector_line : ColumnLists → List ℕ → Said Entry
 vector_line cs text = elim (is_skipped text) [ true ↦ Skipped | false ↦ said (entry cs (fields text)) ]
 
--- The refusal of a vector that stands on the line of this number, behind this many others. Where a first vector is known, its resets are. What outputs
+-- an input that has to be known isn't: that is told of a reset before a select input
+abbrev pub unknown_in : Column → ℕ → StimError
+unknown_in c number = if c.reset then UnknownReset number else UnknownSelect number
+
+-- The refusal of a vector that stands on the line of this number, behind this many others. Where a first vector is known, its resets and select inputs are. What outputs
 -- are wanted to have doesn't matter.
 abbrev pub not_taken : Limits → ColumnLists → ℕ → ℕ → Entry → Option StimError
 not_taken l cs number count v =
     elim (nat_eq count 0 && not (vector_known v.values)) [
       | true ↦ Some FirstUnknown
-      | false ↦ elim (resets_known cs.inputs v.values) [
-        | false ↦ Some (UnknownReset number)
-        | true ↦ elim (nat_eq count l.vectors) [ true ↦ Some TooManyVectors | false ↦ None ]
+      | false ↦ elim (broken cs.inputs v.values) [
+        | Some c ↦ Some (unknown_in c number)
+        | None ↦ elim (nat_eq count l.vectors) [ true ↦ Some TooManyVectors | false ↦ None ]
       ]
     ]
 

@@ -4,7 +4,7 @@ use Rattle.vs_desk.specs.Desk.{Told}
 use Rattle.vs_four.specs.declared.Bit4.{Bit4}
 use Rattle.vs_stim.specs.declared.error.StimError.{StimError}
 use Rattle.vs_stim.specs.declared.wanted.Digit.{Digit}
-use Rattle.vs_stim.specs.declared.error.StimError.TheVariants.{BadHeader, NoExpectation, BadVector, FirstUnknown, UnknownReset, NoVector, TooManyVectors, StimulusTooLong, LineTooLong, ReadFault, Memory}
+use Rattle.vs_stim.specs.declared.error.StimError.TheVariants.{BadHeader, NoExpectation, BadVector, FirstUnknown, UnknownReset, UnknownSelect, NoVector, TooManyVectors, StimulusTooLong, LineTooLong, ReadFault, Memory}
 use Rattle.vs_stim.specs.declared.source.Source.{Source}
 use Rattle.vs_stim.specs.declared.source.Piece.{Piece}
 use Rattle.vs_stim.specs.declared.source.Piece.TheVariants.{Byte, LineEnd, TextEnd}
@@ -119,6 +119,7 @@ IsReadError number NoExpectation = ⊥
 IsReadError number (BadVector line) = ⊥
 IsReadError number FirstUnknown = ⊥
 IsReadError number (UnknownReset line) = ⊥
+IsReadError number (UnknownSelect line) = ⊥
 IsReadError number NoVector = ⊥
 IsReadError number TooManyVectors = ⊥
 IsReadError number Memory = ⊥
@@ -175,6 +176,7 @@ IsVectorError NoExpectation = ⊥
 IsVectorError (BadVector line) = Unit {0}
 IsVectorError FirstUnknown = Unit {0}
 IsVectorError (UnknownReset line) = Unit {0}
+IsVectorError (UnknownSelect line) = Unit {0}
 IsVectorError NoVector = Unit {0}
 IsVectorError TooManyVectors = Unit {0}
 IsVectorError StimulusTooLong = Unit {0}
@@ -197,6 +199,7 @@ IsHeaderError NoExpectation = Unit {0}
 IsHeaderError (BadVector line) = ⊥
 IsHeaderError FirstUnknown = ⊥
 IsHeaderError (UnknownReset line) = ⊥
+IsHeaderError (UnknownSelect line) = ⊥
 IsHeaderError NoVector = ⊥
 IsHeaderError TooManyVectors = ⊥
 IsHeaderError StimulusTooLong = Unit {0}

@@ -1,6 +1,6 @@
 -- A vector: for each name of the header as many digits as the input has bits, most significant first; and behind the field `->` those that the
 -- expected outputs are wanted to have.
-use Rattle.std.specs.Prelude.{ℕ, zero, suc, ◌+◌, Bool, true, false, ◌&&◌, ◌||◌, List, [], ◌∷◌, ◌++◌, length, take, drop, not, nat_eq, slice_index_or, Option, Some, None, codes, bytes_eq}
+use Rattle.std.specs.Prelude.{ℕ, zero, suc, ◌+◌, Bool, true, false, ◌&&◌, ◌||◌, List, [], ◌∷◌, ◌++◌, length, take, drop, not, nat_eq, slice_index_or, Option, Some, None, codes, bytes_eq, if◌then◌else◌, nat_lt}
 use Rattle.vs_four.specs.declared.Bit4.{Bit4}
 use Rattle.vs_four.specs.declared.Bit4.TheVariants.{Zero, One, X, Z}
 use Rattle.vs_four.specs.Tables.{is_known}
@@ -145,7 +145,22 @@ abbrev pub vector_known : List (List Bit4) → Bool
 vector_known [] = true
 vector_known (v ∷ vs) = all_known v && vector_known vs
 
--- no value of a reset input has an x or z bit, where the values stand in the design's order
-abbrev pub resets_known : List Column → List (List Bit4) → Bool
-resets_known [] vs = true
-resets_known (c ∷ cs) vs = (not c.reset || all_known (slice_index_or vs c.input [])) && resets_known cs vs
+-- the column is of an input that has to be known in each vector, and isn't in these values, which stand in the design's order
+abbrev pub breaks : Column → List (List Bit4) → Bool
+breaks c vs = (c.reset || c.select) && not (all_known (slice_index_or vs c.input []))
+
+-- the column of the one that comes first in the design's order
+abbrev pub sooner : Column → Option Column → Column
+sooner c None = c
+sooner c (Some b) = if nat_lt b.input c.input then b else c
+
+abbrev pub with_broken : Option Column → Column → List (List Bit4) → Option Column
+with_broken first c vs = if breaks c vs then Some (sooner c first) else first
+
+-- the first such input in the design's order, of this one and those of the columns
+abbrev pub broken_from : Option Column → List Column → List (List Bit4) → Option Column
+broken_from first [] vs = first
+broken_from first (c ∷ cs) vs = broken_from (with_broken first c vs) cs vs
+
+abbrev pub broken : List Column → List (List Bit4) → Option Column
+broken cs vs = broken_from None cs vs

@@ -31,6 +31,9 @@ pub enum StimError {
     /// 77: a vector behind the first has an x or z digit of a reset input.
     #[error("line {line} has an unknown digit of a reset")]
     UnknownReset { line: u64 },
+    /// 78: a vector behind the first has an x or z digit of a select input.
+    #[error("line {line} has an unknown digit of a select input")]
+    UnknownSelect { line: u64 },
     /// 75: a byte behind the first 4,294,967,296 belongs to the line being read.
     #[error("the text has too many bytes")]
     StimulusTooLong,

@@ -64,6 +64,7 @@ fn find(inputs: &[Input], name: &[u8]) -> Option<Column>
                 input: number,
                 length: input.length,
                 reset: input.reset,
+                select: input.select,
             });
         }
     }

@@ -49,13 +49,15 @@ impl Name {
     }
 }
 
-/// A data input of the design: its name, its length in bits, from 1 to 64, and whether it is a reset input, one at the root of the
-/// second edge of a clocked block (IEEE 1364-2005, 9.7.2).
+/// A data input of the design: its name, its length in bits, from 1 to 64, whether it is a reset input, one at the root of the
+/// second edge of a clocked block (IEEE 1364-2005, 9.7.2), and whether it is a select input, one at the root of the selector of a
+/// case that has an arm for each value (9.5).
 #[derive(Debug, Drop)]
 pub struct Input {
     pub name: Name,
     pub length: u32,
     pub reset: bool,
+    pub select: bool,
 }
 
 /// An output of the design's top: its name, and its length in bits, from 1 to 64.
@@ -115,7 +117,7 @@ impl Ports {
     }
 }
 
-/// What a field of each vector holds: the value of this input, which has this length in bits and may be a reset input.
+/// What a field of each vector holds: the value of this input, which has this length in bits and may be a reset input or a select input.
 ///
 /// Inputs are numbered from 0 in the design's order.
 #[derive(Clone, Copy, PartialEq, Eq, Debug)]
@@ -123,6 +125,7 @@ pub struct Column {
     pub input: usize,
     pub length: u32,
     pub reset: bool,
+    pub select: bool,
 }
 
 /// What a field of each vector behind `->` holds: what this output, which has this length in bits, is wanted to be.

@@ -1,15 +1,15 @@
 //! Laws of what a text of a stimulus gives.
 
-ghost use Rattle.vs_stim.specs.Laws.{FirstIsKnown, ResetsAreKnown, WholeHasVector, VectorsFit, LaterLinesChangeNothing, LinesOfVectors};
+ghost use Rattle.vs_stim.specs.Laws.{FirstIsKnown, ControlsAreKnown, WholeHasVector, VectorsFit, LaterLinesChangeNothing, LinesOfVectors};
 ghost use Rattle.vs_stim.specs.Laws.{DemandChangesNothing, DemandChangesNoHeader, DemandedAreNamed, LackingIsRefused, RefusedIsLacking};
 
-/// The first vector of a text has no unknown digit and no vector has one in a reset input, a whole text has a vector, and each
+/// The first vector of a text has no unknown digit and no vector has one in a reset input or a select input, a whole text has a vector, and each
 /// vector has a value for each input, of that input's length.
 pub fn known_law()
     ensures known { FirstIsKnown }
     ensures some { WholeHasVector }
     ensures fit { VectorsFit }
-    ensures resets { ResetsAreKnown }
+    ensures controls { ControlsAreKnown }
 {}
 
 /// Vectors depend on no line behind theirs.

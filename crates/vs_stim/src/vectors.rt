@@ -4,7 +4,8 @@ ghost use Rattle.std.specs.Prelude.{All, Some, None, Ok, Err, ◌≡◌, ◌≢�
 ghost use Rattle.vs_desk.specs.Desk.{IsAttached};
 ghost use Rattle.vs_desk.specs.declared.desk.Way.TheVariants.{Read};
 ghost use Rattle.vs_desk.specs.Taking.{TakesAt};
-ghost use Rattle.vs_stim.specs.Vectors.{all_known, vector_known, resets_known};
+ghost use Rattle.vs_stim.specs.Vectors as spec;
+ghost use Rattle.vs_stim.specs.Vectors.{all_known, vector_known, breaks, broken};
 ghost use Rattle.vs_stim.specs.Reading.{vector_line, limits, not_taken, at_end, refused, whole, with_vector};
 ghost use Rattle.vs_stim.specs.Row.{row_with, as_said, entry_in, columns_in, sizes, each_input, IsColumn, IsRow, SameForm};
 ghost use Rattle.vs_stim.specs.Source.{open_at, in_block, is_told, text_tells, line_refusal, says, IsSource, IsReadError, IsVectorError, GoesOn, PassesLf, Passes, PassesVector, rest_of, vectors_from};
@@ -152,17 +153,36 @@ fn are_known(values: &[Bits]) -> bool
     true
 }
 
-/// Whether no value of a reset input has an x or z bit.
-fn are_resets_known(columns: &[Column], values: &[Bits]) -> bool
-    requires { All (IsColumn (sizes values.now)) columns.now }
-    ensures { result ≡ resets_known columns.now values.now }
+/// Whether the column's input has to be known in each vector, and isn't in these values.
+fn is_broken(column: &Column, values: &[Bits]) -> bool
+    requires { IsColumn (sizes values.now) column.now }
+    ensures { result ≡ breaks column.now values.now }
 {
+    (column.reset || column.select) && !are_bits_known(values[column.input])
+}
+
+/// The column whose input comes first in the design's order, of this one and the one before.
+fn sooner(column: Column, first: Option<Column>) -> Column
+    ensures { result ≡ spec.sooner column first }
+{
+    match first {
+        Some(before) if before.input < column.input => before,
+        _ => column,
+    }
+}
+
+/// The first input in the design's order that has to be known and isn't.
+fn first_broken(columns: &[Column], values: &[Bits]) -> Option<Column>
+    requires { All (IsColumn (sizes values.now)) columns.now }
+    ensures { result ≡ broken columns.now values.now }
+{
+    let mut first = None;
     for column in columns {
-        if column.reset && !are_bits_known(values[column.input]) {
-            return false;
+        if is_broken(column, values) {
+            first = Some(sooner(*column, first));
         }
     }
-    true
+    first
 }
 
 /// Whether the row's values may be the vector on the line of this number, behind this many others.
@@ -176,8 +196,10 @@ fn check_vector(row: &Row, number: u64, count: u32) -> Result<(), StimError>
     if count == 0 && !are_known(&row.values) {
         return Err(StimError::FirstUnknown);
     }
-    if !are_resets_known(&row.columns, &row.values) {
-        return Err(StimError::UnknownReset { line: number });
+    match first_broken(&row.columns, &row.values) {
+        Some(column) if column.reset => return Err(StimError::UnknownReset { line: number }),
+        Some(_) => return Err(StimError::UnknownSelect { line: number }),
+        None => {}
     }
     if count == VECTORS {
         return Err(StimError::TooManyVectors);

@@ -105,6 +105,7 @@ refusal_ends old new i E.NoExpectation other q = record { fault = q.faults; loss
 refusal_ends old new i (E.BadVector n) other q = record { fault = q.faults; losses = q.losses }
 refusal_ends old new i E.FirstUnknown other q = record { fault = q.faults; losses = q.losses }
 refusal_ends old new i (E.UnknownReset n) other q = record { fault = q.faults; losses = q.losses }
+refusal_ends old new i (E.UnknownSelect n) other q = record { fault = q.faults; losses = q.losses }
 refusal_ends old new i E.NoVector other q = record { fault = q.faults; losses = q.losses }
 refusal_ends old new i E.TooManyVectors other q = record { fault = q.faults; losses = q.losses }
 refusal_ends old new i E.StimulusTooLong other q = record { fault = q.faults; losses = q.losses }

@@ -70,6 +70,7 @@ stimulus_usage i E.NoExpectation h = cc
 stimulus_usage i (E.BadVector n) h = cc
 stimulus_usage i E.FirstUnknown h = cc
 stimulus_usage i (E.UnknownReset n) h = cc
+stimulus_usage i (E.UnknownSelect n) h = cc
 stimulus_usage i E.NoVector h = cc
 stimulus_usage i E.TooManyVectors h = cc
 stimulus_usage i E.StimulusTooLong h = cc

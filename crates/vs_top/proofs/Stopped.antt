@@ -23,6 +23,7 @@ stimulus_stops i E.NoExpectation = tt
 stimulus_stops i (E.BadVector n) = tt
 stimulus_stops i E.FirstUnknown = tt
 stimulus_stops i (E.UnknownReset n) = tt
+stimulus_stops i (E.UnknownSelect n) = tt
 stimulus_stops i E.NoVector = tt
 stimulus_stops i E.TooManyVectors = tt
 stimulus_stops i E.StimulusTooLong = tt

@@ -13,7 +13,7 @@ use Rattle.vs_stim.specs.Header.{PortLists, IsInput, lengths}
 use Rattle.vs_stim.specs.Row.{sizes}
 use Rattle.vs_stim.specs.Known.{Known}
 use Rattle.vs_stim.specs.declared.input.Input.{Input}
-use Rattle.vs_stim.specs.Laws.{FirstIsKnown, WholeHasVector, ResetsAreKnown, known_in_resets}
+use Rattle.vs_stim.specs.Laws.{FirstIsKnown, WholeHasVector, ControlsAreKnown, known_in_controls}
 use Rattle.vs_stim.specs.Reading.{reading, stimulus}
 use Rattle.vs_feed.specs.Lanes.{OtherPlacesKept, lane_at}
 use Rattle.vs_vcd.specs.Shared.{text_of}
@@ -147,14 +147,14 @@ trace_of share half order vectors text count steps a b k l flat_is clocks_are du
     }))
 
 -- the vectors of a valid stimulus, as they begin
-valid_of : FirstIsKnown → ResetsAreKnown → (d : Design) (clocks : List ℕ) (ports : PortLists) (text : List ℕ) (vectors : List Vector) → All IsInput ports.inputs → ports.inputs ≡ data_inputs d clocks → vectors ≡ (reading ports text).vectors
+valid_of : FirstIsKnown → ControlsAreKnown → (d : Design) (clocks : List ℕ) (ports : PortLists) (text : List ℕ) (vectors : List Vector) → All IsInput ports.inputs → ports.inputs ≡ data_inputs d clocks → vectors ≡ (reading ports text).vectors
     → (first : Vector) (later : List Vector) → (reading ports text).vectors ≡ first ∷ later → AreValid d clocks vectors first later
-valid_of first_known resets_known d clocks ports text vectors each inputs_are vectors_are first later e =
-    let all : All (λ (v : Vector). known_in_resets ports.inputs v ≡ true) (first ∷ later) = subst (All (λ (v : Vector). known_in_resets ports.inputs v ≡ true)) e (resets_known ports text each) in
+valid_of first_known controls_known d clocks ports text vectors each inputs_are vectors_are first later e =
+    let all : All (λ (v : Vector). known_in_controls ports.inputs v ≡ true) (first ∷ later) = subst (All (λ (v : Vector). known_in_controls ports.inputs v ≡ true)) e (controls_known ports text each) in
     record {
       vectors_are = vectors_are ∙ e;
       known = first_known ports text first later e;
-      resets = subst (λ (is : List Input). All (λ (v : Vector). known_in_resets is v ≡ true) later) inputs_are (λ k v lt. all (suc k) v (omega (arith, lt)));
+      controls = subst (λ (is : List Input). All (λ (v : Vector). known_in_controls is v ≡ true) later) inputs_are (λ k v lt. all (suc k) v (omega (arith, lt)));
     }
 
 -- so the run that the number chooses has its steps
@@ -167,12 +167,12 @@ stepped has_vector d clocks order ports text steps whole has_steps = go (reading
     go (v ∷ vs) e = record { first = v; later = vs; vectors_are = e; has_steps = has_steps v vs e }
 
 -- what is made of all vectors of a valid stimulus
-pub run_out : FirstIsKnown → ResetsAreKnown → WholeHasVector → (run : Run) (order : ℕ) (bits : List ℕ) (vectors : List Vector) (new : Contents) (text : List ℕ) (c : Course) → run.clocks ≡ bits
+pub run_out : FirstIsKnown → ControlsAreKnown → WholeHasVector → (run : Run) (order : ℕ) (bits : List ℕ) (vectors : List Vector) (new : Contents) (text : List ℕ) (c : Course) → run.clocks ≡ bits
     → All IsInput run.ports.inputs → run.ports.inputs ≡ data_inputs run.design run.clocks → IsWhole (reading_of run 0) vectors (new.left (stimulus_place 0))
     → IsTraceOf run.share run.design bits run.half order vectors text c → IsRunOut run order new text c
-run_out first_known resets_known has_vector run order bits vectors new text c clocks_are each inputs_are read traced =
+run_out first_known controls_known has_vector run order bits vectors new text c clocks_are each inputs_are read traced =
     let t : IsTraceOf run.share run.design run.clocks run.half order vectors text c = subst (λ (clocks : List ℕ). IsTraceOf run.share run.design clocks run.half order vectors text c) (sym clocks_are) traced in
-    let valid = valid_of first_known resets_known run.design run.clocks run.ports (run.texts 0) vectors each inputs_are read.vectors_are in
+    let valid = valid_of first_known controls_known run.design run.clocks run.ports (run.texts 0) vectors each inputs_are read.vectors_are in
     record {
       whole = read.unrefused;
       taken = read.left_is;
@@ -214,14 +214,14 @@ traced_end some_run has_vector job order old now new a ports ks text c mode is_o
     }
 
 -- what is made of the vectors that were read
-pub traced_job : {tells : Bool} → SomeRun → FirstIsKnown → ResetsAreKnown → WholeHasVector → (job : Job) (order : ℕ) (old now new : Told tells) (a : Acceptance) (ports : PortLists) (ks : List Known) (vectors : List Vector) (text : List ℕ) (c : Course)
+pub traced_job : {tells : Bool} → SomeRun → FirstIsKnown → ControlsAreKnown → WholeHasVector → (job : Job) (order : ℕ) (old now new : Told tells) (a : Acceptance) (ports : PortLists) (ks : List Known) (vectors : List Vector) (text : List ℕ) (c : Course)
     → job.mode ≡ modes.Queue order → IsOpen job old now a ports ks → new.register ≡ now.register → (IsTrue tells → OtherPlacesKept 1 now.contents new.contents)
     → (IsTrue tells → (run : Run) → HaveNext run 0 ks now.contents → IsWhole (reading_of run 0) vectors (new.contents.left (stimulus_place 0)))
     → IsTraceOf job.share (design_of a.flat) a.clocks.bits job.half order vectors text c → IsTraced job old new text c
-traced_job some_run first_known resets_known has_vector job order old now new a ports ks vectors text c mode is_open same others read traced =
+traced_job some_run first_known controls_known has_vector job order old now new a ports ks vectors text c mode is_open same others read traced =
     let l = is_open.opened.loaded in
     traced_end some_run has_vector job order old now new a ports ks text c mode is_open same others
-    (λ t. run_out first_known resets_known has_vector (runs l) order a.clocks.bits vectors new.contents text c l.loaded.bits_are
+    (λ t. run_out first_known controls_known has_vector (runs l) order a.clocks.bits vectors new.contents text c l.loaded.bits_are
     (subst (λ (is : PortLists). All IsInput is.inputs) l.loaded.ports_are l.loaded.are_ports.inputs) refl (read t (runs l) (is_open.opened.next t)) traced)
 
 -- vectors of the lengths of the stimulus' vector are of those of the data inputs

@@ -32,6 +32,9 @@ pub(crate) fn stimulus_outcome(lane: u32, error: StimError) -> Outcome
         StimError::UnknownReset { line } => {
             return Outcome::Refused(Refusal::Line(LineName::UnknownReset, lane, line));
         }
+        StimError::UnknownSelect { line } => {
+            return Outcome::Refused(Refusal::Line(LineName::UnknownSelect, lane, line));
+        }
         StimError::LineTooLong { line } => {
             return Outcome::Refused(Refusal::Line(LineName::LineTooLong, lane, line));
         }

@@ -8,14 +8,14 @@ use Rattle.vs_design.specs.Statements.{Statement}
 use Rattle.vs_design.specs.Designs.{Design}
 use Rattle.vs_design.specs.Elaborated.{are_as_many, are_formed, is_formed, is_formed_header, is_formed_statement, is_nil, inside}
 use Rattle.vs_design.specs.Rules.{mixed_in}
-use Rattle.vs_design.specs.Sizes.{weight}
+use Rattle.vs_design.specs.Sizes.{declared_length, weight}
 use Rattle.vs_flat.specs.declared.processes.Signal.{Signal}
 use Rattle.vs_flat.specs.declared.functions.Declared.{Declared}
 use Rattle.vs_flat.specs.Arena.{Arena, declared_at, signal_length}
 use Rattle.vs_flat.specs.DesignOf.{header_in}
 use Rattle.vs_flat.specs.Trees.{signal_of, signals_from}
 use Rattle.vs_sets.proofs.Fit.{and_left, and_right}
-use Rattle.vs_typed.specs.Weights.{call_inputs, capped}
+use Rattle.vs_typed.specs.Weights.{call_inputs, input_weight, capped}
 
 -- ---- inputs
 
@@ -59,18 +59,18 @@ one_of_first (suc n) (t ∷ ss) (suc k) s h = one_of_first n ss k s h
 
 one_more : (tree : ℕ → Expression) (arguments : List ℕ) (inputs : List Signal) (first k : ℕ) (input : Signal) → k < length arguments → slice_get inputs k ≡ Some input
     → call_inputs (map tree (drop k arguments)) (drop k (signals_from first inputs))
-    ≡ signal_length input + weight (tree (get_or arguments k 0)) (max (width (tree (get_or arguments k 0))) (signal_length input)) + call_inputs (map tree (drop (suc k) arguments)) (drop (suc k) (signals_from first inputs))
+    ≡ input_weight input + weight (tree (get_or arguments k 0)) (max (width (tree (get_or arguments k 0))) (signal_length input)) + call_inputs (map tree (drop (suc k) arguments)) (drop (suc k) (signals_from first inputs))
 one_more tree [] inputs first k input h at = absurd (omega (arith, h))
 one_more tree (x ∷ arguments) [] first k input h at = absurd (let z : ⊥ = cc in z)
 one_more tree (x ∷ arguments) (i ∷ inputs) first zero input h at =
     let same : i ≡ input = cc in
-    let sum = sum_by-cons E.signal_length (signal_of first i) (signals_from (suc first) inputs) in
-    subst (λ (j : Signal). call_inputs (map tree (x ∷ arguments)) (signals_from first (i ∷ inputs)) ≡ signal_length j + weight (tree x) (max (width (tree x)) (signal_length j)) + call_inputs (map tree arguments) (signals_from (suc first) inputs)) same
+    let sum = sum_by-cons declared_length (signal_of first i) (signals_from (suc first) inputs) in
+    subst (λ (j : Signal). call_inputs (map tree (x ∷ arguments)) (signals_from first (i ∷ inputs)) ≡ input_weight j + weight (tree x) (max (width (tree x)) (signal_length j)) + call_inputs (map tree arguments) (signals_from (suc first) inputs)) same
     (omega (arith, sum))
 one_more tree (x ∷ arguments) (i ∷ inputs) first (suc k) input h at = one_more tree arguments inputs (suc first) k input (omega (arith, h)) at
 
 pub argument_step : (tree : ℕ → Expression) (arguments : List ℕ) (inputs : List Signal) (k sum after : ℕ) (input : Signal) → k < length arguments → slice_get inputs k ≡ Some input
-    → after ≡ capped (sum + (signal_length input + weight (tree (get_or arguments k 0)) (max (width (tree (get_or arguments k 0))) (signal_length input))))
+    → after ≡ capped (sum + (input_weight input + weight (tree (get_or arguments k 0)) (max (width (tree (get_or arguments k 0))) (signal_length input))))
     → capped (after + call_inputs (map tree (drop (k + 1) arguments)) (drop (k + 1) (signals_from 0 inputs))) ≡ capped (sum + call_inputs (map tree (drop k arguments)) (drop k (signals_from 0 inputs)))
 argument_step tree arguments inputs k sum after input h at is =
     let on : k + 1 ≡ suc k = omega arith in

@@ -2,15 +2,16 @@
 use Rattle.std.specs.Prelude.{◌≡◌, ◌<◌, ◌≤◌, ◌+◌, ◌*◌, ◌&&◌, ℕ, Bool, true, false, min, List, [], ◌∷◌, length, if◌then◌else◌, Option, Some, None, slice_get, slice_index, slice_index_or, sum_by}
 use Rattle.vs_four.specs.Selects.{range_length}
 use Rattle.vs_four.specs.declared.Range.{Range}
-use Rattle.vs_design.specs.Expressions.{Signal, signal_length, Expression, items_of, BinaryOp, way, width, is_constant}
+use Rattle.vs_design.specs.Expressions.{Signal, Expression, items_of, BinaryOp, way, width, is_constant}
 use Rattle.vs_design.specs.Fits.{is_fit}
-use Rattle.vs_design.specs.Sizes.{address_weight, arguments_weight, weight, binary_weight, is_shift, statement_weight, process_weight}
+use Rattle.vs_design.specs.Sizes.{declared_length, address_weight, arguments_weight, weight, binary_weight, is_shift, statement_weight, process_weight}
 use Rattle.vs_design.specs.Fits.{fits_statement}
 use Rattle.vs_design.specs.Statements.{Statement, Arms}
 use Rattle.vs_design.specs.Designs.{Process}
 use Rattle.vs_flat.specs.declared.functions.Body.{Body}
+use Rattle.vs_flat.specs.declared.processes.Signal.{Signal as SignalOf}
 use Rattle.vs_flat.specs.declared.statements.Arm.{Arm}
-use Rattle.vs_flat.specs.Arena.{Arena, body_at}
+use Rattle.vs_flat.specs.Arena.{Arena, body_at, signal_length as length_of}
 use Rattle.vs_flat.specs.Trees.{arms_tree}
 use Rattle.vs_shape.specs.Bodies.{body_of}
 use Rattle.vs_shape.specs.Nodes.{tree_of}
@@ -31,9 +32,13 @@ abbrev pub own_weights : List Expression → ℕ
 own_weights [] = 0
 own_weights (e ∷ es) = own_weight e + own_weights es
 
--- what the arguments of a call cost, and the bits of its function's inputs
+-- what the arguments of a call cost, and the bits of the inputs that its function declares
 abbrev pub call_inputs : List Expression → List Signal → ℕ
-call_inputs es inputs = arguments_weight (items_of es) inputs + sum_by signal_length inputs
+call_inputs es inputs = arguments_weight (items_of es) inputs + sum_by declared_length inputs
+
+-- so many bits of an input count
+abbrev pub input_weight : SignalOf → ℕ
+input_weight s = if s.net then 0 else length_of s
 
 -- of a select of so many bits
 abbrev pub select_weight : ℕ → Range → Expression → ℕ

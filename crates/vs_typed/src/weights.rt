@@ -11,7 +11,7 @@ ghost use Rattle.vs_flat.specs.declared.expressions.Node.TheVariants.{Call};
 ghost use Rattle.vs_shape.specs.Nodes.{HasCalls, HasNames, tree_of, place_of, tree_of_node};
 ghost use Rattle.vs_sets.specs.FitParts.{FitParts};
 ghost use Rattle.vs_typed.specs.Reach.{CallsFirst, node_reach};
-ghost use Rattle.vs_typed.specs.Weights.{AreWeights, EachFits, binary_own, call_inputs, capped, own_weight, own_weights, select_weight, word_weight};
+ghost use Rattle.vs_typed.specs.Weights.{AreWeights, EachFits, binary_own, call_inputs, capped, input_weight, own_weight, own_weights, select_weight, word_weight};
 
 use crate::nodes::node_in;
 use crate::operators::{binary_weight, is_shift, operand_width, operand_widths, unary_weight};
@@ -178,7 +178,7 @@ pub(crate) fn add_weight(shapes: &Shapes, table: &[Option<u64>], e: u32, w: u64,
     }
 }
 
-/// The total with what the arguments of a call cost, each in the larger of its own length and its input's, and with the inputs' bits.
+/// The total with what the arguments of a call cost, each in the larger of its own length and its input's, and with the bits of the inputs that count.
 #[cycle(weighing)]
 fn add_arguments(
     shapes: &Shapes,
@@ -202,7 +202,19 @@ fn add_arguments(
     sum
 }
 
-/// The total with what this argument costs, and with the bits of its input.
+/// How many bits of an input count: none of one that passes a signal of the module.
+fn counted_bits(input: &Signal) -> u64
+    requires { signal_length input.now < 2 ^ 32 }
+    ensures { result ≡ input_weight input.now }
+{
+    if input.net {
+        0
+    } else {
+        u64::from(bits_of(input))
+    }
+}
+
+/// The total with what this argument costs, and with the bits of its input that count.
 #[cycle(weighing)]
 fn add_argument(
     shapes: &Shapes,
@@ -217,11 +229,17 @@ fn add_argument(
     requires before { argument < e }
     requires fit { is_fit (tree_of shapes.now argument) ≡ true }
     requires short { signal_length input.now < 2 ^ 32 }
-    ensures { result ≡ capped (total + (signal_length input.now + S.weight (tree_of shapes.now argument) (max (E.width (tree_of shapes.now argument)) (signal_length input.now)))) }
+    ensures { result ≡ capped (total + (input_weight input.now + S.weight (tree_of shapes.now argument) (max (E.width (tree_of shapes.now argument)) (signal_length input.now)))) }
 {
     let bits = u64::from(bits_of(input));
     let width = as_operand(shapes, table.len(), argument).width.max(bits);
-    add_weight(shapes, table, argument, width, plus(total, bits))
+    add_weight(
+        shapes,
+        table,
+        argument,
+        width,
+        plus(total, counted_bits(input)),
+    )
 }
 
 /// The total with what a select of so many bits by this index costs. By a constant index it costs nothing.

@@ -8,6 +8,7 @@ pub mod Valued
 pub mod Updating
 pub mod Sourcing
 pub mod Turning
+pub mod Owning
 pub mod Unrefused
 pub mod ByKind
 pub mod Settling

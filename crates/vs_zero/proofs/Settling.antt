@@ -11,8 +11,10 @@ use Rattle.vs_design.specs.Lifted.{Family}
 use Rattle.vs_design.specs.LiftedBodies.{assign_sets}
 use Rattle.vs_design.specs.Refusals.{block_refusal, width_refusal}
 use Rattle.vs_design.specs.Rules.{mixed_in}
+use Rattle.vs_design.specs.Selects.{is_lenient, is_lenient_block}
 use Rattle.vs_design.specs.Sleepers.{is_sleeping}
-use Rattle.vs_design.specs.TimeZero.{Families, block_sets, is_quiet, early_end, late_end, settle_early, settle_late, settle_some, families_along, wakes, is_uncertain}
+use Rattle.vs_design.specs.Statements.{Statement}
+use Rattle.vs_design.specs.TimeZero.{Families, block_sets, is_quiet, early_end, late_end, meant_process, settle_early, settle_late, settle_some, families_along, wakes, is_uncertain}
 use Rattle.vs_flat.specs.declared.processes.Event.{Event}
 use Rattle.vs_flat.specs.declared.processes.Process.{Process}
 use Rattle.vs_flat.specs.declared.processes.Kind.TheVariants as K
@@ -24,7 +26,9 @@ use Rattle.vs_flat.specs.Laws.{EachProcess, ProcessNames}
 use Rattle.vs_flat.specs.Trees.{signal_at, tree_at, target_tree}
 use Rattle.vs_reads.specs.Footprint.{footprints_of, writes_at, waits_at}
 use Rattle.vs_reads.specs.Laws.{HasBitsOf, EachHasItsBits}
+use Rattle.vs_sets.specs.Completing.{done}
 use Rattle.vs_sets.specs.StatementParts.{statement_of}
+use Rattle.vs_sets.proofs.Completing.{done_meant}
 use Rattle.vs_typed.specs.Laws.{EachProcessFits}
 use Rattle.vs_flat.specs.Events.{is_edge_event}
 use Rattle.vs_zero.specs.Blocks.{IsBlockOf, may_wake}
@@ -54,16 +58,16 @@ all_below n bits all h k d l = h.below (get_or bits k d) (member_at bits k d l)
 
 -- ---- assigns
 
-pub assigned_early : EachProcess → (a : Arena) (p : ℕ) (r : Process) (target e : ℕ) (port : Port) → slice_get a.processes p ≡ Some r → r.kind ≡ K.Assign target e port → (asleep : Bool) (f g : Family) (x : D.Process) → slice_get (design_of a).processes p ≡ Some x
-    → g ≡ assign_sets (target_tree (tree_at (arena_trees a) target)) (tree_at (arena_trees a) e) f → g ≡ settle_early asleep x f
-assigned_early each a p r target e port i h asleep f g x k s =
-    subst (λ (y : D.Process). g ≡ settle_early asleep y f) (process_same (kind_in a r.at (K.Assign target e port)) x (slice_get (design_of a).processes p) (kind_is each a p r (K.Assign target e port) i h) k)
+pub assigned_early : EachProcess → (a : Arena) (p : ℕ) (r : Process) (target e : ℕ) (port : Port) → slice_get a.processes p ≡ Some r → r.kind ≡ K.Assign target e port → (asleep lenient : Bool) (f g : Family) (x : D.Process) → slice_get (design_of a).processes p ≡ Some x
+    → g ≡ assign_sets (target_tree (tree_at (arena_trees a) target)) (tree_at (arena_trees a) e) f → g ≡ settle_early asleep lenient (meant_process (design_of a) x) f
+assigned_early each a p r target e port i h asleep lenient f g x k s =
+    subst (λ (y : D.Process). g ≡ settle_early asleep lenient (meant_process (design_of a) y) f) (process_same (kind_in a r.at (K.Assign target e port)) x (slice_get (design_of a).processes p) (kind_is each a p r (K.Assign target e port) i h) k)
     (s ∙ fun_ext (λ b. refl))
 
 pub assigned_late : EachProcess → (a : Arena) (p : ℕ) (r : Process) (target e : ℕ) (port : Port) → slice_get a.processes p ≡ Some r → r.kind ≡ K.Assign target e port → (asleep : Bool) (f g : Family) (x : D.Process) → slice_get (design_of a).processes p ≡ Some x
-    → g ≡ assign_sets (target_tree (tree_at (arena_trees a) target)) (tree_at (arena_trees a) e) f → g ≡ settle_late asleep x f
+    → g ≡ assign_sets (target_tree (tree_at (arena_trees a) target)) (tree_at (arena_trees a) e) f → g ≡ settle_late asleep (meant_process (design_of a) x) f
 assigned_late each a p r target e port i h asleep f g x k s =
-    subst (λ (y : D.Process). g ≡ settle_late asleep y f) (process_same (kind_in a r.at (K.Assign target e port)) x (slice_get (design_of a).processes p) (kind_is each a p r (K.Assign target e port) i h) k)
+    subst (λ (y : D.Process). g ≡ settle_late asleep (meant_process (design_of a) y) f) (process_same (kind_in a r.at (K.Assign target e port)) x (slice_get (design_of a).processes p) (kind_is each a p r (K.Assign target e port) i h) k)
     (s ∙ fun_ext (λ b. refl))
 
 -- ---- blocks
@@ -90,21 +94,33 @@ pub unclocked : EachProcess → (a : Arena) (p : ℕ) (r : Process) (star : Bool
     → ((x : D.Process) → slice_get (design_of a).processes p ≡ Some x → is_clocked x ≡ false) → is_clocked (kind_in a r.at (K.Block star events statement)) ≡ false
 unclocked each a p r star events statement i h settles = settles (kind_in a r.at (K.Block star events statement)) (kind_is each a p r (K.Block star events statement) i h)
 
-pub ran_early : EachProcess → (a : Arena) (p : ℕ) (r : Process) (star : Bool) (events : List Event) (statement : ℕ) → slice_get a.processes p ≡ Some r → r.kind ≡ K.Block star events statement → (asleep : Bool) (f g : Family)
-    → g ≡ (λ b. early_end (contains (statement_bits (statement_of a statement)) b) asleep (is_quiet (statement_of a statement) f) (block_sets (statement_of a statement) f b) (f b))
-    → (x : D.Process) → slice_get (design_of a).processes p ≡ Some x → asleep ≡ is_sleeping (design_of a) x → g ≡ settle_early (is_sleeping (design_of a) x) x f
-ran_early each a p r star events statement i h asleep f g e x k s =
-    subst (λ t. g ≡ settle_early t x f) s
-    (subst (λ (y : D.Process). g ≡ settle_early asleep y f) (process_same (kind_in a r.at (K.Block star events statement)) x (slice_get (design_of a).processes p) (kind_is each a p r (K.Block star events statement) i h) k)
-    (e ∙ fun_ext (λ b. refl)))
+-- it is lenient where its statement is
+pub lenient_is : EachProcess → (a : Arena) (p : ℕ) (r : Process) (star : Bool) (events : List Event) (statement : ℕ) → slice_get a.processes p ≡ Some r → r.kind ≡ K.Block star events statement → is_clocked (kind_in a r.at (K.Block star events statement)) ≡ false
+    → (lenient : Bool) (x : D.Process) → slice_get (design_of a).processes p ≡ Some x → lenient ≡ is_lenient_block x → lenient ≡ is_lenient (statement_of a statement)
+lenient_is each a p r star events statement i h clocked lenient x k m =
+    m ∙ ap is_lenient_block (sym (process_same (kind_in a r.at (K.Block star events statement)) x (slice_get (design_of a).processes p) (kind_is each a p r (K.Block star events statement) i h) k))
+    ∙ ap (λ (t : Bool). not t && is_lenient (statement_of a statement)) clocked
 
-pub ran_late : EachProcess → (a : Arena) (p : ℕ) (r : Process) (star : Bool) (events : List Event) (statement : ℕ) → slice_get a.processes p ≡ Some r → r.kind ≡ K.Block star events statement → (asleep : Bool) (f g : Family)
-    → g ≡ (λ b. late_end (contains (statement_bits (statement_of a statement)) b) asleep (block_sets (statement_of a statement) f b) (f b))
-    → (x : D.Process) → slice_get (design_of a).processes p ≡ Some x → asleep ≡ is_sleeping (design_of a) x → g ≡ settle_late (is_sleeping (design_of a) x) x f
-ran_late each a p r star events statement i h asleep f g e x k s =
-    subst (λ t. g ≡ settle_late t x f) s
-    (subst (λ (y : D.Process). g ≡ settle_late asleep y f) (process_same (kind_in a r.at (K.Block star events statement)) x (slice_get (design_of a).processes p) (kind_is each a p r (K.Block star events statement) i h) k)
-    (e ∙ fun_ext (λ b. refl)))
+pub ran_early : EachProcess → (a : Arena) (p : ℕ) (r : Process) (star : Bool) (events : List Event) (statement : ℕ) → slice_get a.processes p ≡ Some r → r.kind ≡ K.Block star events statement → is_clocked (kind_in a r.at (K.Block star events statement)) ≡ false
+    → (asleep lenient : Bool) (f g : Family) → let t = done lenient a statement in g ≡ (λ b. early_end (contains (statement_bits t) b) asleep lenient (is_quiet t f) (block_sets t f b) (f b))
+    → (x : D.Process) → slice_get (design_of a).processes p ≡ Some x → asleep ≡ is_sleeping (design_of a) x → lenient ≡ is_lenient_block x → g ≡ settle_early (is_sleeping (design_of a) x) (is_lenient_block x) (meant_process (design_of a) x) f
+ran_early each a p r star events statement i h clocked asleep lenient f g e x k s m =
+    let d = design_of a in
+    let made = done_meant lenient a statement (lenient_is each a p r star events statement i h clocked lenient x k m) in
+    subst (λ t. g ≡ settle_early t (is_lenient_block x) (meant_process d x) f) s
+    (subst (λ t. g ≡ settle_early asleep t (meant_process d x) f) m
+    (subst (λ (y : D.Process). g ≡ settle_early asleep lenient (meant_process d y) f) (process_same (kind_in a r.at (K.Block star events statement)) x (slice_get d.processes p) (kind_is each a p r (K.Block star events statement) i h) k)
+    (subst (λ (t : Statement). g ≡ (λ b. early_end (contains (statement_bits t) b) asleep lenient (is_quiet t f) (block_sets t f b) (f b))) made e ∙ fun_ext (λ b. refl))))
+
+pub ran_late : EachProcess → (a : Arena) (p : ℕ) (r : Process) (star : Bool) (events : List Event) (statement : ℕ) → slice_get a.processes p ≡ Some r → r.kind ≡ K.Block star events statement → is_clocked (kind_in a r.at (K.Block star events statement)) ≡ false
+    → (asleep lenient : Bool) (f g : Family) → let t = done lenient a statement in g ≡ (λ b. late_end (contains (statement_bits t) b) asleep (block_sets t f b) (f b))
+    → (x : D.Process) → slice_get (design_of a).processes p ≡ Some x → asleep ≡ is_sleeping (design_of a) x → lenient ≡ is_lenient_block x → g ≡ settle_late (is_sleeping (design_of a) x) (meant_process (design_of a) x) f
+ran_late each a p r star events statement i h clocked asleep lenient f g e x k s m =
+    let d = design_of a in
+    let made = done_meant lenient a statement (lenient_is each a p r star events statement i h clocked lenient x k m) in
+    subst (λ t. g ≡ settle_late t (meant_process d x) f) s
+    (subst (λ (y : D.Process). g ≡ settle_late asleep (meant_process d y) f) (process_same (kind_in a r.at (K.Block star events statement)) x (slice_get d.processes p) (kind_is each a p r (K.Block star events statement) i h) k)
+    (subst (λ (t : Statement). g ≡ (λ b. late_end (contains (statement_bits t) b) asleep (block_sets t f b) (f b))) made e ∙ fun_ext (λ b. refl)))
 
 -- ---- one after the other
 
@@ -112,7 +128,7 @@ abbrev pub both : Family → Family → Families
 both early late = record { early = early; late = late }
 
 pub along_step : (d : D.Design) (order : List ℕ) (k p : ℕ) (x : D.Process) (f g early late : Family) → k < length order → get_or order k 0 ≡ p → slice_get d.processes p ≡ Some x
-    → early ≡ settle_early (is_sleeping d x) x f → late ≡ settle_late (is_sleeping d x) x g → families_along d (drop (k + 1) order) (both early late) ≡ families_along d (drop k order) (both f g)
+    → early ≡ settle_early (is_sleeping d x) (is_lenient_block x) (meant_process d x) f → late ≡ settle_late (is_sleeping d x) (meant_process d x) g → families_along d (drop (k + 1) order) (both early late) ≡ families_along d (drop k order) (both f g)
 along_step d order k p x f g early late l e i h j =
     ap₂ (λ s t. families_along d (drop (k + 1) order) (both s t)) h j
     ∙ sym (ap (λ ps. families_along d ps (both f g)) (drop_more order k 0 l) ∙ ap (λ q. families_along d (drop (k + 1) order) (settle_some d (slice_get d.processes q) (both f g))) e ∙ ap (λ o. families_along d (drop (k + 1) order) (settle_some d o (both f g))) i)
@@ -127,15 +143,19 @@ pub assign_certain : EachProcess → (a : Arena) (p : ℕ) (r : Process) (target
 assign_certain each a p r target e port i h f x k =
     subst (λ (y : D.Process). false ≡ is_uncertain (design_of a) f y) (process_same (kind_in a r.at (K.Assign target e port)) x (slice_get (design_of a).processes p) (kind_is each a p r (K.Assign target e port) i h) k) refl
 
+-- a block is quiet where it isn't lenient and leaves x alone
+abbrev pub is_still_block : Statement → Family → Bool
+is_still_block s early = not (is_lenient s) && is_quiet s early
+
 -- by the four tests of a block
 pub block_by : EachProcess → (a : Arena) (p : ℕ) (r : Process) (star : Bool) (events : List Event) (statement : ℕ) → slice_get a.processes p ≡ Some r → r.kind ≡ K.Block star events statement → (f : Families) (x : D.Process) → slice_get (design_of a).processes p ≡ Some x
-    → (edge asleep quiet wake : Bool) → edge ≡ list_any is_edge_event events → asleep ≡ is_sleeping (design_of a) x → quiet ≡ is_quiet (statement_of a statement) f.early → wake ≡ wakes f x
+    → (edge asleep quiet wake : Bool) → edge ≡ list_any is_edge_event events → asleep ≡ is_sleeping (design_of a) x → quiet ≡ is_still_block (statement_of a statement) f.early → wake ≡ wakes f x
     → (not edge && not asleep && not quiet && not wake) ≡ is_uncertain (design_of a) f x
 block_by each a p r star events statement i h f x k edge asleep quiet wake e s q w =
     ap (λ t. not t && not asleep && not quiet && not wake) (e ∙ sym (edges_same (signal_at (arena_signals a)) events))
     ∙ ap₂ (λ t u. not (list_any has_edge (map (event_of (signal_at (arena_signals a))) events)) && not t && not u && not wake) s q
-    ∙ ap (λ t. not (list_any has_edge (map (event_of (signal_at (arena_signals a))) events)) && not (is_sleeping (design_of a) x) && not (is_quiet (statement_of a statement) f.early) && not t) w
-    ∙ subst (λ (y : D.Process). (not (list_any has_edge (map (event_of (signal_at (arena_signals a))) events)) && not (is_sleeping (design_of a) y) && not (is_quiet (statement_of a statement) f.early) && not (wakes f y)) ≡ is_uncertain (design_of a) f y)
+    ∙ ap (λ t. not (list_any has_edge (map (event_of (signal_at (arena_signals a))) events)) && not (is_sleeping (design_of a) x) && not (is_still_block (statement_of a statement) f.early) && not t) w
+    ∙ subst (λ (y : D.Process). (not (list_any has_edge (map (event_of (signal_at (arena_signals a))) events)) && not (is_sleeping (design_of a) y) && not (is_still_block (statement_of a statement) f.early) && not (wakes f y)) ≡ is_uncertain (design_of a) f y)
     (process_same (kind_in a r.at (K.Block star events statement)) x (slice_get (design_of a).processes p) (kind_is each a p r (K.Block star events statement) i h) k) refl
 
 -- where one of them holds it isn't uncertain

@@ -76,31 +76,39 @@ quiet_is bits s f g own e = ap (λ (h : Family). list_all (λ b. is_only_x (h b)
 
 -- ---- turns
 
-pub asleep_early : (bits : List ℕ) (s : Statement) (f g : Family) (asleep : Bool) → AreOwn bits s → asleep ≡ true → g ≡ replaced bits (λ b. only X) f
-    → g ≡ (λ b. early_end (contains (statement_bits s) b) asleep (is_quiet s f) (block_sets s f b) (f b))
-asleep_early bits s f g asleep own a e = e ∙ fun_ext (λ b. ap₂ (λ k l. if k then (if l then only X else (if is_quiet s f then block_sets s f b else union (only X) (block_sets s f b))) else f b) (own b) (sym a))
+pub asleep_early : (bits : List ℕ) (s : Statement) (f g : Family) (asleep lenient : Bool) → AreOwn bits s → asleep ≡ true → g ≡ replaced bits (λ b. only X) f
+    → g ≡ (λ b. early_end (contains (statement_bits s) b) asleep lenient (is_quiet s f) (block_sets s f b) (f b))
+asleep_early bits s f g asleep lenient own a e =
+    e ∙ fun_ext (λ b. ap₂ (λ k l. if k then (if l then only X else (if lenient then any_value else (if is_quiet s f then block_sets s f b else union (only X) (block_sets s f b)))) else f b) (own b) (sym a))
+
+pub lenient_early : (bits : List ℕ) (s : Statement) (f g : Family) (asleep lenient : Bool) → AreOwn bits s → asleep ≡ false → lenient ≡ true → g ≡ replaced bits (λ b. any_value) f
+    → g ≡ (λ b. early_end (contains (statement_bits s) b) asleep lenient (is_quiet s f) (block_sets s f b) (f b))
+lenient_early bits s f g asleep lenient own a m e =
+    e
+    ∙ fun_ext (λ b. ap₂ (λ k l. if k then (if l then only X else any_value) else f b) (own b) (sym a)
+    ∙ ap (λ l. if contains (statement_bits s) b then (if asleep then only X else (if l then any_value else (if is_quiet s f then block_sets s f b else union (only X) (block_sets s f b)))) else f b) (sym m))
 
 -- where it is quiet it stays as it ran, and else x is added
-pub quiet_early : BlockingIsAtOnce → (bits : List ℕ) (s : Statement) (f g : Family) (asleep : Bool) → AreOwn bits s → mixed_in false s ≡ [] → asleep ≡ false → g ≡ block_sets s f → list_all (λ b. is_only_x (g b)) bits ≡ true
-    → g ≡ (λ b. early_end (contains (statement_bits s) b) asleep (is_quiet s f) (block_sets s f b) (f b))
-quiet_early law bits s f g asleep own m a e q = e ∙ fun_ext (λ b. at b (contains (statement_bits s) b) refl) where
+pub quiet_early : BlockingIsAtOnce → (bits : List ℕ) (s : Statement) (f g : Family) (asleep lenient : Bool) → AreOwn bits s → mixed_in false s ≡ [] → asleep ≡ false → lenient ≡ false → g ≡ block_sets s f → list_all (λ b. is_only_x (g b)) bits ≡ true
+    → g ≡ (λ b. early_end (contains (statement_bits s) b) asleep lenient (is_quiet s f) (block_sets s f b) (f b))
+quiet_early law bits s f g asleep lenient own m a strict e q = e ∙ fun_ext (λ b. at b (contains (statement_bits s) b) refl) where
   quiet : is_quiet s f ≡ true
   quiet = sym (quiet_is bits s f g own e) ∙ q
 
-  at : (b : ℕ) (k : Bool) → contains (statement_bits s) b ≡ k → block_sets s f b ≡ early_end (contains (statement_bits s) b) asleep (is_quiet s f) (block_sets s f b) (f b)
-  at b true k = sym (cond-true (contains (statement_bits s) b) _ _ k ∙ cond-false asleep _ _ a ∙ cond-true (is_quiet s f) _ _ quiet)
+  at : (b : ℕ) (k : Bool) → contains (statement_bits s) b ≡ k → block_sets s f b ≡ early_end (contains (statement_bits s) b) asleep lenient (is_quiet s f) (block_sets s f b) (f b)
+  at b true k = sym (cond-true (contains (statement_bits s) b) _ _ k ∙ cond-false asleep _ _ a ∙ cond-false lenient _ _ strict ∙ cond-true (is_quiet s f) _ _ quiet)
   at b false k = kept law s f b m k ∙ sym (cond-false (contains (statement_bits s) b) _ _ k)
 
-pub stirred_early : BlockingIsAtOnce → (bits : List ℕ) (s : Statement) (f g h : Family) (asleep : Bool) → AreOwn bits s → mixed_in false s ≡ [] → asleep ≡ false → g ≡ block_sets s f → list_all (λ b. is_only_x (g b)) bits ≡ false
-    → h ≡ replaced bits (λ b. union (only X) (g b)) g → h ≡ (λ b. early_end (contains (statement_bits s) b) asleep (is_quiet s f) (block_sets s f b) (f b))
-stirred_early law bits s f g h asleep own m a e q k =
+pub stirred_early : BlockingIsAtOnce → (bits : List ℕ) (s : Statement) (f g h : Family) (asleep lenient : Bool) → AreOwn bits s → mixed_in false s ≡ [] → asleep ≡ false → lenient ≡ false → g ≡ block_sets s f → list_all (λ b. is_only_x (g b)) bits ≡ false
+    → h ≡ replaced bits (λ b. union (only X) (g b)) g → h ≡ (λ b. early_end (contains (statement_bits s) b) asleep lenient (is_quiet s f) (block_sets s f b) (f b))
+stirred_early law bits s f g h asleep lenient own m a strict e q k =
     k ∙ ap (λ (g : Family). replaced bits (λ b. union (only X) (g b)) g) e ∙ fun_ext (λ b. at b (contains (statement_bits s) b) refl)
   where
     stirred : is_quiet s f ≡ false
     stirred = sym (quiet_is bits s f g own e) ∙ q
 
-    at : (b : ℕ) (k : Bool) → contains (statement_bits s) b ≡ k → replaced bits (λ b. union (only X) (block_sets s f b)) (block_sets s f) b ≡ early_end (contains (statement_bits s) b) asleep (is_quiet s f) (block_sets s f b) (f b)
-    at b true k = cond-true (contains bits b) _ _ (own b ∙ k) ∙ sym (cond-true (contains (statement_bits s) b) _ _ k ∙ cond-false asleep _ _ a ∙ cond-false (is_quiet s f) _ _ stirred)
+    at : (b : ℕ) (k : Bool) → contains (statement_bits s) b ≡ k → replaced bits (λ b. union (only X) (block_sets s f b)) (block_sets s f) b ≡ early_end (contains (statement_bits s) b) asleep lenient (is_quiet s f) (block_sets s f b) (f b)
+    at b true k = cond-true (contains bits b) _ _ (own b ∙ k) ∙ sym (cond-true (contains (statement_bits s) b) _ _ k ∙ cond-false asleep _ _ a ∙ cond-false lenient _ _ strict ∙ cond-false (is_quiet s f) _ _ stirred)
     at b false k = cond-false (contains bits b) _ _ (own b ∙ k) ∙ kept law s f b m k ∙ sym (cond-false (contains (statement_bits s) b) _ _ k)
 
 pub awake_late : BlockingIsAtOnce → (bits : List ℕ) (s : Statement) (f g : Family) (asleep : Bool) → AreOwn bits s → mixed_in false s ≡ [] → asleep ≡ false → g ≡ block_sets s f

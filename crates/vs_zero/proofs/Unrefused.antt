@@ -32,33 +32,33 @@ empty_is [] h = refl
 empty_is (n ∷ ns) h = absurd (let z : ⊥ = cc in z)
 
 -- no process mixes assignments, or may latch
-abbrev is_clean : Process → Bool
-is_clean x = is_empty (mixed_assigns x) && is_empty (latches x)
+abbrev is_clean : Design → Process → Bool
+is_clean d x = is_empty (mixed_assigns x) && is_empty (latches d x)
 
-process_clean : (d : Design) (p : ℕ) (x : Process) → block_refusal_of d p x ≡ None → is_clean x ≡ true
+process_clean : (d : Design) (p : ℕ) (x : Process) → block_refusal_of d p x ≡ None → is_clean d x ≡ true
 process_clean d p x h =
     let missing = option_map (λ b. Sensitivity p (signal_of d.signals b) (process_place x)) (least (missing_bits x)) in
-    let kept = option_map (λ b. Latch p b (process_place x)) (least (latches x)) in
+    let kept = option_map (λ b. Latch p b (process_place x)) (least (latches d x)) in
     let one = otherwise_none (option_map MixedAssign (least (mixed_assigns x))) (otherwise missing kept) h in
     let two = otherwise_none missing kept one.1 in
-    and_true (is_empty (mixed_assigns x)) (is_empty (latches x)) (ap is_empty (none_least (mixed_assigns x) (none_made MixedAssign (least (mixed_assigns x)) one.0)))
-    (ap is_empty (none_least (latches x) (none_made (λ b. Latch p b (process_place x)) (least (latches x)) two.1)))
+    and_true (is_empty (mixed_assigns x)) (is_empty (latches d x)) (ap is_empty (none_least (mixed_assigns x) (none_made MixedAssign (least (mixed_assigns x)) one.0)))
+    (ap is_empty (none_least (latches d x) (none_made (λ b. Latch p b (process_place x)) (least (latches d x)) two.1)))
 
-any_clean : (d : Design) (x : AnyProcess) → block_refusal_at d x ≡ None → by_sort is_clean (λ (i : Initial). true) x ≡ true
+any_clean : (d : Design) (x : AnyProcess) → block_refusal_at d x ≡ None → by_sort (is_clean d) (λ (i : Initial). true) x ≡ true
 any_clean d (OfProcess p x) h = process_clean d p x h
 any_clean d (OfInitial k i) h = refl
 
-pub record IsClean (x : Process) : Type 0 where
+pub record IsClean (d : Design) (x : Process) : Type 0 where
   pub unmixed : mixed_assigns x ≡ []
-  pub no_latch : latches x ≡ []
+  pub no_latch : latches d x ≡ []
 
-pub clean : (d : Design) → IsLawfulDesign d → block_refusal d ≡ None → (p : ℕ) (x : Process) → slice_get d.processes p ≡ Some x → IsClean x
+pub clean : (d : Design) → IsLawfulDesign d → block_refusal d ≡ None → (p : ℕ) (x : Process) → slice_get d.processes p ≡ Some x → IsClean d x
 clean d l h p x e =
     let functions = option_map FunctionLatch (least (function_latches d.functions)) in
     let none = (otherwise_none functions (first_in (block_refusal_at d) (in_text_order d)) h).1 in
-    let all = processes_pass d l is_clean (λ (i : Initial). true) (all_clear (block_refusal_at d) (by_sort is_clean (λ (i : Initial). true)) (in_text_order d) (any_clean d) none) in
-    let here = and_both (is_empty (mixed_assigns x)) (is_empty (latches x)) (at_all is_clean d.processes p x all e) in
-    record { unmixed = empty_is (mixed_assigns x) here.0; no_latch = empty_is (latches x) here.1 }
+    let all = processes_pass d l (is_clean d) (λ (i : Initial). true) (all_clear (block_refusal_at d) (by_sort (is_clean d) (λ (i : Initial). true)) (in_text_order d) (any_clean d) none) in
+    let here = and_both (is_empty (mixed_assigns x)) (is_empty (latches d x)) (at_all (is_clean d) d.processes p x all e) in
+    record { unmixed = empty_is (mixed_assigns x) here.0; no_latch = empty_is (latches d x) here.1 }
 
 all_empty : (f : Process → List ℕ) (ps : List Process) → ((p : ℕ) (x : Process) → slice_get ps p ≡ Some x → f x ≡ []) → list_all (λ x. is_empty (f x)) ps ≡ true
 all_empty f [] h = refl
@@ -72,7 +72,7 @@ pub orderly : (d : Design) → IsLawfulDesign d → block_refusal d ≡ None →
 orderly d l b r = record {
   lawful = l;
   unmixed = all_empty mixed_assigns d.processes (λ p x e. (clean d l b p x e).unmixed);
-  no_latch = all_empty latches d.processes (λ p x e. (clean d l b p x e).no_latch);
+  no_latch = all_empty (latches d) d.processes (λ p x e. (clean d l b p x e).no_latch);
   one_driver = (unshared d l r).0;
 }
 

@@ -7,6 +7,7 @@ ghost use Rattle.vs_design.specs.Refusals.{block_refusal};
 ghost use Rattle.vs_design.specs.Resets.{with_resets};
 ghost use Rattle.vs_design.specs.TimeZero.{families, late_source};
 ghost use Rattle.vs_clock.specs.Clocked.{AreResets};
+ghost use Rattle.vs_full.specs.Found.{AreAllNoted};
 ghost use Rattle.vs_flat.specs.DesignOf.{design_of};
 ghost use Rattle.vs_reads.specs.Footprint.{footprints_of};
 ghost use Rattle.vs_sets.specs.Tables.{family_of};
@@ -22,6 +23,7 @@ use std::alloc::{AllocError, Global};
 use vs_clock::Clocks;
 use vs_flat::{count_bits, trees_law};
 use vs_four::Bit4;
+use vs_full::Cases;
 use vs_level::Order;
 use vs_reads::{Footprints, footprint_law};
 use vs_sets::Set4;
@@ -130,11 +132,13 @@ impl Families {
         alloc: Global,
         typed: &Typed,
         footprints: &Footprints,
+        cases: &Cases,
         clocks: &Clocks,
         order: &Order,
     ) -> Result<Families, AllocError>
         requires footprints { footprints.now ≡ footprints_of (design_of typed.now) }
         requires blocks { block_refusal (design_of typed.now) ≡ None }
+        requires cases { AreAllNoted typed.now cases.now }
         requires resets { AreResets typed.now clocks.now }
         requires order { is_level_order (design_of typed.now) order.now ≡ true }
         ensures early_count { IfOk result (λ f. length f.early.items ≡ bit_count (design_of typed.now)) }
@@ -147,6 +151,7 @@ impl Families {
             alloc,
             typed,
             footprints,
+            cases,
             order.list(),
             early.as_mut_slice(),
             late.as_mut_slice(),

@@ -7,8 +7,10 @@ ghost use Rattle.vs_design.specs.Designs.{bit_count, is_clocked};
 ghost use Rattle.vs_design.specs.Levels.{is_level_order};
 ghost use Rattle.vs_design.specs.Refusals.{block_refusal};
 ghost use Rattle.vs_design.specs.Sets.{is_known_set, is_unknown_set};
+ghost use Rattle.vs_design.specs.Selects.{is_lenient_block};
 ghost use Rattle.vs_design.specs.Sleepers.{is_sleeping};
-ghost use Rattle.vs_design.specs.TimeZero.{families_along, is_uncertain, settle_early, settle_late};
+ghost use Rattle.vs_design.specs.TimeZero.{families_along, is_uncertain, meant_process, settle_early, settle_late};
+ghost use Rattle.vs_full.specs.Found.{AreAllNoted};
 ghost use Rattle.vs_flat.specs.DesignOf.{design_of};
 ghost use Rattle.vs_reads.specs.Footprint.{footprints_of};
 ghost use Rattle.vs_sets.specs.Tables.{family_of};
@@ -19,6 +21,7 @@ use crate::turns::{is_quiet, turn_early, turn_late};
 use std::alloc::{AllocError, Global};
 use vs_design::within_law;
 use vs_flat::{Kind, has_edge, lawful_law, names_law, trees_law};
+use vs_full::Cases;
 use vs_reads::{Footprints, footprint_law};
 use vs_sets::{Set4, assign};
 use vs_typed::{Typed, fits_law};
@@ -28,6 +31,7 @@ fn turn(
     alloc: Global,
     typed: &Typed,
     footprints: &Footprints,
+    cases: &Cases,
     p: u32,
     early: &mut [Set4],
     late: &mut [Set4],
@@ -36,10 +40,11 @@ fn turn(
     requires late { length late.old ≡ bit_count (design_of typed.now) }
     requires footprints { footprints.now ≡ footprints_of (design_of typed.now) }
     requires blocks { block_refusal (design_of typed.now) ≡ None }
+    requires cases { AreAllNoted typed.now cases.now }
     requires there { p < length typed.now.processes }
     requires settles { (x : D.Process) → slice_get (design_of typed.now).processes p ≡ Some x → is_clocked x ≡ false }
-    ensures early { (x : D.Process) → slice_get (design_of typed.now).processes p ≡ Some x → OnOk result (family_of early.new ≡ settle_early (is_sleeping (design_of typed.now) x) x (family_of early.old)) }
-    ensures late { (x : D.Process) → slice_get (design_of typed.now).processes p ≡ Some x → OnOk result (family_of late.new ≡ settle_late (is_sleeping (design_of typed.now) x) x (family_of late.old)) }
+    ensures early { (x : D.Process) → slice_get (design_of typed.now).processes p ≡ Some x → OnOk result (family_of early.new ≡ settle_early (is_sleeping (design_of typed.now) x) (is_lenient_block x) (meant_process (design_of typed.now) x) (family_of early.old)) }
+    ensures late { (x : D.Process) → slice_get (design_of typed.now).processes p ≡ Some x → OnOk result (family_of late.new ≡ settle_late (is_sleeping (design_of typed.now) x) (meant_process (design_of typed.now) x) (family_of late.old)) }
 {
     trees_law();
     names_law();
@@ -55,9 +60,13 @@ fn turn(
         }
         Kind::Block { statement, .. } => {
             let asleep = typed.sleeps(p);
+            let lenient = cases.is_lenient(p);
+            let defaults = cases.defaults(lenient);
             let bits = footprints.writes(p);
-            turn_early(alloc, shapes, *statement, bits, asleep, early)?;
-            turn_late(alloc, shapes, *statement, bits, asleep, late)
+            turn_early(
+                alloc, shapes, &defaults, *statement, bits, asleep, lenient, early,
+            )?;
+            turn_late(alloc, shapes, &defaults, *statement, bits, asleep, late)
         }
     }
 }
@@ -67,6 +76,7 @@ pub(crate) fn settle(
     alloc: Global,
     typed: &Typed,
     footprints: &Footprints,
+    cases: &Cases,
     order: &[u32],
     early: &mut [Set4],
     late: &mut [Set4],
@@ -75,12 +85,13 @@ pub(crate) fn settle(
     requires late { length late.old ≡ bit_count (design_of typed.now) }
     requires footprints { footprints.now ≡ footprints_of (design_of typed.now) }
     requires blocks { block_refusal (design_of typed.now) ≡ None }
+    requires cases { AreAllNoted typed.now cases.now }
     requires order { is_level_order (design_of typed.now) order.now ≡ true }
     ensures { OnOk result (record { early = family_of early.new; late = family_of late.new } ≡ families_along (design_of typed.now) order.now (record { early = family_of early.old; late = family_of late.old })) }
 {
     trees_law();
     for p in order {
-        turn(alloc, typed, footprints, *p, early, late)?;
+        turn(alloc, typed, footprints, cases, *p, early, late)?;
     }
     Ok(())
 }
@@ -111,6 +122,7 @@ fn is_uncertain(
     alloc: Global,
     typed: &Typed,
     footprints: &Footprints,
+    cases: &Cases,
     p: u32,
     early: &mut [Set4],
     late: &[Set4],
@@ -119,6 +131,7 @@ fn is_uncertain(
     requires late { length late.now ≡ bit_count (design_of typed.now) }
     requires footprints { footprints.now ≡ footprints_of (design_of typed.now) }
     requires blocks { block_refusal (design_of typed.now) ≡ None }
+    requires cases { AreAllNoted typed.now cases.now }
     requires there { p < length typed.now.processes }
     ensures uncertain { IfOk result (λ r. (x : D.Process) → slice_get (design_of typed.now).processes p ≡ Some x → r ≡ is_uncertain (design_of typed.now) (record { early = family_of early.old; late = family_of late.now }) x) }
     ensures same { OnOk result (family_of early.new ≡ family_of early.old) }
@@ -145,7 +158,13 @@ fn is_uncertain(
             if wakes(footprints.waits(p), early, late) {
                 return Ok(false);
             }
-            Ok(!is_quiet(alloc, shapes, *statement, footprints.writes(p), early)?)
+            if cases.is_lenient(p) {
+                return Ok(true);
+            }
+            let written = cases.defaults(false);
+            let bits = footprints.writes(p);
+            let quiet = is_quiet(alloc, shapes, &written, *statement, bits, early)?;
+            Ok(!quiet)
         }
     }
 }
@@ -155,6 +174,7 @@ pub(crate) fn first_uncertain(
     alloc: Global,
     typed: &Typed,
     footprints: &Footprints,
+    cases: &Cases,
     early: &mut [Set4],
     late: &[Set4],
 ) -> Result<Option<u32>, AllocError>
@@ -162,11 +182,12 @@ pub(crate) fn first_uncertain(
     requires late { length late.now ≡ bit_count (design_of typed.now) }
     requires footprints { footprints.now ≡ footprints_of (design_of typed.now) }
     requires blocks { block_refusal (design_of typed.now) ≡ None }
+    requires cases { AreAllNoted typed.now cases.now }
     ensures { IfOk result (IsFirst (design_of typed.now) (is_uncertain (design_of typed.now) (record { early = family_of early.old; late = family_of late.now }))) }
 {
     trees_law();
     for p in 0..typed.flat().process_count() {
-        if is_uncertain(alloc, typed, footprints, p, early, late)? {
+        if is_uncertain(alloc, typed, footprints, cases, p, early, late)? {
             return Ok(Some(p));
         }
     }

@@ -4,6 +4,7 @@ ghost use Rattle.std.specs.Prelude.{◌≡◌, ℕ, List, None, true, IfErr, OnO
 ghost use Rattle.vs_clock.specs.Clocked.{AreResets, AreClocksOf};
 ghost use Rattle.vs_design.specs.Levels.{is_level_order};
 ghost use Rattle.vs_design.specs.Refusals.{block_refusal, driver_refusal, zero_refusal};
+ghost use Rattle.vs_full.specs.Found.{AreAllNoted};
 ghost use Rattle.vs_flat.specs.DesignOf.{design_of};
 ghost use Rattle.vs_reads.specs.Footprint.{footprints_of};
 ghost use Rattle.vs_zero.specs.Refused.{IsZeroError};
@@ -15,6 +16,7 @@ use std::alloc::Global;
 use vs_clock::Clocks;
 use vs_design::{cycle_law, time_zero_law};
 use vs_flat::trees_law;
+use vs_full::Cases;
 use vs_level::Order;
 use vs_reads::Footprints;
 use vs_typed::Typed;
@@ -24,6 +26,7 @@ pub fn check(
     alloc: Global,
     typed: &Typed,
     footprints: &Footprints,
+    cases: &Cases,
     clocks: &Clocks,
     order: &Order,
 ) -> Result<(), ZeroError>
@@ -32,6 +35,7 @@ pub fn check(
     requires resets { AreResets typed.now clocks.now }
     requires order { is_level_order (design_of typed.now) order.now ≡ true }
     requires blocks { block_refusal (design_of typed.now) ≡ None }
+    requires cases { AreAllNoted typed.now cases.now }
     requires drivers { driver_refusal (design_of typed.now) ≡ None }
     ensures lawful { (names : List (List ℕ)) → AreClocksOf (design_of typed.now) names clocks.now → OnOk result (zero_refusal (design_of typed.now) names ≡ None) }
     ensures refused { (names : List (List ℕ)) → AreClocksOf (design_of typed.now) names clocks.now → IfErr result (IsZeroError (design_of typed.now) names) }
@@ -40,11 +44,12 @@ pub fn check(
     cycle_law();
     time_zero_law();
     let flat = typed.flat();
-    let mut families = Families::of(alloc, typed, footprints, clocks, order)?;
+    let mut families = Families::of(alloc, typed, footprints, cases, clocks, order)?;
     let first = first_uncertain(
         alloc,
         typed,
         footprints,
+        cases,
         families.early.as_mut_slice(),
         families.late.as_slice(),
     )?;

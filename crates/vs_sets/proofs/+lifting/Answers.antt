@@ -1,5 +1,5 @@
-use Rattle.std.proofs.Common.{◌≡◌, ◌≤◌, ◌<◌, ◌+◌, ◌-◌, ◌*◌, ◌++◌, ℕ, Bool, length, map, take, drop, false, List, [], ◌∷◌, get_or, replicate, Some, Result, Ok, Err, refl, sym, ap, ap₂, ◌∙◌, subst, arith, inl, inr}
-use Rattle.std.specs.Prelude.{All, IfOk, OnOk}
+use Rattle.std.proofs.Common.{◌≡◌, ◌≤◌, ◌<◌, ◌+◌, ◌-◌, ◌*◌, ◌++◌, ℕ, Bool, length, map, take, drop, true, false, List, [], ◌∷◌, get_or, replicate, if◌then◌else◌, Some, Result, Ok, Err, refl, sym, ap, ap₂, ◌∙◌, subst, arith, inl, inr}
+use Rattle.std.specs.Prelude.{All, IfOk, OnOk, slice_index}
 use Rattle.std.specs.List.{list_any}
 use Rattle.std.proofs.lemmas.Bool.{cond-true, cond-false}
 use Rattle.std.proofs.lemmas.List.{take-append-drop}
@@ -7,6 +7,7 @@ use Rattle.std.proofs.lemmas.List.Elements.{All-push, All-take, All-drop}
 use Rattle.vs_four.specs.declared.Bit4.TheVariants.{X}
 use Rattle.vs_four.specs.Selects.{Part}
 use Rattle.vs_design.specs.Expressions as E
+use Rattle.vs_design.specs.Statements as T
 use Rattle.vs_design.specs.Statements.{arms_width, arms_sign, case_width, case_sign}
 use Rattle.vs_design.specs.Fits.{fit_items, fits_statement}
 use Rattle.vs_design.specs.Lifted as L
@@ -19,21 +20,23 @@ use Rattle.vs_flat.specs.declared.expressions.Node.{Node}
 use Rattle.vs_flat.specs.declared.expressions.Node.TheVariants as N
 use Rattle.vs_flat.specs.declared.statements.Statement.{Statement}
 use Rattle.vs_flat.specs.declared.statements.Arm.{Arm}
-use Rattle.vs_flat.specs.Trees.{branch, copy_count, first_copy, joined}
+use Rattle.vs_flat.specs.Trees.{arms_tree, branch, copy_count, first_copy, joined}
 use Rattle.vs_sets.specs.Branches.{branch_sets, taken_arms, taken_branches}
 use Rattle.vs_sets.specs.Calls.{IsCall, arguments_of, function_of}
 use Rattle.vs_sets.specs.FitParts.{FitParts}
-use Rattle.vs_sets.specs.Matches.{IsOneOf, are_within, branches_of}
+use Rattle.vs_sets.specs.Completing.{AreDefaults, HasDefaults, IsNext, done, node_done, other_of}
+use Rattle.vs_sets.specs.Matches.{IsEither, IsOneOf, are_within, branches_of}
 use Rattle.vs_sets.specs.Nodes.{EachBelow, place_of, signal_of, tree_of, tree_of_node}
 use Rattle.vs_sets.specs.PartSets.{part_sets}
-use Rattle.vs_sets.specs.StatementParts.{BranchFacts, Covers, EachRuns, FitStatement, HasStatementNames, WithinStatement, arms_of, place_of_statement, statement_of, statement_of_node}
+use Rattle.vs_sets.specs.StatementParts.{BranchFacts, Covers, EachRuns, FitStatement, HasStatementNames, WithinStatement, arms_of, place_of_statement, statement_of, statement_of_node, tree_with}
 use Rattle.vs_sets.specs.Tables.{family_of}
 use Rattle.vs_sets.specs.TargetsOf.{target_tree}
 use Rattle.vs_sets.proofs.Arguments.{all_arguments, all_x, argument_facts, argument_step, item_within, part_within, seam}
-use Rattle.vs_sets.proofs.CaseSteps.{arm_fit, arm_items_within, arm_step, arm_within, arms_grow, branches_push, each_fit_item, each_within, get_is, items_at-is, sign_at_once, width_at_once}
+use Rattle.vs_sets.proofs.CaseSteps.{arm_fit, arm_items_within, arm_step, arm_within, arms_grow, branches_push, each_fit_item, each_within, get_is, items_at-is, sign_at_once, sign_of_arms, width_at_once, width_of_arms}
 use Rattle.vs_sets.proofs.Joins.{each_fit, length-part_sets, part_room, part_step, repeat_room}
 use Rattle.vs_sets.proofs.Names.{sets_at}
-use Rattle.vs_sets.proofs.Running.{All_same, all_facts, case_facts, join_is, parts_run}
+use Rattle.vs_sets.proofs.Completing.{next_branches, of_parts, of_taken}
+use Rattle.vs_sets.proofs.Running.{All_same, all_covered, all_facts, default_facts, either_facts, join_is, parts_run}
 use Rattle.vs_sets.proofs.Steps.{moved}
 use Rattle.vs_sets.proofs.TargetFacts.{target_few, target_length}
 use Rattle.vs_sets.proofs.Unwritten.{case_branches, if_branches}
@@ -272,9 +275,9 @@ cases::taken_arms-loop-arm-preserved t c =
     let k = c.loop-arm.arm-index in
     let items = ap (λ ns. item_sets kind w s subject (E.items_of (map (tree_of a) ns)) f) c.as_slice.ensures in
     let unsure : list_any is_only_one (item_sets kind w s subject (E.items_of (map (tree_of a) arm.items)) f) ≡ false = ap (λ ms. list_any is_only_one ms) (sym items) ∙ sym c.in_ok-found.ensures.sure ∙ c.if-found.false in
-    let step = arm_step (tree_of a) (statement_of a) c.args.other c.args.arms.now k arm kind w s subject f c.loop-arm-test.true c.arm-item.is unsure in
+    let step = λ (st : ℕ → T.Statement). arm_step (tree_of a) st c.args.other c.args.arms.now k arm kind w s subject f c.loop-arm-test.true c.arm-item.is unsure in
     let may = ap (λ ms. list_any (λ (m : Set4). m.one?) ms) (sym items) ∙ sym c.in_ok-found.ensures.may in
-    let rest = taken_arms (arms_at_once (arms_of a c.args.other (drop (k + 1) c.args.arms.now))) kind w s subject f in
+    let rest = λ (st : ℕ → T.Statement). taken_arms (arms_at_once (arms_tree (tree_of a) st c.args.other (drop (k + 1) c.args.arms.now))) kind w s subject f in
     record {
       from = elim c.if-found-2.branch [
         | cases::taken_arms-then-found-2+in_ok-push-2 v ↦
@@ -282,17 +285,17 @@ cases::taken_arms-loop-arm-preserved t c =
             (inr (k, arm, get_is c.args.arms.now k arm c.loop-arm-test.true c.arm-item.is, refl)))
         | cases::taken_arms-else-found-2 v ↦ rw v.taken-is c.loop-arm.invariant.from
       ];
-      taken = elim c.if-found-2.branch [
+      taken = λ st. elim c.if-found-2.branch [
         | cases::taken_arms-then-found-2+in_ok-push-2 v ↦
             (let chosen = may ∙ v.if-found-2.true in
-            let more = step ∙ cond-true _ (at_once (statement_of a arm.statement) ∷ rest) rest chosen in
-            ap (λ x. branches_of a x.items ++ rest) v.taken-is ∙ ap (λ xs. branches_of a xs ++ rest) v.in_ok-push-2.ensures.items
-            ∙ ap (λ x. x ++ rest) (branches_push a c.loop-arm.taken.items (Some arm.statement))
-            ∙ moved (branches_of a c.loop-arm.taken.items) (at_once (statement_of a arm.statement) ∷ []) _ rest _ c.loop-arm.invariant.taken more)
+            let more = step st ∙ cond-true _ (at_once (st arm.statement) ∷ rest st) (rest st) chosen in
+            ap (λ x. branches_of st x.items ++ rest st) v.taken-is ∙ ap (λ xs. branches_of st xs ++ rest st) v.in_ok-push-2.ensures.items
+            ∙ ap (λ x. x ++ rest st) (branches_push st c.loop-arm.taken.items (Some arm.statement))
+            ∙ moved (branches_of st c.loop-arm.taken.items) (at_once (st arm.statement) ∷ []) _ (rest st) _ (c.loop-arm.invariant.taken st) more)
         | cases::taken_arms-else-found-2 v ↦
             (let passed = may ∙ v.if-found-2.false in
-            let same = step ∙ cond-false _ (at_once (statement_of a arm.statement) ∷ rest) rest passed in
-            ap (λ x. branches_of a x.items ++ rest) v.taken-is ∙ ap (λ x. branches_of a c.loop-arm.taken.items ++ x) (sym same) ∙ c.loop-arm.invariant.taken)
+            let same = step st ∙ cond-false _ (at_once (st arm.statement) ∷ rest st) (rest st) passed in
+            ap (λ x. branches_of st x.items ++ rest st) v.taken-is ∙ ap (λ x. branches_of st c.loop-arm.taken.items ++ x) (sym same) ∙ c.loop-arm.invariant.taken st)
       ];
     }
 
@@ -338,21 +341,25 @@ cases::case_branches-taken_arms-requires t c =
     )
 
 pub cases::case_branches-returns-clause-taken : goal.cases::case_branches-returns-clause-taken
-cases::case_branches-returns-clause-taken t c =
+cases::case_branches-returns-clause-taken t c st =
     let a = c.args.lifter.now.shapes.now in
     let f = family_of c.args.lifter.now.table.now in
     let subject = tree_of a c.args.of in
-    let arms = arms_of a c.args.other c.args.arms.now in
+    let arms = arms_tree (tree_of a) st c.args.other c.args.arms.now in
     let kind = c.args.kind in
     let w = c.case_context-context.result.width in
     let s = c.case_context-context.result.signed in
-    let len : w ≡ case_width subject (arms_at_once arms) = c.case_context-context.ensures.width ∙ ap (arms_width arms) c.own_context.ensures.width ∙ sym (width_at_once arms (E.width subject)) in
-    let sign : s ≡ case_sign subject (arms_at_once arms) = c.case_context-context.ensures.signed ∙ ap (arms_sign arms) c.own_context.ensures.signed ∙ sym (sign_at_once arms (E.sign subject)) in
+    let len : w ≡ case_width subject (arms_at_once arms) =
+    c.case_context-context.ensures.width ∙ ap (arms_width (arms_of a c.args.other c.args.arms.now)) c.own_context.ensures.width ∙ width_of_arms (tree_of a) (statement_of a) st c.args.other c.args.arms.now (E.width subject) ∙ sym (width_at_once arms (E.width subject))
+    in
+    let sign : s ≡ case_sign subject (arms_at_once arms) =
+    c.case_context-context.ensures.signed ∙ ap (arms_sign (arms_of a c.args.other c.args.arms.now)) c.own_context.ensures.signed ∙ sign_of_arms (tree_of a) (statement_of a) st c.args.other c.args.arms.now (E.sign subject) ∙ sym (sign_at_once arms (E.sign subject))
+    in
     let whole =
     ap (λ ss. taken_arms (arms_at_once arms) kind w s ss f) c.in_ok-subject.ensures.value
     ∙ ap₂ (λ n x. taken_arms (arms_at_once arms) kind n x (L.lifted subject n x f) f) len sign
     in
-    if_ok c.taken_arms.result c.taken_arms.ensures.taken
+    if_ok c.taken_arms.result (c.taken_arms.ensures.taken st)
     (λ v e. ap (λ ss. branch_sets ss f) (e ∙ whole)
     ∙ sym (case_branches (arms_at_once arms) kind (case_width subject (arms_at_once arms)) (case_sign subject (arms_at_once arms)) (L.lifted subject (case_width subject (arms_at_once arms)) (case_sign subject (arms_at_once arms)) f) f))
 
@@ -376,23 +383,51 @@ targets::assign-returns t c =
 pub bodies::Runner::join-returns : goal.bodies::Runner::join-returns
 bodies::Runner::join-returns t c =
     let a = c.args.self.now.shapes.now in
+    let complete = c.args.self.now.defaults.now.complete in
     let count = length c.args.table.now in
     let bits = c.args.self.now.bits.now in
     let f = family_of c.args.table.now in
     let t1 = family_of c.join.new.table in
     let all = c.args.branches.now in
+    let left = c.split_at.result.0.now in
+    let right = c.split_at.result.1.now in
     let facts = BranchFacts a count c.args.s bits in
     let front = c.split_at.ensures.front in
     let back = c.split_at.ensures.back in
-    join_is a count c.args.s bits all c.split_at.result.0.now c.split_at.result.1.now f t1 (family_of c.put_back.new.table) (family_of c.join-2.new.table) (family_of c.unite.new.table)
+    join_is (done complete a) bits all left right f t1 (family_of c.put_back.new.table) (family_of c.join-2.new.table) (family_of c.unite.new.table)
     (ap₂ ◌++◌ front back ∙ take-append-drop _ all)
-    (All_same facts _ c.split_at.result.0.now (sym front) (All-take facts _ all c.requires.runs)) (omega (arith, c.split_at.ensures.front_len))
-    (All_same facts _ c.split_at.result.1.now (sym back) (All-drop facts _ all c.requires.runs)) (omega (arith, c.split_at.ensures.back_len))
+    (all_covered complete a count c.args.s bits left (All_same facts _ left (sym front) (All-take facts _ all c.requires.runs))) (omega (arith, c.split_at.ensures.front_len))
+    (all_covered complete a count c.args.s bits right (All_same facts _ right (sym back) (All-drop facts _ all c.requires.runs))) (omega (arith, c.split_at.ensures.back_len))
     c.in_ok-join.ensures (c.put_back.ensures f (c.as_slice.ensures.value ∙ c.in_ok-start.ensures)) c.in_ok-join-2.ensures (c.unite.ensures t1 (c.as_slice-2.ensures.value ∙ c.in_ok-first.ensures))
+
+pub bodies::Runner::run_all-run-requires : goal.bodies::Runner::run_all-run-requires
+bodies::Runner::run_all-run-requires t c =
+    let a = c.args.self.now.shapes.now in
+    let k = c.loop-part.part-index in
+    let part = get_or c.args.parts.now k 0 in
+    let bits = c.args.self.now.bits.now in
+    let facts = c.requires.each k c.loop-part-test.true in
+    let same : length c.args.table.now ≡ length c.loop-part.table = sym c.loop-part.auto.table in (
+      omega (arith, facts.earlier),
+      (
+        omega (arith, facts.earlier, c.requires.there),
+        (
+          facts.fits,
+          (
+            λ s p l. c.requires.below s p (omega (arith, l, facts.earlier)),
+            (
+              subst (λ (n : ℕ). Rattle.vs_design.specs.Within.statement_within n (statement_of a part) ≡ true) same facts.within,
+              (subst (λ (n : ℕ). All (λ b. b < n) bits) same c.requires.within, (facts.covers, c.requires.defaults k c.loop-part-test.true)),
+            ),
+          ),
+        ),
+      ),
+    )
 
 pub bodies::Runner::run-run_all-requires : goal.bodies::Runner::run-run_all-requires
 bodies::Runner::run-run_all-requires t c =
     let a = c.args.self.now.shapes.now in
+    let defaults = c.args.self.now.defaults.now in
     let count = length c.args.table.now in
     let bits = c.args.self.now.bits.now in
     let made = statement_of_node a (place_of_statement a c.args.s) in
@@ -406,7 +441,49 @@ bodies::Runner::run-run_all-requires t c =
           (
             subst (λ (ps : List ℕ). EachRuns a count c.args.s bits ps) (sym c.as_slice-in-Seq.ensures)
                 (parts_run a count c.args.s bits c.in-Seq.parts names (ap fits_statement (sym tree) ∙ c.requires.fit) (ap (Rattle.vs_design.specs.Within.statement_within count) (sym tree) ∙ c.requires.names) (subst (Covers bits) tree c.requires.covers)),
-            c.requires.within,
+            (
+              subst (λ (ps : List ℕ). (k : ℕ) → k < length ps → AreDefaults a defaults.complete defaults.others.now (slice_index ps k)) (sym c.as_slice-in-Seq.ensures)
+                  (of_parts a defaults.complete defaults.others.now c.args.s c.in-Seq.parts (c.statement.ensures.is ∙ ap Some c.in-Seq.is) c.requires.defaults),
+              c.requires.within,
+            ),
+          ),
+        ),
+      ),
+    )
+
+pub bodies::Runner::run-join-requires : goal.bodies::Runner::run-join-requires
+bodies::Runner::run-join-requires t c =
+    let a = c.args.self.now.shapes.now in
+    let defaults = c.args.self.now.defaults.now in
+    let count = length c.args.table.now in
+    let bits = c.args.self.now.bits.now in
+    let made = statement_of_node a (place_of_statement a c.args.s) in
+    let tree = c.statement.ensures.tree ∙ ap made c.in-If.is in
+    let is = c.statement.ensures.is ∙ ap Some c.in-If.is in
+    let names = subst (HasStatementNames c.args.self.now.nodes c.args.s) c.in-If.is c.statement.ensures.names in
+    let parts = subst (λ (x : Statement). FitStatement (made x)) c.in-If.is c.statement.ensures.parts in
+    let within = subst (λ (x : Statement). WithinStatement count (made x)) c.in-If.is (c.statement.ensures.within count c.requires.names) in
+    let yes = c.in-If.yes in
+    let no = c.in-If.no in
+    let facts = BranchFacts a count c.args.s bits in
+    let has = HasDefaults a defaults.complete defaults.others.now in
+    let items = c.in_ok-branches-in-If.branches.items in
+    let from = c.in_ok-branches-in-If.ensures.from in (
+      omega (arith, c.as_slice-in-If.ensures.len, c.in_ok-branches-in-If.branches.small),
+      (
+        omega (arith, c.requires.there),
+        (
+          λ s p l. c.requires.below s p (omega (arith, l)),
+          (
+            omega (arith, ap length c.as_slice-in-If.ensures.value, c.in_ok-branches-in-If.ensures.some),
+            (
+              All_same facts items c.as_slice-in-If.result.now (sym c.as_slice-in-If.ensures.value)
+                  (all_facts (IsEither yes no) facts items (either_facts a count c.args.s bits yes no (tree_of a c.in-If.c) names.1 names.2 parts.1 parts.2 within.1 within.2 (subst (Covers bits) tree c.requires.covers)) from),
+              (
+                All_same has items c.as_slice-in-If.result.now (sym c.as_slice-in-If.ensures.value) (all_facts (IsEither yes no) has items (of_taken a defaults.complete defaults.others.now c.args.s c.in-If.c yes no is c.requires.defaults) from),
+                c.requires.within,
+              ),
+            ),
           ),
         ),
       ),
@@ -415,30 +492,39 @@ bodies::Runner::run-run_all-requires t c =
 pub bodies::Runner::run-join-requires-in-Case : goal.bodies::Runner::run-join-requires-in-Case
 bodies::Runner::run-join-requires-in-Case t c =
     let a = c.args.self.now.shapes.now in
+    let defaults = c.args.self.now.defaults.now in
     let count = length c.args.table.now in
     let bits = c.args.self.now.bits.now in
     let made = statement_of_node a (place_of_statement a c.args.s) in
     let tree = c.statement.ensures.tree ∙ ap made c.in-Case.is in
+    let is = c.statement.ensures.is ∙ ap Some c.in-Case.is in
     let names = subst (HasStatementNames c.args.self.now.nodes c.args.s) c.in-Case.is c.statement.ensures.names in
     let parts = subst (λ (x : Statement). FitStatement (made x)) c.in-Case.is c.statement.ensures.parts in
     let within = subst (λ (x : Statement). WithinStatement count (made x)) c.in-Case.is (c.statement.ensures.within count c.requires.names) in
     let arms = c.in-Case.arms in
     let other = c.in-Case.other in
+    let next = c.default_of-default.result in
+    let one = subst (λ (xs : List Arm). IsNext xs other next) c.as_slice-in-Case.ensures c.default_of-default.ensures.one in
     let facts = BranchFacts a count c.args.s bits in
+    let has = HasDefaults a defaults.complete defaults.others.now in
     let items = c.in_ok-branches-in-Case.branches.items in
-    let from = subst (λ (xs : List Arm). All (IsOneOf xs other) items) c.as_slice-in-Case.ensures c.in_ok-branches-in-Case.ensures.from in (
-      omega (arith, c.as_slice-in-Case-2.ensures.len, c.in_ok-branches-in-Case.branches.small),
+    let from = subst (λ (xs : List Arm). All (IsOneOf xs next) items) c.as_slice-in-Case-2.ensures c.in_ok-branches-in-Case.ensures.from in (
+      omega (arith, c.as_slice-in-Case-3.ensures.len, c.in_ok-branches-in-Case.branches.small),
       (
         omega (arith, c.requires.there),
         (
           λ s p l. c.requires.below s p (omega (arith, l)),
           (
-            omega (arith, ap length c.as_slice-in-Case-2.ensures.value, c.in_ok-branches-in-Case.ensures.some),
+            omega (arith, ap length c.as_slice-in-Case-3.ensures.value, c.in_ok-branches-in-Case.ensures.some),
             (
-              All_same facts items c.as_slice-in-Case-2.result.now (sym c.as_slice-in-Case-2.ensures.value)
-                  (all_facts (IsOneOf arms other) facts items
-                  (case_facts a count c.args.self.now.nodes c.args.s bits arms other names.1 names.2 parts.1 within.1 (subst (Covers bits) tree c.requires.covers)) from),
-              c.requires.within,
+              All_same facts items c.as_slice-in-Case-3.result.now (sym c.as_slice-in-Case-3.ensures.value)
+                  (all_facts (IsOneOf arms next) facts items
+                  (default_facts a count c.args.self.now.nodes c.args.s bits arms other next names.1 names.2 parts.1 within.1 (subst (Covers bits) tree c.requires.covers) one) from),
+              (
+                All_same has items c.as_slice-in-Case-3.result.now (sym c.as_slice-in-Case-3.ensures.value)
+                    (all_facts (IsOneOf arms next) has items (next_branches a defaults.complete defaults.others.now c.args.s c.in-Case.kind c.in-Case.of arms other is c.requires.defaults next one) from),
+                c.requires.within,
+              ),
             ),
           ),
         ),
@@ -448,14 +534,35 @@ bodies::Runner::run-join-requires-in-Case t c =
 pub bodies::Runner::run-returns-in_ok-branches-in-If : goal.bodies::Runner::run-returns-in_ok-branches-in-If
 bodies::Runner::run-returns-in_ok-branches-in-If t c =
     let a = c.args.self.now.shapes.now in
+    let complete = c.args.self.now.defaults.now.complete in
+    let st = done complete a in
     let f = family_of c.args.table.now in
     let condition = tree_of a c.in-If.c in
-    let tree = c.statement.ensures.tree ∙ ap (statement_of_node a (place_of_statement a c.args.s)) c.in-If.is in
+    let tree = c.statement.ensures.done complete ∙ ap (λ (n : Statement). tree_with a st (place_of_statement a c.args.s) (node_done complete a n)) c.in-If.is in
     let truth : c.set_or-truth.result ≡ set_or (L.own_sets condition f) =
     c.set_or-truth.ensures ∙ ap set_or (c.as_slice.ensures.value ∙ c.in_ok-condition-in-If.ensures.value) ∙ ap₂ (λ w s. set_or (L.lifted condition w s f)) c.own_context.ensures.width c.own_context.ensures.signed
     in
     on_ok c.join.result c.join.ensures
-    (λ e. e ∙ ap (λ bs. branch_sets (branches_of a bs) f) c.as_slice-in-If.ensures.value ∙ ap (λ ss. branch_sets ss f) (c.in_ok-branches-in-If.ensures.taken a)
-    ∙ ap (λ x. branch_sets (taken_branches x (at_once (statement_of a c.in-If.yes)) (at_once (branch (statement_of a) c.in-If.no))) f) truth
-    ∙ sym (if_branches (set_or (L.own_sets condition f)) (at_once (statement_of a c.in-If.yes)) (at_once (branch (statement_of a) c.in-If.no)) f)
+    (λ e. e ∙ ap (λ bs. branch_sets (branches_of st bs) f) c.as_slice-in-If.ensures.value ∙ ap (λ ss. branch_sets ss f) (c.in_ok-branches-in-If.ensures.taken st)
+    ∙ ap (λ x. branch_sets (taken_branches x (at_once (st c.in-If.yes)) (at_once (branch st c.in-If.no))) f) truth
+    ∙ sym (if_branches (set_or (L.own_sets condition f)) (at_once (st c.in-If.yes)) (at_once (branch st c.in-If.no)) f)
+    ∙ ap (λ x. lifted_body (at_once x) f) (sym tree))
+
+pub bodies::Runner::run-returns-in_ok-branches-in-Case : goal.bodies::Runner::run-returns-in_ok-branches-in-Case
+bodies::Runner::run-returns-in_ok-branches-in-Case t c =
+    let a = c.args.self.now.shapes.now in
+    let complete = c.args.self.now.defaults.now.complete in
+    let st = done complete a in
+    let f = family_of c.args.table.now in
+    let kind = c.in-Case.kind in
+    let of = c.in-Case.of in
+    let arms = c.in-Case.arms in
+    let other = c.in-Case.other in
+    let next = c.default_of-default.result in
+    let tree = c.statement.ensures.done complete ∙ ap (λ (n : Statement). tree_with a st (place_of_statement a c.args.s) (node_done complete a n)) c.in-Case.is in
+    let next_is : next ≡ (if complete then other_of a kind of arms other else other) = c.default_of-default.ensures.is ∙ ap (λ (xs : List Arm). if complete then other_of a kind of xs other else other) c.as_slice-in-Case.ensures in
+    on_ok c.join-in-Case.result c.join-in-Case.ensures
+    (λ e. e ∙ ap (λ bs. branch_sets (branches_of st bs) f) c.as_slice-in-Case-3.ensures.value ∙ c.in_ok-branches-in-Case.ensures.taken st
+    ∙ ap (λ (xs : List Arm). lifted_body (at_once (T.Case kind (tree_of a of) (arms_tree (tree_of a) st next xs))) f) c.as_slice-in-Case-2.ensures
+    ∙ ap (λ o. lifted_body (at_once (T.Case kind (tree_of a of) (arms_tree (tree_of a) st o arms))) f) next_is
     ∙ ap (λ x. lifted_body (at_once x) f) (sym tree))

@@ -1,5 +1,5 @@
 -- An expression goes to earlier ones, and to the statement of a function all of whose expressions are earlier; a statement to its expressions, to earlier statements or to fewer branches. There are fewer than 2^32 statements, and a list has fewer than 2^65.
-use Rattle.std.proofs.Common.{◌≡◌, ◌≤◌, ◌++◌, length, drop, map}
+use Rattle.std.proofs.Common.{◌≡◌, ◌≤◌, ◌++◌, ℕ, length, drop, map}
 use Rattle.std.specs.Prelude.{◌||◌, All}
 use Rattle.std.specs.List.{list_any}
 use Rattle.vs_design.specs.Expressions.{items_of}
@@ -7,13 +7,14 @@ use Rattle.vs_design.specs.Lifted as L
 use Rattle.vs_design.specs.LiftedBodies.{item_sets, lifted_body}
 use Rattle.vs_design.specs.Sets.{Set4, is_only_one}
 use Rattle.vs_design.specs.Sleepers.{at_once, arms_at_once}
-use Rattle.vs_flat.specs.Trees.{sequence}
+use Rattle.vs_design.specs.Statements.{Statement}
+use Rattle.vs_flat.specs.Trees.{arms_tree, sequence}
 use Rattle.vs_sets.specs.Branches.{taken_arms}
 use Rattle.vs_sets.specs.Calls.{arguments_of, function_of}
 use Rattle.vs_sets.specs.Matches.{IsOneOf, branches_of}
 use Rattle.vs_sets.specs.Nodes.{tree_of}
 use Rattle.vs_sets.specs.PartSets.{part_sets}
-use Rattle.vs_sets.specs.StatementParts.{statement_of, arms_of}
+use Rattle.vs_sets.specs.Completing.{done}
 use Rattle.vs_sets.specs.Tables.{family_of}
 use Rattle.vs_sets.proofs.Measures.{of_expression, of_statement}
 use Rattle.vs_sets.proofs.+lifting.Given as goal
@@ -106,11 +107,11 @@ invariant-cases::taken_arms-loop-arm l =
     let f = family_of l.lifter.table.now in
     record {
       from : All (IsOneOf l.arms l.other) l.taken.items;
-      taken : branches_of a l.taken.items ++ taken_arms (arms_at_once (arms_of a l.other (drop l.arm-index l.arms))) l.kind l.context.width l.context.signed l.subject f
-          ≡ taken_arms (arms_at_once (arms_of a l.other l.arms)) l.kind l.context.width l.context.signed l.subject f;
+      taken : (st : ℕ → Statement) → branches_of st l.taken.items ++ taken_arms (arms_at_once (arms_tree (tree_of a) st l.other (drop l.arm-index l.arms))) l.kind l.context.width l.context.signed l.subject f
+          ≡ taken_arms (arms_at_once (arms_tree (tree_of a) st l.other l.arms)) l.kind l.context.width l.context.signed l.subject f;
     }
 
 abbrev pub invariant-bodies::Runner::run_all-loop-part : goal.invariant-bodies::Runner::run_all-loop-part
 invariant-bodies::Runner::run_all-loop-part l =
-    lifted_body (at_once (sequence (map (statement_of l.self.shapes.now) (drop l.part-index l.parts)))) (family_of l.table)
-    ≡ lifted_body (at_once (sequence (map (statement_of l.self.shapes.now) l.parts))) (family_of l.initial.table)
+    let st = done l.self.defaults.now.complete l.self.shapes.now in
+    lifted_body (at_once (sequence (map st (drop l.part-index l.parts)))) (family_of l.table) ≡ lifted_body (at_once (sequence (map st l.parts))) (family_of l.initial.table)

@@ -18,16 +18,16 @@ returns-in-Err-clause-refused c =
     let clocks = map (λ c. c.now) c.args.clocks.now in
     as_answer (byte_of c.args.places.now.text.now c.args.places.now.tokens.now) (design_of c.args.flat) clocks c.width_error.result (c.width_error.ensures (design_of c.args.flat) clocks c.in-Err.ensures.refused)
 
-pub returns-in_err-check_writers-clause-refused : goal.returns-in_err-check_writers-clause-refused
-returns-in_err-check_writers-clause-refused c =
+pub returns-in_err-cases-clause-refused : goal.returns-in_err-cases-clause-refused
+returns-in_err-cases-clause-refused c =
     let clocks = map (λ c. c.now) c.args.clocks.now in
     let byte = byte_of c.args.places.now.text.now c.args.places.now.tokens.now in
-    subst (λ (a : Arena). IfErr c.from_residual-in_err-check_writers.result (IsAnswered byte (design_of a) clocks)) c.in-Ok.ensures.same
-    (passed_on (IsAnswered byte (design_of c.in-Ok.typed) clocks) c.from_residual-in_err-check_writers.result
-    c.in_err-check_writers.field-0.0 c.from_residual-in_err-check_writers.ensures.1 (as_answer byte (design_of c.in-Ok.typed) clocks c.in_err-check_writers.field-0.0 (c.in_err-check_writers.ensures.refused clocks)))
+    subst (λ (a : Arena). IfErr c.from_residual-in_err-cases.result (IsAnswered byte (design_of a) clocks)) c.in-Ok.ensures.same
+    (passed_on (IsAnswered byte (design_of c.in-Ok.typed) clocks) c.from_residual-in_err-cases.result
+    c.in_err-cases.field-0.0 c.from_residual-in_err-cases.ensures.1 (as_answer byte (design_of c.in-Ok.typed) clocks c.in_err-cases.field-0.0 (c.in_err-cases.ensures.refused clocks)))
 
 pub returns-clause-kept : goal.returns-clause-kept
-returns-clause-kept c = subst (λ (a : Arena). OnOk c.judge_written.result (KeepsDrivers (design_of a))) c.in-Ok.ensures.same (on_ok c.judge_written.result c.in_ok-check_writers.ensures.kept)
+returns-clause-kept c = subst (λ (a : Arena). OnOk c.judge_written.result (KeepsDrivers (design_of a))) c.in-Ok.ensures.same (on_ok c.judge_written.result c.in_ok-cases.ensures.kept)
 
 pub returns-clause-left : goal.returns-clause-left
 returns-clause-left c = subst (λ (b : Arena). IfOk c.judge_written.result (λ (a : Acceptance). design_of a.flat ≡ without_dead (design_of b))) c.in-Ok.ensures.same c.judge_written.ensures.left
@@ -45,4 +45,4 @@ returns-clause-refused c =
     let byte = byte_of c.args.places.now.text.now c.args.places.now.tokens.now in
     subst (λ (a : Arena). IfErr c.judge_written.result (IsAnswered byte (design_of a) clocks)) c.in-Ok.ensures.same
     (weakened (IsVerdict byte (without_dead (design_of c.in-Ok.typed)) clocks) (IsAnswered byte (design_of c.in-Ok.typed) clocks) c.judge_written.result
-    (λ e v. left_answer byte (design_of c.in-Ok.typed) clocks e c.in_ok-check_writers.ensures.kept v) c.judge_written.ensures.refused)
+    (λ e v. left_answer byte (design_of c.in-Ok.typed) clocks e c.in_ok-cases.ensures.kept v) c.judge_written.ensures.refused)

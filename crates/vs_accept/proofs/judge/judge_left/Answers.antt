@@ -16,13 +16,13 @@ returns-in-Err-clause-refused c =
     let clocks = map (λ c. c.now) c.args.clocks.now in
     as_verdict (byte_of c.args.places.now.text.now c.args.places.now.tokens.now) (design_of c.args.flat) clocks c.width_error.result (c.width_error.ensures (design_of c.args.flat) clocks c.in-Err.ensures.refused)
 
-pub returns-in_err-check_writers-clause-refused : goal.returns-in_err-check_writers-clause-refused
-returns-in_err-check_writers-clause-refused c =
+pub returns-in_err-cases-clause-refused : goal.returns-in_err-cases-clause-refused
+returns-in_err-cases-clause-refused c =
     let clocks = map (λ c. c.now) c.args.clocks.now in
     let byte = byte_of c.args.places.now.text.now c.args.places.now.tokens.now in
-    subst (λ (a : Arena). IfErr c.from_residual-in_err-check_writers.result (IsVerdict byte (design_of a) clocks)) c.in-Ok.ensures.same
-    (passed_on (IsVerdict byte (design_of c.in-Ok.typed) clocks) c.from_residual-in_err-check_writers.result
-    c.in_err-check_writers.field-0.0 c.from_residual-in_err-check_writers.ensures.1 (as_verdict byte (design_of c.in-Ok.typed) clocks c.in_err-check_writers.field-0.0 (c.in_err-check_writers.ensures.refused clocks)))
+    subst (λ (a : Arena). IfErr c.from_residual-in_err-cases.result (IsVerdict byte (design_of a) clocks)) c.in-Ok.ensures.same
+    (passed_on (IsVerdict byte (design_of c.in-Ok.typed) clocks) c.from_residual-in_err-cases.result
+    c.in_err-cases.field-0.0 c.from_residual-in_err-cases.ensures.1 (as_verdict byte (design_of c.in-Ok.typed) clocks c.in_err-cases.field-0.0 (c.in_err-cases.ensures.refused clocks)))
 
 pub returns-clause-same : goal.returns-clause-same
 returns-clause-same c = subst (λ (b : Arena). IfOk c.judge_clocked.result (λ (a : Acceptance). a.flat ≡ b)) c.in-Ok.ensures.same c.judge_clocked.ensures.same

@@ -1,3 +1,4 @@
+use Rattle.vs_sets.proofs.Completing.{done_tree}
 use Rattle.vs_block.proofs.Names.{statement_parts, statement_tree_is}
 use Rattle.vs_block.proofs.nodes.statement_of.Goals as goal
 
@@ -14,3 +15,9 @@ pub returns-clause-tree : goal.returns-clause-tree
 returns-clause-tree c =
     statement_tree_is c.trees_law.ensures.statements c.args.shapes.now (rw c.flat.ensures.same at c.flat.ensures.lawful) c.args.s c.statement_at.result c.statement.result.now (rw c.flat.ensures.same at c.statement.ensures)
     (rw c.flat-2.ensures.same at c.statement_at.ensures)
+
+pub returns-clause-is : goal.returns-clause-is
+returns-clause-is c = rw c.flat.ensures.same at c.statement.ensures
+
+pub returns-clause-done : goal.returns-clause-done
+returns-clause-done c complete = done_tree complete c.args.shapes.now c.args.s c.statement_at.result c.statement.result.now (returns-clause-tree c)

@@ -20,9 +20,9 @@ use Rattle.vs_const.proofs.Sizes.{arguments_size, unary_size, left_size, right_s
 use Rattle.vs_flat.specs.Targets.{source_of}
 use Rattle.vs_build.specs.Drafts.{Draft, home, AddsExpression, EndsInSelect}
 use Rattle.vs_build.specs.Growth.{draft}
-use Rattle.vs_build.specs.Buildable.{IsBuildable, memory_of, IsWordAddressable, IsSelectable, IsTakable, AreBuildable, AreArguments, HasBits, IsWithin, AreBounds, IsRangeOf, IsConstant, part_expressions, selected_by}
+use Rattle.vs_build.specs.Buildable.{IsBuildable, memory_of, IsWordAddressable, IsSelectable, IsTakable, AreBuildable, AreArguments, HasBits, IsWithin, AreBounds, IsRangeOf, IsConstant, part_expressions, passed_expressions, selected_by}
 use Rattle.vs_build.proofs.Arms.{up_to, begins_twice, begins_itself, child, child_ends, children_end, ends_three, after, same_home, ok_up_to, unary_operand, brackets_inner, binary_left, binary_right, choice_condition, choice_yes, choice_no, unary_arm, binary_arm, choice_arm}
-use Rattle.vs_build.proofs.Lists.{concatenation_view, replication_view, each_part, part_levels, part_falls, taken_more, taken_all, parts_none, parts_more, parts_are, ends_parts, part_after, part_count, concatenation_parts, join_arm, each_argument, apply_view, call_is, call_many, function_at, call_arm, replication_is, replication_expression, deeper_up_to}
+use Rattle.vs_build.proofs.Lists.{concatenation_view, replication_view, each_part, part_levels, part_falls, taken_more, taken_all, parts_none, parts_more, parts_are, ends_parts, part_after, part_count, concatenation_parts, join_arm, each_argument, apply_view, call_is, call_many, function_at, call_arm, replication_is, replication_expression, deeper_up_to, parts_both, passable_there, passable_behind, held_count}
 use Rattle.vs_build.proofs.Selects.{named_select, named_expression, bit_taken, bit_index, bit_address, bit_word, word_ends, word_arm, moving_taken, moving_is, between_is, between_taken, select_ends, select_arm, signed_operand, unsigned_operand, clog2_constant, clog2_arm}
 use Rattle.vs_build.proofs.Further.{index_parts, moving_parts, moving_bits, between_parts, between_bits, taken_index, taken_part, further_is, takable_after, looked_up, further_ends, further_arm}
 use Rattle.vs_build.proofs.expressions.+expressions.Goals as goal
@@ -89,16 +89,16 @@ expression-parts-requires g t c κs within =
 
 pub expression-join-requires-clause-parts : goal.expression-join-requires-clause-parts
 expression-join-requires-clause-parts g t c =
-    ends_parts (draft c.args.builder.now) (draft c.parts.new.builder) (part_expressions (g.E.Env.names c.args.env.now) c.args.needed c.deref-in-Concatenation.result.now) (1 + exprs_depth (view.exprs c.deref-in-Concatenation.result.now)) c.len-in-Concatenation.result c.in_ok-parts-in-Concatenation.ensures (omega (arith, (subst (λ xs. AreBuildable (home (draft c.args.builder.now)) (g.E.Env.names c.args.env.now) c.args.needed (view.exprs xs)) (sym c.deref-in-Concatenation.ensures.value) (concatenation_parts (home (draft c.args.builder.now)) (g.E.Env.names c.args.env.now) c.args.needed c.in-Concatenation.place (view.exprs c.in-Concatenation.list.items) (subst (λ x. IsBuildable (home (draft c.args.builder.now)) (g.E.Env.names c.args.env.now) c.args.needed x) (ap view.expr c.in-Concatenation.is ∙ concatenation_view c.in-Concatenation.place c.in-Concatenation.list) c.requires))).shallow)) ((let n : c.len-in-Concatenation.result ≡ length c.in-Concatenation.list.items = search rules in n) ∙ ap length (sym c.deref-in-Concatenation.ensures.value) ∙ sym (part_count (g.E.Env.names c.args.env.now) c.args.needed c.deref-in-Concatenation.result.now))
+    ends_parts (draft c.args.builder.now) (draft c.parts.new.builder) (part_expressions (g.E.Env.names c.args.env.now) c.args.needed c.deref-in-Concatenation.result.now) (1 + exprs_depth (view.exprs c.deref-in-Concatenation.result.now)) c.len.result c.in_ok-parts-in-Concatenation.ensures (omega (arith, (subst (λ xs. AreBuildable (home (draft c.args.builder.now)) (g.E.Env.names c.args.env.now) c.args.needed (view.exprs xs)) (sym c.deref-in-Concatenation.ensures.value) (concatenation_parts (home (draft c.args.builder.now)) (g.E.Env.names c.args.env.now) c.args.needed c.in-Concatenation.place (view.exprs c.in-Concatenation.list.items) (subst (λ x. IsBuildable (home (draft c.args.builder.now)) (g.E.Env.names c.args.env.now) c.args.needed x) (ap view.expr c.in-Concatenation.is ∙ concatenation_view c.in-Concatenation.place c.in-Concatenation.list) c.requires))).shallow)) ((let n : c.len.result ≡ length c.in-Concatenation.list.items = search rules in n) ∙ ap length (sym c.deref-in-Concatenation.ensures.value) ∙ sym (part_count (g.E.Env.names c.args.env.now) c.args.needed c.deref-in-Concatenation.result.now))
 
 pub expression-join-requires-clause-some : goal.expression-join-requires-clause-some
 expression-join-requires-clause-some g t c =
-    let n : c.len-in-Concatenation.result ≡ length c.in-Concatenation.list.items = search rules in omega (arith, n, some_part c.in-Concatenation.list.items (concatenation_parts (home (draft c.args.builder.now)) (g.E.Env.names c.args.env.now) c.args.needed c.in-Concatenation.place (view.exprs c.in-Concatenation.list.items) (subst (λ x. IsBuildable (home (draft c.args.builder.now)) (g.E.Env.names c.args.env.now) c.args.needed x) (ap view.expr c.in-Concatenation.is ∙ concatenation_view c.in-Concatenation.place c.in-Concatenation.list) c.requires)).shaped)
+    let n : c.len.result ≡ length c.in-Concatenation.list.items = search rules in omega (arith, n, some_part c.in-Concatenation.list.items (concatenation_parts (home (draft c.args.builder.now)) (g.E.Env.names c.args.env.now) c.args.needed c.in-Concatenation.place (view.exprs c.in-Concatenation.list.items) (subst (λ x. IsBuildable (home (draft c.args.builder.now)) (g.E.Env.names c.args.env.now) c.args.needed x) (ap view.expr c.in-Concatenation.is ∙ concatenation_view c.in-Concatenation.place c.in-Concatenation.list) c.requires)).shaped)
 
 pub expression-returns-in_ok-parts-in-Concatenation : goal.expression-returns-in_ok-parts-in-Concatenation
 expression-returns-in_ok-parts-in-Concatenation g t c =
     subst (λ x. OnOk c.join.result (AddsExpression (draft c.args.builder.now) (draft c.join.new.self) (begins_at c.args.at (typed x (g.E.Env.names c.args.env.now) c.args.needed).expression) (1 + expr_depth x))) (sym (ap view.expr c.in-Concatenation.is ∙ concatenation_view c.in-Concatenation.place c.in-Concatenation.list))
-    (join_arm c.join.result (draft c.args.builder.now) (draft c.parts.new.builder) (draft c.join.new.self) (g.E.Env.names c.args.env.now) c.args.needed c.args.at 1 c.len-in-Concatenation.result c.in-Concatenation.list.items c.deref-in-Concatenation.result.now c.deref-in-Concatenation.ensures.value (omega (arith, some_part c.in-Concatenation.list.items (concatenation_parts (home (draft c.args.builder.now)) (g.E.Env.names c.args.env.now) c.args.needed c.in-Concatenation.place (view.exprs c.in-Concatenation.list.items) (subst (λ x. IsBuildable (home (draft c.args.builder.now)) (g.E.Env.names c.args.env.now) c.args.needed x) (ap view.expr c.in-Concatenation.is ∙ concatenation_view c.in-Concatenation.place c.in-Concatenation.list) c.requires)).shaped)) (let n : c.len-in-Concatenation.result ≡ length c.in-Concatenation.list.items = search rules in n) c.in_ok-parts-in-Concatenation.ensures c.join.ensures)
+    (join_arm c.join.result (draft c.args.builder.now) (draft c.parts.new.builder) (draft c.join.new.self) (g.E.Env.names c.args.env.now) c.args.needed c.args.at 1 c.len.result c.in-Concatenation.list.items c.deref-in-Concatenation.result.now c.deref-in-Concatenation.ensures.value (omega (arith, some_part c.in-Concatenation.list.items (concatenation_parts (home (draft c.args.builder.now)) (g.E.Env.names c.args.env.now) c.args.needed c.in-Concatenation.place (view.exprs c.in-Concatenation.list.items) (subst (λ x. IsBuildable (home (draft c.args.builder.now)) (g.E.Env.names c.args.env.now) c.args.needed x) (ap view.expr c.in-Concatenation.is ∙ concatenation_view c.in-Concatenation.place c.in-Concatenation.list) c.requires)).shaped)) (let n : c.len.result ≡ length c.in-Concatenation.list.items = search rules in n) c.in_ok-parts-in-Concatenation.ensures c.join.ensures)
 
 pub expression-number_within-requires : goal.expression-number_within-requires
 expression-number_within-requires g t c =
@@ -430,16 +430,32 @@ operand-returns g t c =
     subst (λ x. OnOk c.expression.result (AddsExpression (draft c.args.builder.now) (draft c.expression.new.builder) x (1 + expr_depth e)))
     (ap (λ (p : ℕ). begins_at p tree) c.place_of.ensures ∙ begins_itself e (g.E.Env.names c.args.env.now) c.args.needed) c.expression.ensures
 
-pub expression-arguments-requires : goal.expression-arguments-requires
-expression-arguments-requires g t c κs within = (
-  (let less : most the_size c.deref.result.now < the_size c.args.e.now = subst (λ es. most the_size es < the_size c.args.e.now) (sym c.deref.ensures.value) (subst (λ x. most the_size c.in-Apply.list.items < the_size x) (sym c.in-Apply.is) (arguments_size c.in-Apply.name c.in-Apply.list)) in omega (arith, less, c.decreases)),
-  (
-    within,
-    subst (AreArguments (home (draft c.args.builder.now)) (g.E.Env.names c.args.env.now) c.args.needed) (sym (ap view.exprs c.deref.ensures.value))
-        (call_is (home (draft c.args.builder.now)) (g.E.Env.names c.args.env.now) c.args.needed (view.name c.in-Apply.name) (view.exprs c.in-Apply.list.items)
-        (subst (IsBuildable (home (draft c.args.builder.now)) (g.E.Env.names c.args.env.now) c.args.needed) (ap view.expr c.in-Apply.is ∙ apply_view c.in-Apply.name c.in-Apply.list) c.requires)).parts,
-  ),
-)
+pub expression-call_parts-requires : goal.expression-call_parts-requires
+expression-call_parts-requires g t c κs within =
+    let find = g.E.Env.names c.args.env.now in
+    let k = call_is (home (draft c.args.builder.now)) find c.args.needed (view.name c.in-Apply.name) (view.exprs c.in-Apply.list.items) (subst (IsBuildable (home (draft c.args.builder.now)) find c.args.needed) (ap view.expr c.in-Apply.is ∙ apply_view c.in-Apply.name c.in-Apply.list) c.requires) in (
+      (let less : most the_size c.deref.result.now < the_size c.args.e.now = subst (λ es. most the_size es < the_size c.args.e.now) (sym c.deref.ensures.value) (subst (λ x. most the_size c.in-Apply.list.items < the_size x) (sym c.in-Apply.is) (arguments_size c.in-Apply.name c.in-Apply.list)) in omega (arith, less, c.decreases)),
+      (
+        within,
+        (
+          subst (AreArguments (home (draft c.args.builder.now)) find c.args.needed) (sym (ap view.exprs c.deref.ensures.value)) k.parts,
+          (record { function = k.function; is = k.means }, passable_there (home (draft c.args.builder.now)) (find c.in-Apply.name.text) k.function k.means k.passable),
+        ),
+      ),
+    )
+
+pub call_parts-arguments-requires : goal.call_parts-arguments-requires
+call_parts-arguments-requires g t c κs within = (omega (arith, c.decreases), (within, c.requires.arguments))
+
+pub call_parts-passed-requires : goal.call_parts-passed-requires
+call_parts-passed-requires g t c = record {
+  callable = c.requires.callable;
+  passable = passable_behind (draft c.args.builder.now) (draft c.arguments.new.builder) (part_expressions (g.E.Env.names c.args.env.now) c.args.needed c.args.list.now) (1 + exprs_depth (view.exprs c.args.list.now)) (g.E.Env.names c.args.env.now c.args.name.now.text) c.in_ok-arguments.ensures c.requires.passable;
+}
+
+pub call_parts-returns-clause-parts : goal.call_parts-returns-clause-parts
+call_parts-returns-clause-parts g t c f e =
+    parts_both (draft c.args.builder.now) (draft c.arguments.new.builder) (draft c.passed.new.builder) (part_expressions (g.E.Env.names c.args.env.now) c.args.needed c.args.list.now) (passed_expressions c.args.name.now.place f.passed) (exprs_depth (view.exprs c.args.list.now)) c.in_ok-arguments.ensures (c.in_ok-passed.ensures f e)
 
 pub expression-called-requires : goal.expression-called-requires
 expression-called-requires g t c =
@@ -451,34 +467,39 @@ pub expression-call-requires-clause-there : goal.expression-call-requires-clause
 expression-call-requires-clause-there g t c =
     let find = g.E.Env.names c.args.env.now in
     let k = call_is (home (draft c.args.builder.now)) find c.args.needed (view.name c.in-Apply.name) (view.exprs c.in-Apply.list.items) (subst (IsBuildable (home (draft c.args.builder.now)) find c.args.needed) (ap view.expr c.in-Apply.is ∙ apply_view c.in-Apply.name c.in-Apply.list) c.requires) in
-    let n : c.len.result ≡ length c.in-Apply.list.items = search rules in (
+    let n = c.in_ok-count-in-Apply.ensures.count k.function k.means in
+    let same : length c.deref.result.now ≡ length c.in-Apply.list.items = ap length c.deref.ensures.value in
+    let many = call_many (home (draft c.args.builder.now)) find c.args.needed (view.name c.in-Apply.name) c.in-Apply.list.items k in (
       record { header = k.function.header; statement = k.function.statement },
-      function_at (draft c.args.builder.now) (draft c.arguments.new.builder) (part_expressions find c.args.needed c.deref.result.now) (1 + exprs_depth (view.exprs c.deref.result.now)) find (view.name c.in-Apply.name) k.function c.called.result c.in_ok-arguments-in-Apply.ensures c.requires.numbered k.means (c.called.ensures k.function k.means),
-      call_many (home (draft c.args.builder.now)) find c.args.needed (view.name c.in-Apply.name) c.in-Apply.list.items k ∙ sym n,
+      function_at (draft c.args.builder.now) (draft c.call_parts.new.builder) (part_expressions find c.args.needed c.deref.result.now ++ passed_expressions c.in-Apply.name.place k.function.passed) (1 + exprs_depth (view.exprs c.deref.result.now)) find (view.name c.in-Apply.name) k.function c.called.result (c.in_ok-count-in-Apply.ensures.parts k.function k.means) c.requires.numbered k.means (c.called.ensures k.function k.means),
+      omega (arith, n, same, many),
     )
 
 pub expression-call-requires-clause-some : goal.expression-call-requires-clause-some
 expression-call-requires-clause-some g t c =
     let find = g.E.Env.names c.args.env.now in
-    let n : c.len.result ≡ length c.in-Apply.list.items = search rules in
-    omega (arith, n, some_part c.in-Apply.list.items (subst (IsBuildable (home (draft c.args.builder.now)) find c.args.needed) (ap view.expr c.in-Apply.is ∙ apply_view c.in-Apply.name c.in-Apply.list) c.requires).shaped.1)
+    let b = subst (IsBuildable (home (draft c.args.builder.now)) find c.args.needed) (ap view.expr c.in-Apply.is ∙ apply_view c.in-Apply.name c.in-Apply.list) c.requires in
+    let k = call_is (home (draft c.args.builder.now)) find c.args.needed (view.name c.in-Apply.name) (view.exprs c.in-Apply.list.items) b in
+    let n = c.in_ok-count-in-Apply.ensures.count k.function k.means in
+    let same : length c.deref.result.now ≡ length c.in-Apply.list.items = ap length c.deref.ensures.value in
+    omega (arith, n, same, some_part c.in-Apply.list.items b.shaped.1)
 
 pub expression-call-requires-clause-arguments : goal.expression-call-requires-clause-arguments
 expression-call-requires-clause-arguments g t c =
     let find = g.E.Env.names c.args.env.now in
     let k = call_is (home (draft c.args.builder.now)) find c.args.needed (view.name c.in-Apply.name) (view.exprs c.in-Apply.list.items) (subst (IsBuildable (home (draft c.args.builder.now)) find c.args.needed) (ap view.expr c.in-Apply.is ∙ apply_view c.in-Apply.name c.in-Apply.list) c.requires) in
-    let n : c.len.result ≡ length c.in-Apply.list.items = search rules in
-    ends_parts (draft c.args.builder.now) (draft c.arguments.new.builder) (part_expressions find c.args.needed c.deref.result.now) (1 + exprs_depth (view.exprs c.deref.result.now)) c.len.result c.in_ok-arguments-in-Apply.ensures
-    (omega (arith, ap (λ xs. exprs_depth (view.exprs xs)) c.deref.ensures.value, k.parts.shallow)) (n ∙ ap length (sym c.deref.ensures.value) ∙ sym (part_count find c.args.needed c.deref.result.now))
+    let n = c.in_ok-count-in-Apply.ensures.count k.function k.means in
+    ends_parts (draft c.args.builder.now) (draft c.call_parts.new.builder) (part_expressions find c.args.needed c.deref.result.now ++ passed_expressions c.in-Apply.name.place k.function.passed) (1 + exprs_depth (view.exprs c.deref.result.now)) c.in_ok-count-in-Apply.count (c.in_ok-count-in-Apply.ensures.parts k.function k.means)
+    (omega (arith, ap (λ xs. exprs_depth (view.exprs xs)) c.deref.ensures.value, k.parts.shallow)) (n ∙ sym (held_count find c.args.needed c.in-Apply.name.place k.function.passed c.deref.result.now))
 
-pub expression-returns-in_ok-arguments-in-Apply : goal.expression-returns-in_ok-arguments-in-Apply
-expression-returns-in_ok-arguments-in-Apply g t c =
+pub expression-returns-in_ok-count-in-Apply : goal.expression-returns-in_ok-count-in-Apply
+expression-returns-in_ok-count-in-Apply g t c =
     let find = g.E.Env.names c.args.env.now in
     let k = call_is (home (draft c.args.builder.now)) find c.args.needed (view.name c.in-Apply.name) (view.exprs c.in-Apply.list.items) (subst (IsBuildable (home (draft c.args.builder.now)) find c.args.needed) (ap view.expr c.in-Apply.is ∙ apply_view c.in-Apply.name c.in-Apply.list) c.requires) in
-    let n : c.len.result ≡ length c.in-Apply.list.items = search rules in
-    let there = function_at (draft c.args.builder.now) (draft c.arguments.new.builder) (part_expressions find c.args.needed c.deref.result.now) (1 + exprs_depth (view.exprs c.deref.result.now)) find (view.name c.in-Apply.name) k.function c.called.result c.in_ok-arguments-in-Apply.ensures c.requires.numbered k.means (c.called.ensures k.function k.means) in
+    let parts = c.in_ok-count-in-Apply.ensures.parts k.function k.means in
+    let there = function_at (draft c.args.builder.now) (draft c.call_parts.new.builder) (part_expressions find c.args.needed c.deref.result.now ++ passed_expressions c.in-Apply.name.place k.function.passed) (1 + exprs_depth (view.exprs c.deref.result.now)) find (view.name c.in-Apply.name) k.function c.called.result parts c.requires.numbered k.means (c.called.ensures k.function k.means) in
     subst (λ x. OnOk c.call.result (AddsExpression (draft c.args.builder.now) (draft c.call.new.self) (begins_at c.args.at (typed x find c.args.needed).expression) (1 + expr_depth x))) (sym (ap view.expr c.in-Apply.is ∙ apply_view c.in-Apply.name c.in-Apply.list))
-    (call_arm c.call.result (draft c.args.builder.now) (draft c.arguments.new.builder) (draft c.call.new.self) find c.args.needed c.args.at c.len.result (view.name c.in-Apply.name) k.function c.in-Apply.list.items c.deref.result.now c.deref.ensures.value n k.expression c.in_ok-arguments-in-Apply.ensures
+    (call_arm c.call.result (draft c.args.builder.now) (draft c.call_parts.new.builder) (draft c.call.new.self) find c.args.needed c.args.at c.in_ok-count-in-Apply.count (view.name c.in-Apply.name) k.function c.in-Apply.list.items c.deref.result.now c.deref.ensures.value (c.in_ok-count-in-Apply.ensures.count k.function k.means) k.expression parts
     (λ q ts m a l. c.call.ensures q (record { header = k.function.header; statement = k.function.statement }) ts m there a l))
 
 pub arguments-operand-requires : goal.arguments-operand-requires

@@ -5,8 +5,17 @@ use Rattle.vs_build.specs.Growth.{draft}
 use Rattle.vs_elaborated.specs.Environments.{within}
 use Rattle.vs_scope.specs.Complete.{complete}
 use Rattle.vs_scope.specs.Frames.{around_env}
+use Rattle.vs_elaborated.specs.Functions.{declared_locals, locals_in}
+use Rattle.vs_elab.proofs.Headers.{inputs_there}
 use Rattle.vs_elab.proofs.AddedFunctions.{added, executable, formed, has}
 use Rattle.vs_elab.proofs.functions.add_function.Goals as goal
+
+pub header-requires : goal.header-requires
+header-requires c =
+    let outer = around_env c.args.around in
+    let env = within outer (complete outer c.args.names.now) in
+    let f = view.function c.args.f.now in
+    inputs_there (locals_in c.args.names.now.scope env f) c.in_ok-inside.inside.locals (declared_locals f) c.in_ok-inside.ensures.locals
 
 pub function-requires-clause-locals : goal.function-requires-clause-locals
 function-requires-clause-locals c =

@@ -17,10 +17,13 @@ use Rattle.vs_elab.proofs.ScopedFaults.{faults_found, statement_is}
 use Rattle.vs_elab.proofs.ScopedParts.{blocks_shaped}
 use Rattle.vs_elab.proofs.scoped.check_blocks.Goals as goal
 
-pub within_blocks-requires : goal.within_blocks-requires
-within_blocks-requires c =
+pub within_blocks-requires-clause-shaped : goal.within_blocks-requires-clause-shaped
+within_blocks-requires-clause-shaped c =
     let s = (view.always_block c.args.block.now).statement in
     blocks_shaped (map named c.args.blocks.now) (subst (Each (λ (b : spec.NamedBlock). Each (λ (v : Local). IsValueType v.value_type) b.variables)) (sym c.requires.blocks) (c.named_law.ensures.shaped s c.requires.statement))
+
+pub within_blocks-requires-clause-outside : goal.within_blocks-requires-clause-outside
+within_blocks-requires-clause-outside c = c.of-here.ensures.outside
 
 pub returns-in-Some-clause-broken : goal.returns-in-Some-clause-broken
 returns-in-Some-clause-broken c =

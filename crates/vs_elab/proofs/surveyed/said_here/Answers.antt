@@ -1,6 +1,6 @@
 use Rattle.std.proofs.Common.{◌≡◌, List, length}
 use Rattle.vs_grammar.specs.Trees as tree
-use Rattle.vs_elaborated.specs.Environments.{Env, within}
+use Rattle.vs_elaborated.specs.Environments.{Env, named, within}
 use Rattle.vs_elaborated.specs.Generate.{Made}
 use Rattle.vs_elaborated.specs.Instances.{Around}
 use Rattle.vs_elaborated.specs.Limits.{the_limits}
@@ -12,6 +12,7 @@ use Rattle.vs_items.specs.declared.bodies.SaidItems.{SaidItems}
 use Rattle.vs_items.specs.Loops.{SeeTheSame}
 use Rattle.vs_items.specs.Modules.{AreOf}
 use Rattle.vs_items.specs.Said.{IsSaid, scope_said}
+use Rattle.vs_items.specs.Unheard.{scope_unheard}
 use Rattle.vs_elab.proofs.SurveyedScopes.{said_for_all, then_for_all}
 use Rattle.vs_elab.proofs.surveyed.said_here.Goals as goal
 
@@ -22,7 +23,7 @@ returns-clause-said c =
     said_for_all {P = λ (source : tree.Source) (a : Around) (made : List Made). AreOf c.args.text.now.modules source}
     {Q = λ (source : tree.Source) (a : Around) (made : List Made). SeeTheSame a.env here}
     {R = λ (source : tree.Source) (a : Around) (made : List Made). length made ≡ length items}
-    (λ (source : tree.Source) (a : Around) (made : List Made) (s : SaidItems). IsSaid s the_limits.processes c.args.total (scope_said source a c.args.loops.now c.args.contents made)) c.said_items.result c.said_items.ensures.said
+    (λ (source : tree.Source) (a : Around) (made : List Made) (s : SaidItems). IsSaid s the_limits.processes c.args.total (scope_said source a c.args.loops.now c.args.contents made) (scope_unheard (named a.env) c.args.contents)) c.said_items.result c.said_items.ensures.said
 
 pub returns-clause-loops : goal.returns-clause-loops
 returns-clause-loops c =

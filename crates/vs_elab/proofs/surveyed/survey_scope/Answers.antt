@@ -5,14 +5,15 @@ use Rattle.vs_elaborated.specs.Signals.{Start}
 use Rattle.vs_elaborated.specs.Limits.{the_limits}
 use Rattle.vs_elaborated.specs.Surveys.{Loops, loops_behind}
 use Rattle.vs_items.specs.Said.{IsSaid, scope_said}
+use Rattle.vs_items.specs.Unheard.{scope_unheard}
 use Rattle.vs_scope.specs.Contents.{contents_header, contents_items}
-use Rattle.vs_elaborated.specs.Environments.{within}
+use Rattle.vs_elaborated.specs.Environments.{named, within}
 use Rattle.vs_scope.specs.Complete.{complete}
 use Rattle.vs_scope.specs.Counts.{counted}
 use Rattle.vs_scope.specs.Signalled.{start_of}
 use Rattle.vs_elab.specs.declared.surveyed.SurveyedScope.{SurveyedScope}
 use Rattle.vs_elab.specs.Reading.{source_of, task_of, totals_of}
-use Rattle.vs_elab.proofs.ScopeItems.{header_are_those, items_are_those}
+use Rattle.vs_elab.proofs.ScopeItems.{header_are_those, items_are_those, unheard_are_those}
 use Rattle.vs_elab.proofs.ShapedScopes.{header_stated, scope_stated}
 use Rattle.vs_elab.proofs.SurveyedScopes.{surveyed}
 use Rattle.vs_elab.proofs.surveyed.survey_scope.Goals as goal
@@ -53,6 +54,7 @@ returns c =
       items_are = items_are_those frames scope.overrides.now scope.contents;
       header = contents_header scope.contents;
       header_are = header_are_those frames scope.overrides.now scope.contents;
+      unheard_are = unheard_are_those frames scope.overrides.now scope.contents;
       here = within task.env (complete task.env names.names);
       here_is = refl;
       names = is.names;
@@ -62,7 +64,7 @@ returns c =
       behind_is = is.counts;
       first = c.first_of.ensures;
       found_is = is.fault;
-      said_is = λ a ms h k. subst (λ (l : Loops). IsSaid said the_limits.processes counts.processes (scope_said source a l scope.contents ms)) c.set_copies.ensures (items.said source a ms known h k);
+      said_is = λ a ms h k. subst (λ (l : Loops). IsSaid said the_limits.processes counts.processes (scope_said source a l scope.contents ms) (scope_unheard (named a.env) scope.contents)) c.set_copies.ensures (items.said source a ms known h k);
       then_is = λ env h. items.loops env h ∙ ap (λ (l : Loops). loops_behind the_limits env l (contents_items scope.contents)) c.set_copies.ensures;
       entries_are = is.entries;
       kept = is.kept;

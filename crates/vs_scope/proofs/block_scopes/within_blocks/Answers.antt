@@ -13,8 +13,8 @@ use Rattle.vs_scope.proofs.block_scopes.within_blocks.Goals as goal
 
 pub returns-clause-names : goal.returns-clause-names
 returns-clause-names c =
-    let locals : Locals = record { signals = c.signal_blocks.new.self.signals; inputs = 0; names = c.new-2.result; places = c.in_ok-places.places } in
-    names_around (record { here = c.args.here; locals = locals }) c.new-2.ensures
+    let locals : Locals = record { signals = c.signal_blocks.new.self.signals; inputs = 0; passed = c.new-2.result; by_signal = c.new-3.result; names = c.new-4.result; places = c.in_ok-places.places } in
+    names_around (record { here = c.args.here; locals = locals }) c.requires.outside c.new-4.ensures
 
 pub returns-clause-said : goal.returns-clause-said
 returns-clause-said c =
@@ -24,7 +24,7 @@ returns-clause-said c =
     let ss = spec.named_signals env start bs in
     let s = c.in_ok-signal_blocks.ensures in
     let signals = s.signals ∙ ap (λ (xs : List LocalSignal). map placed_local xs ++ map placed_local_of ss) c.new.ensures.items in
-    let locals : Locals = record { signals = c.signal_blocks.new.self.signals; inputs = 0; names = c.new-2.result; places = c.in_ok-places.places } in
+    let locals : Locals = record { signals = c.signal_blocks.new.self.signals; inputs = 0; passed = c.new-2.result; by_signal = c.new-3.result; names = c.new-4.result; places = c.in_ok-places.places } in
     record {
       signals = signals;
       declared = declared_blocks locals ss signals (subst (AreNumbered c.in_ok-places.places) c.as_slice.ensures.value c.in_ok-places.ensures);

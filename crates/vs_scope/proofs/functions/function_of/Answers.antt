@@ -6,6 +6,7 @@ pub returns : goal.returns
 returns c = record {
   number_is = refl;
   inputs = c.in_ok-inputs.ensures;
+  passed = c.in_ok-passed.ensures;
   range = refl;
   signed = refl;
   known = c.is_known.ensures;

@@ -7,18 +7,18 @@ use Rattle.vs_const.proofs.Least.{least_append}
 use Rattle.vs_elaborated.specs.Statements as statements
 use Rattle.vs_elaborated.specs.Functions as spec
 use Rattle.vs_scope.specs.Frames.{view_env}
-use Rattle.vs_scope.specs.Inside.{AreNumbered}
+use Rattle.vs_scope.specs.Inside.{AreNumbered, AreNumberedInputs}
 use Rattle.vs_scope.specs.LocalLists.{local_faults}
 use Rattle.vs_scope.proofs.InsideNames.{are_locals}
 use Rattle.vs_scope.proofs.inside.said_locals.Goals as goal
 
 pub returns : goal.returns
-returns c =
+returns c = λ reads same.
     let f = view.function c.args.f.now in
-    let l = spec.function_locals c.args.scope (view_env c.args.here.now) f in
-    let s = c.in_ok-all.ensures in
+    let l = spec.function_locals c.args.scope (view_env c.args.here.now) reads f in
+    let s = c.in_ok-all.ensures reads same in
     record {
-      locals = are_locals _ l (spec.declared_locals f) s.signals s.inputs c.in_ok-names.ensures.places (subst (AreNumbered c.in_ok-places.places) c.as_slice.ensures.value c.in_ok-places.ensures);
+      locals = are_locals _ l (spec.declared_locals f) s.signals s.inputs s.passed (subst (AreNumberedInputs c.in_ok-by_signal.by_signal) c.as_slice-2.ensures.value c.in_ok-by_signal.ensures) c.in_ok-names.ensures.places (subst (AreNumbered c.in_ok-places.places) c.as_slice.ensures.value c.in_ok-places.ensures);
       range = ap (λ (m : SignalMeaning). m.signal.range) s.result;
       signed = ap (λ (m : SignalMeaning). m.signal.signed) s.result;
       fault =

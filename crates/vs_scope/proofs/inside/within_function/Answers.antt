@@ -1,5 +1,6 @@
-use Rattle.std.proofs.Common.{true, None, refl}
+use Rattle.std.proofs.Common.{true, None, map, refl, ap, ◌∙◌}
 use Rattle.vs_ast.specs.Views as view
+use Rattle.vs_const.specs.MentionViews.{kept}
 use Rattle.vs_elaborated.specs.Environments.{within}
 use Rattle.vs_scope.specs.declared.inside.Inside.{Inside}
 use Rattle.vs_scope.specs.Complete.{complete}
@@ -14,7 +15,7 @@ pub returns-clause-names : goal.returns-clause-names
 returns-clause-names c =
     let outer = around_env c.args.around in
     let i : Inside = record { here = record { around = c.args.around; names = c.args.names; inside = None; before = None; in_function = true; kept = c.requires.kept }; locals = c.in_ok-locals.field-0.locals } in
-    names_inside i c.args.names.now.scope (within outer (complete outer c.args.names.now)) (view.function c.args.f.now) refl c.in_ok-locals.ensures.locals
+    names_inside i c.args.names.now.scope (within outer (complete outer c.args.names.now)) (view.function c.args.f.now) refl refl (c.in_ok-locals.ensures _ (ap (map kept) c.as_slice.ensures.value ∙ c.in_ok-reads.ensures)).locals
 
 pub returns-clause-locals : goal.returns-clause-locals
-returns-clause-locals c = c.in_ok-locals.ensures.locals
+returns-clause-locals c = (c.in_ok-locals.ensures _ (ap (map kept) c.as_slice.ensures.value ∙ c.in_ok-reads.ensures)).locals

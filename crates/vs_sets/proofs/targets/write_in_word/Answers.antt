@@ -1,9 +1,9 @@
-use Rattle.std.proofs.Common.{◌+◌, ◌*◌, true, length, sym, ap, ◌∙◌, arith}
+use Rattle.std.proofs.Common.{◌+◌, ◌*◌, sym, ap, ◌∙◌, arith}
 use Rattle.std.proofs.lemmas.Bool.{cond-true, cond-false}
 use Rattle.vs_four.specs.Selects.{places}
 use Rattle.vs_design.specs.Expressions as E
 use Rattle.vs_design.specs.LiftedBodies.{put_each, widen}
-use Rattle.vs_design.specs.Values.{constant_value, count_from}
+use Rattle.vs_design.specs.Values.{count_from}
 use Rattle.vs_sets.specs.Nodes.{tree_of}
 use Rattle.vs_sets.specs.Tables.{bits_from, family_of}
 use Rattle.vs_shape.specs.declared.shape.Shape.{Shape}

@@ -1,4 +1,4 @@
-use Rattle.std.proofs.Common.{◌+◌, ◌≤◌, true, length, sym, ap, ◌∙◌, arith}
+use Rattle.std.proofs.Common.{◌+◌, ◌≤◌, length, sym, ap, ◌∙◌, arith}
 use Rattle.vs_design.specs.Expressions as E
 use Rattle.vs_sets.specs.Nodes.{signal_of, tree_of}
 use Rattle.vs_sets.specs.Tables.{family_of}

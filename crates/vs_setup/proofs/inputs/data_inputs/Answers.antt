@@ -13,15 +13,15 @@ input_of-requires c =
 pub loop-n-preserved : goal.loop-n-preserved
 loop-n-preserved c =
     let s = c.signal-signal.result.now in
-    more (input_of c.args.resets.now) (is_data_input c.args.clocks.now) c.args.flat.now c.loop-n.n s c.is_data_input.result c.loop-n.inputs.items c.if-is_data_input.inputs.items c.signal-signal.ensures (c.is_data_input.ensures c.loop-n.n)
+    more (input_of c.args.resets.now c.args.selects.now) (is_data_input c.args.clocks.now) c.args.flat.now c.loop-n.n s c.is_data_input.result c.loop-n.inputs.items c.if-is_data_input.inputs.items c.signal-signal.ensures (c.is_data_input.ensures c.loop-n.n)
     (elim c.if-is_data_input.branch [
       | then-is_data_input+in_ok-input_of+in_ok-push w ↦ ap (λ (v : Vec Input Global). v.items) w.inputs-is ∙ w.in_ok-push.ensures.items
           ∙ ap (λ (x : Input). c.loop-n.inputs.items ++ x ∷ []) (w.in_ok-input_of.ensures c.loop-n.n)
-          ∙ sym (ap (λ (t : Bool). c.loop-n.inputs.items ++ (if t then (input_of c.args.resets.now (signal_of c.loop-n.n s) ∷ []) else [])) w.if-is_data_input.true)
+          ∙ sym (ap (λ (t : Bool). c.loop-n.inputs.items ++ (if t then (input_of c.args.resets.now c.args.selects.now (signal_of c.loop-n.n s) ∷ []) else [])) w.if-is_data_input.true)
       | else-is_data_input w ↦ ap (λ (v : Vec Input Global). v.items) w.inputs-is ∙ sym (append-nil c.loop-n.inputs.items)
-          ∙ sym (ap (λ (t : Bool). c.loop-n.inputs.items ++ (if t then (input_of c.args.resets.now (signal_of c.loop-n.n s) ∷ []) else [])) w.if-is_data_input.false)
+          ∙ sym (ap (λ (t : Bool). c.loop-n.inputs.items ++ (if t then (input_of c.args.resets.now c.args.selects.now (signal_of c.loop-n.n s) ∷ []) else [])) w.if-is_data_input.false)
     ])
     c.loop-n.invariant
 
 pub returns : goal.returns
-returns c = all (input_of c.args.resets.now) (is_data_input c.args.clocks.now) c.args.flat.now c.loop-n.n c.signal_count-n-end.result c.loop-n.inputs.items c.signal_count-n-end.ensures.count c.loop-n-test.false c.loop-n.invariant
+returns c = all (input_of c.args.resets.now c.args.selects.now) (is_data_input c.args.clocks.now) c.args.flat.now c.loop-n.n c.signal_count-n-end.result c.loop-n.inputs.items c.signal_count-n-end.ensures.count c.loop-n-test.false c.loop-n.invariant

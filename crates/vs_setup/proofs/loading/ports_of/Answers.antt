@@ -10,7 +10,7 @@ outputs_of-requires c = rw c.flat-flat.ensures.same c.flat-flat.ensures.lawful
 
 pub returns-clause-inputs : goal.returns-clause-inputs
 returns-clause-inputs c =
-    ap (λ (p : PortLists). p.inputs) c.of.ensures ∙ (rw (c.reset_inputs.ensures, c.bits.ensures, c.clocks-clocks.ensures, c.flat-flat.ensures.same, c.typed.ensures) at c.in_ok-inputs.ensures)
+    ap (λ (p : PortLists). p.inputs) c.of.ensures ∙ (rw (c.reset_inputs.ensures, c.selects.ensures, c.bits.ensures, c.clocks-clocks.ensures, c.flat-flat.ensures.same, c.typed.ensures) at c.in_ok-inputs.ensures)
 
 pub returns-clause-outputs : goal.returns-clause-outputs
 returns-clause-outputs c =

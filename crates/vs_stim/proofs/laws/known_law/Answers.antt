@@ -1,5 +1,5 @@
 use Rattle.vs_stim.proofs.FirstVector.{first_known, has_vector}
-use Rattle.vs_stim.proofs.KnownResets.{reading_resets}
+use Rattle.vs_stim.proofs.KnownControls.{reading_controls}
 use Rattle.vs_stim.proofs.VectorSizes.{reading_fits}
 use Rattle.vs_stim.proofs.laws.known_law.Goals as goal
 
@@ -12,5 +12,5 @@ returns-clause-some c = λ is text h. (has_vector is text).some h
 pub returns-clause-fit : goal.returns-clause-fit
 returns-clause-fit c = λ is text h. reading_fits is text h
 
-pub returns-clause-resets : goal.returns-clause-resets
-returns-clause-resets c = λ is text h. reading_resets is text h
+pub returns-clause-controls : goal.returns-clause-controls
+returns-clause-controls c = λ is text h. reading_controls is text h

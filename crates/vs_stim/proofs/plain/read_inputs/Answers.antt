@@ -8,7 +8,7 @@ loop-n-init c = record { sizes = refl; reads = inputs_none c.args.columns.now c.
 
 pub loop-n-preserved : goal.loop-n-preserved
 loop-n-preserved c =
-    let none : Column = record { input = 0; length = 0; reset = false } in
+    let none : Column = record { input = 0; length = 0; reset = false; select = false } in
     let inv = c.loop-n.invariant in
     let reads =
     inputs_more c.args.columns.now c.loop-n.n c.loop-n.at c.args.bytes.now c.args.values.now c.loop-n.values none c.in_ok-values.field-0 c.requires.each inv.reads (omega (arith, c.loop-n-test.true, c.requires.count)) c.in_ok-values.ensures.field in

@@ -1,7 +1,6 @@
-use Rattle.std.proofs.Common.{◌∙◌, IsTrue, sym, ap}
+use Rattle.std.proofs.Common.{◌∙◌, IsTrue, sym}
 use Rattle.vs_stim.specs.Reading.{vector_line}
-use Rattle.vs_stim.specs.Row.{each_input, columns_in}
-use Rattle.vs_stim.specs.Source.{open_at, in_block, says}
+use Rattle.vs_stim.specs.Row.{each_input}
 use Rattle.vs_stim.proofs.Arranged.{row_says}
 use Rattle.vs_stim.proofs.LineRead.{row_passed}
 use Rattle.vs_stim.proofs.vectors.read_row.Goals as goal

@@ -54,7 +54,7 @@ returns-in-Ok-trace-clause-traced g c =
     let traced = c.in-Ok-trace.traced in
     let read = c.in-Ok-read_vectors.ensures in
     let is_open : IsOpen job (g.D.Desk.told c.args.desk.now) (g.D.Desk.told c.open_job.new.desk) opened.accepted opened.ports opened.drive = record { opened = c.in-Ok.ensures.opened; register_is = c.in-Ok.ensures.register; kept = λ t. c.open_job.ensures.kept t } in
-    traced_job c.headline_law.ensures.some c.known_law.ensures.known c.known_law.ensures.resets c.known_law.ensures.some job c.args.order (g.D.Desk.told c.args.desk.now) (g.D.Desk.told c.open_job.new.desk) (g.D.Desk.told c.read_vectors.new.desk) opened.accepted opened.ports opened.drive
+    traced_job c.headline_law.ensures.some c.known_law.ensures.known c.known_law.ensures.controls c.known_law.ensures.some job c.args.order (g.D.Desk.told c.args.desk.now) (g.D.Desk.told c.open_job.new.desk) (g.D.Desk.told c.read_vectors.new.desk) opened.accepted opened.ports opened.drive
     c.in-Ok-read_vectors.vectors.items traced.text.items traced.course c.requires.mode is_open read.same (λ t. c.read_vectors.ensures.others t) (λ t run next. read.vectors t run next)
     (subst (λ (vs : List Vector). IsTraceOf job.share (design_of opened.accepted.flat) opened.accepted.clocks.bits job.half c.args.order vs traced.text.items traced.course) c.as_slice.ensures.value c.in-Ok-trace.ensures.traced)
 

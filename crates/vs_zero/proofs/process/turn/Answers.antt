@@ -1,19 +1,23 @@
-use Rattle.std.proofs.Common.{◌≡◌, ◌<◌, Result, Ok, Err, Some, true, length, sym, ap, ◌∙◌, subst}
-use Rattle.std.specs.Prelude.{slice_get, OnOk}
+use Rattle.std.proofs.Common.{◌≡◌, ◌<◌, ℕ, Bool, List, Option, Result, Ok, Err, Some, true, false, length, sym, ap, ◌∙◌, subst}
+use Rattle.std.specs.Prelude.{slice_get, slice_index_or, OnOk}
 use Rattle.vs_design.specs.Within.{names_within, target_within}
 use Rattle.vs_design.specs.Fits.{fits_target}
 use Rattle.vs_design.specs.Footprints.{contains, statement_bits}
 use Rattle.vs_design.specs.LiftedBodies.{assign_sets}
+use Rattle.vs_design.specs.Selects.{is_lenient_block}
 use Rattle.vs_design.specs.Sleepers.{is_sleeping}
 use Rattle.vs_design.specs.TimeZero.{block_sets, early_end, is_quiet, late_end}
 use Rattle.vs_flat.specs.Arena.{Arena}
 use Rattle.vs_flat.specs.DesignOf.{design_of}
 use Rattle.vs_flat.specs.Trees.{target_tree}
+use Rattle.vs_flat.specs.declared.processes.Event.{Event}
+use Rattle.vs_flat.specs.declared.processes.Process.{Process}
 use Rattle.vs_flat.specs.declared.processes.Kind.TheVariants as K
 use Rattle.vs_reads.specs.Footprint.{writes_at}
 use Rattle.vs_sets.specs.TargetsOf.{IsTarget}
 use Rattle.vs_sets.specs.Nodes.{tree_of}
-use Rattle.vs_sets.specs.StatementParts.{statement_of}
+use Rattle.vs_sets.specs.Completing.{AreDefaults, default_in, done}
+use Rattle.vs_full.specs.Found.{Found, AreAllNoted}
 use Rattle.vs_sets.specs.Tables.{family_of}
 use Rattle.vs_zero.specs.Blocks.{IsBlockOf}
 use Rattle.vs_zero.proofs.ByKind.{assign_target, names_within_design, process_fits, target_within_design}
@@ -123,7 +127,7 @@ returns-in_ok-assign-in-Assign-clause-early c = λ x e.
     let is = subst (λ (b : Arena). slice_get b.processes c.args.p ≡ Some c.process.result.now) c.flat.ensures.same c.process.ensures in
     let f = family_of c.args.early.now in
     always c.assign-in-Assign.result
-    (assigned_early c.trees_law.ensures.processes c.args.typed.now c.args.p c.process.result.now c.in-Assign.target c.in-Assign.expr c.in-Assign.port is c.in-Assign.is (is_sleeping (design_of c.args.typed.now) x) f (family_of c.assign.new.table) x e
+    (assigned_early c.trees_law.ensures.processes c.args.typed.now c.args.p c.process.result.now c.in-Assign.target c.in-Assign.expr c.in-Assign.port is c.in-Assign.is (is_sleeping (design_of c.args.typed.now) x) (is_lenient_block x) f (family_of c.assign.new.table) x e
     (c.in_ok-assign-in-Assign.ensures ∙ ap (λ (b : Arena). assign_sets (target_tree (tree_of b c.in-Assign.target)) (tree_of b c.in-Assign.expr) f) c.shapes-shapes.ensures))
 
 pub returns-in_ok-assign-in-Assign-clause-late : goal.returns-in_ok-assign-in-Assign-clause-late
@@ -134,19 +138,54 @@ returns-in_ok-assign-in-Assign-clause-late c = λ x e.
     assigned_late c.trees_law.ensures.processes c.args.typed.now c.args.p c.process.result.now c.in-Assign.target c.in-Assign.expr c.in-Assign.port is c.in-Assign.is (is_sleeping (design_of c.args.typed.now) x) f (family_of c.assign-in-Assign.new.table) x e
     (h ∙ ap (λ (b : Arena). assign_sets (target_tree (tree_of b c.in-Assign.target)) (tree_of b c.in-Assign.expr) f) c.shapes-shapes.ensures))
 
+pub is_lenient-lenient-requires : goal.is_lenient-lenient-requires
+is_lenient-lenient-requires c = subst (λ n. c.args.p < n) (sym c.requires.cases.sound.processes) c.requires.there
+
+-- the cases in the statement of a lenient block were looked at
+defaults_are : (a : Arena) (cases : Found) (p : ℕ) (r : Process) (star : Bool) (events : List Event) (statement : ℕ) → AreAllNoted a cases → p < length a.processes → slice_get a.processes p ≡ Some r → r.kind ≡ K.Block star events statement
+    → (lenient complete : Bool) (others : List (Option ℕ)) → lenient ≡ slice_index_or cases.lenient p false → complete ≡ lenient → others ≡ cases.others → AreDefaults a complete others statement
+defaults_are a cases p r star events statement noted there is kind lenient complete others l c o on t under k of arms other at =
+    ap (λ (xs : List (Option ℕ)). default_in xs t) o ∙ ((noted.each p there).cases r star events statement is kind (sym l ∙ sym c ∙ on) t under k of arms other at).1
+
+pub turn_early-requires-clause-defaults : goal.turn_early-requires-clause-defaults
+turn_early-requires-clause-defaults c =
+    let is = subst (λ (b : Arena). slice_get b.processes c.args.p ≡ Some c.process.result.now) c.flat.ensures.same c.process.ensures in
+    subst (λ (b : Arena). AreDefaults b c.defaults-defaults.result.complete c.defaults-defaults.result.others.now c.in-Block.statement) (sym c.shapes-shapes.ensures)
+    (defaults_are c.args.typed.now c.args.cases.now c.args.p c.process.result.now c.in-Block.star c.in-Block.events c.in-Block.statement c.requires.cases c.requires.there is c.in-Block.is c.is_lenient-lenient.result c.defaults-defaults.result.complete c.defaults-defaults.result.others.now
+    c.is_lenient-lenient.ensures c.defaults-defaults.ensures.complete c.defaults-defaults.ensures.others)
+
+pub turn_late-requires-clause-defaults : goal.turn_late-requires-clause-defaults
+turn_late-requires-clause-defaults c =
+    let is = subst (λ (b : Arena). slice_get b.processes c.args.p ≡ Some c.process.result.now) c.flat.ensures.same c.process.ensures in
+    subst (λ (b : Arena). AreDefaults b c.defaults-defaults.result.complete c.defaults-defaults.result.others.now c.in-Block.statement) (sym c.shapes-shapes.ensures)
+    (defaults_are c.args.typed.now c.args.cases.now c.args.p c.process.result.now c.in-Block.star c.in-Block.events c.in-Block.statement c.requires.cases c.requires.there is c.in-Block.is c.is_lenient-lenient.result c.defaults-defaults.result.complete c.defaults-defaults.result.others.now
+    c.is_lenient-lenient.ensures c.defaults-defaults.ensures.complete c.defaults-defaults.ensures.others)
+
 pub returns-in_ok-turn_early-in-Block-clause-early : goal.returns-in_ok-turn_early-in-Block-clause-early
 returns-in_ok-turn_early-in-Block-clause-early c = λ x e.
+    let a = c.args.typed.now in
     let is = subst (λ (b : Arena). slice_get b.processes c.args.p ≡ Some c.process.result.now) c.flat.ensures.same c.process.ensures in
     let f = family_of c.args.early.now in
     let g = family_of c.turn_early.new.table in
-    let ran = subst (λ (b : Arena). g ≡ (λ n. early_end (contains (statement_bits (statement_of b c.in-Block.statement)) n) c.sleeps-asleep.result (is_quiet (statement_of b c.in-Block.statement) f) (block_sets (statement_of b c.in-Block.statement) f n) (f n))) c.shapes-shapes.ensures c.in_ok-turn_early-in-Block.ensures in
-    always c.turn_late.result (ran_early c.trees_law.ensures.processes c.args.typed.now c.args.p c.process.result.now c.in-Block.star c.in-Block.events c.in-Block.statement is c.in-Block.is c.sleeps-asleep.result f g ran x e (c.sleeps-asleep.ensures x e))
+    let statement = c.in-Block.statement in
+    let lenient = c.is_lenient-lenient.result in
+    let clocked = unclocked c.trees_law.ensures.processes a c.args.p c.process.result.now c.in-Block.star c.in-Block.events statement is c.in-Block.is c.requires.settles in
+    let ran = subst (λ (b : Arena). let t = done lenient b statement in g ≡ (λ n. early_end (contains (statement_bits t) n) c.sleeps-asleep.result lenient (is_quiet t f) (block_sets t f n) (f n))) c.shapes-shapes.ensures
+    (subst (λ (k : Bool). let t = done k c.shapes-shapes.result.now statement in g ≡ (λ n. early_end (contains (statement_bits t) n) c.sleeps-asleep.result lenient (is_quiet t f) (block_sets t f n) (f n))) c.defaults-defaults.ensures.complete c.in_ok-turn_early-in-Block.ensures) in
+    let mark = c.is_lenient-lenient.ensures ∙ (c.requires.cases.each c.args.p c.requires.there).mark x e in
+    always c.turn_late.result (ran_early c.trees_law.ensures.processes a c.args.p c.process.result.now c.in-Block.star c.in-Block.events statement is c.in-Block.is clocked c.sleeps-asleep.result lenient f g ran x e (c.sleeps-asleep.ensures x e) mark)
 
 pub returns-in_ok-turn_early-in-Block-clause-late : goal.returns-in_ok-turn_early-in-Block-clause-late
 returns-in_ok-turn_early-in-Block-clause-late c = λ x e.
+    let a = c.args.typed.now in
     let is = subst (λ (b : Arena). slice_get b.processes c.args.p ≡ Some c.process.result.now) c.flat.ensures.same c.process.ensures in
     let f = family_of c.args.late.now in
     let g = family_of c.turn_late.new.table in
+    let statement = c.in-Block.statement in
+    let lenient = c.is_lenient-lenient.result in
+    let clocked = unclocked c.trees_law.ensures.processes a c.args.p c.process.result.now c.in-Block.star c.in-Block.events statement is c.in-Block.is c.requires.settles in
+    let mark = c.is_lenient-lenient.ensures ∙ (c.requires.cases.each c.args.p c.requires.there).mark x e in
     on_ok c.turn_late.result c.turn_late.ensures (λ h.
-    let ran = subst (λ (b : Arena). g ≡ (λ n. late_end (contains (statement_bits (statement_of b c.in-Block.statement)) n) c.sleeps-asleep.result (block_sets (statement_of b c.in-Block.statement) f n) (f n))) c.shapes-shapes.ensures h in
-    ran_late c.trees_law.ensures.processes c.args.typed.now c.args.p c.process.result.now c.in-Block.star c.in-Block.events c.in-Block.statement is c.in-Block.is c.sleeps-asleep.result f g ran x e (c.sleeps-asleep.ensures x e))
+    let ran = subst (λ (b : Arena). let t = done lenient b statement in g ≡ (λ n. late_end (contains (statement_bits t) n) c.sleeps-asleep.result (block_sets t f n) (f n))) c.shapes-shapes.ensures
+    (subst (λ (k : Bool). let t = done k c.shapes-shapes.result.now statement in g ≡ (λ n. late_end (contains (statement_bits t) n) c.sleeps-asleep.result (block_sets t f n) (f n))) c.defaults-defaults.ensures.complete h) in
+    ran_late c.trees_law.ensures.processes a c.args.p c.process.result.now c.in-Block.star c.in-Block.events statement is c.in-Block.is clocked c.sleeps-asleep.result lenient f g ran x e (c.sleeps-asleep.ensures x e) mark)

@@ -65,5 +65,6 @@ returns-clause-behind c =
       scope = refl;
       counts = refl;
       functions = refl {A = List (Bor Function)};
+      reads = refl;
       plain = refl;
     }

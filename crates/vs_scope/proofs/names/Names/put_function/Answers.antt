@@ -11,5 +11,5 @@ returns-clause-called c =
     record { entries_are = e.entries; functions = c.in_ok-push.ensures.items ∙ ap (λ (fs : List (Bor Function)). fs ++ c.args.f ∷ []) e.rest.functions; scope = e.rest.scope; counts = e.rest.counts; plain = e.rest.plain }
 
 pub returns-clause-shapes : goal.returns-clause-shapes
-returns-clause-shapes c = λ es g h k s.
-    c.in_ok-put_shape.ensures.shapes es g h k s ∙ ap (λ (n : List ℕ). shapes_of (spec.put_function n g es)) c.as_slice.ensures
+returns-clause-shapes c = λ es g h k s r.
+    c.in_ok-put_shape.ensures.shapes es g h k s r ∙ ap (λ (n : List ℕ). shapes_of (spec.put_function n g es)) c.as_slice.ensures

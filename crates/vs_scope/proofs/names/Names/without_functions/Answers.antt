@@ -28,7 +28,7 @@ loop-i-preserved c =
 pub returns : goal.returns
 returns c = λ outer.
     let whole : c.min-plain.result ≡ c.loop-i.i = both c.loop-i.i c.min-plain.result c.loop-i-test.false c.loop-i.auto.i-end in
-    part_first outer _ c.args.self.now c.loop-i.i c.loop-i.invariant.2 (sym whole ∙ c.min-plain.ensures ∙ ap (min c.args.self.now.plain) c.len.ensures) refl refl c.new.ensures.items whole
+    part_first outer _ c.args.self.now c.loop-i.i c.loop-i.invariant.2 (sym whole ∙ c.min-plain.ensures ∙ ap (min c.args.self.now.plain) c.len.ensures) refl refl c.new-2.ensures.items whole
   where
     both : (m n : ℕ) → n ≤ m → m ≤ n → n ≡ m
     both m n h k = omega arith

@@ -16,13 +16,13 @@ returns-in-Later c = λ d h.
 pub returns-in-Announced : goal.returns-in-Announced
 returns-in-Announced c = λ d h.
     let e = c.args.e.now in
-    means_as c.announced.result (view_env c.args.self.now) e.first.name.now.place d (OfSignal unknown_signal) (stands_at e.declared states.Announced d c.in-Announced.is h) c.announced.ensures
+    means_as c.no_signal.result (view_env c.args.self.now) e.first.name.now.place d (OfSignal unknown_signal) (stands_at e.declared states.Announced d c.in-Announced.is h) c.no_signal.ensures
 
 pub returns-in-Signal : goal.returns-in-Signal
 returns-in-Signal c = λ d h.
     let e = c.args.e.now in
     let s = c.in-Signal.s in
-    means_as c.signal.result (view_env c.args.self.now) e.first.name.now.place d (OfSignal (signal_meaning s)) (stands_at e.declared (states.Signal s) d c.in-Signal.is h) c.signal.ensures
+    means_as c.signal_means.result (view_env c.args.self.now) e.first.name.now.place d (OfSignal (signal_meaning s)) (stands_at e.declared (states.Signal s) d c.in-Signal.is h) c.signal_means.ensures
 
 pub returns-in-Parameter : goal.returns-in-Parameter
 returns-in-Parameter c = λ d h.

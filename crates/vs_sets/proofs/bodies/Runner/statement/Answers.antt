@@ -1,4 +1,5 @@
 use Rattle.vs_sets.specs.StatementParts.{place_of_statement, statement_of_node}
+use Rattle.vs_sets.proofs.Completing.{done_tree}
 use Rattle.vs_sets.proofs.Limits.{within_statement}
 use Rattle.vs_sets.proofs.StatementNames.{names_below}
 use Rattle.vs_sets.proofs.bodies.Runner.statement.Goals as goal
@@ -10,3 +11,8 @@ pub returns-clause-within : goal.returns-clause-within
 returns-clause-within c n h =
     let a = c.args.self.now.shapes.now in
     within_statement n (statement_of_node a (place_of_statement a c.args.s) c.statement_node.result.now) (rw c.statement_node.ensures.tree at h)
+
+pub returns-clause-done : goal.returns-clause-done
+returns-clause-done c complete =
+    let a = c.args.self.now.shapes.now in
+    done_tree complete a c.args.s (place_of_statement a c.args.s) c.statement_node.result.now c.statement_node.ensures.tree

@@ -1,0 +1,12 @@
+pub mod Counted
+pub mod Splitting
+pub mod Rooting
+pub mod Copying
+pub mod Opening
+pub mod Selecting
+pub mod Forming
+pub mod Noting
+pub mod Picking
+pub mod Blocks
+pub mod Reading
+pub mod Growing

@@ -1,0 +1,4 @@
+use Rattle.vs_full.proofs.roots.+root_within.Given as goal
+
+abbrev pub decreases-root_within : goal.decreases-root_within
+decreases-root_within l = l.steps

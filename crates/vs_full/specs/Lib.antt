@@ -1,0 +1,4 @@
+pub mod Searched
+pub mod Roots
+pub mod Selectors
+pub mod Found

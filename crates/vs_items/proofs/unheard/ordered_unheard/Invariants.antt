@@ -1,0 +1,10 @@
+use Rattle.std.proofs.Common.{◌≡◌, map, flat_map, take}
+use Rattle.vs_ast.specs.Views as view
+use Rattle.vs_const.specs.Faults.{least}
+use Rattle.vs_elaborated.specs.Environments.{named}
+use Rattle.vs_elaborated.specs.Unheard.{value_unheard}
+use Rattle.vs_scope.specs.Frames.{view_env}
+use Rattle.vs_items.proofs.unheard.ordered_unheard.Given as goal
+
+abbrev pub invariant-loop-part : goal.invariant-loop-part
+invariant-loop-part l = l.fault ≡ least (flat_map (value_unheard l.place (named (view_env l.here))) (map (view.option view.expr) (take l.part-index l.parts)))
